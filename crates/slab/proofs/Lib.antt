@@ -1,0 +1,4 @@
+-- The laws of this crate, for its own proofs and for the crates above.
+pub mod Places
+pub mod Steps
+pub mod Decides

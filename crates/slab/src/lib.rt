@@ -1,0 +1,141 @@
+// A slab: places numbered from 0, of which the most recently vacated is taken first. Records stand in one lent table and
+// the links of the vacant places in another (or in other words of the same), each at a width of its own.
+ghost use mathlib.Core.Path.{_≡_};
+ghost use Prim.Native.Nat.{_≤_, _<_};
+ghost use Rattle.words.specs.Words.{widest};
+ghost use Rattle.slab.specs.Slab.{inserted, removed, removedLinks, vacantAt, linkAt};
+ghost use Rattle.slab.specs.Test.{vacancies, leads, partedOk};
+
+// The end of a chain.
+pub const NOWHERE: u64 = 0xffff_ffff_ffff_ffff;
+
+// How many places were ever used, and the one vacated last, or NOWHERE.
+pub struct Slab {
+    pub places: u64,
+    pub vacant: u64,
+}
+
+pub struct Taken {
+    pub place: u64,
+    pub slab: Slab,
+}
+
+impl Slab {
+    // No place used yet.
+    pub fn new() -> Slab
+        ensures { λ r. ⌜ r ≡ Rattle.slab.specs.Slab.fresh ⌝ }
+    {
+        Slab {
+            places: 0,
+            vacant: NOWHERE,
+        }
+    }
+
+    // The place vacated last, or the next new one. `at` and `step` say where the links stand.
+    pub fn insert(self, links: &[u64], at: usize, step: usize) -> Taken
+        requires { ⌜ (0 < step) × (step ≤ widest) ⌝ }
+        ensures { λ r. ⌜ r ≡ inserted self (now (links .entry)) at step ⌝ }
+    {
+        let p = self.vacant;
+        let n = self.places;
+        if p < n {
+            let next = words::cell(links, at, step, p as usize);
+            return Taken {
+                place: p,
+                slab: Slab {
+                    places: n,
+                    vacant: next,
+                },
+            };
+        }
+        let more = std::num::wrapping_add_u64(n, 1);
+        Taken {
+            place: n,
+            slab: Slab {
+                places: more,
+                vacant: p,
+            },
+        }
+    }
+
+    // The place p is vacant from now on, and the next to be taken.
+    pub fn remove(self, links: &mut [u64], at: usize, step: usize, p: u64) -> Slab
+        requires { ⌜ (0 < step) × (step ≤ widest) ⌝ }
+        ensures { λ r. ⌜ r ≡ removed self p ⌝ }
+        ensures { λ _. ⌜ now (links .exit) ≡ removedLinks self (now (links .entry)) at step p ⌝ }
+    {
+        words::put_cell(links, at, step, p as usize, self.vacant);
+        Slab {
+            places: self.places,
+            vacant: p,
+        }
+    }
+}
+
+// How many of the first n places are vacant, by the marking word of each record.
+fn count_vacant(records: &[u64], mark: usize, width: usize, n: u64) -> u64
+    requires { ⌜ (0 < width) × (width ≤ widest) ⌝ }
+    ensures { λ r. ⌜ r ≡ vacancies (vacantAt (now (records .entry)) mark width) n ⌝ }
+{
+    let mut count = 0;
+    let mut p = 0;
+    while p < n {
+        if words::cell(records, mark, width, p as usize) == 0 {
+            count += 1;
+        }
+        p += 1;
+    }
+    count
+}
+
+// Whether the chain from h on leads through k vacant places below n, and ends there.
+fn chain_leads(
+    records: &[u64],
+    mark: usize,
+    width: usize,
+    links: &[u64],
+    at: usize,
+    step: usize,
+    n: u64,
+    h: u64,
+    k: u64,
+) -> bool
+    requires { ⌜ (0 < width) × (width ≤ widest) × (0 < step) × (step ≤ widest) ⌝ }
+    ensures { λ r. ⌜ r ≡ leads (vacantAt (now (records .entry)) mark width) (linkAt (now (links .entry)) at step) n h k ⌝ }
+{
+    let mut cur = h;
+    let mut left = k;
+    while 0 < left {
+        if n <= cur {
+            return false;
+        }
+        if words::cell(records, mark, width, cur as usize) != 0 {
+            return false;
+        }
+        cur = words::cell(links, at, step, cur as usize);
+        left -= 1;
+    }
+    cur == NOWHERE
+}
+
+// Whether used places and the vacant chain part the places, of which there are at most `most`.
+pub fn is_parted(
+    s: Slab,
+    most: u64,
+    records: &[u64],
+    mark: usize,
+    width: usize,
+    links: &[u64],
+    at: usize,
+    step: usize,
+) -> bool
+    requires { ⌜ (0 < width) × (width ≤ widest) × (0 < step) × (step ≤ widest) ⌝ }
+    ensures { λ r. ⌜ r ≡ partedOk (vacantAt (now (records .entry)) mark width) (linkAt (now (links .entry)) at step) s most ⌝ }
+{
+    if s.places <= most {
+        let k = count_vacant(records, mark, width, s.places);
+        chain_leads(records, mark, width, links, at, step, s.places, s.vacant, k)
+    } else {
+        false
+    }
+}

@@ -1,0 +1,4 @@
+-- The laws of this crate, for its own proofs and for the crates above.
+pub mod Cells
+pub mod Moved
+pub mod Records

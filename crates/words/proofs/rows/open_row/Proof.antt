@@ -1,0 +1,40 @@
+use native.Mathlib.Omega.{arith}
+use mathlib.Core.Path.{sym}
+use Prim.Native.Nat.{_-_}
+use denote.Ref.{now}
+use Rattle.words.proofs.Cells.{scaled, past}
+use Rattle.words.proofs.Moved.{opened-none, opened-out}
+use borrow.Author.Needs.{needs}
+use Rattle.words.proofs.rows.open_row.Statement.{statement}
+use Rattle.words.proofs.rows.open_row.Tie as tie
+
+mul-at : tie.Need-mul-at
+mul-at c = let a = c .before .before .before .args in omega (arith, scaled (a .w) (a .i) (search needs))
+
+add-shift : tie.Need-add-shift
+add-shift c = let a = c .before .before .before .before .args in omega (arith, scaled (a .w) (a .i) (search needs))
+
+mul-shift : tie.Need-mul-shift
+mul-shift c = let a = c .before .before .before .before .args in omega (arith, scaled (a .w) (a .n - a .i) (search needs))
+
+shift-requires : tie.Need-shift-requires
+shift-requires c κs = search needs
+
+same-length : tie.Need-same-length
+same-length c = search needs
+
+returns : tie.Need-returns
+returns c = c .before .before .shift .ensures
+
+returns-2 : tie.Need-returns-2
+returns-2 c = let a = c .before .before .before .args in sym (opened-none (a .w) (a .n) (a .i) (now (a .t)) (omega arith))
+
+returns-3 : tie.Need-returns-3
+returns-3 c =
+    let a = c .before .before .args in
+    sym (opened-out (a .w) (a .n) (a .i) (now (a .t)) (omega (arith, past 0 (a .w) (a .n) (a .n) (search needs) (omega arith))))
+
+pub open-row-spec : {M : Type 1} → statement M
+open-row-spec =
+    tie.close
+    (tie.spec mul-at add-shift mul-shift shift-requires same-length returns returns-2 returns-3)

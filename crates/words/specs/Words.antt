@@ -1,0 +1,29 @@
+-- Words of a lent table, and words moved within it. 01, "What one store holds": a store's tables are lent by the caller.
+-- Assumes nothing: these are definitions.
+use mathlib.Core.Bool.{Bool, cond, _&&_}
+use mathlib.Core.List.{List}
+use Prim.Native.Nat.{ℕ, _+_, _*_, _-_}
+use lib.Dec.{leb}
+use lib.ListN.{length, drop}
+use lib.Seq.{paste}
+
+-- the widest record, in words
+abbrev pub widest : ℕ
+widest = 8
+
+-- where a record's word stands: `at` words into the record at i, records being w words wide
+abbrev pub cellOf : ℕ → ℕ → ℕ → ℕ
+cellOf at w i = at + w * i
+
+-- t, with the m words from dst on replaced by the m from src on, as they were;
+-- t itself where either run of words leaves it
+unfoldable pub moved : ℕ → ℕ → ℕ → List ℕ → List ℕ
+moved src dst m t = cond (leb (src + m) (length t) && leb (dst + m) (length t)) (paste t dst (drop src t) m) t
+
+-- of n records of w words, those past the i-th go down by one: the i-th is gone
+abbrev pub closed : ℕ → ℕ → ℕ → List ℕ → List ℕ
+closed w n i t = moved (w * (i + 1)) (w * i) (w * (n - i - 1)) t
+
+-- of n records of w words, those from the i-th on go up by one: there is room at i
+abbrev pub opened : ℕ → ℕ → ℕ → List ℕ → List ℕ
+opened w n i t = moved (w * i) (w * i + w) (w * (n - i)) t
