@@ -36,12 +36,12 @@ impl Slab {
         requires { ⌜ (0 < step) × (step ≤ widest) ⌝ }
         ensures { λ r. ⌜ r ≡ inserted self (now (links .entry)) at step ⌝ }
     {
-        let p = self.vacant;
+        let last = self.vacant;
         let n = self.places;
-        if p < n {
-            let next = words::cell(links, at, step, p as usize);
+        if last < n {
+            let next = words::cell(links, at, step, last as usize);
             return Taken {
-                place: p,
+                place: last,
                 slab: Slab {
                     places: n,
                     vacant: next,
@@ -53,7 +53,7 @@ impl Slab {
             place: n,
             slab: Slab {
                 places: more,
-                vacant: p,
+                vacant: last,
             },
         }
     }
