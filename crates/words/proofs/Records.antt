@@ -212,6 +212,19 @@ module _ {R : Type 0} (L : Layout R) where
       let m : w * length qs ≤ length (flat L rs) = rw length-flat (mul-le-mul-left w h) in
       rw (n, flat-append, drop-append-le (w * length qs) (flat L rs) (drop (w * length rs) t) m, drop-flat (length qs) rs h) (simp append-assoc)
 
+  -- a record changed before the j-th leaves the words from the j-th record on
+  pub laid-set-drop : (i j : ℕ) (r : R) (rs : List R) (t : List ℕ) → i < j → j ≤ length rs → drop (L .width * j) (laid L (set rs i r) t) ≡ drop (L .width * j) (laid L rs t)
+  laid-set-drop i j r rs t h g =
+      let w : ℕ = L .width in
+      let x : List ℕ = drop (w * length rs) t in
+      let n : length (set rs i r) ≡ length rs = length-set rs i r in
+      let a : w * j ≤ length (flat L (set rs i r)) = rw (length-flat, n) (mul-le-mul-left w g) in
+      let b : w * j ≤ length (flat L rs) = rw length-flat (mul-le-mul-left w g) in
+      rw n
+      (drop-append-le (w * j) (flat L (set rs i r)) x a
+      ∙ ap (λ (l : List ℕ). l ++ x) (drop-flat j (set rs i r) (rw n g) ∙ ap (flat L) (drop-set-lt j rs i r h) ∙ sym (drop-flat j rs g))
+      ∙ sym (drop-append-le (w * j) (flat L rs) x b))
+
 -- ---- the elements after an operation
 
 module _ {R : Type 0} (d : R) where

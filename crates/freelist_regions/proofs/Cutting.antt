@@ -1,0 +1,35 @@
+-- A region cut short, in words. Assumes nothing.
+use mathlib.Core.Path.{_≡_, refl, sym, ap, _∙_}
+use mathlib.Core.List.{List}
+use Prim.Native.Nat.{ℕ, _*_, _-_, _≤_, _<_}
+use native.Mathlib.Omega.{arith}
+use lib.ListN.{length, drop, getD, length-set}
+use borrow.Author.Tests.{lt-ltb, le-ltb}
+use Rattle.words.specs.Words.{closed}
+use Rattle.words.specs.Rows.{rows, row, laid, written}
+use Rattle.words.proofs.Records.{length-rows, getD-rows, updated-at, removed-at, length-removeAt}
+use Rattle.freelist_rules.specs.Records.{region, regionRow}
+use Rattle.freelist_rules.specs.Place.{cutOff}
+use Rattle.freelist_rules.specs.declared.Region.{Region}
+
+module _ (t : List ℕ) (n i x : ℕ) (h : i < n) (f : 3 * n ≤ length t) (r : Region) (e : r ≡ row regionRow i t) where
+  is : r ≡ getD (rows regionRow n t) i (region 0 0 0)
+  is = e ∙ sym (getD-rows regionRow n i t (region 0 0 0) h)
+
+  pub cut-short : (u : List ℕ) → r .start < x → u ≡ written regionRow i (region (r .chunk) (r .start) x) t
+      → (n ≡ length (cutOff x i (rows regionRow n t))) × (u ≡ laid regionRow (cutOff x i (rows regionRow n t)) t)
+  unfolding cutOff
+  cut-short u g w =
+      rw (sym is, lt-ltb (r .start) x g) (
+        sym (length-set (rows regionRow n t) i (region (r .chunk) (r .start) x) ∙ length-rows regionRow n t),
+        w ∙ updated-at regionRow n i (region (r .chunk) (r .start) x) t h f,
+      )
+
+  pub cut-out : (u : List ℕ) → x ≤ r .start → u ≡ closed 3 n i t
+      → (n - 1 ≡ length (cutOff x i (rows regionRow n t))) × (u ≡ laid regionRow (cutOff x i (rows regionRow n t)) t)
+  unfolding cutOff
+  cut-out u g w =
+      rw (sym is, le-ltb (r .start) x g) (
+        sym (length-removeAt i (rows regionRow n t) (omega (arith, length-rows regionRow n t)) ∙ ap (λ (k : ℕ). k - 1) (length-rows regionRow n t)),
+        w ∙ removed-at regionRow n i t h f,
+      )

@@ -1,0 +1,6 @@
+-- The laws that this crate's proofs cite.
+pub mod Cutting
+pub mod Halves
+pub mod Joining
+pub mod Standing
+pub mod Whole

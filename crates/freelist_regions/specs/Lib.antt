@@ -1,0 +1,4 @@
+pub mod Found
+pub mod Joined
+pub mod Order
+pub mod Spot

@@ -1,0 +1,20 @@
+-- What the search by halves asks of a store's free regions: that they stand in order, at places a chunk can have.
+-- Assumes nothing: these are definitions.
+use mathlib.Core.List.{List}
+use Prim.Native.Nat.{ℕ, _*_, _<_}
+use lib.ListN.{length, getD}
+use Rattle.counter.specs.Limits.{chunkSizeMost}
+use Rattle.freelist_rules.specs.Records.{region}
+use Rattle.freelist_rules.specs.Pieces.{lo}
+use Rattle.freelist_rules.specs.declared.Region.{Region}
+
+abbrev pub LowPlace : ℕ → Type 0
+LowPlace x = x < 2 * chunkSizeMost
+
+abbrev pub noRegion : Region
+noRegion = region 0 0 0
+
+-- each region begins before those after it do
+pub record RegionsStand (rs : List Region) : Type 0 where
+  pub rise : (i j : ℕ) → i < j → j < length rs → lo (getD rs i noRegion) < lo (getD rs j noRegion)
+  pub low : (i : ℕ) → i < length rs → LowPlace (getD rs i noRegion .start)

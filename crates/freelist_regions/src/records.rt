@@ -1,0 +1,24 @@
+// Records read and written whole. A record past the end of its table reads as zeros, and a write there does nothing.
+ghost use mathlib.Core.Path.{_≡_};
+ghost use Rattle.words.specs.Rows.{row, written};
+ghost use Rattle.freelist_rules.specs.Records.{regionRow};
+use freelist_rules::REGION_WORDS;
+use freelist_rules::Region;
+
+pub fn region_at(t: &[u64], i: usize) -> Region
+    ensures { λ r. ⌜ r ≡ row regionRow i (now (t .entry)) ⌝ }
+{
+    Region {
+        chunk: words::cell(t, 0, REGION_WORDS, i),
+        start: words::cell(t, 1, REGION_WORDS, i),
+        end: words::cell(t, 2, REGION_WORDS, i),
+    }
+}
+
+pub fn put_region(t: &mut [u64], i: usize, r: Region)
+    ensures { λ _. ⌜ now (t .exit) ≡ written regionRow i r (now (t .entry)) ⌝ }
+{
+    words::put_cell(t, 0, REGION_WORDS, i, r.chunk);
+    words::put_cell(t, 1, REGION_WORDS, i, r.start);
+    words::put_cell(t, 2, REGION_WORDS, i, r.end);
+}

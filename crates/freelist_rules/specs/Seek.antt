@@ -1,0 +1,19 @@
+-- Which loan a block is. 01, "When the counter says no": 7, "no loan has this serial, chunk, offset and size".
+-- Assumes nothing: these are definitions.
+use mathlib.Core.Bool.{Bool, cond, _&&_}
+use mathlib.Core.List.{List, [], _∷_}
+use Prim.Native.Nat.{ℕ, _+_}
+use lib.Dec.{eqb}
+use Rattle.counter.specs.declared.answers.Block.{Block}
+use Rattle.store_rules.specs.declared.Loan.{Loan}
+use Rattle.freelist_rules.specs.Place.{Found, nowhere, at}
+
+abbrev pub sameLoan : Block → Loan → Bool
+sameLoan b l = eqb (l .serial) (b .serial) && (eqb (l .chunk) (b .chunk) && (eqb (l .offset) (b .offset) && eqb (l .size) (b .size)))
+
+unfoldable pub seekFrom : Block → ℕ → List Loan → Found
+seekFrom b i [] = nowhere
+seekFrom b i (l ∷ ls) = cond (sameLoan b l) (at i) (seekFrom b (i + 1) ls)
+
+abbrev pub seek : Block → List Loan → Found
+seek b ls = seekFrom b 0 ls
