@@ -16,8 +16,9 @@ use Rattle.freelist_rules.specs.Pieces.{line, lo, hi, Rising}
 use Rattle.freelist_rules.specs.Join.{meets, join, insert}
 use Rattle.freelist_rules.specs.declared.Region.{Region}
 use Rattle.freelist_rules.proofs.Inserts.{Apart, Ahead, insert-alone, insert-right, insert-left, insert-both}
-use Rattle.freelist_regions.specs.Joined.{extended}
-use Rattle.freelist_regions.specs.Order.{LowPlace, noRegion, RegionsStand}
+use Rattle.freelist_regions.specs.Ended.{endedAt}
+use Rattle.freelist_rules.specs.Steps.{noRegion}
+use Rattle.freelist_regions.specs.Order.{LowPlace, RegionsStand}
 use Rattle.freelist_regions.specs.Spot.{after, Parts}
 use Rattle.freelist_regions.proofs.Standing.{region-before, region-past}
 
@@ -86,25 +87,25 @@ module _ (t : List ℕ) (n k : ℕ) (b : Region) (f : 3 * n + 3 ≤ length t) (r
       )
 
   -- a region made longer, as a record
-  extended-is : (i x : ℕ) → i < n → extended i x t ≡ laid regionRow (set rs i (region (getD rs i noRegion .chunk) (getD rs i noRegion .start) x)) t
-  unfolding extended
-  extended-is i x h =
+  ended-is : (i x : ℕ) → i < n → endedAt i x t ≡ laid regionRow (set rs i (region (getD rs i noRegion .chunk) (getD rs i noRegion .start) x)) t
+  unfolding endedAt
+  ended-is i x h =
       ap (λ (d : Region). written regionRow i (region (d .chunk) (d .start) x) t) (at i h)
       ∙ updated-at regionRow n i (region (getD rs i noRegion .chunk) (getD rs i noRegion .start) x) t h room
 
   -- the one before only
-  pub joined-before : (v : List ℕ) → (ltb 0 k && meets (row regionRow (k - 1) t) b) ≡ true → (ltb k n && meets b (row regionRow k t)) ≡ false → v ≡ extended (k - 1) (b .end) t → Joined n v
+  pub joined-before : (v : List ℕ) → (ltb 0 k && meets (row regionRow (k - 1) t) b) ≡ true → (ltb k n && meets b (row regionRow k t)) ≡ false → v ≡ endedAt (k - 1) (b .end) t → Joined n v
   joined-before v p q y =
       let g = beforeYes p in
       let h : k - 1 < n = omega (arith, w .most, g .0) in
       let s : suc (k - 1) ≡ k = omega (arith, g .0) in
       let e : insert b rs ≡ set rs (k - 1) (join (getD rs (k - 1) noRegion) b) =
       insert-left b 0 rs noRegion rise (k - 1) (omega (arith, long)) (before (k - 1) (omega (arith, g .0))) (g .1) (λ i. rw s (nextNo q (rw s at i))) in
-      rw e (sym (length-set rs (k - 1) (join (getD rs (k - 1) noRegion) b) ∙ long), y ∙ extended-is (k - 1) (b .end) h)
+      rw e (sym (length-set rs (k - 1) (join (getD rs (k - 1) noRegion) b) ∙ long), y ∙ ended-is (k - 1) (b .end) h)
 
   -- both: the next one goes
   pub joined-both : (u v : List ℕ) → (ltb 0 k && meets (row regionRow (k - 1) t) b) ≡ true → (ltb k n && meets b (row regionRow k t)) ≡ true
-      → (r : Region) → r ≡ row regionRow k t → u ≡ extended (k - 1) (r .end) t → v ≡ closed 3 n k u → Joined (n - 1) v
+      → (r : Region) → r ≡ row regionRow k t → u ≡ endedAt (k - 1) (r .end) t → v ≡ closed 3 n k u → Joined (n - 1) v
   joined-both u v p q r is x y =
       let g = beforeYes p in
       let m = nextYes q in
@@ -116,7 +117,7 @@ module _ (t : List ℕ) (n k : ℕ) (b : Region) (f : 3 * n + 3 ≤ length t) (r
       let e : insert b rs ≡ removeAt k qs =
       rw s at (insert-both b 0 rs noRegion rise (k - 1) (omega (arith, long)) (before (k - 1) (omega (arith, g .0))) (g .1) (omega (arith, long, m .0)) (rw s (m .1))) in
       let z : r ≡ getD rs k noRegion = is ∙ at k (m .0) in
-      let a : u ≡ laid regionRow qs t = x ∙ ap (λ (d : Region). extended (k - 1) (d .end) t) z ∙ extended-is (k - 1) (getD rs k noRegion .end) h in
+      let a : u ≡ laid regionRow qs t = x ∙ ap (λ (d : Region). endedAt (k - 1) (d .end) t) z ∙ ended-is (k - 1) (getD rs k noRegion .end) h in
       let lu : 3 * n ≤ length (laid regionRow qs t) = rw (length-laid regionRow qs t (rw ql room)) room in
       let c : closed 3 n k (laid regionRow qs t) ≡ laid regionRow (removeAt k (rows regionRow n (laid regionRow qs t))) (laid regionRow qs t) = removed-at regionRow n k (laid regionRow qs t) (m .0) lu in
       let d : rows regionRow n (laid regionRow qs t) ≡ qs = rows-after regionRow n qs t ql in

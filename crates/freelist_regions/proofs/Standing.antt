@@ -16,7 +16,8 @@ use Rattle.freelist_rules.specs.Pieces.{line, lo}
 use Rattle.lists.specs.Pairs.{earlier}
 use Rattle.lists.proofs.Pairs.{earlier-then}
 use Rattle.freelist_rules.proofs.Lines.{line-earlier}
-use Rattle.freelist_regions.specs.Order.{LowPlace, noRegion, RegionsStand}
+use Rattle.freelist_rules.specs.Steps.{noRegion}
+use Rattle.freelist_regions.specs.Order.{LowPlace, RegionsStand}
 use Rattle.freelist_regions.specs.Spot.{after, Parting, Parts}
 
 -- records whose chunk and place are read at `at` and the next word, each before those after it

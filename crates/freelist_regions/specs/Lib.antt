@@ -1,4 +1,4 @@
+pub mod Ended
 pub mod Found
-pub mod Joined
 pub mod Order
 pub mod Spot

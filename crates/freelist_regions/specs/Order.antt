@@ -4,15 +4,12 @@ use mathlib.Core.List.{List}
 use Prim.Native.Nat.{ℕ, _*_, _<_}
 use lib.ListN.{length, getD}
 use Rattle.counter.specs.Limits.{chunkSizeMost}
-use Rattle.freelist_rules.specs.Records.{region}
 use Rattle.freelist_rules.specs.Pieces.{lo}
+use Rattle.freelist_rules.specs.Steps.{noRegion}
 use Rattle.freelist_rules.specs.declared.Region.{Region}
 
 abbrev pub LowPlace : ℕ → Type 0
 LowPlace x = x < 2 * chunkSizeMost
-
-abbrev pub noRegion : Region
-noRegion = region 0 0 0
 
 -- each region begins before those after it do
 pub record RegionsStand (rs : List Region) : Type 0 where

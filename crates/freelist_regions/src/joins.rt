@@ -8,8 +8,8 @@ ghost use Rattle.words.specs.Rows.{row, rows, laid};
 ghost use Rattle.freelist_rules.specs.Records.{regionRow, regionWords};
 ghost use Rattle.freelist_rules.specs.Pieces.{lo, hi, Rising};
 ghost use Rattle.freelist_rules.specs.Join.{meets, insert};
-ghost use Rattle.freelist_regions.specs.Joined.{extended};
 ghost use Rattle.freelist_regions.specs.Order.{RegionsStand, LowPlace};
+use crate::records::end_at;
 use crate::records::put_region;
 use crate::records::region_at;
 use crate::spots::spot;
@@ -46,22 +46,6 @@ fn touches_next(t: &[u64], n: usize, k: usize, b: Region) -> bool
     }
 }
 
-// Region i ends at `place` from now on.
-fn extend(t: &mut [u64], i: usize, place: u64)
-    ensures { λ _. ⌜ now (t .exit) ≡ extended i place (now (t .entry)) ⌝ }
-{
-    let r = region_at(t, i);
-    put_region(
-        t,
-        i,
-        Region {
-            chunk: r.chunk,
-            start: r.start,
-            end: place,
-        },
-    );
-}
-
 // b put among n free regions by its place, joined with both neighbours; how many there are then.
 pub fn join_region(t: &mut [u64], n: usize, b: Region) -> usize
     requires { ⌜ (regionWords * n + regionWords ≤ length (now t)) × Rising lo hi 1 0 (rows regionRow n (now t)) × RegionsStand (rows regionRow n (now t)) × LowPlace (b .start) ⌝ }
@@ -74,7 +58,7 @@ pub fn join_region(t: &mut [u64], n: usize, b: Region) -> usize
     if next {
         let r = region_at(t, k);
         if before {
-            extend(t, k - 1, r.end);
+            end_at(t, k - 1, r.end);
             words::close_row(t, REGION_WORDS, n, k);
             return n - 1;
         }
@@ -90,7 +74,7 @@ pub fn join_region(t: &mut [u64], n: usize, b: Region) -> usize
         return n;
     }
     if before {
-        extend(t, k - 1, b.end);
+        end_at(t, k - 1, b.end);
         return n;
     }
     words::open_row(t, REGION_WORDS, n, k);

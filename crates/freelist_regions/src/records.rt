@@ -2,6 +2,7 @@
 ghost use mathlib.Core.Path.{_≡_};
 ghost use Rattle.words.specs.Rows.{row, written};
 ghost use Rattle.freelist_rules.specs.Records.{regionRow};
+ghost use Rattle.freelist_regions.specs.Ended.{endedAt};
 use freelist_rules::REGION_WORDS;
 use freelist_rules::Region;
 
@@ -21,4 +22,20 @@ pub fn put_region(t: &mut [u64], i: usize, r: Region)
     words::put_cell(t, 0, REGION_WORDS, i, r.chunk);
     words::put_cell(t, 1, REGION_WORDS, i, r.start);
     words::put_cell(t, 2, REGION_WORDS, i, r.end);
+}
+
+// Region i ends at `place` from now on.
+pub fn end_at(t: &mut [u64], i: usize, place: u64)
+    ensures { λ _. ⌜ now (t .exit) ≡ endedAt i place (now (t .entry)) ⌝ }
+{
+    let r = region_at(t, i);
+    put_region(
+        t,
+        i,
+        Region {
+            chunk: r.chunk,
+            start: r.start,
+            end: place,
+        },
+    );
 }

@@ -5,10 +5,9 @@ ghost use lib.ListN.{length};
 ghost use Rattle.words.specs.Rows.{rows, laid};
 ghost use Rattle.freelist_rules.specs.Records.{regionRow, regionWords};
 ghost use Rattle.freelist_rules.specs.Place.{cutOff};
-use crate::records::put_region;
+use crate::records::end_at;
 use crate::records::region_at;
 use freelist_rules::REGION_WORDS;
-use freelist_rules::Region;
 
 // Region i of n ends at `place` from now on, or is gone where that is its start; how many are left.
 pub fn cut_region(t: &mut [u64], n: usize, i: usize, place: u64) -> usize
@@ -18,15 +17,7 @@ pub fn cut_region(t: &mut [u64], n: usize, i: usize, place: u64) -> usize
 {
     let r = region_at(t, i);
     if r.start < place {
-        put_region(
-            t,
-            i,
-            Region {
-                chunk: r.chunk,
-                start: r.start,
-                end: place,
-            },
-        );
+        end_at(t, i, place);
         n
     } else {
         words::close_row(t, REGION_WORDS, n, i);

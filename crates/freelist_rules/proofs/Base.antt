@@ -3,11 +3,13 @@ use mathlib.Core.Path.{_≡_, refl, sym, _∙_, ap}
 use mathlib.Core.Bool.{Bool, true, false, cond, _&&_}
 use mathlib.Core.Logic.{_⊎_, inl, inr, ⊎-elim}
 use mathlib.Core.List.{List, [], _∷_, List·Memᴰ, List·Memᴰ·head, List·Memᴰ·tail, List·Memᴰ·cases-cons, List·Memᴰ·not-nil}
-use Prim.Native.Nat.{ℕ, _+_, _≤_, _<_}
+use Prim.Native.Nat.{ℕ, zero, suc, _+_, _≤_, _<_}
 use native.Mathlib.Omega.{arith}
 use lib.Dec.{ltb, leb, eqb}
+use lib.ListN.{length, getD}
 use borrow.Author.Tests.{ltb-true, leb-true, eqb-true, lt-ltb, le-ltb, eq-eqb, le-leb, lt-leb}
 use Rattle.lists.proofs.Bools.{and-left, and-right, told, lt-or-le}
+use Rattle.words.specs.Rows.{removeAt}
 use Rattle.freelist_rules.specs.Pieces.{on, total, Rising}
 
 -- no test is both
@@ -118,3 +120,28 @@ module _ {A : Type 0} (lo hi : A → ℕ) (g : ℕ) where
       go (inl e) (inr f) ih = inr (inl (omega (arith, ap hi e, rising-low (g + hi d) xs (r .2) c f .0)))
       go (inr e) (inl f) ih = inr (inr (omega (arith, ap hi f, rising-low (g + hi d) xs (r .2) a e .0)))
       go (inr e) (inr f) ih = ih e f
+
+-- ---- one taken out of a list
+
+module _ {A : Type 0} where
+  pub at-in : (i : ℕ) (xs : List A) (d : A) → i < length xs → List·Memᴰ (getD xs i d) xs
+  at-in i [] d h = absurd (omega arith)
+  at-in zero (x ∷ xs) d h = List·Memᴰ·head refl
+  at-in (suc i) (x ∷ xs) d h = List·Memᴰ·tail (at-in i xs d (omega arith))
+
+  pub removed-in : (i : ℕ) (xs : List A) (a : A) → List·Memᴰ a (removeAt i xs) → List·Memᴰ a xs
+  removed-in zero [] a m = m
+  removed-in (suc i) [] a m = m
+  removed-in zero (x ∷ xs) a m = List·Memᴰ·tail m
+  removed-in (suc i) (x ∷ xs) a m = ⊎-elim (λ e. List·Memᴰ·head e) (λ k. List·Memᴰ·tail (removed-in i xs a k)) (List·Memᴰ·cases-cons m)
+
+  pub removed-total : (f : A → ℕ) (i : ℕ) (xs : List A) (d : A) → i < length xs → total f xs ≡ f (getD xs i d) + total f (removeAt i xs)
+  removed-total f i [] d h = absurd (omega arith)
+  removed-total f zero (x ∷ xs) d h = refl
+  removed-total f (suc i) (x ∷ xs) d h = omega (arith, removed-total f i xs d (omega arith))
+
+  pub removed-rise : (begin stop : A → ℕ) (g b i : ℕ) (xs : List A) → Rising begin stop g b xs → Rising begin stop g b (removeAt i xs)
+  removed-rise begin stop g b zero [] r = tt
+  removed-rise begin stop g b (suc i) [] r = tt
+  removed-rise begin stop g b zero (x ∷ xs) r = rising-mono begin stop g b (g + stop x) xs (omega (arith, r .0, r .1)) (r .2)
+  removed-rise begin stop g b (suc i) (x ∷ xs) r = (r .0, r .1, removed-rise begin stop g (g + stop x) i xs (r .2))

@@ -32,6 +32,21 @@ Small cs = All (λ (c : Chunk). c .size ≤ chunkSizeMost) cs
 abbrev pub ChunksRise : ℕ → List Chunk → Type 0
 ChunksRise q cs = Rising (λ (c : Chunk). c .number) (λ (c : Chunk). suc (c .number)) 0 q cs
 
+-- ---- pieces that share no byte lie apart
+
+pub apart-pieces : (b r : Region) → b .end ≤ chunkSizeMost → r .end ≤ chunkSizeMost → b .start < b .end → r .start < r .end → ((n x : ℕ) → 0 < has n x b → 0 < has n x r → ⊥) → (hi r ≤ lo b) ⊎ (hi b ≤ lo r)
+apart-pieces b r p q k m f = go (lt-or-le (lo b) (hi r)) (lt-or-le (lo r) (hi b)) (lt-or-le (b .start) (r .start))
+  where
+    go : (lo b < hi r) ⊎ (hi r ≤ lo b) → (lo r < hi b) ⊎ (hi b ≤ lo r) → (b .start < r .start) ⊎ (r .start ≤ b .start) → (hi r ≤ lo b) ⊎ (hi b ≤ lo r)
+    go (inr h) g w = inl h
+    go (inl h) (inr g) w = inr g
+    go (inl h) (inl g) (inl w) =
+        let c : b .chunk ≡ r .chunk = omega arith in
+        absurd (f (r .chunk) (r .start) (omega (arith, on-in (r .chunk) (r .start) (b .chunk) (b .start) (b .end) c (omega arith) (omega arith))) (omega (arith, on-in (r .chunk) (r .start) (r .chunk) (r .start) (r .end) refl (omega arith) m)))
+    go (inl h) (inl g) (inr w) =
+        let c : b .chunk ≡ r .chunk = omega arith in
+        absurd (f (r .chunk) (b .start) (omega (arith, on-in (r .chunk) (b .start) (b .chunk) (b .start) (b .end) c (omega arith) k)) (omega (arith, on-in (r .chunk) (b .start) (r .chunk) (r .start) (r .end) refl w (omega arith))))
+
 -- ---- sizes
 
 pub sized-low : (s : FreeListSettings) (z : ℕ) → Sized s z → z ≤ s .last

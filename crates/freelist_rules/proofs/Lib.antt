@@ -10,3 +10,10 @@ pub mod Search
 pub mod Joins
 pub mod Inserts
 pub mod Lines
+pub mod Lends
+pub mod Orders
+pub mod Delivers
+pub mod Returns
+pub mod Releases
+pub mod Keeps
+pub mod NeverAgain

@@ -6,3 +6,4 @@ pub mod Place
 pub mod Join
 pub mod Release
 pub mod Seek
+pub mod Steps

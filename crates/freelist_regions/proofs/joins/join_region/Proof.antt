@@ -27,11 +27,11 @@ touches-next-requires c κs = search needs
 region-at-requires : tie.Need-region-at-requires
 region-at-requires c κs = search needs
 
-sub-extend : tie.Need-sub-extend
-sub-extend c = ltb-true 0 _ (and-left _ _ (sym (c .before .before .before .before .before .before .before .touches-before .ensures) ∙ c .before .if2 .taken))
+sub-end-at : tie.Need-sub-end-at
+sub-end-at c = ltb-true 0 _ (and-left _ _ (sym (c .before .before .before .before .before .before .before .touches-before .ensures) ∙ c .before .if2 .taken))
 
-extend-requires : tie.Need-extend-requires
-extend-requires c κs = search needs
+end-at-requires : tie.Need-end-at-requires
+end-at-requires c κs = search needs
 
 close-row-requires : tie.Need-close-row-requires
 close-row-requires c κs = search needs
@@ -49,7 +49,7 @@ returns c =
     let o = p .before .before in
     let s = o .before .before .before in
     let a = s .args in
-    joined-both (a .t .now) (a .n) (o .spot .result) (a .b) (s .pre .0) (s .pre .1) (s .pre .2) (s .pre .3) (o .spot .ensures) _ _ (sym (p .touches-before .ensures) ∙ c .before .before .before .before .before .before .before .before .if2 .taken) (sym (q .touches-next .ensures) ∙ c .before .before .before .before .before .before .before .before .before .before .before .if1 .taken) (c .before .before .before .before .before .before .before .before .before .region-at .result) (c .before .before .before .before .before .before .before .before .before .region-at .ensures) (c .before .before .before .before .before .before .extend .ensures) (c .before .before .close-row .ensures)
+    joined-both (a .t .now) (a .n) (o .spot .result) (a .b) (s .pre .0) (s .pre .1) (s .pre .2) (s .pre .3) (o .spot .ensures) _ _ (sym (p .touches-before .ensures) ∙ c .before .before .before .before .before .before .before .before .if2 .taken) (sym (q .touches-next .ensures) ∙ c .before .before .before .before .before .before .before .before .before .before .before .if1 .taken) (c .before .before .before .before .before .before .before .before .before .region-at .result) (c .before .before .before .before .before .before .before .before .before .region-at .ensures) (c .before .before .before .before .before .before .end-at .ensures) (c .before .before .close-row .ensures)
 
 put-region-requires : tie.Need-put-region-requires
 put-region-requires c κs = search needs
@@ -66,11 +66,11 @@ returns-2 c =
     let a = s .args in
     joined-next (a .t .now) (a .n) (o .spot .result) (a .b) (s .pre .0) (s .pre .1) (s .pre .2) (s .pre .3) (o .spot .ensures) _ (sym (p .touches-before .ensures) ∙ c .before .before .before .before .if2 .left) (sym (q .touches-next .ensures) ∙ c .before .before .before .before .before .before .before .if1 .taken) (c .before .before .before .before .before .region-at .result) (c .before .before .before .before .before .region-at .ensures) (c .before .before .put-region .ensures)
 
-sub-extend-2 : tie.Need-sub-extend-2
-sub-extend-2 c = ltb-true 0 _ (and-left _ _ (sym (c .before .before .before .before .before .touches-before .ensures) ∙ c .before .if3 .taken))
+sub-end-at-2 : tie.Need-sub-end-at-2
+sub-end-at-2 c = ltb-true 0 _ (and-left _ _ (sym (c .before .before .before .before .before .touches-before .ensures) ∙ c .before .if3 .taken))
 
-extend-requires-2 : tie.Need-extend-requires-2
-extend-requires-2 c κs = search needs
+end-at-requires-2 : tie.Need-end-at-requires-2
+end-at-requires-2 c κs = search needs
 
 same-length-3 : tie.Need-same-length-3
 same-length-3 c = search needs
@@ -82,7 +82,7 @@ returns-3 c =
     let o = p .before .before in
     let s = o .before .before .before in
     let a = s .args in
-    joined-before (a .t .now) (a .n) (o .spot .result) (a .b) (s .pre .0) (s .pre .1) (s .pre .2) (s .pre .3) (o .spot .ensures) _ (sym (p .touches-before .ensures) ∙ c .before .before .before .before .if3 .taken) (sym (q .touches-next .ensures) ∙ c .before .before .before .before .before .if1 .left) (c .before .before .extend2 .ensures)
+    joined-before (a .t .now) (a .n) (o .spot .result) (a .b) (s .pre .0) (s .pre .1) (s .pre .2) (s .pre .3) (o .spot .ensures) _ (sym (p .touches-before .ensures) ∙ c .before .before .before .before .if3 .taken) (sym (q .touches-next .ensures) ∙ c .before .before .before .before .before .if1 .left) (c .before .before .end-at2 .ensures)
 
 open-row-requires : tie.Need-open-row-requires
 open-row-requires c κs = search needs
@@ -108,4 +108,4 @@ returns-4 c =
 pub join-region-spec : {M : Type 1} → statement M
 join-region-spec =
     tie.close
-    (tie.spec spot-requires touches-before-requires touches-next-requires region-at-requires sub-extend extend-requires close-row-requires sub-result same-length returns put-region-requires same-length-2 returns-2 sub-extend-2 extend-requires-2 same-length-3 returns-3 open-row-requires put-region-requires-2 add-result same-length-4 returns-4)
+    (tie.spec spot-requires touches-before-requires touches-next-requires region-at-requires sub-end-at end-at-requires close-row-requires sub-result same-length returns put-region-requires same-length-2 returns-2 sub-end-at-2 end-at-requires-2 same-length-3 returns-3 open-row-requires put-region-requires-2 add-result same-length-4 returns-4)

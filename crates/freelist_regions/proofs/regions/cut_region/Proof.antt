@@ -6,8 +6,8 @@ use Rattle.freelist_regions.proofs.regions.cut_region.Tie as tie
 region-at-requires : tie.Need-region-at-requires
 region-at-requires c κs = search needs
 
-put-region-requires : tie.Need-put-region-requires
-put-region-requires c κs = search needs
+end-at-requires : tie.Need-end-at-requires
+end-at-requires c κs = search needs
 
 close-row-requires : tie.Need-close-row-requires
 close-row-requires c κs = search needs
@@ -22,7 +22,7 @@ returns : tie.Need-returns
 returns c =
     let b = c .before .before .before .before .before .before in
     let a = b .before .before .before .args in
-    cut-short (a .t .now) (a .n) (a .i) (a .place) (search needs) (search needs) (b .region-at .result) (b .region-at .ensures) _ (c .before .before .before .before .if1 .taken) (c .before .before .put-region .ensures)
+    cut-short (a .t .now) (a .n) (a .i) (a .place) (search needs) (search needs) (b .region-at .result) (b .region-at .ensures) _ (c .before .before .before .before .if1 .taken) (c .before .before .end-at .ensures)
 
 same-length-2 : tie.Need-same-length-2
 same-length-2 c = search needs
@@ -38,7 +38,7 @@ cut-region-spec =
     tie.close
     (tie.spec
     region-at-requires
-    put-region-requires
+    end-at-requires
     close-row-requires
     sub-result
     same-length

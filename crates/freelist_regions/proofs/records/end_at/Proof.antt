@@ -3,9 +3,9 @@ use mathlib.Core.Path.{sym, ap, _∙_}
 use Rattle.words.specs.Rows.{written}
 use Rattle.freelist_rules.specs.Records.{region, regionRow}
 use Rattle.freelist_rules.specs.declared.Region.{Region}
-use Rattle.freelist_regions.specs.Joined.{extended}
-use Rattle.freelist_regions.proofs.joins.extend.Statement.{statement}
-use Rattle.freelist_regions.proofs.joins.extend.Tie as tie
+use Rattle.freelist_regions.specs.Ended.{endedAt}
+use Rattle.freelist_regions.proofs.records.end_at.Statement.{statement}
+use Rattle.freelist_regions.proofs.records.end_at.Tie as tie
 
 region-at-requires : tie.Need-region-at-requires
 region-at-requires c κs = search needs
@@ -17,13 +17,13 @@ same-length : tie.Need-same-length
 same-length c = search needs
 
 returns : tie.Need-returns
-unfolding extended
+unfolding endedAt
 returns c =
     let r = c .before .before .before .before in
     let a = r .before .before .before .args in
     c .before .before .put-region .ensures ∙ ap (λ (d : Region). written regionRow (a .i) (region (d .chunk) (d .start) (a .place)) (a .t .now)) (r .region-at .ensures)
 
-pub extend-spec : {M : Type 1} → statement M
-extend-spec =
+pub end-at-spec : {M : Type 1} → statement M
+end-at-spec =
     tie.close
     (tie.spec region-at-requires put-region-requires same-length returns)

@@ -1,9 +1,0 @@
--- A region made longer. Assumes nothing: these are definitions.
-use mathlib.Core.List.{List}
-use Prim.Native.Nat.{ℕ}
-use Rattle.words.specs.Rows.{row, written}
-use Rattle.freelist_rules.specs.Records.{region, regionRow}
-
--- the table with region i ending at x
-unfoldable pub extended : ℕ → ℕ → List ℕ → List ℕ
-extended i x t = written regionRow i (region (row regionRow i t .chunk) (row regionRow i t .start) x) t
