@@ -15,5 +15,9 @@ pub mod Orders
 pub mod Delivers
 pub mod Returns
 pub mod Releases
+pub mod Giving
+pub mod Settling
+pub mod Swaps
+pub mod AnyOrder
 pub mod Keeps
 pub mod NeverAgain

@@ -61,7 +61,7 @@ module _ {A : Type 0} where
 
 -- ---- what the tests say
 
-covers-yes : (r : Region) (c : Chunk) → covers r c ≡ true → (r .chunk ≡ c .number) × (r .start ≡ 0) × (r .end ≡ c .size)
+pub covers-yes : (r : Region) (c : Chunk) → covers r c ≡ true → (r .chunk ≡ c .number) × (r .start ≡ 0) × (r .end ≡ c .size)
 covers-yes r c e =
     let k = and-right (eqb (r .chunk) (c .number)) (eqb (r .start) 0 && eqb (r .end) (c .size)) e in (
       eqb-true (r .chunk) (c .number) (and-left (eqb (r .chunk) (c .number)) (eqb (r .start) 0 && eqb (r .end) (c .size)) e),
@@ -69,7 +69,7 @@ covers-yes r c e =
       eqb-true (r .end) (c .size) (and-right (eqb (r .start) 0) (eqb (r .end) (c .size)) k),
     )
 
-yes-covers : (r : Region) (c : Chunk) → r .chunk ≡ c .number → r .start ≡ 0 → r .end ≡ c .size → covers r c ≡ true
+pub yes-covers : (r : Region) (c : Chunk) → r .chunk ≡ c .number → r .start ≡ 0 → r .end ≡ c .size → covers r c ≡ true
 yes-covers r c p q e = rw (eq-eqb (r .chunk) (c .number) p, eq-eqb (r .start) 0 q, eq-eqb (r .end) (c .size) e)
 
 wholly-where : (cs : List Chunk) (r : Region) → wholly cs r ≡ true → (c : Chunk) × List·Memᴰ c cs × (covers r c ≡ true)
@@ -80,7 +80,7 @@ wholly-where (c ∷ cs) r e = go (wholly-where cs r) (or-cases (covers r c) (who
     go ih (inl h) = (c, List·Memᴰ·head refl, h)
     go ih (inr h) = let w = ih h in (w .0, List·Memᴰ·tail (w .1), w .2)
 
-where-wholly : (cs : List Chunk) (r : Region) (c : Chunk) → List·Memᴰ c cs → covers r c ≡ true → wholly cs r ≡ true
+pub where-wholly : (cs : List Chunk) (r : Region) (c : Chunk) → List·Memᴰ c cs → covers r c ≡ true → wholly cs r ≡ true
 where-wholly [] r c m e = absurd (List·Memᴰ·not-nil m)
 where-wholly (d ∷ cs) r c m e = go (where-wholly cs r c) (List·Memᴰ·cases-cons m)
   where

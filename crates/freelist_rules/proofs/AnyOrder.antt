@@ -1,0 +1,136 @@
+-- Blocks on loan may be returned in any order, to the same end. Assumes nothing.
+use mathlib.Core.Path.{_≡_, refl, sym, _∙_, ap}
+use mathlib.Core.Bool.{true, false, cond}
+use mathlib.Core.Logic.{_⊎_, inl, inr, ⊎-elim}
+use mathlib.Core.List.{List, [], _∷_, map, List·Memᴰ, List·Memᴰ·head, List·Memᴰ·tail, List·Memᴰ·cases-cons, List·Memᴰ·not-nil, Memᴰ·cast, List·Permᴰ, List·Permᴰ·nil, List·Permᴰ·cons, List·Permᴰ·swap, List·Permᴰ·trans}
+use Prim.Native.Nat.{ℕ, _+_}
+use lib.ListN.{getD}
+use borrow.Author.Tests.{eq-eqb}
+use Rattle.counter.specs.InTable.{FreeListIn}
+use Rattle.counter.specs.declared.answers.Block.{Block}
+use Rattle.counter.specs.declared.settings.FreeListSettings.{FreeListSettings}
+use Rattle.lists.specs.Members.{NotIn, Distinct}
+use Rattle.lists.proofs.Bools.{and-both, told}
+use Rattle.store_rules.specs.declared.Loan.{Loan}
+use Rattle.freelist_rules.specs.Records.{Store}
+use Rattle.freelist_rules.specs.Pieces.{All}
+use Rattle.freelist_rules.specs.Sound.{Sound}
+use Rattle.freelist_rules.specs.Place.{at}
+use Rattle.freelist_rules.specs.Seek.{sameLoan, seekFrom, seek}
+use Rattle.freelist_rules.specs.Steps.{noLoan, released, takenBack, returned, returnedAll}
+use Rattle.freelist_rules.proofs.Search.{same-loan, seek-is}
+use Rattle.freelist_rules.proofs.Base.{at-in}
+use Rattle.freelist_rules.proofs.Giving.{give, given-back-is}
+use Rattle.freelist_rules.proofs.Swaps.{settled, settled-sound, settled-swap, still}
+
+-- ---- a block's return
+
+-- a block as it stands among the loans
+abbrev pub loanOf : Block → Loan
+loanOf b = record { serial = b .serial; chunk = b .chunk; offset = b .offset; size = b .size }
+
+loan-is : (b : Block) (l : Loan) → sameLoan b l ≡ true → l ≡ loanOf b
+loan-is b l e =
+    let w = same-loan b l e in
+    (λ i. record { serial = w .0 i; chunk = w .1 i; offset = w .2 i; size = w .3 i })
+
+same-self : (b : Block) → sameLoan b (loanOf b) ≡ true
+same-self b = and-both _ _ (eq-eqb (b .serial) (b .serial) refl) (and-both _ _ (eq-eqb (b .chunk) (b .chunk) refl) (and-both _ _ (eq-eqb (b .offset) (b .offset) refl) (eq-eqb (b .size) (b .size) refl)))
+
+seek-mem : (b : Block) (i : ℕ) (ls : List Loan) → seek b ls ≡ at i → List·Memᴰ (loanOf b) ls
+seek-mem b i ls e = let w = seek-is b i ls noLoan e in Memᴰ·cast (sym (loan-is b (getD ls i noLoan) (w .1))) (at-in i ls noLoan (w .0))
+
+mem-seek : (b : Block) (j : ℕ) (ls : List Loan) → List·Memᴰ (loanOf b) ls → (i : ℕ) × (seekFrom b j ls ≡ at i)
+unfolding seekFrom
+mem-seek b j [] m = absurd (List·Memᴰ·not-nil m)
+mem-seek b j (l ∷ ls) m = go (told (sameLoan b l)) (List·Memᴰ·cases-cons m) (mem-seek b (j + 1) ls)
+  where
+    go : (sameLoan b l ≡ true) ⊎ (sameLoan b l ≡ false) → (loanOf b ≡ l) ⊎ List·Memᴰ (loanOf b) ls → (List·Memᴰ (loanOf b) ls → (i : ℕ) × (seekFrom b (j + 1) ls ≡ at i)) → (i : ℕ) × (cond (sameLoan b l) (at j) (seekFrom b (j + 1) ls) ≡ at i)
+    go (inl e) k ih = (j, rw e)
+    go (inr e) (inl k) ih = let z : sameLoan b l ≡ true = sym (ap (sameLoan b) k) ∙ same-self b in (j, rw z)
+    go (inr e) (inr k) ih = let w = ih k in (w .0, rw e (w .1))
+
+-- all are on loan
+abbrev pub OnLoan : List Block → Store → Type 0
+OnLoan bs t = All (λ (b : Block). List·Memᴰ (loanOf b) (t .loans)) bs
+
+module _ (s : FreeListSettings) (fit : FreeListIn s) where
+  -- bridges the index that a search finds and the loan that it stands for
+  pub returned-is : (b : Block) (t : Store) → Sound s t → List·Memᴰ (loanOf b) (t .loans) → returned b t ≡ settled (loanOf b) t
+  returned-is b t sound m =
+      let w = mem-seek b 0 (t .loans) m in
+      let k = seek-is b (w .0) (t .loans) noLoan (w .1) in
+      ap (takenBack t) (w .1)
+      ∙ ap (released true) (given-back-is s t fit sound (w .0) (k .0) ∙ ap (λ (d : Loan). give d t) (loan-is b (getD (t .loans) (w .0) noLoan) (k .1)))
+
+-- ---- orders
+
+perm-mem : {xs ys : List Block} (a : Block) → List·Permᴰ xs ys → List·Memᴰ a ys → List·Memᴰ a xs
+perm-mem a List·Permᴰ·nil m = m
+perm-mem a (List·Permᴰ·cons e p) m = ⊎-elim (λ h. List·Memᴰ·head (h ∙ sym e)) (λ h. List·Memᴰ·tail (perm-mem a p h)) (List·Memᴰ·cases-cons m)
+perm-mem a (List·Permᴰ·swap e f) m =
+    ⊎-elim (λ h. List·Memᴰ·tail (List·Memᴰ·head (h ∙ sym f))) (λ h. ⊎-elim (λ g. List·Memᴰ·head (g ∙ sym e)) (λ g. List·Memᴰ·tail (List·Memᴰ·tail g)) (List·Memᴰ·cases-cons h)) (List·Memᴰ·cases-cons m)
+perm-mem a (List·Permᴰ·trans p q) m = perm-mem a p (perm-mem a q m)
+
+-- no two have one serial, and none has k
+abbrev Apart : List Block → Type 0
+Apart bs = Distinct (map (λ (b : Block). b .serial) bs)
+
+abbrev Other : ℕ → List Block → Type 0
+Other k bs = NotIn k (map (λ (b : Block). b .serial) bs)
+
+perm-other : {xs ys : List Block} (k : ℕ) → List·Permᴰ xs ys → Other k xs → Other k ys
+perm-other k List·Permᴰ·nil h = h
+perm-other k (List·Permᴰ·cons e p) h = ((λ q. h .0 (q ∙ ap (λ (b : Block). b .serial) (sym e))), perm-other k p (h .1))
+perm-other k (List·Permᴰ·swap e f) h = ((λ q. h .1 .0 (q ∙ ap (λ (b : Block). b .serial) (sym f))), ((λ q. h .0 (q ∙ ap (λ (b : Block). b .serial) (sym e))), h .1 .1))
+perm-other k (List·Permᴰ·trans p q) h = perm-other k q (perm-other k p h)
+
+perm-apart : {xs ys : List Block} → List·Permᴰ xs ys → Apart xs → Apart ys
+perm-apart List·Permᴰ·nil h = h
+perm-apart (List·Permᴰ·cons {b = b} {l₂ = l₂} e p) h =
+    let z = ap (λ (b : Block). b .serial) e in
+    let w : Other (b .serial) l₂ = rw (← z) (perm-other _ p (h .0)) in
+    (w, perm-apart p (h .1))
+perm-apart (List·Permᴰ·swap e f) h = rw (← e, ← f) (((λ q. h .0 .0 (sym q)), h .1 .0), (h .0 .1, h .1 .1))
+perm-apart (List·Permᴰ·trans p q) h = perm-apart q (perm-apart p h)
+
+-- a block among those that have another serial has another serial
+other-not : (k : ℕ) (bs : List Block) (b : Block) → Other k bs → List·Memᴰ b bs → b .serial ≡ k → ⊥
+other-not k [] b h m e = List·Memᴰ·not-nil m
+other-not k (c ∷ bs) b h m e = ⊎-elim (λ q. h .0 (sym e ∙ ap (λ (b : Block). b .serial) q)) (λ q. other-not k bs b (h .1) q e) (List·Memᴰ·cases-cons m)
+
+-- those left are still on loan after one has come back
+left-on-loan : (b : Block) (bs : List Block) (t : Store) → Apart (b ∷ bs) → OnLoan (b ∷ bs) t → OnLoan bs (settled (loanOf b) t)
+left-on-loan b bs t a o d m = still (loanOf b) (loanOf d) t (o d (List·Memᴰ·tail m)) (other-not (b .serial) bs d (a .0) m)
+
+module _ (s : FreeListSettings) (fit : FreeListIn s) where
+  returned-two : (t : Store) → Sound s t → (b c : Block) → List·Memᴰ (loanOf b) (t .loans) → List·Memᴰ (loanOf c) (t .loans) → (c .serial ≡ b .serial → ⊥) → returned c (returned b t) ≡ settled (loanOf c) (settled (loanOf b) t)
+  returned-two t h b c m k n =
+      ap (returned c) (returned-is s fit b t h m)
+      ∙ returned-is s fit c (settled (loanOf b) t) (settled-sound s t fit h (loanOf b) m) (still (loanOf b) (loanOf c) t k n)
+
+  same-end : {bs cs : List Block} (t : Store) → Sound s t → Apart bs → OnLoan bs t → List·Permᴰ bs cs → returnedAll bs t ≡ returnedAll cs t
+  same-end t h a o List·Permᴰ·nil = refl
+  same-end t h a o (List·Permᴰ·cons {a = b} {b = c} {l₁ = bs} {l₂ = cs} e p) =
+      let m = o b (List·Memᴰ·head refl) in
+      let f = returned-is s fit b t h m in
+      ap (returnedAll bs) f
+      ∙ same-end (settled (loanOf b) t) (settled-sound s t fit h (loanOf b) m) (a .1) (left-on-loan b bs t a o) p
+      ∙ ap (returnedAll cs) (sym f)
+      ∙ ap (λ (d : Block). returnedAll cs (returned d t)) e
+  same-end t h a o (List·Permᴰ·swap {a = b} {b = c} {a′ = a′} {l = l} e f) =
+      let m = o b (List·Memᴰ·head refl) in
+      let k = o c (List·Memᴰ·tail (List·Memᴰ·head refl)) in
+      let n : c .serial ≡ b .serial → ⊥ = λ q. a .0 .0 (sym q) in
+      ap (returnedAll l) (returned-two t h b c m k n ∙ settled-swap s t fit h (loanOf b) (loanOf c) m k n ∙ sym (returned-two t h c b k m (λ q. n (sym q))))
+      ∙ ap (λ (x : Block). returnedAll l (returned b (returned x t))) f
+      ∙ ap (λ (x : Block). returnedAll l (returned x (returned a′ t))) e
+  same-end t h a o (List·Permᴰ·trans p q) = same-end t h a o p ∙ same-end t h (perm-apart p a) (λ d m. o d (perm-mem d p m)) q
+
+module _ (s : FreeListSettings) (fit : FreeListIn s) (t : Store) (sound : Sound s t) (bs cs : List Block)
+    (apart : Distinct (map (λ (b : Block). b .serial) bs))
+    (lent : (b : Block) → List·Memᴰ b bs → (i : ℕ) × (seek b (t .loans) ≡ at i))
+    (p : List·Permᴰ bs cs) where
+  -- the same store, whatever the order
+  pub any-order : returnedAll bs t ≡ returnedAll cs t
+  any-order = same-end s fit t sound apart (λ b m. let w = lent b m in seek-mem b (w .0) (t .loans) (w .1)) p
