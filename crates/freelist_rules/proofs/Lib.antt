@@ -19,5 +19,6 @@ pub mod Giving
 pub mod Settling
 pub mod Swaps
 pub mod AnyOrder
+pub mod GivesBack
 pub mod Keeps
 pub mod NeverAgain

@@ -72,7 +72,7 @@ covers-yes r c e =
 pub yes-covers : (r : Region) (c : Chunk) → r .chunk ≡ c .number → r .start ≡ 0 → r .end ≡ c .size → covers r c ≡ true
 yes-covers r c p q e = rw (eq-eqb (r .chunk) (c .number) p, eq-eqb (r .start) 0 q, eq-eqb (r .end) (c .size) e)
 
-wholly-where : (cs : List Chunk) (r : Region) → wholly cs r ≡ true → (c : Chunk) × List·Memᴰ c cs × (covers r c ≡ true)
+pub wholly-where : (cs : List Chunk) (r : Region) → wholly cs r ≡ true → (c : Chunk) × List·Memᴰ c cs × (covers r c ≡ true)
 wholly-where [] r e = absurd (true-false false e refl)
 wholly-where (c ∷ cs) r e = go (wholly-where cs r) (or-cases (covers r c) (wholly cs r) e)
   where
@@ -88,7 +88,7 @@ where-wholly (d ∷ cs) r c m e = go (where-wholly cs r c) (List·Memᴰ·cases-
     go ih (inl h) = or-left (covers r d) (wholly cs r) (sym (ap (covers r) h) ∙ e)
     go ih (inr k) = or-right (covers r d) (wholly cs r) (ih k e)
 
-left-where : (rs : List Region) (c : Chunk) → left rs c ≡ true → (r : Region) × List·Memᴰ r rs × (covers r c ≡ true)
+pub left-where : (rs : List Region) (c : Chunk) → left rs c ≡ true → (r : Region) × List·Memᴰ r rs × (covers r c ≡ true)
 left-where [] c e = absurd (true-false false e refl)
 left-where (r ∷ rs) c e = go (left-where rs c) (or-cases (covers r c) (left rs c) e)
   where
@@ -96,7 +96,7 @@ left-where (r ∷ rs) c e = go (left-where rs c) (or-cases (covers r c) (left rs
     go ih (inl h) = (r, List·Memᴰ·head refl, h)
     go ih (inr h) = let w = ih h in (w .0, List·Memᴰ·tail (w .1), w .2)
 
-where-left : (rs : List Region) (c : Chunk) (r : Region) → List·Memᴰ r rs → covers r c ≡ true → left rs c ≡ true
+pub where-left : (rs : List Region) (c : Chunk) (r : Region) → List·Memᴰ r rs → covers r c ≡ true → left rs c ≡ true
 where-left [] c r m e = absurd (List·Memᴰ·not-nil m)
 where-left (d ∷ rs) c r m e = go (where-left rs c r) (List·Memᴰ·cases-cons m)
   where
@@ -115,12 +115,12 @@ abbrev pub Last : Region → List Region → Type 0
 Last r rs = (before : List Region) × (rs ≡ before ++ (r ∷ []))
 
 -- those that go, as they stand
-unfoldable going : List Chunk → Bool → List Region → List Region
+unfoldable pub going : List Chunk → Bool → List Region → List Region
 going cs spare [] = []
 going cs spare (r ∷ rs) = cond (goes cs spare r rs) (r ∷ going cs spare rs) (going cs spare rs)
 
 module _ (cs : List Chunk) (spare : Bool) where
-  going-in : (a : Region) (rs : List Region) → List·Memᴰ a (going cs spare rs) → List·Memᴰ a rs × (wholly cs a ≡ true)
+  pub going-in : (a : Region) (rs : List Region) → List·Memᴰ a (going cs spare rs) → List·Memᴰ a rs × (wholly cs a ≡ true)
   unfolding going
   going-in a [] m = absurd (List·Memᴰ·not-nil m)
   going-in a (r ∷ rs) m = go (going-in a rs) (taken-in (goes cs spare r rs) a r (going cs spare rs) m)
@@ -169,7 +169,7 @@ module _ (cs : List Chunk) (spare : Bool) where
   staying-rise lo hi g p (r ∷ rs) h = left-rise lo hi g p (goes cs spare r rs) r (staying cs spare rs) (h .0) (h .1) (staying-rise lo hi g (g + hi r) rs (h .2))
 
   -- the walk lists those marked before it and those that go, in some order
-  leaving-in : (a : Region) (marked rs : List Region) → List·Memᴰ a (leaving cs spare marked rs) → List·Memᴰ a marked ⊎ List·Memᴰ a (going cs spare rs)
+  pub leaving-in : (a : Region) (marked rs : List Region) → List·Memᴰ a (leaving cs spare marked rs) → List·Memᴰ a marked ⊎ List·Memᴰ a (going cs spare rs)
   unfolding leaving going
   leaving-in a marked [] m = inl m
   leaving-in a marked (r ∷ rs) m = go (goes cs spare r rs) (leaving-in a (marked ++ (r ∷ [])) rs) (leaving-in a (rotated marked) rs) m
@@ -181,7 +181,7 @@ module _ (cs : List Chunk) (spare : Bool) where
           ⊎-elim (λ h. ⊎-elim (λ q. inl q) (λ q. inr (List·Memᴰ·head (List·Memᴰ·eq-of-singleton q))) (List·Memᴰ·append-cases marked h)) (λ h. inr (List·Memᴰ·tail h)) (f k)
       go false f g k = ⊎-elim (λ h. inl (rotated-in a marked h)) (λ h. inr h) (g k)
 
-  in-leaving : (a : Region) (marked rs : List Region) → List·Memᴰ a marked ⊎ List·Memᴰ a (going cs spare rs) → List·Memᴰ a (leaving cs spare marked rs)
+  pub in-leaving : (a : Region) (marked rs : List Region) → List·Memᴰ a marked ⊎ List·Memᴰ a (going cs spare rs) → List·Memᴰ a (leaving cs spare marked rs)
   unfolding leaving going
   in-leaving a marked [] h = ⊎-elim (λ k. k) (λ k. absurd (List·Memᴰ·not-nil k)) h
   in-leaving a marked (r ∷ rs) h = go (goes cs spare r rs) (in-leaving a (marked ++ (r ∷ [])) rs) (in-leaving a (rotated marked) rs) h
@@ -214,12 +214,12 @@ before-last p a r (d ∷ before) h m =
 -- ---- the chunks that remain, and those that do not
 
 -- those that do not, as they stand
-unfoldable removed : List Region → List Chunk → List Chunk
+unfoldable pub removed : List Region → List Chunk → List Chunk
 removed gone [] = []
 removed gone (c ∷ cs) = cond (left gone c) (c ∷ removed gone cs) (removed gone cs)
 
 module _ (gone : List Region) where
-  remaining-in : (a : Chunk) (cs : List Chunk) → List·Memᴰ a (remaining gone cs) → List·Memᴰ a cs × (left gone a ≡ false)
+  pub remaining-in : (a : Chunk) (cs : List Chunk) → List·Memᴰ a (remaining gone cs) → List·Memᴰ a cs × (left gone a ≡ false)
   unfolding remaining
   remaining-in a [] m = absurd (List·Memᴰ·not-nil m)
   remaining-in a (c ∷ cs) m = go (remaining-in a cs) (left-in (left gone c) a c (remaining gone cs) m)
@@ -228,13 +228,13 @@ module _ (gone : List Region) where
       go ih (inl h) = (List·Memᴰ·head (h .0), ap (left gone) (h .0) ∙ h .1)
       go ih (inr k) = let w = ih k in (List·Memᴰ·tail (w .0), w .1)
 
-  in-remaining : (a : Chunk) (cs : List Chunk) → List·Memᴰ a cs → left gone a ≡ false → List·Memᴰ a (remaining gone cs)
+  pub in-remaining : (a : Chunk) (cs : List Chunk) → List·Memᴰ a cs → left gone a ≡ false → List·Memᴰ a (remaining gone cs)
   unfolding remaining
   in-remaining a [] m e = m
   in-remaining a (c ∷ cs) m e =
       in-left (left gone c) a c (remaining gone cs) (⊎-elim (λ h. inl (h, sym (ap (left gone) h) ∙ e)) (λ k. inr (in-remaining a cs k e)) (List·Memᴰ·cases-cons m))
 
-  removed-in : (a : Chunk) (cs : List Chunk) → List·Memᴰ a (removed gone cs) → left gone a ≡ true
+  pub removed-in : (a : Chunk) (cs : List Chunk) → List·Memᴰ a (removed gone cs) → left gone a ≡ true
   unfolding removed
   removed-in a [] m = absurd (List·Memᴰ·not-nil m)
   removed-in a (c ∷ cs) m = go (removed-in a cs) (taken-in (left gone c) a c (removed gone cs) m)
@@ -243,13 +243,13 @@ module _ (gone : List Region) where
       go ih (inl h) = ap (left gone) (h .0) ∙ h .1
       go ih (inr k) = ih k
 
-  in-removed : (a : Chunk) (cs : List Chunk) → List·Memᴰ a cs → left gone a ≡ true → List·Memᴰ a (removed gone cs)
+  pub in-removed : (a : Chunk) (cs : List Chunk) → List·Memᴰ a cs → left gone a ≡ true → List·Memᴰ a (removed gone cs)
   unfolding removed
   in-removed a [] m e = m
   in-removed a (c ∷ cs) m e =
       in-taken (left gone c) a c (removed gone cs) (⊎-elim (λ h. inl (h, sym (ap (left gone) h) ∙ e)) (λ k. inr (in-removed a cs k e)) (List·Memᴰ·cases-cons m))
 
-  remaining-total : (f : Chunk → ℕ) (cs : List Chunk) → total f cs ≡ total f (remaining gone cs) + total f (removed gone cs)
+  pub remaining-total : (f : Chunk → ℕ) (cs : List Chunk) → total f cs ≡ total f (remaining gone cs) + total f (removed gone cs)
   unfolding remaining removed
   remaining-total f [] = refl
   remaining-total f (c ∷ cs) = split-total f (left gone c) c (remaining gone cs) (removed gone cs) cs (remaining-total f cs)
