@@ -1,5 +1,5 @@
 -- Blocks on loan may be returned in any order, to the same end. Assumes nothing.
-use mathlib.Core.Path.{_≡_, refl, sym, _∙_, ap}
+use mathlib.Core.Path.{_≡_, refl, sym, _∙_, ap, subst}
 use mathlib.Core.Bool.{true, false, cond}
 use mathlib.Core.Logic.{_⊎_, inl, inr, ⊎-elim}
 use mathlib.Core.List.{List, [], _∷_, map, List·Memᴰ, List·Memᴰ·head, List·Memᴰ·tail, List·Memᴰ·cases-cons, List·Memᴰ·not-nil, Memᴰ·cast, List·Permᴰ, List·Permᴰ·nil, List·Permᴰ·cons, List·Permᴰ·swap, List·Permᴰ·trans}
@@ -134,3 +134,10 @@ module _ (s : FreeListSettings) (fit : FreeListIn s) (t : Store) (sound : Sound 
   -- the same store, whatever the order
   pub any-order : returnedAll bs t ≡ returnedAll cs t
   any-order = same-end s fit t sound apart (λ b m. let w = lent b m in seek-mem b (w .0) (t .loans) (w .1)) p
+
+-- none of different blocks on loan is refused: after one has come back the others are still found
+pub still-lent : (s : FreeListSettings) → FreeListIn s → (t : Store) → Sound s t → (b c : Block) (i j : ℕ) → seek b (t .loans) ≡ at i → seek c (t .loans) ≡ at j → (c .serial ≡ b .serial → ⊥) → (k : ℕ) × (seek c (returned b t .loans) ≡ at k)
+still-lent s fit t sound b c i j p q n =
+    let m = seek-mem b i (t .loans) p in
+    let e = returned-is s fit b t sound m in
+    mem-seek c 0 (returned b t .loans) (subst (λ (v : Store). List·Memᴰ (loanOf c) (v .loans)) (sym e) (still (loanOf b) (loanOf c) t (seek-mem c j (t .loans) q) n))
