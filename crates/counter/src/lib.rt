@@ -13,6 +13,7 @@ pub use account::KeptOrder;
 pub use account::OpenOrder;
 pub use account::Order;
 pub use account::Total;
+pub use account::heaps_in_table;
 pub use answers::AskAnswer;
 pub use answers::Asked;
 pub use answers::Block;

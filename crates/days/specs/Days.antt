@@ -1,32 +1,61 @@
 -- The worked days of 01 that are marked * : what the definitions give beside what the paper says, as one checked table.
 -- Assumes nothing.
 use mathlib.Core.Path.{_≡_, refl}
+use mathlib.Core.Bool.{false}
 use mathlib.Core.List.{List, [], _∷_, _++_, map}
-use mathlib.Core.Bool.{cond}
 use Prim.Native.Nat.{ℕ}
-use lib.Dec.{eqb}
-use lib.ListN.{take}
+use lib.ListN.{take, replicate}
+use Rattle.rounding.specs.Masks.{onesOk, powerOk}
 use Rattle.rounding.specs.Raising.{upTo, downTo, bits, powerUp}
 use Rattle.rounding.specs.Growth.{ceilDiv, grown, doubled}
+use Rattle.counter.specs.Account.{noHeap}
+use Rattle.counter.specs.Paper as Paper
+use Rattle.counter.specs.Table.{alignmentOk, storeOk, freeListOk, heapsUpto}
+use Rattle.counter.specs.declared.account.Account.{Account}
+use Rattle.counter.specs.declared.account.OpenOrder.{OpenOrder}
+use Rattle.counter.specs.declared.account.OpenOrder.the-variants.{Nothing, Kept}
+use Rattle.counter.specs.declared.answers.Mapping.the-variants as M
+use Rattle.counter.specs.declared.answers.Outcome.{Outcome}
+use Rattle.counter.specs.declared.answers.Outcome.the-variants as O
 use Rattle.counter.specs.declared.settings.FreeListSettings.{FreeListSettings}
-use Rattle.store_rules.specs.declared.Loan.{Loan}
-use Rattle.freelist_rules.specs.Records.{Store}
-use Rattle.freelist_rules.specs.Place.{Found, nowhere, at, sizeFor, maskFor, fitsIn, findFrom, find, cutOff}
+use Rattle.heap.specs.Heap.{plusOf, chargedOf, releasedOf, bearsOk, agreesOk}
+use Rattle.slab.specs.Slab.{nowhere, inserted}
+use Rattle.slab.specs.Test.{vacancies, leads, partedOk}
+use Rattle.store_rules.specs.Delivery.{deliveryOk}
+use Rattle.store_rules.specs.Loans.{loansOf}
+use Rattle.store_rules.specs.Outcomes.{Out, out, Listed, listed, chargedAccount, releasedAccount}
+use Rattle.store_rules.specs.Tests.{coversOk}
+use Rattle.book.specs.Book.{entered, enteredIndex, seekIn, wordTo, struck, struckIndex}
+use Rattle.book.specs.Chains.{linkOk, leftAfter, leftOf, chainsOk}
+use Rattle.freelist_rules.specs.Walk.{fillsOk, sizedOk, chunkOk, loanOk}
+use Rattle.freelist_rules.specs.Place.{fitsIn, findFrom, cutOff}
 use Rattle.freelist_rules.specs.Join.{insert}
 use Rattle.freelist_rules.specs.Release.{staying, leaving, remaining}
-use Rattle.freelist_rules.specs.Seek.{seekFrom}
-use Rattle.freelist_rules.specs.Steps.{fresh, lent, raised, delivered, returned}
-use Rattle.freelist_rules.specs.declared.Chunk.{Chunk}
+use Rattle.freelist_rules.specs.Tables.{Tables, tables, mark, lengthsOk, ordered, storeOf, soundOk, laidRegions}
+use Rattle.freelist_outcomes.specs.Gate.{lentOk, accountOk, gateOf}
+use Rattle.freelist_outcomes.specs.Ask.{sizeOk, roomOk, countOk, objectsOk, decideAsk, takenTables, orderedTables, carryAsk, planAsk, askOf}
+use Rattle.freelist_outcomes.specs.Deliver.{deliverGateOf, deliveredTables, carryFate, planDeliver, carryDeliver, deliverOf}
+use Rattle.freelist_outcomes.specs.Return.{onLoanOk, givenTables, releasedTables, releaseOf, decideReturn, planReturn, carryReturn, returnOf}
+use Rattle.freelist_outcomes.specs.SetUp.{freshTables, fitOk, setUpOf}
 use Rattle.usage_rules.specs.Usage.{servesOk, patternOf, wantedOf, keyOf}
 use Rattle.usage_rules.specs.Ranking.{before, placed, order, rowAs, rowOf}
 use Rattle.usage_rules.specs.declared.Row.{Row}
 
-pub record Day : Type 0 where
-  pub gives : List ℕ
-  pub says : List ℕ
+-- what a definition gives and what the paper says: numbers, or all that a call leaves
+pub data Fact : Type 0 where
+  row : List ℕ → Fact
+  left : Out Tables → Fact
+  back : Listed Tables → Fact
 
-abbrev pub day : List ℕ → List ℕ → Day
+pub record Day : Type 0 where
+  pub gives : Fact
+  pub says : Fact
+
+abbrev pub day : Fact → Fact → Day
 day g s = record { gives = g; says = s }
+
+abbrev pub ranks : List ℕ → List ℕ → Day
+ranks g s = day (row g) (row s)
 
 -- a row's types, the best first
 abbrev pub types : Row → List ℕ
@@ -43,80 +72,128 @@ stand = 1 ∷ 6 ∷ 14 ∷ 7 ∷ 17 ∷ []
 pub ranking : List Day
 ranking =
     -- "Usage 0: 0, 3, 1, 2, mask 15."
-    day (typesMask (rowOf stand 0)) (0 ∷ 3 ∷ 1 ∷ 2 ∷ 15 ∷ [])
+    ranks (typesMask (rowOf stand 0)) (0 ∷ 3 ∷ 1 ∷ 2 ∷ 15 ∷ [])
     -- "Usage 4: 2, 1, 3, mask 14."
-    ∷ day (typesMask (rowOf stand 4)) (2 ∷ 1 ∷ 3 ∷ 14 ∷ [])
+    ∷ ranks (typesMask (rowOf stand 4)) (2 ∷ 1 ∷ 3 ∷ 14 ∷ [])
     -- "Usage 8: 1, 2, 3."
-    ∷ day (types (rowOf stand 8)) (1 ∷ 2 ∷ 3 ∷ [])
+    ∷ ranks (types (rowOf stand 8)) (1 ∷ 2 ∷ 3 ∷ [])
     -- "Usage 16: 1, 2, 0, 3, mask 15."
-    ∷ day (typesMask (rowOf stand 16)) (1 ∷ 2 ∷ 0 ∷ 3 ∷ 15 ∷ [])
+    ∷ ranks (typesMask (rowOf stand 16)) (1 ∷ 2 ∷ 0 ∷ 3 ∷ 15 ∷ [])
     -- "Wanted: usage 0 gives 8, 16 gives 0, 5 gives 15."
-    ∷ day (wantedOf 0 ∷ wantedOf 16 ∷ wantedOf 5 ∷ []) (8 ∷ 0 ∷ 15 ∷ [])
+    ∷ ranks (wantedOf 0 ∷ wantedOf 16 ∷ wantedOf 5 ∷ []) (8 ∷ 0 ∷ 15 ∷ [])
     ∷ []
 
 -- "Free list, atom mask 63, start 4,096, final 16,384."
 abbrev pub list : FreeListSettings
-list = record { store = record { number = 7; kind = 0; properties = 1; heap = 0; atom = 63; loans = 4; chunks = 3 }; start = 4096; last = 16384 }
+list = record { store = record { number = 7; kind = 0; properties = 1; heap = 0; atom = 63; loans = 3; chunks = 2 }; start = 4096; last = 16384 }
 
-abbrev pub foundFor : ℕ → ℕ → Store → Found
-foundFor mask size t = find (maskFor list mask) (sizeFor list size) (t .regions)
+-- an account with so much used of heap 0, allocated and deallocated, so many objects still allowed, and an order or none
+abbrev pub account : ℕ → ℕ → ℕ → ℕ → OpenOrder → Account
+account used allocated deallocated objects order =
+    record {
+      heaps =
+          record { size = 0; used = used; allocated = record { hi = 0; lo = allocated }; deallocated = record { hi = 0; lo = deallocated } }
+          ∷ replicate 15 noHeap;
+      objects = objects;
+      order = order;
+    }
 
--- the store after an ask that a region serves, and what is ordered where none does
-abbrev pub lentFrom : ℕ → ℕ → Store → Found → Store
-lentFrom mask size t nowhere = t
-lentFrom mask size t (at i) = lent (maskFor list mask) (sizeFor list size) i t
+abbrev pub openFor : ℕ → ℕ → OpenOrder
+openFor size z =
+    Kept (record { ask = record { size = size; mask = 0 }; order = record { store = 7; size = z; kind = 0; map = false } })
 
-abbrev pub orderFrom : ℕ → Store → Found → List ℕ
-orderFrom size t nowhere = grown (t .size) (sizeFor list size) (list .last) ∷ []
-orderFrom size t (at i) = []
+-- the memory is made, and a map was not wanted
+abbrev pub made : ℕ → Outcome
+made memory = O.Made (record { number = memory; mapping = M.NotWanted })
 
-abbrev pub lends : ℕ → ℕ → Store → Store
-lends mask size t = lentFrom mask size t (foundFor mask size t)
+-- ---- the store's tables, word by word, as the day goes on
 
-abbrev pub orders : ℕ → ℕ → Store → List ℕ
-orders mask size t = orderFrom size t (foundFor mask size t)
+-- as set-up leaves it; the first ask's order raises nothing
+abbrev pub opening : Tables
+opening =
+    tables
+    (mark ∷ 0 ∷ 0 ∷ 4096 ∷ 0 ∷ 0 ∷ [])
+    (0 ∷ 0 ∷ 0 ∷ 0 ∷ 0 ∷ 0 ∷ 0 ∷ 0 ∷ 0 ∷ 0 ∷ 0 ∷ 0 ∷ [])
+    (0 ∷ 0 ∷ 0 ∷ 0 ∷ 0 ∷ 0 ∷ [])
+    (0 ∷ 0 ∷ 0 ∷ 0 ∷ 0 ∷ 0 ∷ 0 ∷ 0 ∷ 0 ∷ 0 ∷ 0 ∷ 0 ∷ 0 ∷ 0 ∷ 0 ∷ 0 ∷ [])
+    (nowhere ∷ nowhere ∷ nowhere ∷ nowhere ∷ nowhere ∷ nowhere ∷ nowhere ∷ nowhere ∷ nowhere ∷ nowhere ∷ [])
 
--- the store after an order, its delivery as this memory, and the ask
-abbrev pub buys : ℕ → ℕ → ℕ → Store → Store
-buys memory mask size t = let z = grown (t .size) (sizeFor list size) (list .last) in lends mask size (delivered list memory z (raised z t))
+-- the 128 is on loan
+abbrev pub withOne : Tables
+withOne =
+    tables
+    (mark ∷ 1 ∷ 1 ∷ 8192 ∷ 1 ∷ 1 ∷ [])
+    (1 ∷ 1 ∷ 3968 ∷ 128 ∷ 0 ∷ 0 ∷ 0 ∷ 0 ∷ 0 ∷ 0 ∷ 0 ∷ 0 ∷ [])
+    (1 ∷ 50 ∷ 4096 ∷ 0 ∷ 0 ∷ 0 ∷ [])
+    (1 ∷ 0 ∷ 3968 ∷ 0 ∷ 0 ∷ 0 ∷ 0 ∷ 0 ∷ 0 ∷ 0 ∷ 0 ∷ 0 ∷ 0 ∷ 0 ∷ 0 ∷ 1 ∷ [])
+    (nowhere ∷ nowhere ∷ nowhere ∷ nowhere ∷ 0 ∷ nowhere ∷ nowhere ∷ nowhere ∷ nowhere ∷ nowhere ∷ [])
 
--- chunk, offset and size of the newest loan
-abbrev pub newest : ℕ → List Loan → List ℕ
-newest k [] = []
-newest k (l ∷ ls) = cond (eqb (l .serial) k) (l .chunk ∷ l .offset ∷ l .size ∷ []) (newest k ls)
+-- and the 896; the next order raises nothing: 8,192 it is already
+abbrev pub withTwo : Tables
+withTwo =
+    tables
+    (mark ∷ 2 ∷ 1 ∷ 8192 ∷ 2 ∷ 1 ∷ [])
+    (1 ∷ 1 ∷ 3968 ∷ 128 ∷ 2 ∷ 1 ∷ 3072 ∷ 896 ∷ 0 ∷ 0 ∷ 0 ∷ 0 ∷ [])
+    (1 ∷ 50 ∷ 4096 ∷ 0 ∷ 0 ∷ 0 ∷ [])
+    (1 ∷ 0 ∷ 3072 ∷ 0 ∷ 0 ∷ 0 ∷ 0 ∷ 0 ∷ 0 ∷ 0 ∷ 0 ∷ 0 ∷ 0 ∷ 0 ∷ 0 ∷ 1 ∷ [])
+    (nowhere ∷ nowhere ∷ nowhere ∷ nowhere ∷ 0 ∷ nowhere ∷ nowhere ∷ 1 ∷ nowhere ∷ nowhere ∷ [])
 
-abbrev pub block : Store → List ℕ
-block t = newest (t .given) (t .loans)
+-- and the 5,056, of chunk 2
+abbrev pub withThree : Tables
+withThree =
+    tables
+    (mark ∷ 3 ∷ 2 ∷ 16384 ∷ 3 ∷ 2 ∷ [])
+    (1 ∷ 1 ∷ 3968 ∷ 128 ∷ 2 ∷ 1 ∷ 3072 ∷ 896 ∷ 3 ∷ 2 ∷ 3136 ∷ 5056 ∷ [])
+    (1 ∷ 50 ∷ 4096 ∷ 2 ∷ 51 ∷ 8192 ∷ [])
+    (1 ∷ 0 ∷ 3072 ∷ 2 ∷ 0 ∷ 3136 ∷ 0 ∷ 0 ∷ 0 ∷ 0 ∷ 0 ∷ 0 ∷ 0 ∷ 0 ∷ 0 ∷ 2 ∷ [])
+    (nowhere ∷ 2 ∷ nowhere ∷ nowhere ∷ 0 ∷ nowhere ∷ nowhere ∷ 1 ∷ nowhere ∷ nowhere ∷ [])
 
-abbrev pub held : Store → List ℕ
-held t = map (λ (c : Chunk). c .number) (t .chunks)
+-- the 128 is back
+abbrev pub lessOne : Tables
+lessOne =
+    tables
+    (mark ∷ 3 ∷ 2 ∷ 16384 ∷ 3 ∷ 2 ∷ [])
+    (1 ∷ 1 ∷ 3968 ∷ 0 ∷ 2 ∷ 1 ∷ 3072 ∷ 896 ∷ 3 ∷ 2 ∷ 3136 ∷ 5056 ∷ [])
+    (1 ∷ 50 ∷ 4096 ∷ 2 ∷ 51 ∷ 8192 ∷ [])
+    (1 ∷ 0 ∷ 3072 ∷ 1 ∷ 3968 ∷ 4096 ∷ 2 ∷ 0 ∷ 3136 ∷ 0 ∷ 0 ∷ 0 ∷ 0 ∷ 0 ∷ 0 ∷ 3 ∷ [])
+    (0 ∷ 2 ∷ nowhere ∷ nowhere ∷ nowhere ∷ nowhere ∷ nowhere ∷ 1 ∷ nowhere ∷ nowhere ∷ [])
 
-abbrev pub one : Store
-one = buys 50 0 100 (fresh list)
+-- and the 896: chunk 1 is gone
+abbrev pub lessTwo : Tables
+lessTwo =
+    tables
+    (mark ∷ 3 ∷ 2 ∷ 16384 ∷ 3 ∷ 1 ∷ [])
+    (1 ∷ 1 ∷ 3968 ∷ 0 ∷ 2 ∷ 1 ∷ 3072 ∷ 0 ∷ 3 ∷ 2 ∷ 3136 ∷ 5056 ∷ [])
+    (2 ∷ 51 ∷ 8192 ∷ 2 ∷ 51 ∷ 8192 ∷ [])
+    (2 ∷ 0 ∷ 3136 ∷ 2 ∷ 0 ∷ 3136 ∷ 2 ∷ 0 ∷ 3136 ∷ 0 ∷ 0 ∷ 0 ∷ 0 ∷ 0 ∷ 0 ∷ 1 ∷ [])
+    (1 ∷ 2 ∷ nowhere ∷ nowhere ∷ nowhere ∷ nowhere ∷ 0 ∷ nowhere ∷ nowhere ∷ nowhere ∷ [])
 
-abbrev pub two : Store
-two = lends 1023 256 one
-
-abbrev pub three : Store
-three = buys 51 0 5000 two
-
-abbrev pub four : Store
-four = returned (record { serial = 1; chunk = 1; offset = 3968; size = 128 }) three
-
-abbrev pub five : Store
-five = returned (record { serial = 2; chunk = 1; offset = 3072; size = 896 }) four
+-- ---- the day
 
 pub lending : List Day
 lending =
+    day (left (out (setUpOf list (tables (replicate 6 9) (replicate 12 0) (replicate 6 0) (replicate 16 0) (replicate 10 9)) .said)
+    (account 0 0 0 10 Nothing)
+    (setUpOf list (tables (replicate 6 9) (replicate 12 0) (replicate 6 0) (replicate 16 0) (replicate 10 9)) .tables)))
+    (left (out Paper.ready (account 0 0 0 10 Nothing) opening))
     -- "Ask 100: order 4,096, block 3,968 size 128."
-    day (orders 0 100 (fresh list) ++ block one) (4096 ∷ 1 ∷ 3968 ∷ 128 ∷ [])
+    ∷ day (left (askOf list (account 0 0 0 10 Nothing) 100 0 opening))
+    (left (out (Paper.order 7 4096 0 false) (account 0 0 0 10 (openFor 100 4096)) opening))
+    ∷ day (left (deliverOf list (account 0 0 0 10 (openFor 100 4096)) (made 50) opening))
+    (left (out (Paper.block 1 1 3968 128) (account 4096 4096 0 9 Nothing) withOne))
     -- "Then 256 with mask 1,023: offset 3,072, size 896."
-    ∷ day (orders 1023 256 one ++ block two) (1 ∷ 3072 ∷ 896 ∷ [])
+    ∷ day (left (askOf list (account 4096 4096 0 9 Nothing) 256 1023 withOne))
+    (left (out (Paper.block 2 1 3072 896) (account 4096 4096 0 9 Nothing) withTwo))
     -- "Then 5,000: order 8,192, chunk 2, offset 3,136, size 5,056."
-    ∷ day (orders 0 5000 two ++ block three) (8192 ∷ 2 ∷ 3136 ∷ 5056 ∷ [])
+    ∷ day (left (askOf list (account 4096 4096 0 9 Nothing) 5000 0 withTwo))
+    (left (out (Paper.order 7 8192 0 false) (account 4096 4096 0 9 (openFor 5000 8192)) withTwo))
+    ∷ day (left (deliverOf list (account 4096 4096 0 9 (openFor 5000 8192)) (made 51) withTwo))
+    (left (out (Paper.block 3 2 3136 5056) (account 12288 12288 0 8 Nothing) withThree))
     -- "Return the 128, then the 896: chunk 1 is released."
-    ∷ day (held three ++ held four) (1 ∷ 2 ∷ 1 ∷ 2 ∷ [])
-    ∷ day (held five) (2 ∷ [])
+    ∷ day (back (returnOf list (account 12288 12288 0 8 Nothing) (record { serial = 1; chunk = 1; offset = 3968; size = 128 }) withThree (replicate 2 0)))
+    (back (listed (Paper.released 0) (account 12288 12288 0 8 Nothing) lessOne (replicate 2 0)))
+    ∷ day (back (returnOf list (account 12288 12288 0 8 Nothing) (record { serial = 2; chunk = 1; offset = 3072; size = 896 }) lessOne (replicate 2 0)))
+    (back (listed (Paper.released 1) (account 8192 12288 4096 9 Nothing) lessTwo (50 ∷ 0 ∷ [])))
     ∷ []
 
 pub days : List Day
@@ -124,5 +201,5 @@ days = ranking ++ lending
 
 -- on each of these days the definitions give what the paper says
 pub worked : map (λ (d : Day). d .gives) days ≡ map (λ (d : Day). d .says) days
-unfolding days ranking lending servesOk patternOf wantedOf keyOf before placed order rowAs upTo downTo bits powerUp ceilDiv grown doubled fitsIn findFrom cutOff insert staying leaving remaining seekFrom
+unfolding days ranking lending servesOk patternOf wantedOf keyOf before placed order rowAs alignmentOk storeOk freeListOk heapsUpto onesOk powerOk upTo downTo bits powerUp ceilDiv grown doubled plusOf chargedOf releasedOf bearsOk agreesOk inserted vacancies leads partedOk deliveryOk loansOf chargedAccount releasedAccount coversOk entered enteredIndex seekIn wordTo struck struckIndex linkOk leftAfter leftOf chainsOk fillsOk sizedOk chunkOk loanOk fitsIn findFrom cutOff insert staying leaving remaining lengthsOk ordered storeOf soundOk laidRegions lentOk accountOk gateOf sizeOk roomOk countOk objectsOk decideAsk takenTables orderedTables carryAsk planAsk askOf deliverGateOf deliveredTables carryFate planDeliver carryDeliver deliverOf onLoanOk givenTables releasedTables releaseOf decideReturn planReturn carryReturn returnOf freshTables fitOk setUpOf
 worked = refl

@@ -1,6 +1,7 @@
 // Whether one word of a table's records differs in all of them, by sorting: n log n in the records.
 mod sorting;
 
+pub use sorting::sort;
 ghost use mathlib.Core.Path.{_≡_};
 ghost use mathlib.Core.Bool.{true};
 ghost use Prim.Native.Nat.{_≤_, _<_};

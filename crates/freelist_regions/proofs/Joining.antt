@@ -22,16 +22,14 @@ use Rattle.freelist_regions.specs.Order.{LowPlace, RegionsStand}
 use Rattle.freelist_regions.specs.Spot.{after, Parts}
 use Rattle.freelist_regions.proofs.Standing.{region-before, region-past}
 
-module _ (t : List ℕ) (n k : ℕ) (b : Region) (f : 3 * n + 3 ≤ length t) (rise : Rising lo hi 1 0 (rows regionRow n t)) (stand : RegionsStand (rows regionRow n t)) (low : LowPlace (b .start))
+module _ (t : List ℕ) (n k : ℕ) (b : Region) (room : 3 * n ≤ length t) (rise : Rising lo hi 1 0 (rows regionRow n t)) (stand : RegionsStand (rows regionRow n t)) (low : LowPlace (b .start))
+    (fits : 3 * length (insert b (rows regionRow n t)) ≤ length t)
     (w : Parts (after t 0 3 (b .chunk) (b .start)) n k) where
   abbrev rs : List Region
   rs = rows regionRow n t
 
   long : length rs ≡ n
   long = length-rows regionRow n t
-
-  room : 3 * n ≤ length t
-  room = omega arith
 
   at : (i : ℕ) → i < n → row regionRow i t ≡ getD rs i noRegion
   at i h = sym (getD-rows regionRow n i t noRegion h)
@@ -68,10 +66,9 @@ module _ (t : List ℕ) (n k : ℕ) (b : Region) (f : 3 * n + 3 ≤ length t) (r
       → u ≡ opened 3 n k t → v ≡ written regionRow k b u → Joined (n + 1) v
   joined-alone u v p q x y =
       let e : insert b rs ≡ insertAt k b rs = insert-alone b 0 rs noRegion rise k (omega (arith, long, w .most)) (apart p) ahead (nextNo q) in
-      rw e (
-        sym (length-insertAt k b rs (omega (arith, long, w .most)) ∙ ap (λ (m : ℕ). m + 1) long),
-        y ∙ ap (written regionRow k b) x ∙ inserted-at regionRow n k b t (w .most) f,
-      )
+      let z : length (insert b rs) ≡ n + 1 = ap length e ∙ length-insertAt k b rs (omega (arith, long, w .most)) ∙ ap (λ (m : ℕ). m + 1) long in
+      let f : 3 * n + 3 ≤ length t = omega (arith, fits, z) in
+      (sym z, rw e (y ∙ ap (written regionRow k b) x ∙ inserted-at regionRow n k b t (w .most) f))
 
   -- the next one only
   pub joined-next : (v : List ℕ) → (ltb 0 k && meets (row regionRow (k - 1) t) b) ≡ false → (ltb k n && meets b (row regionRow k t)) ≡ true

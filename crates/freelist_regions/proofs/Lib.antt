@@ -4,3 +4,4 @@ pub mod Halves
 pub mod Joining
 pub mod Standing
 pub mod Whole
+pub mod Seating

@@ -1,4 +1,5 @@
 pub mod Ended
 pub mod Found
 pub mod Order
+pub mod Seat
 pub mod Spot

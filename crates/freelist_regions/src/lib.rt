@@ -1,11 +1,20 @@
-// The free regions of a free-list store in their lent table: sorted by chunk and start, one behind the other.
+// A free-list store's records in their lent tables, and its free regions: sorted by chunk and start, one behind the other.
+mod counts;
 mod joins;
 mod records;
 mod regions;
 mod search;
+mod seats;
 mod spots;
 
+pub use counts::count_at;
+pub use counts::region_count;
 pub use joins::join_region;
+pub use records::chunk_at;
+pub use records::put_chunk;
+pub use records::put_region;
+pub use records::region_at;
 pub use regions::cut_region;
 pub use search::Found;
 pub use search::find_fit;
+pub use seats::seat;

@@ -1,8 +1,10 @@
 // Records read and written whole. A record past the end of its table reads as zeros, and a write there does nothing.
 ghost use mathlib.Core.Path.{_≡_};
 ghost use Rattle.words.specs.Rows.{row, written};
-ghost use Rattle.freelist_rules.specs.Records.{regionRow};
+ghost use Rattle.freelist_rules.specs.Records.{chunkRow, regionRow};
 ghost use Rattle.freelist_regions.specs.Ended.{endedAt};
+use freelist_rules::CHUNK_WORDS;
+use freelist_rules::Chunk;
 use freelist_rules::REGION_WORDS;
 use freelist_rules::Region;
 
@@ -38,4 +40,22 @@ pub fn end_at(t: &mut [u64], i: usize, place: u64)
             end: place,
         },
     );
+}
+
+pub fn chunk_at(t: &[u64], i: usize) -> Chunk
+    ensures { λ r. ⌜ r ≡ row chunkRow i (now (t .entry)) ⌝ }
+{
+    Chunk {
+        number: words::cell(t, 0, CHUNK_WORDS, i),
+        memory: words::cell(t, 1, CHUNK_WORDS, i),
+        size: words::cell(t, 2, CHUNK_WORDS, i),
+    }
+}
+
+pub fn put_chunk(t: &mut [u64], i: usize, c: Chunk)
+    ensures { λ _. ⌜ now (t .exit) ≡ written chunkRow i c (now (t .entry)) ⌝ }
+{
+    words::put_cell(t, 0, CHUNK_WORDS, i, c.number);
+    words::put_cell(t, 1, CHUNK_WORDS, i, c.memory);
+    words::put_cell(t, 2, CHUNK_WORDS, i, c.size);
 }

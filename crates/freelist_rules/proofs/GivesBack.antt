@@ -25,7 +25,7 @@ use Rattle.freelist_rules.proofs.Releases.{covers-yes, wholly-where, le
 -- ---- sums over lists in another order
 
 module _ {A : Type 0} where
-  total-append : (f : A → ℕ) (xs ys : List A) → total f (xs ++ ys) ≡ total f xs + total f ys
+  pub total-append : (f : A → ℕ) (xs ys : List A) → total f (xs ++ ys) ≡ total f xs + total f ys
   total-append f [] ys = omega arith
   total-append f (x ∷ xs) ys = omega (arith, total-append f xs ys)
 
@@ -127,7 +127,7 @@ module _ (f : Region → ℕ) (g : Chunk → ℕ) (same : (r : Region) (c : Chun
 
 -- ---- memory numbers
 
-memory-of : (p : ℕ) (cs : List Chunk) → ChunksRise p cs → (r : Region) (c : Chunk) → List·Memᴰ c cs → r .chunk ≡ c .number → memoryOf cs r ≡ c .memory
+pub memory-of : (p : ℕ) (cs : List Chunk) → ChunksRise p cs → (r : Region) (c : Chunk) → List·Memᴰ c cs → r .chunk ≡ c .number → memoryOf cs r ≡ c .memory
 memory-of p [] up r c m e = absurd (List·Memᴰ·not-nil m)
 memory-of p (d ∷ cs) up r c m e = ⊎-elim first (later (λ k. memory-of (0 + suc (d .number)) cs (up .2) r c k e)) (List·Memᴰ·cases-cons m)
   where
@@ -140,7 +140,7 @@ memory-of p (d ∷ cs) up r c m e = ⊎-elim first (later (λ k. memory-of (0 + 
         (λ h. rw h (ih k))
         (told (eqb (r .chunk) (d .number)))
 
-memory-in : (cs : List Chunk) (m : ℕ) (rs : List Region) → List·Memᴰ m (memoriesOf cs rs) → (r : Region) × List·Memᴰ r rs × (memoryOf cs r ≡ m)
+pub memory-in : (cs : List Chunk) (m : ℕ) (rs : List Region) → List·Memᴰ m (memoriesOf cs rs) → (r : Region) × List·Memᴰ r rs × (memoryOf cs r ≡ m)
 memory-in cs m [] k = absurd (List·Memᴰ·not-nil k)
 memory-in cs m (r ∷ rs) k = go (memory-in cs m rs) (List·Memᴰ·cases-cons k)
   where
@@ -148,7 +148,7 @@ memory-in cs m (r ∷ rs) k = go (memory-in cs m rs) (List·Memᴰ·cases-cons k
     go ih (inl h) = (r, List·Memᴰ·head refl, sym h)
     go ih (inr h) = let w = ih h in (w .0, List·Memᴰ·tail (w .1), w .2)
 
-in-memory : (cs : List Chunk) (m : ℕ) (r : Region) (rs : List Region) → List·Memᴰ r rs → memoryOf cs r ≡ m → List·Memᴰ m (memoriesOf cs rs)
+pub in-memory : (cs : List Chunk) (m : ℕ) (r : Region) (rs : List Region) → List·Memᴰ r rs → memoryOf cs r ≡ m → List·Memᴰ m (memoriesOf cs rs)
 in-memory cs m r [] k e = absurd (List·Memᴰ·not-nil k)
 in-memory cs m r (d ∷ rs) k e = ⊎-elim (λ h. List·Memᴰ·head (sym e ∙ ap (memoryOf cs) h)) (λ h. List·Memᴰ·tail (in-memory cs m r rs h e)) (List·Memᴰ·cases-cons k)
 

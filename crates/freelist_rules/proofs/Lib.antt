@@ -21,4 +21,6 @@ pub mod Swaps
 pub mod AnyOrder
 pub mod GivesBack
 pub mod Keeps
+pub mod Ordered
+pub mod Tested
 pub mod NeverAgain

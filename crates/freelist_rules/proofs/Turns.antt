@@ -12,22 +12,11 @@ use Rattle.lists.proofs.Bools.{told}
 use Rattle.store_rules.specs.declared.Loan.{Loan}
 use Rattle.freelist_rules.specs.Records.{region}
 use Rattle.freelist_rules.specs.Walk.{front, behind, within, inside, gaps, gapsOf, same, sameAll, fillsOk}
+use Rattle.freelist_rules.specs.Rest.{rest, nextIs}
 use Rattle.freelist_rules.specs.declared.Chunk.{Chunk}
 use Rattle.freelist_rules.specs.declared.Region.{Region}
 use Rattle.freelist_rules.proofs.Base.{never}
 use Rattle.freelist_rules.proofs.Gaps.{within-le, within-rest}
-
--- what is left to test at byte p of the first chunk
-unfoldable pub rest : List Chunk → ℕ → List Loan → List Region → Bool
-rest [] p ls rs = inside [] ls && sameAll rs []
-rest (c ∷ cs) p ls rs =
-    within p (c .size) (front (c .number) ls)
-    && (inside cs (behind (c .number) ls) && sameAll rs (gaps (c .number) p (c .size) (front (c .number) ls) (gapsOf cs (behind (c .number) ls))))
-
--- the first region is r, and more holds of the others
-abbrev pub nextIs : Region → List Region → (List Region → Bool) → Bool
-nextIs r [] more = false
-nextIs r (d ∷ rs) more = same d r && more rs
 
 -- the first loan lies in chunk n
 abbrev pub firstIn : ℕ → List Loan → Bool
@@ -40,7 +29,7 @@ and-assoc : (a b c : Bool) → ((a && b) && c) ≡ (a && (b && c))
 and-assoc true b c = refl
 and-assoc false b c = refl
 
-and-no : (a : Bool) → (a && false) ≡ false
+pub and-no : (a : Bool) → (a && false) ≡ false
 and-no true = refl
 and-no false = refl
 

@@ -2,8 +2,10 @@ pub mod Records
 pub mod Pieces
 pub mod Sound
 pub mod Walk
+pub mod Rest
 pub mod Place
 pub mod Join
 pub mod Release
 pub mod Seek
 pub mod Steps
+pub mod Tables

@@ -4,6 +4,30 @@
 pub const CHUNK_WORDS: usize = 3;
 
 pub const REGION_WORDS: usize = 3;
+// Which word of its record a chunk's number, memory and size are, and a region's start.
+pub const CHUNK_NUMBER_AT: usize = 0;
+
+pub const CHUNK_MEMORY_AT: usize = 1;
+
+pub const CHUNK_BYTES_AT: usize = 2;
+
+pub const REGION_START_AT: usize = 1;
+// What a free-list store's head begins with, "freelist" in ASCII, and where its words stand; specs/Tables has the same names.
+pub const MARK: u64 = 0x6672_6565_6c69_7374;
+
+pub const MARK_AT: usize = 0;
+
+pub const GIVEN_AT: usize = 1;
+
+pub const MADE_AT: usize = 2;
+
+pub const CHUNK_SIZE_AT: usize = 3;
+
+pub const PLACES_AT: usize = 4;
+
+pub const CHUNKS_AT: usize = 5;
+
+pub const HEAD_WORDS: usize = 6;
 
 pub struct Chunk {
     pub number: u64,

@@ -1,5 +1,5 @@
 -- The laws of members. Assumes nothing.
-use mathlib.Core.Path.{_≡_, refl, ap, _∙_}
+use mathlib.Core.Path.{_≡_, refl, sym, ap, _∙_}
 use mathlib.Core.Logic.{_⊎_, inl, inr, ⊎-elim}
 use mathlib.Core.List.{List, [], _∷_, _++_}
 use Prim.Native.Nat.{ℕ, _+_, _≤_, _<_}
@@ -62,7 +62,7 @@ split x (y ∷ l) (inl e) = record { a = []; b = l; is = rw e refl }
 split x (y ∷ l) (inr m) = let s = split x l m in record { a = y ∷ s .a; b = s .b; is = ap (λ k. y ∷ k) (s .is) }
 
 -- a member of a list is one of what is left when another is taken out
-mem-left-over : (x y : ℕ) (a b : List ℕ) → (y ≡ x → ⊥) → Mem y (a ++ (x ∷ b)) → Mem y (a ++ b)
+pub mem-left-over : (x y : ℕ) (a b : List ℕ) → (y ≡ x → ⊥) → Mem y (a ++ (x ∷ b)) → Mem y (a ++ b)
 mem-left-over x y a b ne m = ⊎-elim (mem-left y a b) (⊎-elim (λ e. absurd (ne e)) (mem-right y a b)) (mem-cases y a (x ∷ b) m)
 
 -- distinct members of a list are no more than it has
@@ -85,3 +85,18 @@ fills (x ∷ R) l d f h p m =
   where
     out : (R : List ℕ) (x p : ℕ) (a b : List ℕ) → Mem p (a ++ (x ∷ b)) → (Mem p (a ++ b) → Mem p R) → Mem p (x ∷ R)
     out R x p a b m g = ⊎-elim (λ i. inr (g (mem-left p a b i))) (⊎-elim (λ e. inl e) (λ i. inr (g (mem-right p a b i)))) (mem-cases p a (x ∷ b) m)
+
+-- two lists with no number in common, each with none twice, have none twice together
+pub distinct-append : (a b : List ℕ) → Distinct a → Distinct b → ((x : ℕ) → Mem x a → Mem x b → ⊥) → Distinct (a ++ b)
+distinct-append [] b d e f = e
+distinct-append (y ∷ a) b d e f =
+    (mem-not y (a ++ b) (λ m. ⊎-elim (not-mem y a (d .0)) (f y (inl refl)) (mem-cases y a b m)), distinct-append a b (d .1) e (λ x m. f x (inr m)))
+
+-- what is left when a number is taken out was there, and is another number
+pub mem-of-left : (x y : ℕ) (a b : List ℕ) → Mem y (a ++ b) → Mem y (a ++ (x ∷ b))
+mem-of-left x y a b m = ⊎-elim (mem-left y a (x ∷ b)) (λ k. mem-right y a (x ∷ b) (inr k)) (mem-cases y a b m)
+
+pub distinct-out : (x : ℕ) (a b : List ℕ) → Distinct (a ++ (x ∷ b)) → Mem x (a ++ b) → ⊥
+distinct-out x [] b d m = not-mem x b (d .0) m
+distinct-out x (y ∷ a) b d (inl e) = not-mem y (a ++ (x ∷ b)) (d .0) (mem-right y a (x ∷ b) (inl (sym e)))
+distinct-out x (y ∷ a) b d (inr m) = distinct-out x a b (d .1) m

@@ -73,7 +73,7 @@ impl Slab {
 }
 
 // How many of the first n places are vacant, by the marking word of each record.
-fn count_vacant(records: &[u64], mark: usize, width: usize, n: u64) -> u64
+pub fn count_vacant(records: &[u64], mark: usize, width: usize, n: u64) -> u64
     requires { ⌜ (0 < width) × (width ≤ widest) ⌝ }
     ensures { λ r. ⌜ r ≡ vacancies (vacantAt (now (records .entry)) mark width) n ⌝ }
 {

@@ -1,8 +1,9 @@
 -- What a delivered outcome leads to. 01, "When the counter says no": 11, 12 and 13, and the paragraph after the table.
 -- Assumes nothing: these are definitions.
-use mathlib.Core.Bool.{Bool, true, false, cond}
+use mathlib.Core.Bool.{Bool, true, false, cond, _&&_, _||_, not}
 use mathlib.Core.List.{List, [], _∷_}
 use Prim.Native.Nat.{ℕ}
+use lib.Dec.{eqb}
 use Rattle.counter.specs.declared.answers.Mapping.{Mapping}
 use Rattle.counter.specs.declared.answers.Mapping.the-variants as M
 use Rattle.counter.specs.declared.answers.Outcome.{Outcome}
@@ -20,6 +21,17 @@ suits false M.Mapped = false
 suits false M.Failed = false
 suits false M.OutOfDevice = false
 suits false M.OutOfHost = false
+
+-- a memory number is among those held
+abbrev pub holds : ℕ → List ℕ → Bool
+holds m [] = false
+holds m (x ∷ l) = eqb x m || holds m l
+
+-- 13: "the memory number is already held by this store, or the map outcome doesn't suit the order"
+unfoldable pub deliveryOk : Bool → List ℕ → Outcome → Bool
+deliveryOk map held (O.Made m) = not (holds (m .number) held) && suits map (m .mapping)
+deliveryOk map held O.OutOfDevice = true
+deliveryOk map held O.OutOfHost = true
 
 -- what becomes of the order: the memory is kept, or it is lost with this number, the heap charged and the object counted
 -- or not, and the memory given back or not

@@ -1,2 +1,5 @@
 pub mod Tests
+pub mod Orders
 pub mod Delivery
+pub mod Outcomes
+pub mod Loans

@@ -1,7 +1,9 @@
--- The tests that both engines share: 01's numbers 2 and 4. Assumes nothing: these are definitions.
+-- The tests that both engines share: the gate, and 01's numbers 2 and 4. Assumes nothing: these are definitions.
 use mathlib.Core.Bool.{Bool, true, false, _&&_}
+use mathlib.Core.List.{[], _∷_}
 use Prim.Native.Nat.{ℕ, _-_}
 use lib.Dec.{eqb, leb}
+use Rattle.counter.specs.Gate.{Row}
 use Rattle.counter.specs.Limits.{objectsMost}
 use Rattle.counter.specs.declared.account.Heap.{Heap}
 use Rattle.counter.specs.declared.account.OpenOrder.{OpenOrder}
@@ -22,3 +24,7 @@ orderFor store (Kept k) = eqb (k .order .store) store
 -- at most 2^32 - 1
 unfoldable pub coversOk : Heap → ℕ → ℕ → ℕ → Bool
 coversOk h objects chunks bytes = leb bytes (h .used) && (agreesOk h && leb chunks (objectsMost - objects))
+
+-- the gate that a call passes before it is decided: 1, every value and length; 2, the order; 3, the store; 4, the account
+abbrev pub gateRow : Bool → Bool → Bool → Bool → Row
+gateRow lent order sound covered = (lent, 1) ∷ (order, 2) ∷ (sound, 3) ∷ (covered, 4) ∷ []

@@ -1,5 +1,12 @@
 // What the stores of both engines share. specs/ says it; no code.
 
+// How many words a loan takes in a table, and which are its serial and its size; specs/Loans has the same names.
+pub const LOAN_WORDS: usize = 4;
+
+pub const SERIAL_AT: usize = 0;
+
+pub const SIZE_AT: usize = 3;
+
 // A block on loan. 01: "A block carries serial, chunk, offset, size."
 pub struct Loan {
     pub serial: u64,

@@ -1,30 +1,29 @@
 // Answers as lines of text on standard output: numbers in decimal, with single spaces.
+mod line;
+mod stores;
+
 use counter::RankAnswer;
 use counter::Refused;
 use counter::TYPES_MOST;
 use counter::USAGES;
-use libc::STDOUT_FILENO;
+use line::line_end;
+use line::number;
+use line::refused_number;
+use line::spaced;
+pub use stores::print_asked;
+pub use stores::print_delivered;
+pub use stores::print_end;
+pub use stores::print_not_built;
+pub use stores::print_released;
+pub use stores::print_set_up_refused;
+pub use stores::print_stopped;
+pub use stores::print_totals;
 use usage_rules::Ranked;
 use usage_rules::Row;
 
-fn number(n: u64) {
-    io::print_decimal(STDOUT_FILENO, n);
-}
-
-fn spaced(n: u64) {
-    io::write_all(STDOUT_FILENO, b" ");
-    number(n);
-}
-
-fn line_end() {
-    io::write_all(STDOUT_FILENO, b"\n");
-}
-
 // `refused N`
 pub fn print_refused(r: Refused) {
-    io::write_all(STDOUT_FILENO, b"refused ");
-    let refusal = r.refusal;
-    number(refusal.number() as u64);
+    refused_number(r);
     line_end();
 }
 

@@ -58,6 +58,14 @@ module _ {R : Type 0} (L : Layout R) where
       getD-rows n i (drop (L .width) t) d (le-of-suc-le-suc h)
       ∙ ap (L .dec) (drop-drop (L .width * i) (L .width) t ∙ ap (λ (k : ℕ). drop k t) (sym e))
 
+  -- one record more, after the others
+  pub rows-snoc : (n : ℕ) (t : List ℕ) → rows L (n + 1) t ≡ rows L n t ++ (row L n t ∷ [])
+  rows-snoc zero t = sym (ap (λ (k : ℕ). L .dec (drop k t) ∷ []) (mul-zero (L .width)))
+  rows-snoc (suc n) t =
+      let e : L .width * suc n ≡ L .width + L .width * n = omega (arith, mul-suc (L .width) n) in
+      let f : row L n (drop (L .width) t) ≡ row L (suc n) t = ap (L .dec) (drop-drop (L .width * n) (L .width) t ∙ ap (λ (k : ℕ). drop k t) (sym e)) in
+      rw (suc-add) (ap (λ (l : List R). L .dec t ∷ l) (rows-snoc n (drop (L .width) t) ∙ ap (λ (r : R). rows L n (drop (L .width) t) ++ (r ∷ [])) f))
+
   -- ---- a table, read again after its records were laid
 
   pub rows-laid : (rs : List R) (t : List ℕ) → rows L (length rs) (laid L rs t) ≡ rs

@@ -49,7 +49,7 @@ returns c =
     let o = p .before .before in
     let s = o .before .before .before in
     let a = s .args in
-    joined-both (a .t .now) (a .n) (o .spot .result) (a .b) (s .pre .0) (s .pre .1) (s .pre .2) (s .pre .3) (o .spot .ensures) _ _ (sym (p .touches-before .ensures) ∙ c .before .before .before .before .before .before .before .before .if2 .taken) (sym (q .touches-next .ensures) ∙ c .before .before .before .before .before .before .before .before .before .before .before .if1 .taken) (c .before .before .before .before .before .before .before .before .before .region-at .result) (c .before .before .before .before .before .before .before .before .before .region-at .ensures) (c .before .before .before .before .before .before .end-at .ensures) (c .before .before .close-row .ensures)
+    joined-both (a .t .now) (a .n) (o .spot .result) (a .b) (s .pre .0) (s .pre .1) (s .pre .2) (s .pre .3) (s .pre .4) (o .spot .ensures) _ _ (sym (p .touches-before .ensures) ∙ c .before .before .before .before .before .before .before .before .if2 .taken) (sym (q .touches-next .ensures) ∙ c .before .before .before .before .before .before .before .before .before .before .before .if1 .taken) (c .before .before .before .before .before .before .before .before .before .region-at .result) (c .before .before .before .before .before .before .before .before .before .region-at .ensures) (c .before .before .before .before .before .before .end-at .ensures) (c .before .before .close-row .ensures)
 
 put-region-requires : tie.Need-put-region-requires
 put-region-requires c κs = search needs
@@ -64,7 +64,7 @@ returns-2 c =
     let o = p .before .before in
     let s = o .before .before .before in
     let a = s .args in
-    joined-next (a .t .now) (a .n) (o .spot .result) (a .b) (s .pre .0) (s .pre .1) (s .pre .2) (s .pre .3) (o .spot .ensures) _ (sym (p .touches-before .ensures) ∙ c .before .before .before .before .if2 .left) (sym (q .touches-next .ensures) ∙ c .before .before .before .before .before .before .before .if1 .taken) (c .before .before .before .before .before .region-at .result) (c .before .before .before .before .before .region-at .ensures) (c .before .before .put-region .ensures)
+    joined-next (a .t .now) (a .n) (o .spot .result) (a .b) (s .pre .0) (s .pre .1) (s .pre .2) (s .pre .3) (s .pre .4) (o .spot .ensures) _ (sym (p .touches-before .ensures) ∙ c .before .before .before .before .if2 .left) (sym (q .touches-next .ensures) ∙ c .before .before .before .before .before .before .before .if1 .taken) (c .before .before .before .before .before .region-at .result) (c .before .before .before .before .before .region-at .ensures) (c .before .before .put-region .ensures)
 
 sub-end-at-2 : tie.Need-sub-end-at-2
 sub-end-at-2 c = ltb-true 0 _ (and-left _ _ (sym (c .before .before .before .before .before .touches-before .ensures) ∙ c .before .if3 .taken))
@@ -82,7 +82,7 @@ returns-3 c =
     let o = p .before .before in
     let s = o .before .before .before in
     let a = s .args in
-    joined-before (a .t .now) (a .n) (o .spot .result) (a .b) (s .pre .0) (s .pre .1) (s .pre .2) (s .pre .3) (o .spot .ensures) _ (sym (p .touches-before .ensures) ∙ c .before .before .before .before .if3 .taken) (sym (q .touches-next .ensures) ∙ c .before .before .before .before .before .if1 .left) (c .before .before .end-at2 .ensures)
+    joined-before (a .t .now) (a .n) (o .spot .result) (a .b) (s .pre .0) (s .pre .1) (s .pre .2) (s .pre .3) (s .pre .4) (o .spot .ensures) _ (sym (p .touches-before .ensures) ∙ c .before .before .before .before .if3 .taken) (sym (q .touches-next .ensures) ∙ c .before .before .before .before .before .if1 .left) (c .before .before .end-at2 .ensures)
 
 open-row-requires : tie.Need-open-row-requires
 open-row-requires c κs = search needs
@@ -103,7 +103,7 @@ returns-4 c =
     let o = p .before .before in
     let s = o .before .before .before in
     let a = s .args in
-    joined-alone (a .t .now) (a .n) (o .spot .result) (a .b) (s .pre .0) (s .pre .1) (s .pre .2) (s .pre .3) (o .spot .ensures) _ _ (sym (p .touches-before .ensures) ∙ c .before .before .before .before .before .before .before .before .if3 .left) (sym (q .touches-next .ensures) ∙ c .before .before .before .before .before .before .before .before .before .if1 .left) (c .before .before .before .before .before .before .open-row .ensures) (c .before .before .put-region2 .ensures)
+    joined-alone (a .t .now) (a .n) (o .spot .result) (a .b) (s .pre .0) (s .pre .1) (s .pre .2) (s .pre .3) (s .pre .4) (o .spot .ensures) _ _ (sym (p .touches-before .ensures) ∙ c .before .before .before .before .before .before .before .before .if3 .left) (sym (q .touches-next .ensures) ∙ c .before .before .before .before .before .before .before .before .before .if1 .left) (c .before .before .before .before .before .before .open-row .ensures) (c .before .before .put-region2 .ensures)
 
 pub join-region-spec : {M : Type 1} → statement M
 join-region-spec =

@@ -1,0 +1,132 @@
+// The book of a store's loans: their records in a slab, and an index by which a loan is found by its serial.
+mod chains;
+
+pub use chains::is_chained;
+ghost use mathlib.Core.Path.{_≡_};
+ghost use Prim.Native.Nat.{_≤_, _<_};
+ghost use lib.ListN.{set};
+ghost use Rattle.counter.specs.Limits.{loansMost};
+ghost use Rattle.words.specs.Words.{cellOf};
+ghost use Rattle.words.specs.Rows.{row, written};
+ghost use Rattle.store_rules.specs.Loans.{loanRow};
+ghost use Rattle.book.specs.Book.{entryWords, vacatedAt, vacantAfterAt, firstOf, nextOf, takenOf, entered, enteredIndex, wordTo, struck, struckIndex};
+use slab::NOWHERE;
+use slab::Slab;
+use slab::Taken;
+use store_rules::LOAN_WORDS;
+use store_rules::Loan;
+use store_rules::SERIAL_AT;
+use store_rules::SIZE_AT;
+
+// Where the words of the index stand; specs/Book has the same names.
+pub const ENTRY_WORDS: usize = 3;
+
+pub const VACATED_AT: usize = 0;
+
+const FIRST_AT: usize = 1;
+
+const NEXT_AT: usize = 2;
+
+pub const VACANT_AFTER_AT: usize = 3;
+
+// The place that the next loan takes, and the slab from then on.
+pub fn next_place(places: u64, index: &[u64]) -> Taken
+    ensures { λ r. ⌜ r ≡ takenOf places (now (index .entry)) ⌝ }
+{
+    let s = Slab {
+        places: places,
+        vacant: words::word(index, VACATED_AT),
+    };
+    s.insert(index, VACANT_AFTER_AT, ENTRY_WORDS)
+}
+
+// The loan at a place.
+pub fn loan_at(loans: &[u64], p: usize) -> Loan
+    ensures { λ r. ⌜ r ≡ row loanRow p (now (loans .entry)) ⌝ }
+{
+    Loan {
+        serial: words::cell(loans, 0, LOAN_WORDS, p),
+        chunk: words::cell(loans, 1, LOAN_WORDS, p),
+        offset: words::cell(loans, 2, LOAN_WORDS, p),
+        size: words::cell(loans, 3, LOAN_WORDS, p),
+    }
+}
+
+// A loan written at its place.
+pub fn write_loan(loans: &mut [u64], p: usize, l: Loan)
+    ensures { λ _. ⌜ now (loans .exit) ≡ written loanRow p l (now (loans .entry)) ⌝ }
+{
+    words::put_cell(loans, 0, LOAN_WORDS, p, l.serial);
+    words::put_cell(loans, 1, LOAN_WORDS, p, l.chunk);
+    words::put_cell(loans, 2, LOAN_WORDS, p, l.offset);
+    words::put_cell(loans, 3, LOAN_WORDS, p, l.size);
+}
+
+// The loan takes the next place, and becomes the first of its chain. Answers how many places were ever used.
+pub fn enter(loans: &mut [u64], index: &mut [u64], n: usize, places: u64, l: Loan) -> u64
+    requires { ⌜ (0 < n) × (n ≤ loansMost) ⌝ }
+    ensures { λ r. ⌜ r ≡ takenOf places (now (index .entry)) .slab .places ⌝ }
+    ensures { λ _. ⌜ now (loans .exit) ≡ entered places (now (index .entry)) l (now (loans .entry)) ⌝ }
+    ensures { λ _. ⌜ now (index .exit) ≡ enteredIndex n places (l .serial) (now (index .entry)) ⌝ }
+{
+    let t = next_place(places, index);
+    let s = t.slab;
+    let i = l.serial % n as u64;
+    let first = words::cell(index, FIRST_AT, ENTRY_WORDS, i as usize);
+    write_loan(loans, t.place as usize, l);
+    put_first(index, i as usize, t.place, first, s.vacant);
+    s.places
+}
+
+// The place p is the first of chain i from now on, before the one that was.
+fn put_first(index: &mut [u64], i: usize, p: u64, first: u64, vacated: u64)
+    ensures { λ _. ⌜ now (index .exit) ≡ set (set (set (now (index .entry)) vacatedAt vacated) (nextOf p) first) (firstOf i) p ⌝ }
+{
+    words::put(index, VACATED_AT, vacated);
+    words::put_cell(index, NEXT_AT, ENTRY_WORDS, p as usize, first);
+    words::put_cell(index, FIRST_AT, ENTRY_WORDS, i, p);
+}
+
+// The word of the index that leads to the loan with this serial, or NOWHERE. At most `places` turns, so that links that
+// lead round in a ring end too.
+pub fn word_to(loans: &[u64], index: &[u64], n: usize, places: u64, serial: u64) -> u64
+    requires { ⌜ (0 < n) × (n ≤ loansMost) × (places ≤ loansMost) ⌝ }
+    ensures { λ r. ⌜ r ≡ wordTo (now (loans .entry)) (now (index .entry)) n places serial ⌝ }
+{
+    let i = serial % n as u64;
+    let mut at = FIRST_AT + ENTRY_WORDS * i as usize;
+    let mut left = places;
+    while 0 < left {
+        let p = words::word(index, at);
+        if places <= p {
+            return NOWHERE;
+        }
+        if words::cell(loans, SERIAL_AT, LOAN_WORDS, p as usize) == serial {
+            return at as u64;
+        }
+        at = NEXT_AT + ENTRY_WORDS * p as usize;
+        left -= 1;
+    }
+    NOWHERE
+}
+
+// The loan that the word at `at` leads to is struck out: its place is vacant.
+pub fn strike(loans: &mut [u64], index: &mut [u64], at: usize)
+    ensures { λ _. ⌜ now (loans .exit) ≡ struck at (now (index .entry)) (now (loans .entry)) ⌝ }
+    ensures { λ _. ⌜ now (index .exit) ≡ struckIndex at (now (index .entry)) ⌝ }
+{
+    let p = words::word(index, at);
+    let next = words::cell(index, NEXT_AT, ENTRY_WORDS, p as usize);
+    let vacated = words::word(index, VACATED_AT);
+    words::put_cell(loans, SIZE_AT, LOAN_WORDS, p as usize, 0);
+    pass_over(index, at, p, next, vacated);
+}
+
+// The word at `at` leads past p from now on, and p is the place vacated last.
+fn pass_over(index: &mut [u64], at: usize, p: u64, next: u64, vacated: u64)
+    ensures { λ _. ⌜ now (index .exit) ≡ set (set (set (now (index .entry)) at next) (cellOf vacantAfterAt entryWords p) vacated) vacatedAt p ⌝ }
+{
+    words::put(index, at, next);
+    words::put_cell(index, VACANT_AFTER_AT, ENTRY_WORDS, p as usize, vacated);
+    words::put(index, VACATED_AT, p);
+}

@@ -1,0 +1,5 @@
+pub mod Arriving
+pub mod Asking
+pub mod Freeing
+pub mod Fresh
+pub mod Returning

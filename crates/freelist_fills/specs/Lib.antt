@@ -1,0 +1,3 @@
+pub mod Gathering
+pub mod Keys
+pub mod Turn

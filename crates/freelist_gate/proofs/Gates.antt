@@ -1,0 +1,94 @@
+-- The gate's tests in the code's words. Assumes nothing.
+use mathlib.Core.Path.{_≡_, refl, sym, ap, _∙_}
+use mathlib.Core.Bool.{Bool, true, false, _&&_}
+use mathlib.Core.List.{List, [], _∷_, _++_}
+use Prim.Native.Nat.{ℕ, suc, _+_, _*_, _≤_}
+use native.Mathlib.Omega.{arith}
+use lib.Dec.{eqb}
+use lib.ListN.{length, getD}
+use Rattle.words.specs.Words.{cellOf}
+use Rattle.words.specs.Rows.{row, rows}
+use Rattle.words.proofs.Records.{cell-row, rows-snoc}
+use Rattle.lists.proofs.Bools.{and-left, and-right}
+use Rattle.counter.specs.Account.{heapAt}
+use Rattle.counter.specs.Gate.{Verdict, pass, refuse}
+use Rattle.counter.specs.InTable.{FreeListIn}
+use Rattle.counter.specs.Table.{freeListOk, heapsOk}
+use Rattle.counter.proofs.Tables.{free-list-yes}
+use Rattle.counter.specs.declared.account.Account.{Account}
+use Rattle.counter.specs.declared.account.Heap.{Heap}
+use Rattle.counter.specs.declared.settings.FreeListSettings.{FreeListSettings}
+use Rattle.store_rules.specs.Loans.{loanWords}
+use Rattle.store_rules.specs.Tests.{noOrder, coversOk}
+use Rattle.book.specs.Book.{indexWords}
+use Rattle.freelist_rules.specs.Records.{chunkWords, chunkRow}
+use Rattle.freelist_rules.specs.Pieces.{total}
+use Rattle.freelist_rules.specs.Tables.{Tables, headWords, chunksAt, chunksIn, countAt, lengthsOk, storeOf, soundOk}
+use Rattle.freelist_rules.specs.declared.Chunk.{Chunk}
+use Rattle.freelist_rules.proofs.GivesBack.{total-append}
+use Rattle.freelist_outcomes.specs.Gate.{lentOk, accountOk, gateOf}
+use Rattle.freelist_gate.specs.Gates.{storeGate}
+
+module _ (s : FreeListSettings) (t : Tables) where
+  pub lengths-is : (count : ℕ) → count ≡ countAt s
+      → ((((eqb (length (t .head)) headWords && eqb (length (t .loans)) (loanWords * s .store .loans)) && eqb (length (t .chunks)) (chunkWords * s .store .chunks)) && eqb (length (t .regions)) (count + 1)) && eqb (length (t .index)) (indexWords (s .store .loans))) ≡ lengthsOk s t
+  unfolding lengthsOk
+  lengths-is count e = rw e refl
+
+  pub lent-yes : (a : Account) (h f : Bool) → freeListOk s ≡ true → h ≡ heapsOk (a .heaps) → f ≡ lengthsOk s t → (h && f) ≡ lentOk s a t
+  unfolding lentOk
+  lent-yes a h f e p q = rw (e, p, q) refl
+
+  pub lent-no : (a : Account) → freeListOk s ≡ false → false ≡ lentOk s a t
+  unfolding lentOk
+  lent-no a e = rw e refl
+
+abbrev pub bytes : ℕ → List ℕ → ℕ
+bytes i t = total (λ (c : Chunk). c .size) (rows chunkRow i t)
+
+pub bytes-next : (i v sum : ℕ) (t : List ℕ) → sum ≡ bytes i t → v ≡ getD t (cellOf 2 chunkWords i) 0 → sum + v ≡ bytes (i + 1) t
+bytes-next i v sum t e c =
+    let f : bytes (i + 1) t ≡ bytes i t + (row chunkRow i t .size + 0) =
+    ap (total (λ (d : Chunk). d .size)) (rows-snoc chunkRow i t) ∙ total-append (λ (d : Chunk). d .size) (rows chunkRow i t) (row chunkRow i t ∷ []) in
+    let g : v ≡ row chunkRow i t .size = c ∙ cell-row t 2 chunkWords i in
+    omega (arith, e, f, g)
+
+-- ---- the gate
+
+module _ (s : FreeListSettings) (h : Heap) (objects : ℕ) (t : Tables) where
+  pub store-torn : soundOk s t ≡ false → refuse 3 ≡ storeGate s h objects t
+  unfolding storeGate
+  store-torn e = rw e refl
+
+  abbrev pub covered : Bool
+  covered = coversOk h objects (chunksIn t) (total (λ (c : Chunk). c .size) (rows chunkRow (chunksIn t) (t .chunks)))
+
+  pub store-short : soundOk s t ≡ true → covered ≡ false → refuse 4 ≡ storeGate s h objects t
+  unfolding storeGate storeOf
+  store-short e f = rw (e, f) refl
+
+  pub store-go : soundOk s t ≡ true → covered ≡ true → pass ≡ storeGate s h objects t
+  unfolding storeGate storeOf
+  store-go e f = rw (e, f) refl
+
+pub covered-is : (h : Heap) (objects k b : ℕ) (r : Bool) (head chunks : List ℕ) → k ≡ getD head chunksAt 0 → b ≡ bytes k chunks → r ≡ coversOk h objects k b
+    → r ≡ coversOk h objects (getD head chunksAt 0) (bytes (getD head chunksAt 0) chunks)
+covered-is h objects k b r head chunks e f g = g ∙ (λ j. coversOk h objects (e j) ((f ∙ ap (λ (i : ℕ). bytes i chunks) e) j))
+
+module _ (s : FreeListSettings) (a : Account) (t : Tables) (list : Bool) where
+  pub gate-lent : (lentOk s a t && list) ≡ false → refuse 1 ≡ gateOf s a t list
+  unfolding gateOf
+  gate-lent e = rw e refl
+
+  pub gate-order : (lentOk s a t && list) ≡ true → noOrder (a .order) ≡ false → refuse 2 ≡ gateOf s a t list
+  unfolding gateOf
+  gate-order e f = rw (e, f) refl
+
+  pub gate-rest : (v : Verdict) → (lentOk s a t && list) ≡ true → noOrder (a .order) ≡ true → v ≡ storeGate s (heapAt a (s .store .heap)) (a .objects) t → v ≡ gateOf s a t list
+  unfolding gateOf storeGate accountOk
+  gate-rest v e f g = g ∙ rw (e, f) refl
+
+-- what test 1 says
+pub lent-in : (s : FreeListSettings) (a : Account) (t : Tables) → lentOk s a t ≡ true → FreeListIn s × (lengthsOk s t ≡ true)
+unfolding lentOk
+lent-in s a t e = (free-list-yes s (and-left (freeListOk s) _ e), and-right (heapsOk (a .heaps)) _ (and-right (freeListOk s) _ e))

@@ -1,0 +1,126 @@
+-- An ask's tests in the code's order come to the plan that is defined. Assumes nothing.
+use mathlib.Core.Path.{_≡_, refl, sym, ap, _∙_}
+use mathlib.Core.Bool.{Bool, true, false, _&&_, not}
+use mathlib.Core.List.{List, [], _∷_}
+use Prim.Native.Nat.{ℕ, _≤_, _<_}
+use native.Mathlib.Omega.{arith}
+use lib.Dec.{ltb}
+use lib.ListN.{getD}
+use borrow.Author.Tests.{lt-ltb, le-ltb}
+use Rattle.rounding.specs.Growth.{grown}
+use Rattle.counter.specs.Gate.{Verdict, pass, refuse, first}
+use Rattle.counter.specs.Table.{alignmentOk}
+use Rattle.counter.specs.declared.account.Heap.{Heap}
+use Rattle.counter.specs.declared.settings.FreeListSettings.{FreeListSettings}
+use Rattle.heap.specs.Heap.{bearsOk}
+use Rattle.store_rules.specs.Orders.{Plan, deny, take, buy}
+use Rattle.book.specs.Book.{takenOf}
+use Rattle.freelist_rules.specs.Records.{regionRow}
+use Rattle.freelist_rules.specs.Place.{Found, nowhere, at, find, sizeFor, maskFor}
+use Rattle.freelist_rules.specs.Tables.{Tables, tables, givenAt, madeAt, chunkSizeAt, placesAt, chunksAt, countAt, storeOf}
+use Rattle.freelist_outcomes.specs.Ask.{spent, sizeOk, roomOk, countOk, objectsOk, lateRow, planned, foundFor, decideAsk}
+use Rattle.words.specs.Rows.{rows}
+
+module _ (s : FreeListSettings) (head index : List ℕ) where
+  abbrev now : Tables
+  now = tables head [] [] [] index
+
+  -- a loan place is left
+  abbrev pub left : Bool
+  left = ltb (takenOf (getD head placesAt 0) index .place) (s .store .loans)
+
+  abbrev pub Taken : ℕ → Plan ℕ
+  Taken i = planned s 0 now (at i) (first ((roomOk s now (at i), 8) ∷ (ltb (getD head givenAt 0) spent, 10) ∷ []))
+
+  pub take-full : (i : ℕ) → left ≡ false → deny 8 ≡ Taken i
+  unfolding roomOk
+  take-full i e = rw e refl
+
+  pub take-spent : (i w : ℕ) → left ≡ true → w ≡ getD head givenAt 0 → w ≡ spent → deny 10 ≡ Taken i
+  unfolding roomOk
+  take-spent i w e g h = rw (e, le-ltb (getD head givenAt 0) spent (omega (arith, g, h))) refl
+
+  pub take-go : (i w : ℕ) → left ≡ true → w ≡ getD head givenAt 0 → w < spent → take i ≡ Taken i
+  unfolding roomOk
+  take-go i w e g h = rw (e, lt-ltb (getD head givenAt 0) spent (omega (arith, g, h))) refl
+
+  -- a chunk place is left
+  abbrev pub vacant : Bool
+  vacant = ltb (getD head chunksAt 0) (s .store .chunks)
+
+  -- what the code read says the same
+  pub room-is : (has v : Bool) (w : ℕ) → has ≡ left → w ≡ getD head chunksAt 0 → (has && ltb w (s .store .chunks)) ≡ v → (left && vacant) ≡ v
+  room-is has v w e c r = (λ j. sym e j && ltb (sym c j) (s .store .chunks)) ∙ r
+
+  module _ (h : Heap) (objects size : ℕ) where
+    abbrev pub raised : ℕ
+    raised = grown (getD head chunkSizeAt 0) (sizeFor s size) (s .last)
+
+    abbrev pub counts : Bool
+    counts = ltb (getD head givenAt 0) spent && (bearsOk h raised && ltb (getD head madeAt 0) spent)
+
+    pub raised-is : (n now′ z : ℕ) → n ≡ sizeFor s size → now′ ≡ getD head chunkSizeAt 0 → z ≡ grown now′ n (s .last) → z ≡ raised
+    raised-is n now′ z a b c = c ∙ (λ j. grown (b j) (a j) (s .last))
+
+    pub counts-is : (n now′ z given made : ℕ) (bears v : Bool) → n ≡ sizeFor s size → now′ ≡ getD head chunkSizeAt 0 → z ≡ grown now′ n (s .last) → given ≡ getD head givenAt 0 → made ≡ getD head madeAt 0
+        → bears ≡ bearsOk h z → (ltb given spent && (bears && ltb made spent)) ≡ v → counts ≡ v
+    counts-is n now′ z given made bears v a b c g m e r =
+        let f : bears ≡ bearsOk h raised = e ∙ ap (bearsOk h) (raised-is n now′ z a b c) in
+        (λ j. ltb (sym g j) spent && (sym f j && ltb (sym m j) spent)) ∙ r
+
+    abbrev pub Bought : Plan ℕ
+    Bought = planned s size now nowhere (first (lateRow s h objects size now nowhere))
+
+    pub buy-full : (left && vacant) ≡ false → deny 8 ≡ Bought
+    unfolding roomOk
+    buy-full e = rw e refl
+
+    pub buy-spent : (left && vacant) ≡ true → counts ≡ false → deny 10 ≡ Bought
+    unfolding roomOk countOk storeOf
+    buy-spent e c = rw (e, c) refl
+
+    pub buy-none : (left && vacant) ≡ true → counts ≡ true → objects ≡ 0 → deny 9 ≡ Bought
+    unfolding roomOk countOk objectsOk storeOf
+    buy-none e c z = rw (e, c, le-ltb 0 objects (omega arith)) refl
+
+    pub buy-go : (left && vacant) ≡ true → counts ≡ true → 0 < objects → buy raised ≡ Bought
+    unfolding roomOk countOk objectsOk storeOf
+    buy-go e c z = rw (e, c, lt-ltb 0 objects z) refl
+
+-- ---- the whole of it
+
+module _ (s : FreeListSettings) (h : Heap) (objects size mask : ℕ) (head regions index : List ℕ) where
+  abbrev all : Tables
+  all = tables head [] [] regions index
+
+  pub found-is : (f : Found) (m n k : ℕ) → f ≡ find m n (rows regionRow k regions) → m ≡ maskFor s mask → n ≡ sizeFor s size → k ≡ getD regions (countAt s) 0 → f ≡ foundFor s size mask all
+  unfolding storeOf
+  found-is f m n k e a b c = e ∙ (λ j. find (a j) (b j) (rows regionRow (c j) regions))
+
+  pub decide-mask : alignmentOk mask ≡ false → deny 5 ≡ decideAsk s h objects size mask all
+  unfolding decideAsk
+  decide-mask e = rw e refl
+
+  pub decide-size : alignmentOk mask ≡ true → sizeOk s size ≡ false → deny 6 ≡ decideAsk s h objects size mask all
+  unfolding decideAsk
+  decide-size e f = rw (e, f) refl
+
+  -- of a region that serves, two tests are left
+  fewer : (i : ℕ) (r g : Bool) → planned s 0 (tables head [] [] [] index) (at i) (first ((r, 8) ∷ (g, 10) ∷ [])) ≡ planned s size all (at i) (first ((r, 8) ∷ (g && true, 10) ∷ (true, 9) ∷ []))
+  fewer i true true = refl
+  fewer i true false = refl
+  fewer i false g = refl
+
+  pub decide-at : (i : ℕ) (p : Plan ℕ) → alignmentOk mask ≡ true → sizeOk s size ≡ true → at i ≡ foundFor s size mask all → p ≡ Taken s head index i → p ≡ decideAsk s h objects size mask all
+  unfolding decideAsk roomOk countOk objectsOk storeOf
+  decide-at i p e f g t = t ∙ rw (e, f, sym g) (fewer i (roomOk s all (at i)) (ltb (getD head givenAt 0) spent))
+
+  -- an order's size does not look at the regions
+  same : (v : Verdict) → planned s size (tables head [] [] [] index) nowhere v ≡ planned s size all nowhere v
+  unfolding storeOf
+  same pass = refl
+  same (refuse n) = refl
+
+  pub decide-nowhere : (p : Plan ℕ) → alignmentOk mask ≡ true → sizeOk s size ≡ true → nowhere ≡ foundFor s size mask all → p ≡ Bought s head index h objects size → p ≡ decideAsk s h objects size mask all
+  unfolding decideAsk roomOk countOk objectsOk storeOf
+  decide-nowhere p e f g t = t ∙ rw (e, f, sym g) (same (first (lateRow s h objects size all nowhere)))

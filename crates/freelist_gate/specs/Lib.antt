@@ -1,0 +1,4 @@
+pub mod Backs
+pub mod Comings
+pub mod Gates
+pub mod Plans

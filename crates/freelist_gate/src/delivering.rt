@@ -1,0 +1,197 @@
+// What a delivery comes to: the gate, which tests the kept ask again, and test 13.
+ghost use mathlib.Core.Path.{_≡_};
+ghost use mathlib.Core.Bool.{true, cond};
+ghost use mathlib.Core.List.{[]};
+ghost use lib.ListN.{getD};
+ghost use Rattle.words.specs.Rows.{rows};
+ghost use Rattle.counter.specs.Gate.{verdictOf};
+ghost use Rattle.counter.specs.InTable.{FreeListIn};
+ghost use Rattle.store_rules.specs.Delivery.{freeList, holds, fateOf};
+ghost use Rattle.store_rules.specs.Orders.{leadsTo};
+ghost use Rattle.store.specs.Fates.{deliverable};
+ghost use Rattle.freelist_rules.specs.Records.{chunkRow};
+ghost use Rattle.freelist_rules.specs.Tables.{tables, chunksAt, lengthsOk};
+ghost use Rattle.freelist_rules.specs.Walk.{memories};
+ghost use Rattle.freelist_outcomes.specs.Ask.{decideAsk};
+ghost use Rattle.freelist_outcomes.specs.Deliver as Deliver;
+ghost use Rattle.freelist_outcomes.specs.Deliver.{deliverGateOf, decideDeliver, planDeliver};
+ghost use Rattle.freelist_gate.specs.Comings.{comingOf, keptGate, knownIn};
+use crate::deciding::Plan;
+use counter::Account;
+use counter::FreeListSettings;
+use counter::Gate;
+use counter::Heap;
+use counter::KeptOrder;
+use counter::OpenOrder;
+use counter::Outcome;
+use counter::Refusal;
+use freelist_rules::CHUNK_MEMORY_AT;
+use freelist_rules::CHUNK_WORDS;
+use freelist_rules::CHUNKS_AT;
+use store::Engine;
+use store::Fate;
+use store::Loss;
+
+// The memory is kept as a chunk, and serves the ask of this order.
+pub struct Keeping {
+    pub kept: KeptOrder,
+    pub memory: u64,
+}
+
+pub struct Losing {
+    pub kept: KeptOrder,
+    pub loss: Loss,
+}
+
+pub enum Coming {
+    Refuse(Refusal),
+    Keep(Keeping),
+    Lose(Losing),
+}
+
+// Whether the kept ask still leads to the order that was told.
+fn is_still(
+    s: FreeListSettings,
+    h: Heap,
+    objects: u32,
+    k: KeptOrder,
+    head: &[u64],
+    regions: &[u64],
+    index: &[u64],
+) -> bool
+    requires { ⌜ FreeListIn s ⌝ }
+    ensures { λ r. ⌜ r ≡ leadsTo (s .store) (k .order) (decideAsk s h objects (k .ask .size) (k .ask .mask) (tables (now (head .entry)) [] [] (now (regions .entry)) (now (index .entry)))) ⌝ }
+{
+    let ask = k.ask;
+    let order = k.order;
+    let store = s.store;
+    let plan = crate::deciding::decide(s, h, objects, ask.size, ask.mask, head, regions, index);
+    match plan {
+        Plan::Refuse(_) => false,
+        Plan::Take(_) => false,
+        Plan::Buy(z) => store::same_order(order, store::order_from(store, z)),
+    }
+}
+
+// Tests 3 and 4, where k is the order.
+fn gate_kept(
+    s: FreeListSettings,
+    h: Heap,
+    objects: u32,
+    k: KeptOrder,
+    head: &[u64],
+    loans: &[u64],
+    chunks: &[u64],
+    regions: &[u64],
+    index: &[u64],
+) -> Gate
+    requires { ⌜ FreeListIn s × (lengthsOk s (tables (now head) (now loans) (now chunks) (now regions) (now index)) ≡ true) ⌝ }
+    ensures { λ r. ⌜ verdictOf r ≡ keptGate s h objects k (tables (now (head .entry)) (now (loans .entry)) (now (chunks .entry)) (now (regions .entry)) (now (index .entry))) ⌝ }
+{
+    if !freelist_test::is_sound(s, head, loans, chunks, regions, index) {
+        return Gate::Shut(Refusal::Torn);
+    }
+    if !is_still(s, h, objects, k, head, regions, index) {
+        return Gate::Shut(Refusal::Torn);
+    }
+    if !crate::gating::is_covered(h, objects, head, chunks) {
+        return Gate::Shut(Refusal::Account);
+    }
+    Gate::Go
+}
+
+// The gate of a delivery: an order has to be open for this store.
+fn gate_delivery(
+    s: FreeListSettings,
+    a: Account,
+    head: &[u64],
+    loans: &[u64],
+    chunks: &[u64],
+    regions: &[u64],
+    index: &[u64],
+) -> Gate
+    ensures { λ r. ⌜ verdictOf r ≡ deliverGateOf s a (tables (now (head .entry)) (now (loans .entry)) (now (chunks .entry)) (now (regions .entry)) (now (index .entry))) ⌝ }
+{
+    if !crate::gating::is_lent(s, a, head, loans, chunks, regions, index) {
+        return Gate::Shut(Refusal::Setup);
+    }
+    let own = s.store;
+    let order = a.order;
+    if !store::is_open_for(own.number, order) {
+        return Gate::Shut(Refusal::Order);
+    }
+    let h = a.heap(own.heap);
+    match order {
+        OpenOrder::Nothing => Gate::Shut(Refusal::Order),
+        OpenOrder::Kept(k) => gate_kept(s, h, a.objects, k, head, loans, chunks, regions, index),
+    }
+}
+
+// Whether one of the first k chunks has this memory.
+fn is_held(chunks: &[u64], k: usize, memory: u64) -> bool
+    ensures { λ r. ⌜ r ≡ holds memory (memories (rows chunkRow k (now (chunks .entry)))) ⌝ }
+{
+    let mut held = false;
+    let mut i = 0;
+    while i < k {
+        held = held | (words::cell(chunks, CHUNK_MEMORY_AT, CHUNK_WORDS, i) == memory);
+        i += 1;
+    }
+    held
+}
+
+// Whether an outcome's memory is held already.
+fn is_known(o: Outcome, head: &[u64], chunks: &[u64]) -> bool
+    ensures { λ r. ⌜ r ≡ knownIn (memories (rows chunkRow (getD (now (head .entry)) chunksAt 0) (now (chunks .entry)))) o ⌝ }
+{
+    match o {
+        Outcome::Made(m) => is_held(chunks, words::word(head, CHUNKS_AT) as usize, m.number),
+        Outcome::OutOfDevice => false,
+        Outcome::OutOfHost => false,
+    }
+}
+
+// Test 13, and what the outcome leads to.
+fn arrive(k: KeptOrder, o: Outcome, held: bool) -> Coming
+    ensures { λ r. ⌜ comingOf r ≡ cond (deliverable (k .order .map) held o) (Deliver.go k (fateOf freeList o)) (Deliver.deny 13) ⌝ }
+{
+    let order = k.order;
+    if !store::is_deliverable(order.map, held, o) {
+        return Coming::Refuse(Refusal::Delivery);
+    }
+    let fate = store::lead(Engine::FreeList, o);
+    match fate {
+        Fate::Kept(m) => Coming::Keep(Keeping { kept: k, memory: m }),
+        Fate::Lost(l) => Coming::Lose(Losing { kept: k, loss: l }),
+    }
+}
+
+// What a delivery comes to, once the gate is passed.
+fn decide_delivery(order: OpenOrder, o: Outcome, head: &[u64], chunks: &[u64]) -> Coming
+    ensures { λ r. ⌜ comingOf r ≡ decideDeliver o (memories (rows chunkRow (getD (now (head .entry)) chunksAt 0) (now (chunks .entry)))) order ⌝ }
+{
+    match order {
+        OpenOrder::Nothing => Coming::Refuse(Refusal::Order),
+        OpenOrder::Kept(k) => arrive(k, o, is_known(o, head, chunks)),
+    }
+}
+
+pub fn plan_deliver(
+    s: FreeListSettings,
+    a: Account,
+    o: Outcome,
+    head: &[u64],
+    loans: &[u64],
+    chunks: &[u64],
+    regions: &[u64],
+    index: &[u64],
+) -> Coming
+    ensures { λ r. ⌜ comingOf r ≡ planDeliver s a o (tables (now (head .entry)) (now (loans .entry)) (now (chunks .entry)) (now (regions .entry)) (now (index .entry))) ⌝ }
+{
+    let g = gate_delivery(s, a, head, loans, chunks, regions, index);
+    let order = a.order;
+    match g {
+        Gate::Shut(r) => Coming::Refuse(r),
+        Gate::Go => decide_delivery(order, o, head, chunks),
+    }
+}

@@ -1,0 +1,81 @@
+-- What a delivery says and leaves. 01, "freelist.rs": "After a good delivery it doubles, up to final", and the tests 13, 11
+-- and 12. Assumes nothing: these are definitions.
+use mathlib.Core.Bool.{Bool, false, cond, _&&_}
+use mathlib.Core.List.{List, [], _∷_, _++_}
+use Prim.Native.Nat.{ℕ, _+_}
+use lib.ListN.{length, set}
+use Rattle.rounding.specs.Growth.{doubled}
+use Rattle.words.specs.Rows.{laid}
+use Rattle.counter.specs.Account.{heapAt}
+use Rattle.counter.specs.Gate.{Verdict, pass, refuse, first}
+use Rattle.counter.specs.Paper as Paper
+use Rattle.counter.specs.declared.account.Account.{Account}
+use Rattle.counter.specs.declared.account.KeptOrder.{KeptOrder}
+use Rattle.counter.specs.declared.account.OpenOrder.{OpenOrder}
+use Rattle.counter.specs.declared.account.OpenOrder.the-variants.{Nothing, Kept}
+use Rattle.counter.specs.declared.answers.Outcome.{Outcome}
+use Rattle.counter.specs.declared.settings.FreeListSettings.{FreeListSettings}
+use Rattle.store_rules.specs.Delivery.{Fate, kept, lost, freeList, fateOf, deliveryOk}
+use Rattle.store_rules.specs.Orders.{leadsTo}
+use Rattle.store_rules.specs.Outcomes.{Out, out, chargedAccount, lostAccount}
+use Rattle.store_rules.specs.Tests.{orderFor, gateRow}
+use Rattle.freelist_rules.specs.Records.{region, chunk, chunkRow}
+use Rattle.freelist_rules.specs.Tables.{Tables, tables, madeAt, chunkSizeAt, chunksAt, chunksIn, storeOf, soundOk, laidRegions}
+use Rattle.freelist_rules.specs.Walk.{memories}
+use Rattle.freelist_outcomes.specs.Gate.{lentOk, accountOk}
+use Rattle.freelist_outcomes.specs.Ask.{decideAsk, loanFrom, takenTables, blockSaid}
+
+-- 3 on a delivery: the kept ask still leads to the order that was told
+abbrev pub stillOk : FreeListSettings → Account → Tables → OpenOrder → Bool
+stillOk s a t Nothing = false
+stillOk s a t (Kept k) =
+    leadsTo (s .store) (k .order) (decideAsk s (heapAt a (s .store .heap)) (a .objects) (k .ask .size) (k .ask .mask) t)
+
+-- the gate of a delivery: an order is to be open for this store
+unfoldable pub deliverGateOf : FreeListSettings → Account → Tables → Verdict
+deliverGateOf s a t =
+    first (gateRow (lentOk s a t) (orderFor (s .store .number) (a .order)) (soundOk s t && stillOk s a t (a .order)) (accountOk s a t))
+
+-- a chunk of z bytes under the next number, wholly free
+unfoldable pub deliveredTables : FreeListSettings → ℕ → ℕ → Tables → Tables
+deliveredTables s memory z t =
+    tables
+    (set (set (set (t .head) madeAt (storeOf s t .made + 1)) chunkSizeAt (doubled z (s .last))) chunksAt (chunksIn t + 1))
+    (t .loans)
+    (laid chunkRow (storeOf s t .chunks ++ (chunk (storeOf s t .made + 1) memory z ∷ [])) (t .chunks))
+    (laidRegions s (storeOf s t .regions ++ (region (storeOf s t .made + 1) 0 z ∷ [])) (t .regions))
+    (t .index)
+
+-- it is kept, and the kept ask is served from its region, the last; or it is lost
+unfoldable pub carryFate : FreeListSettings → Account → KeptOrder → Tables → Fate → Out Tables
+carryFate s a k t (kept memory) =
+    out
+    (blockSaid
+    (loanFrom s (k .ask .size) (k .ask .mask) (deliveredTables s memory (k .order .size) t) (length (storeOf s t .regions))))
+    (chargedAccount (s .store) a (k .order .size))
+    (takenTables s (k .ask .size) (k .ask .mask) (deliveredTables s memory (k .order .size) t) (length (storeOf s t .regions)))
+carryFate s a k t (lost n charged back) = out (Paper.refusal n back) (lostAccount (s .store) a (k .order .size) charged back) t
+
+-- what a delivery comes to: a refusal, or what becomes of the kept order
+pub data Plan : Type 0 where
+  deny : ℕ → Plan
+  go : KeptOrder → Fate → Plan
+
+-- 13
+abbrev pub decideDeliver : Outcome → List ℕ → OpenOrder → Plan
+decideDeliver o held Nothing = deny 2
+decideDeliver o held (Kept k) = cond (deliveryOk (k .order .map) held o) (go k (fateOf freeList o)) (deny 13)
+
+abbrev pub gated : Verdict → Plan → Plan
+gated (refuse n) p = deny n
+gated pass p = p
+
+unfoldable pub planDeliver : FreeListSettings → Account → Outcome → Tables → Plan
+planDeliver s a o t = gated (deliverGateOf s a t) (decideDeliver o (memories (storeOf s t .chunks)) (a .order))
+
+unfoldable pub carryDeliver : FreeListSettings → Account → Tables → Plan → Out Tables
+carryDeliver s a t (deny n) = out (Paper.refusal n []) a t
+carryDeliver s a t (go k f) = carryFate s a k t f
+
+unfoldable pub deliverOf : FreeListSettings → Account → Outcome → Tables → Out Tables
+deliverOf s a o t = carryDeliver s a t (planDeliver s a o t)

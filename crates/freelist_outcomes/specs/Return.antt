@@ -1,0 +1,97 @@
+-- What a return and a clean-up say and leave. 01, "freelist.rs", and test 7. Assumes nothing: these are definitions.
+use mathlib.Core.Bool.{Bool, true, false, cond, _&&_, not}
+use mathlib.Core.List.{List, []}
+use Prim.Native.Nat.{ℕ, _+_}
+use lib.Dec.{eqb}
+use lib.ListN.{length, getD, set}
+use lib.Seq.{sets}
+use Rattle.words.specs.Rows.{row, laid}
+use Rattle.counter.specs.Gate.{Verdict, pass, refuse}
+use Rattle.counter.specs.Paper as Paper
+use Rattle.counter.specs.declared.account.Account.{Account}
+use Rattle.counter.specs.declared.answers.Block.{Block}
+use Rattle.counter.specs.declared.settings.FreeListSettings.{FreeListSettings}
+use Rattle.slab.specs.Slab.{nowhere}
+use Rattle.store_rules.specs.Loans.{loanRow}
+use Rattle.store_rules.specs.Outcomes.{Listed, listed, listOk, releasedAccount}
+use Rattle.book.specs.Book.{wordTo, struck, struckIndex}
+use Rattle.freelist_rules.specs.Records.{region, chunkRow}
+use Rattle.freelist_rules.specs.Join.{insert}
+use Rattle.freelist_rules.specs.Release.{staying, leaving, remaining, memoriesOf, bytesOf}
+use Rattle.freelist_rules.specs.Seek.{sameLoan}
+use Rattle.freelist_rules.specs.Tables.{Tables, tables, chunksAt, placesIn, storeOf, laidRegions}
+use Rattle.freelist_rules.specs.declared.Region.{Region}
+use Rattle.freelist_outcomes.specs.Gate.{gateOf}
+
+-- the word of the index that leads to the loan with the block's serial
+abbrev pub wordFor : FreeListSettings → Block → Tables → ℕ
+wordFor s b t = wordTo (t .loans) (t .index) (s .store .loans) (placesIn t) (b .serial)
+
+-- 7: "no loan has this serial, chunk, offset and size"
+unfoldable pub onLoanOk : FreeListSettings → Block → Tables → Bool
+onLoanOk s b t =
+    not (eqb (wordFor s b t) nowhere) && sameLoan b (row loanRow (getD (t .index) (wordFor s b t) 0) (t .loans))
+
+-- the loan that the word w leads to is struck out, and its bytes go back among the free regions
+unfoldable pub givenTables : FreeListSettings → Block → ℕ → Tables → Tables
+givenTables s b w t =
+    tables
+    (t .head)
+    (struck w (t .index) (t .loans))
+    (t .chunks)
+    (laidRegions s (insert (region (b .chunk) (b .offset) (b .offset + b .size)) (storeOf s t .regions)) (t .regions))
+    (struckIndex w (t .index))
+
+-- ---- the release
+
+-- the regions whose chunks go, in the order of the list
+abbrev pub goneFrom : FreeListSettings → Bool → Tables → List Region
+goneFrom s spare t = leaving (storeOf s t .chunks) spare [] (storeOf s t .regions)
+
+unfoldable pub releasedTables : FreeListSettings → Bool → Tables → Tables
+releasedTables s spare t =
+    tables
+    (set (t .head) chunksAt (length (remaining (goneFrom s spare t) (storeOf s t .chunks))))
+    (t .loans)
+    (laid chunkRow (remaining (goneFrom s spare t) (storeOf s t .chunks)) (t .chunks))
+    (laidRegions s (staying (storeOf s t .chunks) spare (storeOf s t .regions)) (t .regions))
+    (t .index)
+
+unfoldable pub releaseOf : FreeListSettings → Account → Bool → Tables → List ℕ → Listed Tables
+releaseOf s a spare t list =
+    listed
+    (Paper.released (length (goneFrom s spare t)))
+    (releasedAccount (s .store) a (length (goneFrom s spare t)) (bytesOf (goneFrom s spare t)))
+    (releasedTables s spare t)
+    (sets list 0 (memoriesOf (storeOf s t .chunks) (goneFrom s spare t)))
+
+-- ---- the calls
+
+-- what a return comes to: a refusal, or the word that leads to the loan
+pub data Plan : Type 0 where
+  deny : ℕ → Plan
+  back : ℕ → Plan
+
+unfoldable pub decideReturn : FreeListSettings → Block → Tables → Plan
+decideReturn s b t = cond (onLoanOk s b t) (back (wordFor s b t)) (deny 7)
+
+abbrev pub gated : Verdict → Plan → Plan
+gated (refuse n) p = deny n
+gated pass p = p
+
+unfoldable pub planReturn : FreeListSettings → Account → Block → Tables → Bool → Plan
+planReturn s a b t list = gated (gateOf s a t list) (decideReturn s b t)
+
+unfoldable pub carryReturn : FreeListSettings → Account → Block → Tables → List ℕ → Plan → Listed Tables
+carryReturn s a b t list (deny n) = listed (Paper.refusal n []) a t list
+carryReturn s a b t list (back w) = releaseOf s a true (givenTables s b w t) list
+
+unfoldable pub returnOf : FreeListSettings → Account → Block → Tables → List ℕ → Listed Tables
+returnOf s a b t list = carryReturn s a b t list (planReturn s a b t (listOk (s .store) list))
+
+unfoldable pub carryCleanUp : FreeListSettings → Account → Tables → List ℕ → Verdict → Listed Tables
+carryCleanUp s a t list (refuse n) = listed (Paper.refusal n []) a t list
+carryCleanUp s a t list pass = releaseOf s a false t list
+
+unfoldable pub cleanUpOf : FreeListSettings → Account → Tables → List ℕ → Listed Tables
+cleanUpOf s a t list = carryCleanUp s a t list (gateOf s a t (listOk (s .store) list))

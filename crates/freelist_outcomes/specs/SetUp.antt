@@ -1,0 +1,36 @@
+-- What set-up says and leaves. Assumes nothing: these are definitions.
+use mathlib.Core.Bool.{Bool, cond, _&&_}
+use mathlib.Core.List.{List, [], _∷_}
+use Prim.Native.Nat.{ℕ}
+use lib.ListN.{set, replicate}
+use Rattle.counter.specs.Paper.{Said}
+use Rattle.counter.specs.Paper as Paper
+use Rattle.counter.specs.Table.{freeListOk}
+use Rattle.counter.specs.declared.settings.FreeListSettings.{FreeListSettings}
+use Rattle.slab.specs.Slab.{nowhere}
+use Rattle.book.specs.Book.{indexWords}
+use Rattle.freelist_rules.specs.Tables.{Tables, tables, mark, countAt, lengthsOk}
+
+pub record SetUp : Type 0 where
+  pub said : Said
+  pub tables : Tables
+
+abbrev pub setUp : Said → Tables → SetUp
+setUp s t = record { said = s; tables = t }
+
+-- the mark; nothing given or held, and the chunk size of the settings
+abbrev pub freshHead : FreeListSettings → List ℕ
+freshHead s = mark ∷ 0 ∷ 0 ∷ s .start ∷ 0 ∷ 0 ∷ []
+
+-- no region; no chain leads anywhere
+unfoldable pub freshTables : FreeListSettings → Tables → Tables
+freshTables s t =
+    tables (freshHead s) (t .loans) (t .chunks) (set (t .regions) (countAt s) 0) (replicate (indexWords (s .store .loans)) nowhere)
+
+-- 1, but for the account, which set-up does not take
+unfoldable pub fitOk : FreeListSettings → Tables → Bool
+fitOk s t = freeListOk s && lengthsOk s t
+
+-- "Set-up and ranking test only 1"
+unfoldable pub setUpOf : FreeListSettings → Tables → SetUp
+setUpOf s t = cond (fitOk s t) (setUp Paper.ready (freshTables s t)) (setUp (Paper.refusal 1 []) t)

@@ -1,0 +1,65 @@
+use borrow.Author.Needs.{needs}
+use Rattle.freelist_place.proofs.Writing.{added-done}
+use Rattle.freelist_place.proofs.adding.add_chunk.Statement.{statement}
+use Rattle.freelist_place.proofs.adding.add_chunk.Tie as tie
+
+word-requires : tie.Need-word-requires
+word-requires c κs = search needs
+
+word-requires-2 : tie.Need-word-requires-2
+word-requires-2 c κs = search needs
+
+add-number : tie.Need-add-number
+add-number c = search needs
+
+double-requires : tie.Need-double-requires
+double-requires c κs = search needs
+
+put-chunk-requires : tie.Need-put-chunk-requires
+put-chunk-requires c κs = search needs
+
+append-requires : tie.Need-append-requires
+append-requires c κs = search needs
+
+add-count-chunk : tie.Need-add-count-chunk
+add-count-chunk c = search needs
+
+count-chunk-requires : tie.Need-count-chunk-requires
+count-chunk-requires c κs = search needs
+
+same-length : tie.Need-same-length
+same-length c = search needs
+
+same-length-2 : tie.Need-same-length-2
+same-length-2 c = search needs
+
+same-length-3 : tie.Need-same-length-3
+same-length-3 c = search needs
+
+returns : tie.Need-returns
+returns c =
+    let h = c .before .before in
+    let r = h .before .before .before .before in
+    let p = r .before .before .before .before in
+    let d = p .before .before in
+    let m = d .before in
+    let k = m .before .before in
+    let b = k .before .before .before .before .before in
+    added-done (b .args .s) (b .args .memory) (b .args .size) (b .args .head .now) (b .args .chunks .now) (b .args .regions .now) (b .pre) _ _ _ _ _ _ (k .word .ensures) (m .word2 .ensures) (d .double .ensures) (p .put-chunk .ensures) (r .append .ensures) (h .count-chunk .ensures)
+
+pub add-chunk-spec : {M : Type 1} → statement M
+add-chunk-spec =
+    tie.close
+    (tie.spec
+    word-requires
+    word-requires-2
+    add-number
+    double-requires
+    put-chunk-requires
+    append-requires
+    add-count-chunk
+    count-chunk-requires
+    same-length
+    same-length-2
+    same-length-3
+    returns)

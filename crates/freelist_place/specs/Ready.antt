@@ -1,0 +1,53 @@
+-- What the code that writes a store's tables asks of them: the gate has shown it. Assumes nothing: these are definitions.
+use mathlib.Core.Path.{_≡_}
+use mathlib.Core.List.{List, [], _∷_, _++_}
+use Prim.Native.Nat.{ℕ, _+_, _*_, _^_, _≤_, _<_}
+use lib.ListN.{length, getD}
+use Rattle.rounding.specs.Masks.{Ones}
+use Rattle.counter.specs.InTable.{FreeListIn}
+use Rattle.counter.specs.Limits.{alignBits}
+use Rattle.counter.specs.declared.answers.Block.{Block}
+use Rattle.counter.specs.declared.settings.FreeListSettings.{FreeListSettings}
+use Rattle.words.specs.Rows.{rows}
+use Rattle.freelist_rules.specs.Records.{chunkWords, region, regionRow}
+use Rattle.freelist_rules.specs.Pieces.{lo, hi, Rising}
+use Rattle.freelist_rules.specs.Join.{insert}
+use Rattle.freelist_rules.specs.Tables.{givenAt, madeAt, chunksAt, regionsMost, countAt}
+use Rattle.freelist_rules.specs.declared.Region.{Region}
+use Rattle.freelist_outcomes.specs.Ask.{spent}
+use Rattle.freelist_regions.specs.Order.{RegionsStand, LowPlace}
+
+-- the regions that a table holds
+abbrev pub regionsOf : FreeListSettings → List ℕ → List Region
+regionsOf s t = rows regionRow (getD t (countAt s) 0) t
+
+-- settings in 01's table, and a table of regions of the right length with a count within it
+pub record RegionsFit (s : FreeListSettings) (t : List ℕ) : Type 0 where
+  pub settings : FreeListIn s
+  pub long : length t ≡ countAt s + 1
+  pub count : getD t (countAt s) 0 ≤ regionsMost s
+
+-- region i can serve an ask of this size and mask
+pub record Lends (s : FreeListSettings) (size mask i : ℕ) (head regions : List ℕ) : Type 0 where
+  pub fit : RegionsFit s regions
+  pub aligned : Ones alignBits mask
+  pub size-most : size ≤ s .last
+  pub here : i < getD regions (countAt s) 0
+  pub serial : getD head givenAt 0 < spent
+
+-- there is room for one chunk more
+pub record Adds (s : FreeListSettings) (head chunks regions : List ℕ) : Type 0 where
+  pub fit : RegionsFit s regions
+  pub room : getD regions (countAt s) 0 < regionsMost s
+  pub long : length chunks ≡ chunkWords * s .store .chunks
+  pub few : getD head chunksAt 0 < s .store .chunks
+  pub number : getD head madeAt 0 < spent
+
+-- a block's bytes may go back among the regions
+pub record Backs (s : FreeListSettings) (b : Block) (regions : List ℕ) : Type 0 where
+  pub fit : RegionsFit s regions
+  pub rise : Rising lo hi 1 0 (regionsOf s regions)
+  pub stand : RegionsStand (regionsOf s regions)
+  pub low : LowPlace (b .offset)
+  pub short : b .offset + b .size < 2 ^ 64
+  pub room : length (insert (region (b .chunk) (b .offset) (b .offset + b .size)) (regionsOf s regions)) ≤ regionsMost s

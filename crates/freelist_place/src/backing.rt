@@ -1,0 +1,30 @@
+// A block taken back: struck out of the book, and its bytes put among the free regions.
+ghost use mathlib.Core.Path.{_≡_};
+ghost use mathlib.Core.List.{[]};
+ghost use Rattle.freelist_rules.specs.Tables.{tables};
+ghost use Rattle.freelist_outcomes.specs.Return.{givenTables};
+ghost use Rattle.freelist_place.specs.Ready.{Backs};
+use counter::Block;
+use counter::FreeListSettings;
+use freelist_rules::Region;
+
+// The block that the word at `at` of the index leads to.
+pub fn take_back(
+    s: FreeListSettings,
+    b: Block,
+    at: usize,
+    loans: &mut [u64],
+    regions: &mut [u64],
+    index: &mut [u64],
+)
+    requires { ⌜ Backs s b (now regions) ⌝ }
+    ensures { λ _. ⌜ tables [] (now (loans .exit)) [] (now (regions .exit)) (now (index .exit)) ≡ givenTables s b at (tables [] (now (loans .entry)) [] (now (regions .entry)) (now (index .entry))) ⌝ }
+{
+    let free = Region {
+        chunk: b.chunk,
+        start: b.offset,
+        end: b.offset + b.size,
+    };
+    crate::counted::join(s, regions, free);
+    book::strike(loans, index, at);
+}

@@ -1,0 +1,115 @@
+-- What the lengths of a store's tables and its soundness say of the counts in them, and its regions written back.
+-- Assumes nothing.
+use mathlib.Core.Path.{_≡_, refl, sym, ap, _∙_}
+use mathlib.Core.Bool.{true}
+use mathlib.Core.Logic.{⊎-elim}
+use mathlib.Core.List.{List, [], _∷_, _++_}
+use Prim.Native.Nat.{ℕ, _+_, _-_, _*_, _≤_}
+use native.Mathlib.Omega.{arith}
+use lib.Dec.{eqb, ltb}
+use lib.ListN.{length, getD, set, take, drop, length-set, take-append-drop}
+use lib.Seq.{getD-set-same, take-set-le, drop-set-add, take-at}
+use borrow.Author.Tests.{eqb-true}
+use Rattle.lists.proofs.Bools.{told, all-each}
+use Rattle.words.specs.Rows.{rows, flat, laid}
+use Rattle.words.proofs.Records.{length-rows, length-flat, length-laid, rows-flat}
+use Rattle.counter.specs.InTable.{FreeListIn}
+use Rattle.counter.specs.declared.settings.FreeListSettings.{FreeListSettings}
+use Rattle.store_rules.specs.Loans.{loanWords, loanRow, onLoan, loansOf}
+use Rattle.store_rules.specs.declared.Loan.{Loan}
+use Rattle.book.specs.Book.{indexWords}
+use Rattle.freelist_rules.specs.Records.{chunkWords, chunkRow, regionRow}
+use Rattle.freelist_rules.specs.Tables.{Tables, headWords, regionsMost, countAt, lengthsRow, lengthsOk, placesIn, chunksIn, regionsIn, ordered, storeOf, SoundTables, laidRegions}
+use Rattle.freelist_rules.specs.declared.Region.{Region}
+use Rattle.freelist_rules.proofs.Ordered.{ordered-length}
+use Rattle.freelist_place.specs.Ready.{RegionsFit, regionsOf}
+
+-- ---- the lengths
+
+pub record Lengths (s : FreeListSettings) (t : Tables) : Type 0 where
+  pub head : length (t .head) ≡ headWords
+  pub loans : length (t .loans) ≡ loanWords * s .store .loans
+  pub chunks : length (t .chunks) ≡ chunkWords * s .store .chunks
+  pub regions : length (t .regions) ≡ countAt s + 1
+  pub index : length (t .index) ≡ indexWords (s .store .loans)
+
+pub lengths-are : (s : FreeListSettings) (t : Tables) → lengthsOk s t ≡ true → Lengths s t
+unfolding lengthsOk
+lengths-are s t e =
+    let r = all-each (lengthsRow s t) e in
+    record {
+      head = eqb-true _ _ (r .0);
+      loans = eqb-true _ _ (r .1 .0);
+      chunks = eqb-true _ _ (r .1 .1 .0);
+      regions = eqb-true _ _ (r .1 .1 .1 .0);
+      index = eqb-true _ _ (r .1 .1 .1 .1 .0);
+    }
+
+pub regions-fit : (s : FreeListSettings) (t : Tables) → FreeListIn s → lengthsOk s t ≡ true → SoundTables s t → RegionsFit s (t .regions)
+regions-fit s t fit lengths sound = record { settings = fit; long = lengths-are s t lengths .regions; count = sound .regions-fit }
+
+-- ---- how many records there are
+
+on-loan-length : (ls : List Loan) → length (onLoan ls) ≤ length ls
+on-loan-length [] = omega arith
+on-loan-length (l ∷ ls) = ⊎-elim (λ e. rw e (omega (arith, on-loan-length ls))) (λ e. rw e (omega (arith, on-loan-length ls))) (told (eqb (l .size) 0))
+
+module _ (s : FreeListSettings) (t : Tables) where
+  pub chunks-length : length (storeOf s t .chunks) ≡ chunksIn t
+  unfolding storeOf
+  chunks-length = length-rows chunkRow (chunksIn t) (t .chunks)
+
+  pub regions-length : length (storeOf s t .regions) ≡ regionsIn s t
+  unfolding storeOf
+  regions-length = length-rows regionRow (regionsIn s t) (t .regions)
+
+  -- no more are on loan than places were ever used
+  pub loans-length : length (storeOf s t .loans) ≤ placesIn t
+  unfolding storeOf loansOf
+  loans-length =
+      omega (
+        arith,
+        ordered-length (onLoan (rows loanRow (placesIn t) (t .loans))),
+        on-loan-length (rows loanRow (placesIn t) (t .loans)),
+        length-rows loanRow (placesIn t) (t .loans),
+      )
+
+  -- nor than the limit
+  pub loans-few : SoundTables s t → length (storeOf s t .loans) ≤ s .store .loans
+  loans-few sound = omega (arith, loans-length, sound .parted .limit)
+
+-- ---- the regions written back
+
+module _ (s : FreeListSettings) (rs : List Region) (t : List ℕ) (fit : RegionsFit s t) (room : length rs ≤ regionsMost s) where
+  laid-length : length (laid regionRow rs t) ≡ countAt s + 1
+  laid-length = length-laid regionRow rs t (omega (arith, fit .long)) ∙ fit .long
+
+  pub laid-long : length (laidRegions s rs t) ≡ countAt s + 1
+  unfolding laidRegions
+  laid-long = length-set (laid regionRow rs t) (countAt s) (length rs) ∙ laid-length
+
+  pub laid-count : getD (laidRegions s rs t) (countAt s) 0 ≡ length rs
+  unfolding laidRegions
+  laid-count = getD-set-same (laid regionRow rs t) (countAt s) (length rs) 0 (omega (arith, laid-length))
+
+  pub laid-fit : RegionsFit s (laidRegions s rs t)
+  laid-fit = record { settings = fit .settings; long = laid-long; count = omega (arith, laid-count) }
+
+  -- the count stands past the records
+  laid-front : laidRegions s rs t ≡ flat regionRow rs ++ set (drop (3 * length rs) (laid regionRow rs t)) (countAt s - 3 * length rs) (length rs)
+  unfolding laidRegions
+  laid-front =
+      let u : List ℕ = laid regionRow rs t in
+      let n : ℕ = 3 * length rs in
+      let e : n + (countAt s - n) ≡ countAt s = omega arith in
+      let v : List ℕ = set u (n + (countAt s - n)) (length rs) in
+      let a : take n v ≡ flat regionRow rs = take-set-le n u (n + (countAt s - n)) (length rs) (omega arith) ∙ take-at (flat regionRow rs) (drop n t) n (length-flat regionRow rs) in
+      ap (λ (k : ℕ). set u k (length rs)) (sym e)
+      ∙ sym (take-append-drop n v)
+      ∙ (λ j. a j ++ drop-set-add n u (countAt s - n) (length rs) j)
+
+  pub laid-regions : regionsOf s (laidRegions s rs t) ≡ rs
+  laid-regions =
+      ap (λ (k : ℕ). rows regionRow k (laidRegions s rs t)) laid-count
+      ∙ ap (λ (u : List ℕ). rows regionRow (length rs) u) laid-front
+      ∙ rows-flat regionRow rs (set (drop (3 * length rs) (laid regionRow rs t)) (countAt s - 3 * length rs) (length rs))

@@ -1,0 +1,76 @@
+-- The loan at a place in use is one of the store's loans, and a block that is on loan is one of them. Assumes nothing.
+use mathlib.Core.Path.{_≡_, sym, ap, subst, _∙_}
+use mathlib.Core.Bool.{true, false, not}
+use mathlib.Core.Logic.{_⊎_, inl, inr, ⊎-elim}
+use mathlib.Core.List.{List, [], _∷_, List·Memᴰ, List·Memᴰ·head, List·Memᴰ·tail, List·Memᴰ·cases-cons, List·Memᴰ·not-nil}
+use Prim.Native.Nat.{ℕ, _+_, _<_}
+use native.Mathlib.Omega.{arith}
+use lib.Dec.{eqb, ltb}
+use lib.ListN.{length, getD}
+use borrow.Author.Tests.{eqb-false}
+use Rattle.lists.specs.Members.{Distinct}
+use Rattle.lists.proofs.Bools.{told, true-false, and-left, and-right, not-yes}
+use Rattle.words.specs.Rows.{row, rows}
+use Rattle.words.proofs.Records.{length-rows, getD-rows, cell-row}
+use Rattle.counter.specs.InTable.{FreeListIn}
+use Rattle.counter.specs.declared.answers.Block.{Block}
+use Rattle.counter.specs.declared.settings.FreeListSettings.{FreeListSettings}
+use Rattle.slab.specs.Slab.{nowhere}
+use Rattle.store_rules.specs.Loans.{loanWords, sizeAt, loanRow, onLoan, loansOf}
+use Rattle.store_rules.specs.declared.Loan.{Loan}
+use Rattle.freelist_rules.specs.Records.{region}
+use Rattle.freelist_rules.specs.Pieces.{piece}
+use Rattle.freelist_rules.specs.Place.{at, putLoan}
+use Rattle.freelist_rules.specs.Seek.{sameLoan, seek}
+use Rattle.freelist_rules.specs.Steps.{noLoan}
+use Rattle.freelist_rules.specs.Tables.{Tables, givenAt, placesIn, ordered, storeOf, vacantIn, SoundTables}
+use Rattle.freelist_rules.specs.Walk.{serials}
+use Rattle.freelist_rules.proofs.Base.{at-in}
+use Rattle.freelist_rules.proofs.Decides.{differ-distinct}
+use Rattle.freelist_rules.proofs.Gaps.{begins, stops}
+use Rattle.freelist_rules.proofs.Giving.{mem-at}
+use Rattle.freelist_rules.proofs.Ordered.{ordered-in, on-loan-in}
+use Rattle.freelist_rules.proofs.Search.{same-loan, seek-here}
+use Rattle.freelist_outcomes.specs.Return.{wordFor, onLoanOk}
+use Rattle.book.proofs.Uses.{leads-used}
+
+-- ---- a place in use
+
+module _ (s : FreeListSettings) (t : Tables) where
+  pub used-loan : (p : ℕ) → p < placesIn t → vacantIn t p ≡ false → List·Memᴰ (row loanRow p (t .loans)) (storeOf s t .loans)
+  unfolding storeOf loansOf
+  used-loan p h u =
+      let ls = rows loanRow (placesIn t) (t .loans) in
+      let l = row loanRow p (t .loans) in
+      let m : List·Memᴰ (getD ls p noLoan) ls = at-in p ls noLoan (omega (arith, length-rows loanRow (placesIn t) (t .loans))) in
+      let k : List·Memᴰ l ls = subst (λ (d : Loan). List·Memᴰ d ls) (getD-rows loanRow (placesIn t) p (t .loans) noLoan h) m in
+      ordered-in l (onLoan ls) (on-loan-in l ls k (ap (λ (n : ℕ). eqb n 0) (sym (cell-row (t .loans) sizeAt loanWords p)) ∙ u))
+
+  -- ---- a block on loan
+
+  -- which of the loans it is
+  pub record Stands (b : Block) : Type 0 where
+    pub spot : ℕ
+    pub here : spot < length (storeOf s t .loans)
+    pub same : sameLoan b (getD (storeOf s t .loans) spot noLoan) ≡ true
+
+  pub block-stands : FreeListIn s → SoundTables s t → (b : Block) → onLoanOk s b t ≡ true → Stands b
+  unfolding onLoanOk
+  block-stands fit sound b e =
+      let w = wordFor s b t in
+      let p = getD (t .index) w 0 in
+      let l = row loanRow p (t .loans) in
+      let there = eqb-false w nowhere (not-yes (eqb w nowhere) (and-left (not (eqb w nowhere)) (sameLoan b l) e)) in
+      let u = leads-used (t .loans) (t .index) (s .store .loans) (placesIn t) (getD (t .head) givenAt 0) (b .serial) (fit .store .loans-some) (omega (arith, sound .parted .limit, fit .store .loans-most)) (sound .chained) there in
+      let m = mem-at l (storeOf s t .loans) noLoan (used-loan p (u .0) (u .1)) in
+      record { spot = m .0; here = m .1; same = ap (sameLoan b) (m .2) ∙ and-right (not (eqb w nowhere)) (sameLoan b l) e }
+
+  pub block-piece : (b : Block) (w : Stands b) → piece (getD (storeOf s t .loans) (w .spot) noLoan) ≡ region (b .chunk) (b .offset) (b .offset + b .size)
+  block-piece b w = let e = same-loan b (getD (storeOf s t .loans) (w .spot) noLoan) (w .same) in (λ i. region (e .1 i) (e .2 i) (e .2 i + e .3 i))
+
+  -- the search over the loans finds it
+  pub block-sought : SoundTables s t → (b : Block) (w : Stands b) → seek b (storeOf s t .loans) ≡ at (w .spot)
+  block-sought sound b w =
+      let ls = storeOf s t .loans in
+      let u : Distinct (serials ls) = differ-distinct (λ (l : Loan). l .serial) begins stops 0 0 ls (sound .store .loans-rise) (sound .store .serials-differ) in
+      seek-here b (w .spot) ls noLoan u (w .here) (w .same)

@@ -1,0 +1,95 @@
+-- A sound store's chunks and regions can be released, also when a block on loan has gone back, and the device objects that
+-- are then allowed stay within their limit. Assumes nothing.
+use mathlib.Core.Path.{_≡_, refl, sym, ap, subst, _∙_}
+use mathlib.Core.Bool.{Bool, true, _&&_}
+use mathlib.Core.List.{List}
+use Prim.Native.Nat.{ℕ, _+_, _-_, _*_, _≤_}
+use native.Mathlib.Omega.{arith}
+use lib.Dec.{leb}
+use lib.ListN.{length}
+use borrow.Author.Tests.{leb-true}
+use Rattle.lists.proofs.Bools.{and-right}
+use Rattle.counter.specs.InTable.{FreeListIn}
+use Rattle.counter.specs.Limits.{loansMost, chunksMost, objectsMost}
+use Rattle.counter.specs.declared.account.Heap.{Heap}
+use Rattle.counter.specs.declared.answers.Block.{Block}
+use Rattle.counter.specs.declared.settings.FreeListSettings.{FreeListSettings}
+use Rattle.heap.specs.Heap.{agreesOk}
+use Rattle.store_rules.specs.Tests.{coversOk}
+use Rattle.freelist_rules.specs.Records.{chunkWords, regionWords}
+use Rattle.freelist_rules.specs.Join.{insert}
+use Rattle.freelist_rules.specs.Tables.{Tables, lengthsOk, chunksIn, regionsIn, storeOf, SoundTables}
+use Rattle.freelist_rules.specs.declared.Chunk.{Chunk}
+use Rattle.freelist_rules.specs.declared.Region.{Region}
+use Rattle.freelist_release.specs.Releasable.{Releasable}
+use Rattle.freelist_release.proofs.Sounds.{releasable}
+use Rattle.freelist_outcomes.specs.Return.{wordFor, onLoanOk, givenTables, goneFrom}
+use Rattle.freelist_place.specs.Ready.{RegionsFit}
+use Rattle.freelist_ready.proofs.Fits.{lengths-are, regions-fit, chunks-length, laid-fit, laid-regions}
+use Rattle.freelist_ready.proofs.Backing.{returning, Back, block-back, back-room}
+
+-- what a release asks of the counts
+abbrev pub Bounds : FreeListSettings → Tables → Type 0
+Bounds s t = (chunkWords * chunksIn t ≤ length (t .chunks)) × (regionWords * regionsIn s t ≤ length (t .regions)) × (regionsIn s t ≤ loansMost + chunksMost)
+
+bounds : (s : FreeListSettings) (t : Tables) → RegionsFit s (t .regions) → length (t .chunks) ≡ chunkWords * s .store .chunks → chunksIn t ≤ s .store .chunks → Bounds s t
+bounds s t fit long few =
+    (omega arith, omega (arith, fit .count, fit .long), omega (arith, fit .count, fit .settings .store .loans-most, fit .settings .store .chunks-most))
+
+-- ---- how many objects are allowed when chunks are given back: no more than the test of the account lets stand
+
+covers-chunks : (h : Heap) (objects chunks bytes : ℕ) → coversOk h objects chunks bytes ≡ true → chunks ≤ objectsMost - objects
+unfolding coversOk
+covers-chunks h objects chunks bytes e =
+    let a = leb bytes (h .used) in
+    let b = agreesOk h in
+    let c = leb chunks (objectsMost - objects) in
+    leb-true chunks (objectsMost - objects) (and-right b c (and-right a (b && c) e))
+
+-- ---- the store as it is
+
+module _ (s : FreeListSettings) (t : Tables) (fit : FreeListIn s) (sound : SoundTables s t) where
+  pub cleaned-ready : Releasable (storeOf s t .chunks) (storeOf s t .regions)
+  cleaned-ready = releasable s (storeOf s t) fit (sound .store)
+
+  pub cleaned-bounds : lengthsOk s t ≡ true → Bounds s t
+  cleaned-bounds lengths = bounds s t (regions-fit s t fit lengths sound) (lengths-are s t lengths .chunks) (sound .chunks-fit)
+
+  pub cleaned-objects : (h : Heap) (objects bytes : ℕ) (spare : Bool) → objects ≤ objectsMost → coversOk h objects (chunksIn t) bytes ≡ true → objects + length (goneFrom s spare t) ≤ objectsMost
+  cleaned-objects h objects bytes spare most e = omega (arith, covers-chunks h objects (chunksIn t) bytes e, cleaned-ready .few spare, chunks-length s t)
+
+  -- ---- the store when a block is back
+
+  module _ (b : Block) (lent : onLoanOk s b t ≡ true) (lengths : lengthsOk s t ≡ true) where
+    abbrev pub after : Tables
+    after = givenTables s b (wordFor s b t) t
+
+    abbrev joined : List Region
+    joined = insert (returning b) (storeOf s t .regions)
+
+    after-fit : RegionsFit s (after .regions)
+    unfolding givenTables
+    after-fit = laid-fit s joined (t .regions) (regions-fit s t fit lengths sound) (back-room s t fit sound b lent)
+
+    after-chunks : storeOf s after .chunks ≡ storeOf s t .chunks
+    unfolding givenTables storeOf
+    after-chunks = refl
+
+    after-regions : storeOf s after .regions ≡ insert (returning b) (storeOf s t .regions)
+    unfolding givenTables storeOf
+    after-regions = laid-regions s joined (t .regions) (regions-fit s t fit lengths sound) (back-room s t fit sound b lent)
+
+    pub returned-ready : Releasable (storeOf s after .chunks) (storeOf s after .regions)
+    returned-ready =
+        let k : Back s t b = block-back s t fit sound b lent in
+        subst (λ (cs : List Chunk). Releasable cs (storeOf s after .regions)) (k .chunks ∙ sym after-chunks)
+        (subst (λ (rs : List Region). Releasable (k .store .chunks) rs) (k .regions ∙ sym after-regions)
+        (releasable s (k .store) fit (k .sound)))
+
+    pub returned-bounds : Bounds s after
+    unfolding givenTables
+    returned-bounds = bounds s after after-fit (lengths-are s t lengths .chunks) (sound .chunks-fit)
+
+    pub returned-objects : (h : Heap) (objects bytes : ℕ) (spare : Bool) → objects ≤ objectsMost → coversOk h objects (chunksIn t) bytes ≡ true → objects + length (goneFrom s spare after) ≤ objectsMost
+    returned-objects h objects bytes spare most e =
+        omega (arith, covers-chunks h objects (chunksIn t) bytes e, returned-ready .few spare, ap length after-chunks, chunks-length s t)

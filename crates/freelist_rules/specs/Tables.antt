@@ -1,0 +1,163 @@
+-- A free-list store in its five lent tables. head, loans and chunks are the truth; regions and index are what can be made
+-- again from them. Assumes nothing: these are definitions.
+use mathlib.Core.Path.{_≡_}
+use mathlib.Core.Bool.{Bool, _&&_}
+use mathlib.Core.List.{List, [], _∷_}
+use Prim.Native.Nat.{ℕ, _+_, _*_, _≤_}
+use lib.Dec.{eqb, leb}
+use lib.ListN.{length, getD, set}
+use Rattle.lists.specs.Tests.{all}
+use Rattle.words.specs.Rows.{rows, laid}
+use Rattle.counter.specs.declared.settings.FreeListSettings.{FreeListSettings}
+use Rattle.slab.specs.Slab.{vacantAt, linkAt, Parted}
+use Rattle.slab.specs.Test.{partedOk}
+use Rattle.store_rules.specs.Loans.{loanWords, sizeAt, loansOf}
+use Rattle.store_rules.specs.declared.Loan.{Loan}
+use Rattle.book.specs.Book.{entryWords, indexWords, vacantAfterAt, firstOf, nextOf, serialOf, slabOf}
+use Rattle.book.specs.Chains.{Chained, chainsOk}
+use Rattle.freelist_rules.specs.Records.{Store, chunkWords, regionWords, chunkRow, regionRow}
+use Rattle.freelist_rules.specs.Sound.{Sound}
+use Rattle.freelist_rules.specs.Walk.{allOk, sizedOk, numbersRise, chunkOk, loanOk, fillsOk, apart, memories}
+use Rattle.freelist_rules.specs.Place.{putLoan}
+use Rattle.freelist_rules.specs.declared.Chunk.{Chunk}
+use Rattle.freelist_rules.specs.declared.Region.{Region}
+
+pub record Tables : Type 0 where
+  pub head : List ℕ
+  pub loans : List ℕ
+  pub chunks : List ℕ
+  pub regions : List ℕ
+  pub index : List ℕ
+
+abbrev pub tables : List ℕ → List ℕ → List ℕ → List ℕ → List ℕ → Tables
+tables h l c r i = record { head = h; loans = l; chunks = c; regions = r; index = i }
+
+-- ---- head: a mark; serials given, chunk numbers given, chunk size now; loan places ever used, chunks held
+
+-- "freelist" in ASCII: tables of another engine do not have it
+abbrev pub mark : ℕ
+mark = 0x6672_6565_6c69_7374
+
+abbrev pub markAt : ℕ
+markAt = 0
+
+abbrev pub givenAt : ℕ
+givenAt = 1
+
+abbrev pub madeAt : ℕ
+madeAt = 2
+
+abbrev pub chunkSizeAt : ℕ
+chunkSizeAt = 3
+
+abbrev pub placesAt : ℕ
+placesAt = 4
+
+abbrev pub chunksAt : ℕ
+chunksAt = 5
+
+abbrev pub headWords : ℕ
+headWords = 6
+
+-- ---- lengths: "free-list regions: loans + chunks, so a return always has room"; the regions' count is the last word
+
+abbrev pub regionsMost : FreeListSettings → ℕ
+regionsMost s = s .store .loans + s .store .chunks
+
+abbrev pub countAt : FreeListSettings → ℕ
+countAt s = regionWords * regionsMost s
+
+abbrev pub lengthsRow : FreeListSettings → Tables → List Bool
+lengthsRow s t =
+    eqb (length (t .head)) headWords
+    ∷ eqb (length (t .loans)) (loanWords * s .store .loans)
+    ∷ eqb (length (t .chunks)) (chunkWords * s .store .chunks)
+    ∷ eqb (length (t .regions)) (countAt s + 1)
+    ∷ eqb (length (t .index)) (indexWords (s .store .loans))
+    ∷ []
+
+unfoldable pub lengthsOk : FreeListSettings → Tables → Bool
+lengthsOk s t = all (lengthsRow s t)
+
+-- ---- the store that the tables hold
+
+abbrev pub placesIn : Tables → ℕ
+placesIn t = getD (t .head) placesAt 0
+
+abbrev pub chunksIn : Tables → ℕ
+chunksIn t = getD (t .head) chunksAt 0
+
+abbrev pub regionsIn : FreeListSettings → Tables → ℕ
+regionsIn s t = getD (t .regions) (countAt s) 0
+
+-- loans put in order by chunk and place
+unfoldable pub ordered : List Loan → List Loan
+ordered [] = []
+ordered (l ∷ ls) = putLoan l (ordered ls)
+
+unfoldable pub storeOf : FreeListSettings → Tables → Store
+storeOf s t =
+    record {
+      given = getD (t .head) givenAt 0;
+      made = getD (t .head) madeAt 0;
+      size = getD (t .head) chunkSizeAt 0;
+      loans = ordered (loansOf (placesIn t) (t .loans));
+      chunks = rows chunkRow (chunksIn t) (t .chunks);
+      regions = rows regionRow (regionsIn s t) (t .regions);
+    }
+
+-- ---- soundness of the tables
+
+-- which places are vacant, and how the index leads from place to place
+abbrev pub vacantIn : Tables → ℕ → Bool
+vacantIn t = vacantAt (t .loans) sizeAt loanWords
+
+abbrev pub vacantAfterIn : Tables → ℕ → ℕ
+vacantAfterIn t = linkAt (t .index) vacantAfterAt entryWords
+
+abbrev pub chainStart : Tables → ℕ → ℕ
+chainStart t i = getD (t .index) (firstOf i) 0
+
+abbrev pub chainNext : Tables → ℕ → ℕ
+chainNext t p = getD (t .index) (nextOf p) 0
+
+-- the mark; the counts within the limits; "vacant chains agree": the loans' places are parted into used and vacant ones,
+-- and the index leads to each loan by its serial; and the store is sound
+pub record SoundTables (s : FreeListSettings) (t : Tables) : Type 0 where
+  pub marked : getD (t .head) markAt 0 ≡ mark
+  pub chunks-fit : chunksIn t ≤ s .store .chunks
+  pub regions-fit : regionsIn s t ≤ regionsMost s
+  pub parted : Parted (vacantIn t) (vacantAfterIn t) (slabOf (placesIn t) (t .index)) (s .store .loans)
+  pub chained : Chained (vacantIn t) (chainStart t) (chainNext t) (serialOf (t .loans)) (s .store .loans) (placesIn t) (getD (t .head) givenAt 0)
+  pub store : Sound s (storeOf s t)
+
+-- the test of it
+abbrev pub partedIn : FreeListSettings → Tables → Bool
+partedIn s t = partedOk (vacantIn t) (vacantAfterIn t) (slabOf (placesIn t) (t .index)) (s .store .loans)
+
+abbrev pub chainedIn : FreeListSettings → Tables → Bool
+chainedIn s t =
+    chainsOk (vacantIn t) (chainStart t) (chainNext t) (serialOf (t .loans)) (s .store .loans) (placesIn t) (getD (t .head) givenAt 0)
+
+abbrev pub soundRow : FreeListSettings → Tables → List Bool
+soundRow s t =
+    eqb (getD (t .head) markAt 0) mark
+    ∷ leb (chunksIn t) (s .store .chunks)
+    ∷ leb (regionsIn s t) (regionsMost s)
+    ∷ partedIn s t
+    ∷ chainedIn s t
+    ∷ sizedOk s (storeOf s t .size)
+    ∷ numbersRise 1 (storeOf s t .chunks)
+    ∷ allOk (chunkOk s (storeOf s t)) (storeOf s t .chunks)
+    ∷ apart (memories (storeOf s t .chunks))
+    ∷ allOk (loanOk s (storeOf s t)) (loansOf (placesIn t) (t .loans))
+    ∷ fillsOk (storeOf s t .chunks) (storeOf s t .loans) (storeOf s t .regions)
+    ∷ []
+
+unfoldable pub soundOk : FreeListSettings → Tables → Bool
+soundOk s t = all (soundRow s t)
+
+-- ---- the regions written back: the records from the front, and their count
+
+unfoldable pub laidRegions : FreeListSettings → List Region → List ℕ → List ℕ
+laidRegions s rs t = set (laid regionRow rs t) (countAt s) (length rs)

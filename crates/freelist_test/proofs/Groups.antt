@@ -1,0 +1,142 @@
+-- Each group of tests, as the code takes it: what it comes to by what the code has read, and what it says where it holds. Assumes nothing.
+use mathlib.Core.Path.{_≡_, refl, sym, _∙_}
+use mathlib.Core.Bool.{Bool, true, false, _&&_}
+use mathlib.Core.List.{List, []}
+use Prim.Native.Nat.{ℕ, zero, suc, _+_, _*_, _≤_}
+use native.Mathlib.Omega.{arith}
+use lib.Bits.{bitAnd}
+use lib.Dec.{eqb, leb, ltb}
+use lib.ListN.{drop, getD}
+use lib.Seq.{drop-drop}
+use borrow.Author.Tests.{leb-true}
+use Rattle.lists.specs.Members.{Distinct}
+use Rattle.lists.proofs.Bools.{and-left, and-right, same-test}
+use Rattle.words.specs.Rows.{rows}
+use Rattle.words.proofs.Records.{cell-row}
+use Rattle.counter.specs.InTable.{FreeListIn}
+use Rattle.counter.specs.Limits.{chunkSizeMost}
+use Rattle.counter.specs.declared.settings.FreeListSettings.{FreeListSettings}
+use Rattle.slab.specs.Slab.{vacantAt, linkAt}
+use Rattle.slab.specs.Test.{partedOk}
+use Rattle.distinct.specs.Column.{column, columnFrom}
+use Rattle.store_rules.specs.Loans.{loanWords, sizeAt}
+use Rattle.store_rules.specs.declared.Loan.{Loan}
+use Rattle.rounding.proofs.Masks.{masked}
+use Rattle.book.specs.Book.{entryWords, vacatedAt, vacantAfterAt, firstOf, nextOf, serialOf}
+use Rattle.book.specs.Chains.{chainsOk}
+use Rattle.freelist_rules.specs.Records.{chunkRow}
+use Rattle.freelist_rules.specs.Pieces.{All}
+use Rattle.freelist_rules.specs.Tables.{tables, mark, markAt, givenAt, placesAt, chunksAt, regionsMost, partedIn}
+use Rattle.freelist_rules.specs.Walk.{sizedOk, numbersRise, chunkOk, loanOk, apart, memories}
+use Rattle.freelist_rules.specs.declared.Chunk.{Chunk}
+use Rattle.freelist_rules.proofs.Decides.{all-yes, apart-yes, apart-all, sized-yes}
+use Rattle.freelist_rules.proofs.Facts.{sized-low}
+use Rattle.freelist_test.specs.Parts.{counted, headOk, bookOk, eachOk, chunksOk}
+
+-- ---- the memories, as the code reads them
+
+memories-from : (t : List ℕ) (i k : ℕ) → columnFrom t 1 3 i k ≡ memories (rows chunkRow k (drop (3 * i) t))
+memories-from t i zero = refl
+memories-from t i (suc k) =
+    let e : 3 * i + 3 ≡ 3 * suc i = omega arith in
+    rw (cell-row t 1 3 i, memories-from t (suc i) k, drop-drop, e)
+
+memories-read : (t : List ℕ) (k : ℕ) → column t 1 3 k ≡ memories (rows chunkRow k t)
+memories-read t k = memories-from t 0 k
+
+pub apart-told : (t : List ℕ) (k : ℕ) (r : Bool) → (r ≡ true → Distinct (column t 1 3 k)) → (Distinct (column t 1 3 k) → r ≡ true) → r ≡ apart (memories (rows chunkRow k t))
+apart-told t k r f g =
+    same-test r (apart (memories (rows chunkRow k t)))
+    (λ e. apart-all (memories (rows chunkRow k t)) (rw (memories-read t k) at (f e)))
+    (λ e. g (rw (memories-read t k) (apart-yes (memories (rows chunkRow k t)) e)))
+
+-- ---- the chunks
+
+pub chunk-told : (s : FreeListSettings) (made size : ℕ) (c : Chunk) (ok : Bool) → ok ≡ sizedOk s (c .size)
+    → (leb (c .number) made && (ok && leb (c .size) size)) ≡ chunkOk s (counted 0 made size) c
+unfolding chunkOk
+chunk-told s made size c ok e = rw e
+
+module _ (s : FreeListSettings) (made size : ℕ) (cs : List Chunk) where
+  -- the chunk size now fails, or the chunks do
+  pub size-fails : (z : Bool) → z ≡ sizedOk s size → z ≡ false → false ≡ chunksOk s made size cs
+  unfolding chunksOk
+  size-fails z zs f = rw (sym zs ∙ f) refl
+
+  pub each-fails : (z o : Bool) → z ≡ sizedOk s size → z ≡ true → o ≡ eachOk s made size cs → o ≡ false → false ≡ chunksOk s made size cs
+  unfolding chunksOk
+  each-fails z o zs t os f = rw (sym zs ∙ t, sym os ∙ f) refl
+
+  -- they hold, and the memories are left
+  pub memories-left : (z o r : Bool) → z ≡ sizedOk s size → z ≡ true → o ≡ eachOk s made size cs → o ≡ true → r ≡ apart (memories cs) → r ≡ chunksOk s made size cs
+  unfolding chunksOk
+  memories-left z o r zs t os u rs = rs ∙ rw (sym zs ∙ t, sym os ∙ u) refl
+
+  each-right : chunksOk s made size cs ≡ true → eachOk s made size cs ≡ true
+  unfolding chunksOk
+  each-right e = and-left (eachOk s made size cs) _ (and-right (sizedOk s size) _ e)
+
+  -- what chunks that pass are
+  pub chunks-rise : chunksOk s made size cs ≡ true → numbersRise 1 cs ≡ true
+  unfolding eachOk
+  chunks-rise e = and-left (numbersRise 1 cs) _ (each-right e)
+
+  chunk-sized : (c : Chunk) → chunkOk s (counted 0 made size) c ≡ true → sizedOk s (c .size) ≡ true
+  unfolding chunkOk
+  chunk-sized c e = and-left (sizedOk s (c .size)) _ (and-right (leb (c .number) made) _ e)
+
+  pub chunks-small : FreeListIn s → chunksOk s made size cs ≡ true → All (λ (c : Chunk). c .size ≤ chunkSizeMost) cs
+  unfolding eachOk
+  chunks-small fit e c m =
+      let o = all-yes (chunkOk s (counted 0 made size)) cs (and-right (numbersRise 1 cs) _ (each-right e)) c m in
+      omega (arith, sized-low s (c .size) (sized-yes s (c .size) (chunk-sized c o)), fit .last-most)
+
+-- ---- a loan, in units by its mask
+
+pub loan-told : (s : FreeListSettings) → FreeListIn s → (given : ℕ) (l : Loan)
+    → (ltb 0 (l .serial) && (leb (l .serial) given && (eqb (bitAnd (l .offset) (s .store .atom)) 0 && eqb (bitAnd (l .size) (s .store .atom)) 0))) ≡ loanOk s (counted given 0 0) l
+unfolding loanOk
+loan-told s fit given l = rw (masked (l .offset) (fit .store .atom), masked (l .size) (fit .store .atom))
+
+-- ---- the head
+
+pub head-told : (s : FreeListSettings) (head : List ℕ) (n m k : ℕ) → m ≡ getD head markAt 0 → k ≡ getD head chunksAt 0
+    → ((eqb m mark && leb k (s .store .chunks)) && leb n (regionsMost s)) ≡ headOk s head n
+unfolding headOk
+head-told s head n m k e f = rw (e, f)
+
+pub head-chunks : (s : FreeListSettings) (head : List ℕ) (n : ℕ) → headOk s head n ≡ true → getD head chunksAt 0 ≤ s .store .chunks
+unfolding headOk
+head-chunks s head n e = leb-true _ _ (and-right (eqb (getD head markAt 0) mark) _ (and-left _ (leb n (regionsMost s)) e))
+
+-- ---- the book, as the code reads it
+
+abbrev partedBy : FreeListSettings → List ℕ → List ℕ → ℕ → ℕ → Bool
+partedBy s loans index n v =
+    partedOk (vacantAt loans sizeAt loanWords) (linkAt index vacantAfterAt entryWords) (record { places = n; vacant = v }) (s .store .loans)
+
+abbrev chainedBy : FreeListSettings → List ℕ → List ℕ → ℕ → ℕ → Bool
+chainedBy s loans index n given =
+    chainsOk (vacantAt loans sizeAt loanWords) (λ i. getD index (firstOf i) 0) (λ p. getD index (nextOf p) 0) (serialOf loans) (s .store .loans) n given
+
+pub parted-most : (s : FreeListSettings) (loans index : List ℕ) (r : Bool) (n v : ℕ) → r ≡ partedBy s loans index n v → r ≡ true → n ≤ s .store .loans
+unfolding partedOk
+parted-most s loans index r n v e t = leb-true _ _ (and-left (leb n (s .store .loans)) _ (sym e ∙ t))
+
+module _ (s : FreeListSettings) (head loans index : List ℕ) (r : Bool) (n v : ℕ) (ns : n ≡ getD head placesAt 0) (vs : v ≡ getD index vacatedAt 0) (told : r ≡ partedBy s loans index n v) where
+  book-parted : r ≡ partedIn s (tables head loans [] [] index)
+  book-parted = told ∙ (λ j. partedBy s loans index (ns j) (vs j))
+
+  pub book-torn : r ≡ false → false ≡ bookOk s head loans index
+  unfolding bookOk
+  book-torn e = rw (sym book-parted ∙ e) refl
+
+  pub book-told : r ≡ true → (given : ℕ) (q : Bool) → given ≡ getD head givenAt 0 → q ≡ chainedBy s loans index n given → q ≡ bookOk s head loans index
+  unfolding bookOk
+  book-told e given q gs f =
+      f ∙ (λ j. chainedBy s loans index (ns j) (gs j)) ∙ rw (sym book-parted ∙ e) refl
+
+-- its places are within their limit
+pub book-most : (s : FreeListSettings) (head loans index : List ℕ) → bookOk s head loans index ≡ true → getD head placesAt 0 ≤ s .store .loans
+unfolding bookOk
+book-most s head loans index e = parted-most s loans index true (getD head placesAt 0) (getD index vacatedAt 0) (sym (and-left _ _ e)) refl

@@ -1,0 +1,82 @@
+-- The groups of tests come to the whole row: the first that fails decides it, and where none does the filling is left. Assumes nothing.
+use mathlib.Core.Path.{_≡_, refl, sym, ap, _∙_}
+use mathlib.Core.Bool.{Bool, true, false, _&&_, and-assoc}
+use mathlib.Core.List.{List, [], _∷_}
+use Prim.Native.Nat.{ℕ}
+use lib.Dec.{eqb, leb}
+use lib.ListN.{getD}
+use Rattle.lists.specs.Tests.{all}
+use Rattle.words.specs.Rows.{rows}
+use Rattle.counter.specs.declared.settings.FreeListSettings.{FreeListSettings}
+use Rattle.store_rules.specs.Loans.{loansOf}
+use Rattle.freelist_rules.specs.Records.{chunkRow, regionRow}
+use Rattle.freelist_rules.specs.Tables.{tables, mark, markAt, givenAt, madeAt, chunkSizeAt, placesAt, chunksAt, countAt, regionsMost, ordered, storeOf, partedIn, chainedIn, soundOk}
+use Rattle.freelist_rules.specs.Walk.{allOk, sizedOk, numbersRise, chunkOk, loanOk, fillsOk, apart, memories}
+use Rattle.freelist_test.specs.Parts.{counted, headOk, bookOk, eachOk, chunksOk}
+
+-- eleven tests from the left, as groups of three, two, four and two
+regroup : (a b c d e f g h i j k : Bool) → all (a ∷ b ∷ c ∷ d ∷ e ∷ f ∷ g ∷ h ∷ i ∷ j ∷ k ∷ []) ≡ (((a && b) && c) && ((d && e) && ((f && ((g && h) && i)) && (j && k))))
+regroup a b c d e f g h i j k = simp and-assoc
+
+module _ (s : FreeListSettings) (head loans chunks regions index : List ℕ) where
+  abbrev whole : Bool
+  whole = soundOk s (tables head loans chunks regions index)
+
+  -- the groups, by the numbers that the code reads
+  abbrev chunksPart : ℕ → ℕ → ℕ → Bool
+  chunksPart made size k = chunksOk s made size (rows chunkRow k chunks)
+
+  abbrev loansPart : ℕ → ℕ → Bool
+  loansPart given p = allOk (loanOk s (counted given 0 0)) (loansOf p loans)
+
+  abbrev fillsPart : ℕ → ℕ → ℕ → Bool
+  fillsPart k p n = fillsOk (rows chunkRow k chunks) (ordered (loansOf p loans)) (rows regionRow n regions)
+
+  -- the row is its groups
+  parts : whole ≡ (headOk s head (getD regions (countAt s) 0) && (bookOk s head loans index && (chunksPart (getD head madeAt 0) (getD head chunkSizeAt 0) (getD head chunksAt 0)
+      && (loansPart (getD head givenAt 0) (getD head placesAt 0) && fillsPart (getD head chunksAt 0) (getD head placesAt 0) (getD regions (countAt s) 0)))))
+  unfolding soundOk storeOf headOk bookOk chunksOk eachOk chunkOk loanOk
+  parts =
+      regroup
+      (eqb (getD head markAt 0) mark)
+      (leb (getD head chunksAt 0) (s .store .chunks))
+      (leb (getD regions (countAt s) 0) (regionsMost s))
+      (partedIn s (tables head loans [] [] index))
+      (chainedIn s (tables head loans [] [] index))
+      (sizedOk s (getD head chunkSizeAt 0))
+      (numbersRise 1 (rows chunkRow (getD head chunksAt 0) chunks))
+      (allOk (chunkOk s (counted 0 (getD head madeAt 0) (getD head chunkSizeAt 0))) (rows chunkRow (getD head chunksAt 0) chunks))
+      (apart (memories (rows chunkRow (getD head chunksAt 0) chunks)))
+      (loansPart (getD head givenAt 0) (getD head placesAt 0))
+      (fillsPart (getD head chunksAt 0) (getD head placesAt 0) (getD regions (countAt s) 0))
+
+  -- one group after the other, with what the code has read and was told
+  module _ (n : ℕ) (hd : Bool) (ns : n ≡ getD regions (countAt s) 0) (hs : hd ≡ headOk s head n) where
+    head-is : headOk s head (getD regions (countAt s) 0) ≡ hd
+    head-is = sym (hs ∙ ap (headOk s head) ns)
+
+    pub head-fails : hd ≡ false → false ≡ whole
+    head-fails f = sym (parts ∙ rw (head-is ∙ f) refl)
+
+    module _ (ht : hd ≡ true) (bk : Bool) (bs : bk ≡ bookOk s head loans index) where
+      pub book-fails : bk ≡ false → false ≡ whole
+      book-fails f = sym (parts ∙ rw (head-is ∙ ht, sym bs ∙ f) refl)
+
+      module _ (bt : bk ≡ true) (k size made : ℕ) (ch : Bool) (ks : k ≡ getD head chunksAt 0) (zs : size ≡ getD head chunkSizeAt 0) (ms : made ≡ getD head madeAt 0)
+          (cs : ch ≡ chunksPart made size k) where
+        chunks-is : chunksPart (getD head madeAt 0) (getD head chunkSizeAt 0) (getD head chunksAt 0) ≡ ch
+        chunks-is = sym (cs ∙ (λ j. chunksPart (ms j) (zs j) (ks j)))
+
+        pub chunks-fail : ch ≡ false → false ≡ whole
+        chunks-fail f = sym (parts ∙ rw (head-is ∙ ht, sym bs ∙ bt, chunks-is ∙ f) refl)
+
+        module _ (ct : ch ≡ true) (given p : ℕ) (ln : Bool) (gs : given ≡ getD head givenAt 0) (ps : p ≡ getD head placesAt 0) (ls : ln ≡ loansPart given p) where
+          loans-is : loansPart (getD head givenAt 0) (getD head placesAt 0) ≡ ln
+          loans-is = sym (ls ∙ (λ j. loansPart (gs j) (ps j)))
+
+          pub loans-fail : ln ≡ false → false ≡ whole
+          loans-fail f = sym (parts ∙ rw (head-is ∙ ht, sym bs ∙ bt, chunks-is ∙ ct, loans-is ∙ f) refl)
+
+          pub fills-left : ln ≡ true → (r : Bool) → r ≡ fillsPart k p n → r ≡ whole
+          fills-left lt r e =
+              e ∙ (λ j. fillsPart (ks j) (ps j) (ns j)) ∙ sym (parts ∙ rw (head-is ∙ ht, sym bs ∙ bt, chunks-is ∙ ct, loans-is ∙ lt) refl)

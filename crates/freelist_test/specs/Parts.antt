@@ -1,0 +1,34 @@
+-- The row of tests of a free-list store's tables, in groups as the code takes them. Assumes nothing: these are definitions.
+use mathlib.Core.Bool.{Bool, _&&_}
+use mathlib.Core.List.{List, [], _∷_}
+use Prim.Native.Nat.{ℕ}
+use lib.Dec.{eqb, leb}
+use lib.ListN.{getD}
+use Rattle.lists.specs.Tests.{all}
+use Rattle.counter.specs.declared.settings.FreeListSettings.{FreeListSettings}
+use Rattle.freelist_rules.specs.Records.{Store}
+use Rattle.freelist_rules.specs.Tables.{tables, mark, markAt, chunksAt, regionsMost, partedIn, chainedIn}
+use Rattle.freelist_rules.specs.Walk.{allOk, sizedOk, numbersRise, chunkOk, apart, memories}
+use Rattle.freelist_rules.specs.declared.Chunk.{Chunk}
+
+-- a store of which only its counts are told: the tests of a chunk and of a loan look at nothing else
+abbrev pub counted : ℕ → ℕ → ℕ → Store
+counted given made size = record { given = given; made = made; size = size; loans = []; chunks = []; regions = [] }
+
+-- the mark, and the counts of chunks and of n regions within their limits
+unfoldable pub headOk : FreeListSettings → List ℕ → ℕ → Bool
+headOk s head n =
+    all (eqb (getD head markAt 0) mark ∷ leb (getD head chunksAt 0) (s .store .chunks) ∷ leb n (regionsMost s) ∷ [])
+
+-- the loans' places are parted into used and vacant ones, and the chains lead to each loan
+unfoldable pub bookOk : FreeListSettings → List ℕ → List ℕ → List ℕ → Bool
+bookOk s head loans index =
+    all (partedIn s (tables head loans [] [] index) ∷ chainedIn s (tables head loans [] [] index) ∷ [])
+
+-- the chunks' numbers rise, and each chunk is right
+unfoldable pub eachOk : FreeListSettings → ℕ → ℕ → List Chunk → Bool
+eachOk s made size cs = numbersRise 1 cs && allOk (chunkOk s (counted 0 made size)) cs
+
+-- the chunk size now, the chunks, and their memories
+unfoldable pub chunksOk : FreeListSettings → ℕ → ℕ → List Chunk → Bool
+chunksOk s made size cs = sizedOk s size && (eachOk s made size cs && apart (memories cs))

@@ -1,0 +1,49 @@
+// The test of a free-list store's tables: its head, the book of its loans, its chunks and its loans, and that loans and
+// free regions fill the chunks. It reads each table as it stands, so that no word in one can make it fail.
+mod blocks;
+mod chunks;
+mod heads;
+
+ghost use mathlib.Core.Path.{_≡_};
+ghost use mathlib.Core.Bool.{true};
+ghost use Rattle.counter.specs.InTable.{FreeListIn};
+ghost use Rattle.freelist_rules.specs.Tables.{tables, lengthsOk, soundOk};
+use counter::FreeListSettings;
+use freelist_rules::CHUNK_SIZE_AT;
+use freelist_rules::CHUNKS_AT;
+use freelist_rules::GIVEN_AT;
+use freelist_rules::MADE_AT;
+use freelist_rules::PLACES_AT;
+
+// Whether the tables hold a sound store. The tests that read least come first, and each relies on those before it.
+pub fn is_sound(
+    s: FreeListSettings,
+    head: &[u64],
+    loans: &[u64],
+    chunks: &[u64],
+    regions: &[u64],
+    index: &[u64],
+) -> bool
+    requires { ⌜ FreeListIn s × (lengthsOk s (tables (now head) (now loans) (now chunks) (now regions) (now index)) ≡ true) ⌝ }
+    ensures { λ r. ⌜ r ≡ soundOk s (tables (now (head .entry)) (now (loans .entry)) (now (chunks .entry)) (now (regions .entry)) (now (index .entry))) ⌝ }
+{
+    let n = freelist_regions::region_count(s, regions);
+    if !heads::is_head(s, head, n as u64) {
+        return false;
+    }
+    if !heads::is_book(s, head, loans, index) {
+        return false;
+    }
+    let k = words::word(head, CHUNKS_AT) as usize;
+    let size = words::word(head, CHUNK_SIZE_AT);
+    let made = words::word(head, MADE_AT);
+    if !chunks::are_chunks(s, made, size, chunks, k) {
+        return false;
+    }
+    let given = words::word(head, GIVEN_AT);
+    let places = words::word(head, PLACES_AT) as usize;
+    if !blocks::are_loans(s, given, loans, places) {
+        return false;
+    }
+    freelist_fills::fills(chunks, k, loans, places, regions, n)
+}

@@ -1,0 +1,5 @@
+-- The laws of this crate's definitions, for its own proofs and for the crates above.
+pub mod Settling
+pub mod Ordering
+pub mod Leading
+pub mod Deliveries
