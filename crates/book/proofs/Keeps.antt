@@ -2,14 +2,14 @@
 -- Assumes nothing.
 use mathlib.Core.Path.{_≡_, refl, sym, ap, subst, _∙_}
 use mathlib.Core.Bool.{Bool, true, false}
-use mathlib.Core.Logic.{_⊎_, inl, ⊎-elim}
+use mathlib.Core.Logic.{_⊎_, inl, inr, ⊎-elim}
 use mathlib.Core.List.{List, [], _∷_, _++_}
 use Prim.Native.Nat.{ℕ, _+_, _-_, _*_, _^_, _%_, _≤_, _<_}
 use native.Mathlib.Nat.{mod-lt, mod-eq-of-lt}
 use native.Mathlib.Omega.{arith}
 use lib.ListN.{length, length-append, length-set, getD, set}
 use Rattle.lists.specs.Members.{Mem, Distinct, Below, headOr}
-use Rattle.lists.proofs.Bools.{same?, true-false}
+use Rattle.lists.proofs.Bools.{same?, true-false, lt-or-le}
 use Rattle.lists.proofs.Members.{below-mem, mem-left, split, mem-left-over, mem-of-left, distinct-out}
 use Rattle.words.specs.Words.{cellOf}
 use Rattle.slab.specs.Slab.{nowhere, vacantAt, linkAt, removed, removedLinks, Chain, Parted, changed}
@@ -120,6 +120,22 @@ module _ (loans index : List ℕ) (n places : ℕ) (few : n < nowhere) (P : Book
           let h : x < places = b .0 in
           let t = insert-first (slabOf places index) index vacantAfterAt entryWords (omega arith) in
           place-again x _ _ (rw e (inl refl)) (ap (λ (u : Taken). u .place) t ∙ v) h (ap (λ (u : Taken). u .slab .places) t)
+
+  -- it is the next new one, or one that was vacant, and then no place more is used
+  pub taken-where : ((takenOf places index .place ≡ places) × (takenOf places index .slab .places ≡ places + 1))
+      ⊎ ((takenOf places index .place < places) × (freeIn loans (takenOf places index .place) ≡ true) × (takenOf places index .slab .places ≡ places))
+  taken-where = by (takenOf places index .place) (takenOf places index .slab .places) place-taken
+    where
+      by : (p q : ℕ) → Place p q → ((p ≡ places) × (q ≡ places + 1)) ⊎ ((p < places) × (freeIn loans p ≡ true) × (q ≡ places))
+      by p q k =
+          let below : p < q = k .below in
+          let kept : places ≤ q = k .kept in
+          ⊎-elim
+          (λ (h : p < places). inr (h, k .vacant h, ⊎-elim (λ (g : places < q). let z = k .grown places g (λ e. omega arith) in absurd (omega arith)) (λ (g : q ≤ places). omega arith) (lt-or-le places q)))
+          (λ (h : places ≤ p).
+          let e : p ≡ places = ⊎-elim (λ (g : places < p). let z = k .grown places (omega arith) (λ e. omega arith) in absurd (omega arith)) (λ (g : p ≤ places). omega arith) (lt-or-le places p) in
+          inl (e, ⊎-elim (λ (g : places + 1 < q). let z = k .grown (places + 1) g (λ f. omega arith) in absurd (omega arith)) (λ (g : q ≤ places + 1). omega arith) (lt-or-le (places + 1) q)))
+          (lt-or-le p places)
 
   module _ (given : ℕ) (l : Loan) (long : length loans ≡ loanWords * n) (wide : length index ≡ indexWords n)
       (room : takenOf places index .place < n) (next : l .serial ≡ given + 1) (whole : l .size ≡ 0 → ⊥) where

@@ -15,7 +15,7 @@ first-held b n row e = rw e
 pub first-failed : (b : Bool) (n : ℕ) (row : Row) → b ≡ false → first ((b, n) ∷ row) ≡ refuse n
 first-failed b n row e = rw e
 
-never : {A : Type 0} (n : ℕ) → refuse n ≡ pass → A
+pub never : {A : Type 0} (n : ℕ) → refuse n ≡ pass → A
 never n e = let z : _≡_ {A = ℕ} 0 1 = cc in absurd (omega arith)
 
 pub passed : (row : Row) → first row ≡ pass → Held row
@@ -40,7 +40,7 @@ spoken row n s = ap first (s .is) ∙ by (s .before) (s .held)
     by [] h = refl
     by ((b, m) ∷ before) h = first-held b m (before ++ ((false, n) ∷ s .after)) (h .0) ∙ by before (h .1)
 
-same-number : (m n : ℕ) → refuse m ≡ refuse n → m ≡ n
+pub same-number : (m n : ℕ) → refuse m ≡ refuse n → m ≡ n
 same-number m n e = cc
 
 pub speaks : (row : Row) (n : ℕ) → first row ≡ refuse n → Speaks row n

@@ -7,6 +7,7 @@ use native.Mathlib.Omega.{arith}
 use lib.ListN.{getD}
 use Rattle.counter.specs.Gate.{Verdict, pass, refuse, verdictOf}
 use Rattle.counter.specs.Paper.{numberOf, Said, ready, block, order, released, ranked, refusal, freeOf, refusalOf, blockOf, orderOf, setUpSaid, askSaid, deliverSaid, releaseSaid, rankSaid}
+use Rattle.counter.specs.Paper as Paper
 use Rattle.counter.specs.declared.account.Order.{Order}
 use Rattle.counter.specs.declared.refusal.Gate.{Gate}
 use Rattle.counter.specs.declared.refusal.Gate.the-variants.{Go, Shut}
@@ -142,3 +143,13 @@ verdict-once Go Go e = refl
 verdict-once Go (Shut r) e = let z : _≡_ {A = ℕ} 0 1 = cc in absurd (omega arith)
 verdict-once (Shut r) Go e = let z : _≡_ {A = ℕ} 0 1 = cc in absurd (omega arith)
 verdict-once (Shut r) (Shut q) e = let z : numberOf r ≡ numberOf q = cc in ap Shut (number-once r q z)
+
+-- ---- which kind of answer it is: answers of two kinds are two
+
+abbrev pub kindOf : Said → ℕ
+kindOf Paper.ready = 0
+kindOf (Paper.block serial chunk offset size) = 1
+kindOf (Paper.order store size kind map) = 2
+kindOf (Paper.released n) = 3
+kindOf Paper.ranked = 4
+kindOf (Paper.refusal n back) = 5

@@ -35,8 +35,8 @@ use Rattle.freelist_outcomes.specs.Deliver.{Plan, deny, go, stillOk, deliverGat
 use Rattle.freelist_outcomes.specs.Gate.{lentOk, accountOk}
 use Rattle.freelist_place.specs.Ready.{Adds, Lends}
 use Rattle.freelist_ready.proofs.Adding.{adds-ready, delivered-ready}
-use Rattle.freelist_ready.proofs.Fits.{regions-length}
-use Rattle.freelist_gate.proofs.Gates.{lent-in}
+use Rattle.freelist_rules.proofs.Fits.{regions-length}
+use Rattle.freelist_outcomes.proofs.Passing.{lent-in}
 
 -- ---- what a plan to go on tells
 

@@ -15,7 +15,7 @@ use Rattle.freelist_rules.specs.Tables.{Tables, tables, chunkSizeAt, storeOf}
 use Rattle.freelist_outcomes.specs.Ask.{loanFrom, takenTables, orderedTables, blockSaid, carryAsk, planAsk, askOf}
 use Rattle.freelist_place.specs.Ready.{Lends}
 use Rattle.freelist_ready.proofs.Lending.{lends-ready}
-use Rattle.freelist_gate.proofs.Planned.{plan-take}
+use Rattle.freelist_outcomes.proofs.Plans.{plan-take}
 use Rattle.counter.specs.Account.{heapAt}
 
 module _ (s : FreeListSettings) (a : Account) (size mask : ℕ) (head loans chunks regions index : List ℕ) where

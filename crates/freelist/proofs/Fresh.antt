@@ -18,7 +18,7 @@ use Rattle.slab.specs.Slab.{nowhere}
 use Rattle.book.specs.Book.{indexWords}
 use Rattle.freelist_rules.specs.Tables.{Tables, tables, mark, markAt, givenAt, madeAt, chunkSizeAt, placesAt, chunksAt, headWords, countAt, lengthsOk}
 use Rattle.freelist_outcomes.specs.SetUp.{SetUp, setUp, freshHead, freshTables, fitOk, setUpOf}
-use Rattle.freelist_ready.proofs.Fits.{lengths-are}
+use Rattle.freelist_rules.proofs.Fits.{lengths-are}
 
 -- ---- one word after the other
 

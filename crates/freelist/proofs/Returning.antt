@@ -24,7 +24,7 @@ use Rattle.freelist_outcomes.specs.Return.{Plan, deny, back, wordFor, onLoanOk,
 use Rattle.freelist_place.specs.Ready.{Backs}
 use Rattle.freelist_ready.proofs.Backing.{backs-ready}
 use Rattle.freelist_ready.proofs.Releasing.{cleaned-ready, cleaned-bounds, cleaned-objects, returned-ready, returned-bounds, returned-objects}
-use Rattle.freelist_gate.proofs.Passing.{Passed, gate-passed}
+use Rattle.freelist_outcomes.proofs.Passing.{Passed, gate-passed}
 use Rattle.freelist.specs.Frees.{joined, Frees}
 use Rattle.freelist.proofs.Freeing.{beside}
 

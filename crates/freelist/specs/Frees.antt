@@ -13,10 +13,9 @@ use Rattle.counter.specs.declared.settings.FreeListSettings.{FreeListSettings}
 use Rattle.freelist_rules.specs.Records.{chunkWords, regionWords, region, chunkRow}
 use Rattle.freelist_rules.specs.Join.{insert}
 use Rattle.freelist_rules.specs.Release.{leaving}
-use Rattle.freelist_rules.specs.Tables.{chunksAt, countAt, laidRegions}
+use Rattle.freelist_rules.specs.Tables.{chunksAt, countAt, laidRegions, regionsOf}
 use Rattle.freelist_rules.specs.declared.Chunk.{Chunk}
 use Rattle.freelist_release.specs.Releasable.{Releasable}
-use Rattle.freelist_place.specs.Ready.{regionsOf}
 
 -- the chunks that a head and a table of chunks hold
 abbrev pub chunksOf : List ℕ → List ℕ → List Chunk

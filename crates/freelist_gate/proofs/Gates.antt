@@ -1,20 +1,17 @@
 -- The gate's tests in the code's words. Assumes nothing.
-use mathlib.Core.Path.{_≡_, refl, sym, ap, _∙_}
+use mathlib.Core.Path.{_≡_, refl, ap, _∙_}
 use mathlib.Core.Bool.{Bool, true, false, _&&_}
-use mathlib.Core.List.{List, [], _∷_, _++_}
-use Prim.Native.Nat.{ℕ, suc, _+_, _*_, _≤_}
+use mathlib.Core.List.{List, [], _∷_}
+use Prim.Native.Nat.{ℕ, _+_, _*_}
 use native.Mathlib.Omega.{arith}
 use lib.Dec.{eqb}
 use lib.ListN.{length, getD}
 use Rattle.words.specs.Words.{cellOf}
 use Rattle.words.specs.Rows.{row, rows}
 use Rattle.words.proofs.Records.{cell-row, rows-snoc}
-use Rattle.lists.proofs.Bools.{and-left, and-right}
 use Rattle.counter.specs.Account.{heapAt}
 use Rattle.counter.specs.Gate.{Verdict, pass, refuse}
-use Rattle.counter.specs.InTable.{FreeListIn}
 use Rattle.counter.specs.Table.{freeListOk, heapsOk}
-use Rattle.counter.proofs.Tables.{free-list-yes}
 use Rattle.counter.specs.declared.account.Account.{Account}
 use Rattle.counter.specs.declared.account.Heap.{Heap}
 use Rattle.counter.specs.declared.settings.FreeListSettings.{FreeListSettings}
@@ -87,8 +84,3 @@ module _ (s : FreeListSettings) (a : Account) (t : Tables) (list : Bool) where
   pub gate-rest : (v : Verdict) → (lentOk s a t && list) ≡ true → noOrder (a .order) ≡ true → v ≡ storeGate s (heapAt a (s .store .heap)) (a .objects) t → v ≡ gateOf s a t list
   unfolding gateOf storeGate accountOk
   gate-rest v e f g = g ∙ rw (e, f) refl
-
--- what test 1 says
-pub lent-in : (s : FreeListSettings) (a : Account) (t : Tables) → lentOk s a t ≡ true → FreeListIn s × (lengthsOk s t ≡ true)
-unfolding lentOk
-lent-in s a t e = (free-list-yes s (and-left (freeListOk s) _ e), and-right (heapsOk (a .heaps)) _ (and-right (freeListOk s) _ e))

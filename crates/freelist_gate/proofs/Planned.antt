@@ -1,20 +1,18 @@
 -- An ask's plan is what follows the gate. Assumes nothing.
 use mathlib.Core.Path.{_≡_, refl, sym, ap, _∙_}
-use mathlib.Core.Bool.{Bool, true, false}
-use mathlib.Core.List.{List, [], _∷_}
+use mathlib.Core.Bool.{true}
+use mathlib.Core.List.{List, []}
 use Prim.Native.Nat.{ℕ}
-use Rattle.lists.proofs.Bools.{true-false}
 use Rattle.counter.specs.Account.{heapAt}
 use Rattle.counter.specs.Gate.{Verdict, pass, refuse, first}
 use Rattle.counter.specs.declared.account.Account.{Account}
 use Rattle.counter.specs.declared.account.Heap.{Heap}
 use Rattle.counter.specs.declared.settings.FreeListSettings.{FreeListSettings}
-use Rattle.store_rules.specs.Orders.{Plan, deny, take, buy}
+use Rattle.store_rules.specs.Orders.{Plan, deny}
 use Rattle.freelist_rules.specs.Place.{Found, nowhere, at}
 use Rattle.freelist_rules.specs.Tables.{Tables, tables, storeOf}
 use Rattle.freelist_outcomes.specs.Gate.{gateOf}
-use Rattle.freelist_outcomes.specs.Ask.{roomOk, countOk, objectsOk, foundFor, askRow, planned, decideAsk, gated, planAsk}
-use Rattle.freelist_gate.proofs.Passing.{Passed, gate-passed}
+use Rattle.freelist_outcomes.specs.Ask.{roomOk, countOk, objectsOk, foundFor, askRow, planned, decideAsk, planAsk}
 
 module _ (s : FreeListSettings) (a : Account) (t : Tables) where
   -- ---- an ask
@@ -46,21 +44,3 @@ unfolding planAsk
 ask-go s a size mask head loans chunks regions index h p g k e =
     e ∙ ap (λ (x : Heap). decideAsk s x (a .objects) size mask (tables head [] [] regions index)) k
     ∙ ask-few s (heapAt a (s .store .heap)) (a .objects) size mask (tables head loans chunks regions index) ∙ rw (sym g) refl
-
--- ---- what a plan says
-
-abbrev denies : Plan ℕ → Bool
-denies (deny n) = true
-denies (take i) = false
-denies (buy z) = false
-
-gated-take : (v : Verdict) (p : Plan ℕ) (i : ℕ) → gated v p ≡ take i → (v ≡ pass) × (p ≡ take i)
-gated-take pass p i e = (refl, e)
-gated-take (refuse n) p i e = absurd (true-false (denies (deny n)) refl (ap denies e))
-
-pub plan-take : (s : FreeListSettings) (a : Account) (size mask : ℕ) (t : Tables) (i : ℕ) → planAsk s a size mask t ≡ take i
-    → Passed s a t true × (decideAsk s (heapAt a (s .store .heap)) (a .objects) size mask t ≡ take i)
-unfolding planAsk
-plan-take s a size mask t i e =
-    let w = gated-take (gateOf s a t true) (decideAsk s (heapAt a (s .store .heap)) (a .objects) size mask t) i e in
-    (gate-passed s a t true (sym (w .0)), w .1)

@@ -1,9 +1,9 @@
 -- What an ask says and leaves. 01, "freelist.rs", and the tests 5, 6, 8, 10 and 9. Assumes nothing: these are definitions.
 use mathlib.Core.Bool.{Bool, true, false, _&&_, _||_, not}
-use mathlib.Core.List.{List, [], _∷_}
+use mathlib.Core.List.{[], _∷_}
 use Prim.Native.Nat.{ℕ, _+_, _-_, _^_}
 use lib.Dec.{leb, ltb}
-use lib.ListN.{getD, set}
+use lib.ListN.{set}
 use Rattle.rounding.specs.Growth.{grown}
 use Rattle.counter.specs.Account.{heapAt}
 use Rattle.counter.specs.Gate.{Verdict, pass, refuse, Row, first}

@@ -1,6 +1,5 @@
 -- The gate of a free-list store: 01's tests 1 to 4. Assumes nothing: these are definitions.
 use mathlib.Core.Bool.{Bool, _&&_}
-use Prim.Native.Nat.{ℕ}
 use Rattle.counter.specs.Account.{heapAt}
 use Rattle.counter.specs.Gate.{Verdict, first}
 use Rattle.counter.specs.Table.{freeListOk, heapsOk}

@@ -3,3 +3,6 @@ pub mod Ask
 pub mod Deliver
 pub mod Return
 pub mod SetUp
+pub mod Refusals
+pub mod Blocks
+pub mod Told

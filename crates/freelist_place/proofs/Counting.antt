@@ -11,10 +11,9 @@ use Rattle.words.proofs.Records.{length-rows, appended}
 use Rattle.freelist_rules.specs.Records.{regionRow}
 use Rattle.freelist_rules.specs.Pieces.{lo, hi, Rising}
 use Rattle.freelist_rules.specs.Join.{insert}
-use Rattle.freelist_rules.specs.Tables.{regionsMost, countAt, laidRegions}
+use Rattle.freelist_rules.specs.Tables.{regionsMost, countAt, laidRegions, RegionsFit, regionsOf}
 use Rattle.freelist_rules.specs.declared.Region.{Region}
 use Rattle.freelist_regions.specs.Order.{RegionsStand, LowPlace}
-use Rattle.freelist_place.specs.Ready.{RegionsFit, regionsOf}
 
 -- the count as the code reads it
 module _ (s : FreeListSettings) (t : List ℕ) (fit : RegionsFit s t) (at n : ℕ) (a : at ≡ countAt s) (c : n ≡ getD t at 0) where

@@ -11,10 +11,9 @@ use Rattle.book.specs.Book.{takenOf, entered, enteredIndex}
 use Rattle.freelist_rules.specs.Records.{regionRow}
 use Rattle.freelist_rules.specs.Place.{sizeFor, maskFor, block, cutOff, lentLoan}
 use Rattle.freelist_rules.specs.Steps.{noRegion}
-use Rattle.freelist_rules.specs.Tables.{Tables, tables, givenAt, placesAt, countAt, storeOf, laidRegions}
+use Rattle.freelist_rules.specs.Tables.{Tables, tables, givenAt, placesAt, countAt, storeOf, laidRegions, regionsOf}
 use Rattle.freelist_rules.specs.declared.Region.{Region}
 use Rattle.freelist_outcomes.specs.Ask.{loanFrom, takenTables}
-use Rattle.freelist_place.specs.Ready.{regionsOf}
 
 module _ (s : FreeListSettings) (size mask i : ℕ) (head regions : List ℕ) where
   abbrev pub Served : Loan

@@ -12,10 +12,10 @@ use Rattle.counter.specs.declared.settings.FreeListSettings.{FreeListSettings}
 use Rattle.book.specs.Book.{struck, struckIndex}
 use Rattle.freelist_rules.specs.Records.{region, chunk, chunkRow}
 use Rattle.freelist_rules.specs.Join.{insert}
-use Rattle.freelist_rules.specs.Tables.{Tables, tables, madeAt, chunkSizeAt, chunksAt, countAt, storeOf, laidRegions}
+use Rattle.freelist_rules.specs.Tables.{Tables, tables, madeAt, chunkSizeAt, chunksAt, countAt, storeOf, laidRegions, regionsOf}
 use Rattle.freelist_outcomes.specs.Deliver.{deliveredTables}
 use Rattle.freelist_outcomes.specs.Return.{givenTables}
-use Rattle.freelist_place.specs.Ready.{regionsOf, Adds}
+use Rattle.freelist_place.specs.Ready.{Adds}
 
 -- one word after the other
 pub thrice-set : (t u v w : List ℕ) (i j k a b c : ℕ) → u ≡ set t i a → v ≡ set u j b → w ≡ set v k c → w ≡ set (set (set t i a) j b) k c

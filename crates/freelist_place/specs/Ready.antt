@@ -1,31 +1,18 @@
 -- What the code that writes a store's tables asks of them: the gate has shown it. Assumes nothing: these are definitions.
 use mathlib.Core.Path.{_≡_}
-use mathlib.Core.List.{List, [], _∷_, _++_}
+use mathlib.Core.List.{List}
 use Prim.Native.Nat.{ℕ, _+_, _*_, _^_, _≤_, _<_}
 use lib.ListN.{length, getD}
 use Rattle.rounding.specs.Masks.{Ones}
-use Rattle.counter.specs.InTable.{FreeListIn}
 use Rattle.counter.specs.Limits.{alignBits}
 use Rattle.counter.specs.declared.answers.Block.{Block}
 use Rattle.counter.specs.declared.settings.FreeListSettings.{FreeListSettings}
-use Rattle.words.specs.Rows.{rows}
-use Rattle.freelist_rules.specs.Records.{chunkWords, region, regionRow}
+use Rattle.freelist_rules.specs.Records.{chunkWords, region}
 use Rattle.freelist_rules.specs.Pieces.{lo, hi, Rising}
 use Rattle.freelist_rules.specs.Join.{insert}
-use Rattle.freelist_rules.specs.Tables.{givenAt, madeAt, chunksAt, regionsMost, countAt}
-use Rattle.freelist_rules.specs.declared.Region.{Region}
+use Rattle.freelist_rules.specs.Tables.{givenAt, madeAt, chunksAt, regionsMost, countAt, regionsOf, RegionsFit}
 use Rattle.freelist_outcomes.specs.Ask.{spent}
 use Rattle.freelist_regions.specs.Order.{RegionsStand, LowPlace}
-
--- the regions that a table holds
-abbrev pub regionsOf : FreeListSettings → List ℕ → List Region
-regionsOf s t = rows regionRow (getD t (countAt s) 0) t
-
--- settings in 01's table, and a table of regions of the right length with a count within it
-pub record RegionsFit (s : FreeListSettings) (t : List ℕ) : Type 0 where
-  pub settings : FreeListIn s
-  pub long : length t ≡ countAt s + 1
-  pub count : getD t (countAt s) 0 ≤ regionsMost s
 
 -- region i can serve an ask of this size and mask
 pub record Lends (s : FreeListSettings) (size mask i : ℕ) (head regions : List ℕ) : Type 0 where

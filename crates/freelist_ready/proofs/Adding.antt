@@ -1,46 +1,27 @@
 -- Where an ask comes to an order there is room for its chunk, and the chunk's region can be lent from. Assumes nothing.
 use mathlib.Core.Path.{_≡_, _∙_}
-use mathlib.Core.Bool.{true, _&&_}
+use mathlib.Core.Bool.{true}
 use mathlib.Core.List.{List, [], _∷_, _++_}
 use Prim.Native.Nat.{ℕ, _+_, _≤_, _<_}
 use native.Mathlib.Omega.{arith}
-use lib.Dec.{ltb}
 use lib.ListN.{length, getD, set, length-append}
 use lib.Seq.{getD-set-other}
-use borrow.Author.Tests.{ltb-true}
-use Rattle.lists.proofs.Bools.{and-right}
 use Rattle.rounding.specs.Growth.{doubled}
 use Rattle.counter.specs.InTable.{FreeListIn}
 use Rattle.counter.specs.declared.account.Heap.{Heap}
 use Rattle.counter.specs.declared.settings.FreeListSettings.{FreeListSettings}
 use Rattle.counter.proofs.Tables.{alignment-yes}
-use Rattle.heap.specs.Heap.{bearsOk}
 use Rattle.store_rules.specs.Orders.{buy}
-use Rattle.book.specs.Book.{takenOf}
 use Rattle.freelist_rules.specs.Records.{region}
 use Rattle.freelist_rules.specs.Place.{nowhere}
-use Rattle.freelist_rules.specs.Tables.{Tables, givenAt, madeAt, chunkSizeAt, chunksAt, regionsMost, countAt, lengthsOk, placesIn, chunksIn, regionsIn, storeOf, SoundTables, laidRegions}
+use Rattle.freelist_rules.specs.Tables.{Tables, givenAt, madeAt, chunkSizeAt, chunksAt, regionsMost, countAt, lengthsOk, chunksIn, regionsIn, storeOf, SoundTables, laidRegions}
 use Rattle.freelist_rules.specs.declared.Region.{Region}
+use Rattle.freelist_rules.proofs.Fits.{lengths-are, regions-fit, regions-length, chunks-length, loans-few, laid-fit, laid-count}
 use Rattle.freelist_rules.proofs.Meaning.{room-enough}
-use Rattle.freelist_outcomes.specs.Ask.{spent, raisedFor, roomOk, countOk, decideAsk}
+use Rattle.freelist_outcomes.specs.Ask.{decideAsk}
 use Rattle.freelist_outcomes.specs.Deliver.{deliveredTables}
+use Rattle.freelist_outcomes.proofs.Plans.{size-most, not-spent, buy-held, chunk-place, chunk-number}
 use Rattle.freelist_place.specs.Ready.{Lends, Adds}
-use Rattle.freelist_ready.proofs.Fits.{lengths-are, regions-fit, regions-length, chunks-length, loans-few, laid-fit, laid-count}
-use Rattle.freelist_ready.proofs.Lending.{size-most, not-spent, buy-held}
-
--- a chunk is needed: a chunk place is vacant, and a chunk number is left
-chunk-place : (s : FreeListSettings) (t : Tables) → roomOk s t nowhere ≡ true → chunksIn t < s .store .chunks
-unfolding roomOk
-chunk-place s t e =
-    ltb-true (chunksIn t) (s .store .chunks) (and-right (ltb (takenOf (placesIn t) (t .index) .place) (s .store .loans)) (ltb (chunksIn t) (s .store .chunks)) e)
-
-chunk-number : (s : FreeListSettings) (h : Heap) (size : ℕ) (t : Tables) → countOk s h size t nowhere ≡ true → getD (t .head) madeAt 0 < spent
-unfolding countOk storeOf
-chunk-number s h size t e =
-    let a = ltb (getD (t .head) givenAt 0) spent in
-    let b = bearsOk h (raisedFor s size t) in
-    let c = ltb (getD (t .head) madeAt 0) spent in
-    ltb-true (getD (t .head) madeAt 0) spent (and-right b c (and-right a (b && c) e))
 
 module _ (s : FreeListSettings) (h : Heap) (objects size mask : ℕ) (t : Tables) (fit : FreeListIn s) (lengths : lengthsOk s t ≡ true) (sound : SoundTables s t) (z : ℕ)
     (order : decideAsk s h objects size mask t ≡ buy z) where

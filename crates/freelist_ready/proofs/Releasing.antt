@@ -1,32 +1,28 @@
 -- A sound store's chunks and regions can be released, also when a block on loan has gone back, and the device objects that
 -- are then allowed stay within their limit. Assumes nothing.
 use mathlib.Core.Path.{_≡_, refl, sym, ap, subst, _∙_}
-use mathlib.Core.Bool.{Bool, true, _&&_}
+use mathlib.Core.Bool.{Bool, true}
 use mathlib.Core.List.{List}
 use Prim.Native.Nat.{ℕ, _+_, _-_, _*_, _≤_}
 use native.Mathlib.Omega.{arith}
-use lib.Dec.{leb}
 use lib.ListN.{length}
-use borrow.Author.Tests.{leb-true}
-use Rattle.lists.proofs.Bools.{and-right}
 use Rattle.counter.specs.InTable.{FreeListIn}
 use Rattle.counter.specs.Limits.{loansMost, chunksMost, objectsMost}
 use Rattle.counter.specs.declared.account.Heap.{Heap}
 use Rattle.counter.specs.declared.answers.Block.{Block}
 use Rattle.counter.specs.declared.settings.FreeListSettings.{FreeListSettings}
-use Rattle.heap.specs.Heap.{agreesOk}
 use Rattle.store_rules.specs.Tests.{coversOk}
 use Rattle.freelist_rules.specs.Records.{chunkWords, regionWords}
 use Rattle.freelist_rules.specs.Join.{insert}
-use Rattle.freelist_rules.specs.Tables.{Tables, lengthsOk, chunksIn, regionsIn, storeOf, SoundTables}
+use Rattle.freelist_rules.specs.Tables.{Tables, lengthsOk, chunksIn, regionsIn, storeOf, SoundTables, RegionsFit}
 use Rattle.freelist_rules.specs.declared.Chunk.{Chunk}
 use Rattle.freelist_rules.specs.declared.Region.{Region}
 use Rattle.freelist_release.specs.Releasable.{Releasable}
 use Rattle.freelist_release.proofs.Sounds.{releasable}
 use Rattle.freelist_outcomes.specs.Return.{wordFor, onLoanOk, givenTables, goneFrom}
-use Rattle.freelist_place.specs.Ready.{RegionsFit}
-use Rattle.freelist_ready.proofs.Fits.{lengths-are, regions-fit, chunks-length, laid-fit, laid-regions}
-use Rattle.freelist_ready.proofs.Backing.{returning, Back, block-back, back-room}
+use Rattle.freelist_rules.proofs.Fits.{lengths-are, regions-fit, chunks-length, laid-fit, laid-regions}
+use Rattle.freelist_outcomes.proofs.Accounts.{covers-yes}
+use Rattle.freelist_outcomes.proofs.Backs.{returning, Back, block-back, back-room}
 
 -- what a release asks of the counts
 abbrev pub Bounds : FreeListSettings → Tables → Type 0
@@ -35,16 +31,6 @@ Bounds s t = (chunkWords * chunksIn t ≤ length (t .chunks)) × (regionWords * 
 bounds : (s : FreeListSettings) (t : Tables) → RegionsFit s (t .regions) → length (t .chunks) ≡ chunkWords * s .store .chunks → chunksIn t ≤ s .store .chunks → Bounds s t
 bounds s t fit long few =
     (omega arith, omega (arith, fit .count, fit .long), omega (arith, fit .count, fit .settings .store .loans-most, fit .settings .store .chunks-most))
-
--- ---- how many objects are allowed when chunks are given back: no more than the test of the account lets stand
-
-covers-chunks : (h : Heap) (objects chunks bytes : ℕ) → coversOk h objects chunks bytes ≡ true → chunks ≤ objectsMost - objects
-unfolding coversOk
-covers-chunks h objects chunks bytes e =
-    let a = leb bytes (h .used) in
-    let b = agreesOk h in
-    let c = leb chunks (objectsMost - objects) in
-    leb-true chunks (objectsMost - objects) (and-right b c (and-right a (b && c) e))
 
 -- ---- the store as it is
 
@@ -56,7 +42,7 @@ module _ (s : FreeListSettings) (t : Tables) (fit : FreeListIn s) (sound : Sound
   cleaned-bounds lengths = bounds s t (regions-fit s t fit lengths sound) (lengths-are s t lengths .chunks) (sound .chunks-fit)
 
   pub cleaned-objects : (h : Heap) (objects bytes : ℕ) (spare : Bool) → objects ≤ objectsMost → coversOk h objects (chunksIn t) bytes ≡ true → objects + length (goneFrom s spare t) ≤ objectsMost
-  cleaned-objects h objects bytes spare most e = omega (arith, covers-chunks h objects (chunksIn t) bytes e, cleaned-ready .few spare, chunks-length s t)
+  cleaned-objects h objects bytes spare most e = omega (arith, covers-yes h objects (chunksIn t) bytes e .2, cleaned-ready .few spare, chunks-length s t)
 
   -- ---- the store when a block is back
 
@@ -92,4 +78,4 @@ module _ (s : FreeListSettings) (t : Tables) (fit : FreeListIn s) (sound : Sound
 
     pub returned-objects : (h : Heap) (objects bytes : ℕ) (spare : Bool) → objects ≤ objectsMost → coversOk h objects (chunksIn t) bytes ≡ true → objects + length (goneFrom s spare after) ≤ objectsMost
     returned-objects h objects bytes spare most e =
-        omega (arith, covers-chunks h objects (chunksIn t) bytes e, returned-ready .few spare, ap length after-chunks, chunks-length s t)
+        omega (arith, covers-yes h objects (chunksIn t) bytes e .2, returned-ready .few spare, ap length after-chunks, chunks-length s t)

@@ -6,14 +6,12 @@ use native.Mathlib.Nat.{zero-add}
 use native.Mathlib.Numerals.{add-one}
 use native.Mathlib.Omega.{arith}
 use lib.ListN.{length, take, drop, getD, set, length-append}
-use lib.Seq.{sets, sets-eq, drop-cons, set-append-seam, append-snoc, take-append-seam, drop-append-seam, set-at, length-take-le}
+use lib.Seq.{sets, drop-cons, set-append-seam, append-snoc, take-append-seam, drop-append-seam, set-at, length-take-le}
 use Rattle.words.specs.Words.{moved}
 use Rattle.words.proofs.Moved.{moved-in}
 use Rattle.freelist_rules.specs.Release.{rotated}
+use Rattle.freelist_rules.proofs.Listed.{sets-front}
 use Rattle.freelist_release.specs.Listed.{turned}
-
-pub sets-front : (l ys : List ℕ) → length ys ≤ length l → sets l 0 ys ≡ ys ++ drop (length ys) l
-sets-front l ys h = sets-eq ys l 0 (omega arith) ∙ ap (λ (k : ℕ). ys ++ drop k l) (zero-add (length ys))
 
 pub sets-more : (l ys : List ℕ) (v : ℕ) → length ys < length l → set (sets l 0 ys) (length ys) v ≡ sets l 0 (ys ++ (v ∷ []))
 sets-more l ys v h =

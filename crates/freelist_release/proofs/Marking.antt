@@ -2,7 +2,7 @@
 use mathlib.Core.Path.{_≡_, refl, sym, ap, _∙_}
 use mathlib.Core.Bool.{Bool, true, false, _&&_, not}
 use mathlib.Core.List.{List, [], _∷_, _++_}
-use Prim.Native.Nat.{ℕ, suc, _+_, _*_, _≤_, _<_}
+use Prim.Native.Nat.{ℕ, _+_, _*_, _≤_, _<_}
 use native.Mathlib.Omega.{arith}
 use lib.Dec.{eqb}
 use lib.ListN.{length, drop, getD, set, length-append, drop-of-length-le}
@@ -14,6 +14,7 @@ use Rattle.freelist_rules.specs.Records.{regionRow}
 use Rattle.freelist_rules.specs.Release.{wholly, rotated, leaving, memoryOf, memoriesOf, bytesOf}
 use Rattle.freelist_rules.specs.declared.Chunk.{Chunk}
 use Rattle.freelist_rules.specs.declared.Region.{Region}
+use Rattle.freelist_rules.proofs.Listed.{memories-length}
 use Rattle.freelist_rules.proofs.Base.{at-in}
 use Rattle.freelist_release.specs.Listed.{turned}
 use Rattle.freelist_release.specs.Releasable.{Releasable}
@@ -38,10 +39,6 @@ module _ (cs : List Chunk) where
   memories-rotated : (rs : List Region) → memoriesOf cs (rotated rs) ≡ rotated (memoriesOf cs rs)
   memories-rotated [] = refl
   memories-rotated (r ∷ rs) = memories-append rs r
-
-  pub length-memories : (rs : List Region) → length (memoriesOf cs rs) ≡ length rs
-  length-memories [] = refl
-  length-memories (r ∷ rs) = ap suc (length-memories rs)
 
 -- ---- after i regions
 
@@ -94,7 +91,7 @@ module _ (cs : List Chunk) (spare : Bool) (t : List ℕ) (n i : ℕ) (h : i < n)
     pub marking-stays : b ≡ false → (v : List ℕ) → v ≡ turned m u → Marking cs spare rs l v (i + 1) m bytes
     unfolding leaving
     marking-stays q v p =
-        let long = length-memories cs (at .marked) in
+        let long = memories-length cs (at .marked) in
         let ms : List ℕ = memoriesOf cs (at .marked) in
         let c : m ≡ length ms = at .count ∙ sym long in
         record {
@@ -110,7 +107,7 @@ module _ (cs : List Chunk) (spare : Bool) (t : List ℕ) (n i : ℕ) (h : i < n)
     pub marking-goes : b ≡ true → (r : Region) → r ≡ row regionRow i t → (x : ℕ) → x ≡ memoryOf cs r → (v : List ℕ) → v ≡ set u m x → Marking cs spare rs l v (i + 1) (m + 1) (bytes + r .end)
     unfolding leaving
     marking-goes q r is x y v p =
-        let long = length-memories cs (at .marked) in
+        let long = memories-length cs (at .marked) in
         let ms : List ℕ = memoriesOf cs (at .marked) in
         let more : List Region = at .marked ++ (r ∷ []) in
         let c : m ≡ length ms = at .count ∙ sym long in

@@ -14,9 +14,8 @@ use Rattle.freelist_rules.specs.declared.Chunk.{Chunk}
 use Rattle.freelist_rules.specs.declared.Region.{Region}
 use Rattle.freelist_release.specs.Listed.{unlisted}
 use Rattle.freelist_release.specs.Releasable.{Releasable}
-use Rattle.freelist_release.proofs.Fronts.{sets-front}
+use Rattle.freelist_rules.proofs.Listed.{sets-front, memories-length}
 use Rattle.freelist_release.proofs.Listing.{unlisted-remain}
-use Rattle.freelist_release.proofs.Marking.{length-memories}
 use Rattle.freelist_release.proofs.Staying.{all-stay, all-remain, none-of}
 
 module _ (t : List ℕ) (k : ℕ) (u : List ℕ) (n : ℕ) (spare : Bool) (l : List ℕ) (fit : Releasable (rows chunkRow k t) (rows regionRow n u)) where
@@ -51,7 +50,7 @@ module _ (t : List ℕ) (k : ℕ) (u : List ℕ) (n : ℕ) (spare : Bool) (l : L
     front : take m l′ ≡ memoriesOf cs gone
     front =
         let ms : List ℕ = memoriesOf cs gone in
-        let e : m ≡ length ms = em ∙ sym (length-memories cs gone) in
+        let e : m ≡ length ms = em ∙ sym (memories-length cs gone) in
         ap (take m) (el ∙ sets-front l ms (omega (arith, e, few, room)))
         ∙ ap (λ (z : ℕ). take z (ms ++ drop (length ms) l)) e
         ∙ take-append-seam ms (drop (length ms) l)

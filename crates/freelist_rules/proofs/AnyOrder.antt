@@ -29,12 +29,12 @@ use Rattle.freelist_rules.proofs.Swaps.{settled, settled-sound, settled
 abbrev pub loanOf : Block → Loan
 loanOf b = record { serial = b .serial; chunk = b .chunk; offset = b .offset; size = b .size }
 
-loan-is : (b : Block) (l : Loan) → sameLoan b l ≡ true → l ≡ loanOf b
+pub loan-is : (b : Block) (l : Loan) → sameLoan b l ≡ true → l ≡ loanOf b
 loan-is b l e =
     let w = same-loan b l e in
     (λ i. record { serial = w .0 i; chunk = w .1 i; offset = w .2 i; size = w .3 i })
 
-same-self : (b : Block) → sameLoan b (loanOf b) ≡ true
+pub same-self : (b : Block) → sameLoan b (loanOf b) ≡ true
 same-self b = and-both _ _ (eq-eqb (b .serial) (b .serial) refl) (and-both _ _ (eq-eqb (b .chunk) (b .chunk) refl) (and-both _ _ (eq-eqb (b .offset) (b .offset) refl) (eq-eqb (b .size) (b .size) refl)))
 
 seek-mem : (b : Block) (i : ℕ) (ls : List Loan) → seek b ls ≡ at i → List·Memᴰ (loanOf b) ls
@@ -65,7 +65,7 @@ module _ (s : FreeListSettings) (fit : FreeListIn s) where
 
 -- ---- orders
 
-perm-mem : {xs ys : List Block} (a : Block) → List·Permᴰ xs ys → List·Memᴰ a ys → List·Memᴰ a xs
+pub perm-mem : {xs ys : List Block} (a : Block) → List·Permᴰ xs ys → List·Memᴰ a ys → List·Memᴰ a xs
 perm-mem a List·Permᴰ·nil m = m
 perm-mem a (List·Permᴰ·cons e p) m = ⊎-elim (λ h. List·Memᴰ·head (h ∙ sym e)) (λ h. List·Memᴰ·tail (perm-mem a p h)) (List·Memᴰ·cases-cons m)
 perm-mem a (List·Permᴰ·swap e f) m =
@@ -85,7 +85,7 @@ perm-other k (List·Permᴰ·cons e p) h = ((λ q. h .0 (q ∙ ap (λ (b : Block
 perm-other k (List·Permᴰ·swap e f) h = ((λ q. h .1 .0 (q ∙ ap (λ (b : Block). b .serial) (sym f))), ((λ q. h .0 (q ∙ ap (λ (b : Block). b .serial) (sym e))), h .1 .1))
 perm-other k (List·Permᴰ·trans p q) h = perm-other k q (perm-other k p h)
 
-perm-apart : {xs ys : List Block} → List·Permᴰ xs ys → Apart xs → Apart ys
+pub perm-apart : {xs ys : List Block} → List·Permᴰ xs ys → Apart xs → Apart ys
 perm-apart List·Permᴰ·nil h = h
 perm-apart (List·Permᴰ·cons {b = b} {l₂ = l₂} e p) h =
     let z = ap (λ (b : Block). b .serial) e in
@@ -100,7 +100,7 @@ other-not k [] b h m e = List·Memᴰ·not-nil m
 other-not k (c ∷ bs) b h m e = ⊎-elim (λ q. h .0 (sym e ∙ ap (λ (b : Block). b .serial) q)) (λ q. other-not k bs b (h .1) q e) (List·Memᴰ·cases-cons m)
 
 -- those left are still on loan after one has come back
-left-on-loan : (b : Block) (bs : List Block) (t : Store) → Apart (b ∷ bs) → OnLoan (b ∷ bs) t → OnLoan bs (settled (loanOf b) t)
+pub left-on-loan : (b : Block) (bs : List Block) (t : Store) → Apart (b ∷ bs) → OnLoan (b ∷ bs) t → OnLoan bs (settled (loanOf b) t)
 left-on-loan b bs t a o d m = still (loanOf b) (loanOf d) t (o d (List·Memᴰ·tail m)) (other-not (b .serial) bs d (a .0) m)
 
 module _ (s : FreeListSettings) (fit : FreeListIn s) where

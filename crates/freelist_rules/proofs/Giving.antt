@@ -44,6 +44,14 @@ module _ {A : Type 0} where
       go (inl e) ih = let k : List·Memᴰ a (b ∷ those p xs) = rw e at m in ⊎-elim (λ q. List·Memᴰ·head q) (λ q. List·Memᴰ·tail (ih q)) (List·Memᴰ·cases-cons k)
       go (inr e) ih = let k : List·Memᴰ a (those p xs) = rw e at m in List·Memᴰ·tail (ih k)
 
+  pub those-yes : (p : A → Bool) (a : A) (xs : List A) → List·Memᴰ a (those p xs) → p a ≡ true
+  those-yes p a [] m = absurd (List·Memᴰ·not-nil m)
+  those-yes p a (b ∷ xs) m = go (told (p b)) (those-yes p a xs)
+    where
+      go : (p b ≡ true) ⊎ (p b ≡ false) → (List·Memᴰ a (those p xs) → p a ≡ true) → p a ≡ true
+      go (inl e) ih = let k : List·Memᴰ a (b ∷ those p xs) = rw e at m in ⊎-elim (λ q. ap p q ∙ e) ih (List·Memᴰ·cases-cons k)
+      go (inr e) ih = let k : List·Memᴰ a (those p xs) = rw e at m in ih k
+
   pub mem-those : (p : A → Bool) (a : A) (xs : List A) → List·Memᴰ a xs → p a ≡ true → List·Memᴰ a (those p xs)
   mem-those p a [] m e = m
   mem-those p a (b ∷ xs) m e = go (told (p b)) (List·Memᴰ·cases-cons m) (mem-those p a xs)

@@ -19,8 +19,14 @@ pub mod Giving
 pub mod Settling
 pub mod Swaps
 pub mod AnyOrder
+pub mod AtOnce
 pub mod GivesBack
+pub mod Listed
 pub mod Keeps
 pub mod Ordered
+pub mod Enters
 pub mod Tested
 pub mod NeverAgain
+pub mod Fits
+pub mod Summing
+pub mod Struck

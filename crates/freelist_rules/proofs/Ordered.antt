@@ -2,22 +2,23 @@
 use mathlib.Core.Path.{_≡_, refl, sym, ap, _∙_}
 use mathlib.Core.Bool.{true, false}
 use mathlib.Core.Logic.{_⊎_, inl, inr, ⊎-elim}
-use mathlib.Core.List.{List, [], _∷_, List·Memᴰ, List·Memᴰ·head, List·Memᴰ·tail, List·Memᴰ·cases-cons, List·Memᴰ·not-nil}
-use Prim.Native.Nat.{ℕ, suc, _+_, _<_}
+use mathlib.Core.List.{List, [], _∷_, _++_, List·Memᴰ, List·Memᴰ·head, List·Memᴰ·tail, List·Memᴰ·cases-cons, List·Memᴰ·not-nil}
+use Prim.Native.Nat.{ℕ, _+_, _≤_, _<_}
 use native.Mathlib.Omega.{arith}
 use lib.Dec.{eqb, ltb}
-use lib.ListN.{length, getD}
-use Rattle.lists.proofs.Bools.{told, true-false}
+use lib.ListN.{length}
+use borrow.Author.Tests.{lt-ltb, le-ltb}
+use Rattle.lists.proofs.Bools.{told, true-false, lt-or-le}
 use Rattle.words.specs.Rows.{row, rows}
-use Rattle.words.proofs.Records.{length-rows, getD-rows, length-insertAt}
+use Rattle.words.proofs.Records.{length-rows, getD-rows}
 use Rattle.store_rules.specs.Loans.{loanRow, onLoan, loansOf}
 use Rattle.store_rules.specs.declared.Loan.{Loan}
-use Rattle.freelist_rules.specs.Pieces.{piece, lo}
-use Rattle.freelist_rules.specs.Place.{spotFor, putLoan}
+use Rattle.freelist_rules.specs.Pieces.{All}
+use Rattle.freelist_rules.specs.Place.{putLoan}
 use Rattle.freelist_rules.specs.Steps.{noLoan}
 use Rattle.freelist_rules.specs.Tables.{ordered}
-use Rattle.freelist_rules.proofs.Base.{at-in}
 use Rattle.freelist_rules.proofs.Gaps.{begins}
+use Rattle.freelist_rules.proofs.Lends.{put-member}
 use Rattle.freelist_rules.proofs.Giving.{mem-at}
 
 -- ---- one put among others
@@ -33,16 +34,6 @@ put-in a l (c ∷ ls) m = go (told (ltb (begins l) (begins c))) m (put-in a l ls
     go (inr q) (inl e) ih = rw q (List·Memᴰ·tail (ih (inl e)))
     go (inr q) (inr k) ih = rw q (⊎-elim (λ e. List·Memᴰ·head e) (λ i. List·Memᴰ·tail (ih (inr i))) (List·Memᴰ·cases-cons k))
 
-pub put-out : (a l : Loan) (ls : List Loan) → List·Memᴰ a (putLoan l ls) → (a ≡ l) ⊎ List·Memᴰ a ls
-put-out a l [] m = List·Memᴰ·cases-cons m
-put-out a l (c ∷ ls) m = go (told (ltb (begins l) (begins c))) (put-out a l ls)
-  where
-    go : (ltb (begins l) (begins c) ≡ true) ⊎ (ltb (begins l) (begins c) ≡ false) → (List·Memᴰ a (putLoan l ls) → (a ≡ l) ⊎ List·Memᴰ a ls) → (a ≡ l) ⊎ List·Memᴰ a (c ∷ ls)
-    go (inl q) ih = List·Memᴰ·cases-cons (rw q at m)
-    go (inr q) ih =
-        let k : List·Memᴰ a (c ∷ putLoan l ls) = rw q at m in
-        ⊎-elim (λ e. inr (List·Memᴰ·head e)) (λ i. ⊎-elim (λ e. inl e) (λ j. inr (List·Memᴰ·tail j)) (ih i)) (List·Memᴰ·cases-cons k)
-
 -- ---- all of them
 
 pub ordered-in : (a : Loan) (ls : List Loan) → List·Memᴰ a ls → List·Memᴰ a (ordered ls)
@@ -53,7 +44,53 @@ ordered-in a (l ∷ ls) m = put-in a l (ordered ls) (⊎-elim (λ e. inl e) (λ 
 pub ordered-out : (a : Loan) (ls : List Loan) → List·Memᴰ a (ordered ls) → List·Memᴰ a ls
 unfolding ordered
 ordered-out a [] m = m
-ordered-out a (l ∷ ls) m = ⊎-elim (λ e. List·Memᴰ·head e) (λ k. List·Memᴰ·tail (ordered-out a ls k)) (put-out a l (ordered ls) m)
+ordered-out a (l ∷ ls) m = ⊎-elim (λ e. List·Memᴰ·head e) (λ k. List·Memᴰ·tail (ordered-out a ls k)) (put-member l (ordered ls) a m)
+
+-- ---- which is put in first makes no difference where they stand at different places
+
+put-front : (l c : Loan) (ls : List Loan) → begins l < begins c → putLoan l (c ∷ ls) ≡ l ∷ c ∷ ls
+put-front l c ls h = rw (lt-ltb (begins l) (begins c) h)
+
+put-past : (l c : Loan) (ls : List Loan) → begins c ≤ begins l → putLoan l (c ∷ ls) ≡ c ∷ putLoan l ls
+put-past l c ls h = rw (le-ltb (begins l) (begins c) h)
+
+put-less : (a b : Loan) (ls : List Loan) → begins a < begins b → putLoan a (putLoan b ls) ≡ putLoan b (putLoan a ls)
+put-less a b [] h = put-front a b [] h ∙ sym (put-past b a [] (omega arith))
+put-less a b (c ∷ ls) h = go (lt-or-le (begins b) (begins c)) (lt-or-le (begins a) (begins c)) (put-less a b ls h)
+  where
+    go : (begins b < begins c) ⊎ (begins c ≤ begins b) → (begins a < begins c) ⊎ (begins c ≤ begins a) → putLoan a (putLoan b ls) ≡ putLoan b (putLoan a ls) → putLoan a (putLoan b (c ∷ ls)) ≡ putLoan b (putLoan a (c ∷ ls))
+    go (inl q) p ih =
+        ap (putLoan a) (put-front b c ls q)
+        ∙ put-front a b (c ∷ ls) h
+        ∙ ap (λ (xs : List Loan). a ∷ xs) (sym (put-front b c ls q))
+        ∙ sym (put-past b a (c ∷ ls) (omega arith))
+        ∙ ap (putLoan b) (sym (put-front a c ls (omega arith)))
+    go (inr q) (inl p) ih =
+        ap (putLoan a) (put-past b c ls q)
+        ∙ put-front a c (putLoan b ls) p
+        ∙ ap (λ (xs : List Loan). a ∷ xs) (sym (put-past b c ls q))
+        ∙ sym (put-past b a (c ∷ ls) (omega arith))
+        ∙ ap (putLoan b) (sym (put-front a c ls p))
+    go (inr q) (inr p) ih =
+        ap (putLoan a) (put-past b c ls q)
+        ∙ put-past a c (putLoan b ls) p
+        ∙ ap (λ (xs : List Loan). c ∷ xs) ih
+        ∙ sym (put-past b c (putLoan a ls) q)
+        ∙ ap (putLoan b) (sym (put-past a c ls p))
+
+pub put-swap : (a b : Loan) (ls : List Loan) → (begins a ≡ begins b → ⊥) → putLoan a (putLoan b ls) ≡ putLoan b (putLoan a ls)
+put-swap a b ls n =
+    ⊎-elim (λ h. put-less a b ls h)
+    (λ h. ⊎-elim (λ k. sym (put-less b a ls k)) (λ k. absurd (n (omega arith))) (lt-or-le (begins b) (begins a)))
+    (lt-or-le (begins a) (begins b))
+
+-- one that stands amid others at a place of its own is put among them in the end
+pub ordered-amid : (l : Loan) (xs ys : List Loan) → All (λ (d : Loan). begins d ≡ begins l → ⊥) xs → ordered (xs ++ (l ∷ ys)) ≡ putLoan l (ordered (xs ++ ys))
+unfolding ordered
+ordered-amid l [] ys h = refl
+ordered-amid l (x ∷ xs) ys h =
+    ap (putLoan x) (ordered-amid l xs ys (λ d m. h d (List·Memᴰ·tail m)))
+    ∙ put-swap x l (ordered (xs ++ ys)) (h x (List·Memᴰ·head refl))
 
 -- ---- how many they are
 
@@ -89,6 +126,11 @@ on-loan-out a (l ∷ ls) m = go (told (eqb (l .size) 0)) (on-loan-out a ls)
         ⊎-elim (λ e. (List·Memᴰ·head e, ap (λ (d : Loan). eqb (d .size) 0) e ∙ q)) (λ i. let j = ih i in (List·Memᴰ·tail (j .0), j .1)) (List·Memᴰ·cases-cons k)
 
 -- a loan of the first n places stands at one of them
+
+pub on-loan-append : (xs ys : List Loan) → onLoan (xs ++ ys) ≡ onLoan xs ++ onLoan ys
+on-loan-append [] ys = refl
+on-loan-append (x ∷ xs) ys = ⊎-elim (λ e. rw (e) (on-loan-append xs ys)) (λ e. rw (e) (ap (λ (zs : List Loan). x ∷ zs) (on-loan-append xs ys))) (told (eqb (x .size) 0))
+
 pub loan-place : (n : ℕ) (t : List ℕ) (a : Loan) → List·Memᴰ a (loansOf n t) → (p : ℕ) × (p < n) × (row loanRow p t ≡ a) × (eqb (a .size) 0 ≡ false)
 unfolding loansOf
 loan-place n t a m =

@@ -28,7 +28,7 @@ use Rattle.freelist_rules.proofs.Meaning.{at-region, one-piece, one-reg
 use Rattle.freelist_rules.proofs.Lends.{multiple-less, greater-multiple, multiple-through, fits-is, lent-block}
 
 -- an aligned place whose bytes lie in the region: the region fits
-fits-all : (mask n x : ℕ) (r : Region) → x % (mask + 1) ≡ 0 → r .start ≤ x → x + n ≤ r .end → fitsIn mask n r ≡ true
+pub fits-all : (mask n x : ℕ) (r : Region) → x % (mask + 1) ≡ 0 → r .start ≤ x → x + n ≤ r .end → fitsIn mask n r ≡ true
 unfolding fitsIn
 fits-all mask n x r e p q = and-both _ _ (le-leb n (r .end) (omega arith)) (le-leb (r .start) (cut mask n r) (omega (arith, down-most (r .end - n) mask x e (omega arith))))
 

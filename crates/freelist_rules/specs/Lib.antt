@@ -8,4 +8,5 @@ pub mod Join
 pub mod Release
 pub mod Seek
 pub mod Steps
+pub mod AtOnce
 pub mod Tables

@@ -1,13 +1,14 @@
 -- A free-list store in its five lent tables. head, loans and chunks are the truth; regions and index are what can be made
 -- again from them. Assumes nothing: these are definitions.
 use mathlib.Core.Path.{_≡_}
-use mathlib.Core.Bool.{Bool, _&&_}
+use mathlib.Core.Bool.{Bool}
 use mathlib.Core.List.{List, [], _∷_}
 use Prim.Native.Nat.{ℕ, _+_, _*_, _≤_}
 use lib.Dec.{eqb, leb}
 use lib.ListN.{length, getD, set}
 use Rattle.lists.specs.Tests.{all}
 use Rattle.words.specs.Rows.{rows, laid}
+use Rattle.counter.specs.InTable.{FreeListIn}
 use Rattle.counter.specs.declared.settings.FreeListSettings.{FreeListSettings}
 use Rattle.slab.specs.Slab.{vacantAt, linkAt, Parted}
 use Rattle.slab.specs.Test.{partedOk}
@@ -19,7 +20,6 @@ use Rattle.freelist_rules.specs.Records.{Store, chunkWords, regionWords,
 use Rattle.freelist_rules.specs.Sound.{Sound}
 use Rattle.freelist_rules.specs.Walk.{allOk, sizedOk, numbersRise, chunkOk, loanOk, fillsOk, apart, memories}
 use Rattle.freelist_rules.specs.Place.{putLoan}
-use Rattle.freelist_rules.specs.declared.Chunk.{Chunk}
 use Rattle.freelist_rules.specs.declared.Region.{Region}
 
 pub record Tables : Type 0 where
@@ -78,6 +78,14 @@ lengthsRow s t =
 
 unfoldable pub lengthsOk : FreeListSettings → Tables → Bool
 lengthsOk s t = all (lengthsRow s t)
+
+-- the same as facts
+pub record Lengths (s : FreeListSettings) (t : Tables) : Type 0 where
+  pub head : length (t .head) ≡ headWords
+  pub loans : length (t .loans) ≡ loanWords * s .store .loans
+  pub chunks : length (t .chunks) ≡ chunkWords * s .store .chunks
+  pub regions : length (t .regions) ≡ countAt s + 1
+  pub index : length (t .index) ≡ indexWords (s .store .loans)
 
 -- ---- the store that the tables hold
 
@@ -161,3 +169,13 @@ soundOk s t = all (soundRow s t)
 
 unfoldable pub laidRegions : FreeListSettings → List Region → List ℕ → List ℕ
 laidRegions s rs t = set (laid regionRow rs t) (countAt s) (length rs)
+
+-- the regions that a table holds
+abbrev pub regionsOf : FreeListSettings → List ℕ → List Region
+regionsOf s t = rows regionRow (getD t (countAt s) 0) t
+
+-- settings in 01's table, and a table of regions of the right length with a count within it
+pub record RegionsFit (s : FreeListSettings) (t : List ℕ) : Type 0 where
+  pub settings : FreeListIn s
+  pub long : length t ≡ countAt s + 1
+  pub count : getD t (countAt s) 0 ≤ regionsMost s

@@ -1,14 +1,16 @@
 -- The law of a heap's history: from used and totals 0, over charges and releases that pass no bound, used equals the
 -- charges less the releases, and allocated less deallocated. Assumes nothing.
-use mathlib.Core.Path.{_≡_, refl, sym, ap, _∙_}
+use mathlib.Core.Path.{_≡_, refl, sym, ap, subst, _∙_}
 use mathlib.Core.Bool.{true}
-use mathlib.Core.List.{List, [], _∷_}
+use mathlib.Core.List.{List, [], _∷_, _++_}
 use Prim.Native.Nat.{ℕ, _+_, _-_, _^_, _≤_, _<_}
+use native.Mathlib.Nat.{mod-lt}
 use native.Mathlib.Omega.{arith}
 use Rattle.counter.specs.Account.{value}
 use Rattle.counter.specs.declared.account.Heap.{Heap}
-use Rattle.heap.specs.Heap.{chargedOf, releasedOf, agreesOk}
-use Rattle.heap.specs.History.{Entry, charge, release, newHeap, after, AllFitting, charges, releases}
+use Rattle.counter.specs.declared.account.Total.{Total}
+use Rattle.heap.specs.Heap.{plusOf, chargedOf, releasedOf, agreesOk, Within}
+use Rattle.heap.specs.History.{Entry, charge, release, newHeap, entered, after, AllFitting, charges, releases}
 use Rattle.heap.proofs.Bounds.{charged-is, released-is, agrees-all}
 
 -- what a history adds to a heap
@@ -63,3 +65,30 @@ from-nothing size es f =
       totals = omega arith;
       agrees = agrees-all g (omega arith);
     }
+
+-- ---- one history after another
+
+pub after-append : (h : Heap) (es fs : List Entry) → after h (es ++ fs) ≡ after (after h es) fs
+after-append h [] fs = refl
+after-append h (e ∷ es) fs = after-append (entered h e) es fs
+
+pub fitting-append : (h : Heap) (es fs : List Entry) → AllFitting h es → AllFitting (after h es) fs → AllFitting h (es ++ fs)
+fitting-append h [] fs p q = q
+fitting-append h (e ∷ es) fs p q = (p .0, fitting-append (entered h e) es fs (p .1) q)
+
+-- what passes no bound leaves the totals words
+pub fitting-within : (h : Heap) (es : List Entry) → AllFitting h es → Within h → Within (after h es)
+fitting-within h [] f w = w
+fitting-within h (charge bytes ∷ es) f w =
+    let c = charged-is h bytes (f .0 .0) (f .0 .1) in
+    fitting-within (chargedOf h bytes) es (f .1) (subst (λ (n : ℕ). n < 2 ^ 128) (sym (c .allocated)) (f .0 .1))
+fitting-within h (release bytes ∷ es) f w =
+    let c = released-is h bytes (f .0 .0) (f .0 .1) in
+    fitting-within (releasedOf h bytes) es (f .1) (subst (λ (t : Total). value t < 2 ^ 128) (sym (c .allocated)) w)
+
+-- and a deallocated total whose low word is a word keeps one
+pub after-low : (h : Heap) (es : List Entry) → h .deallocated .lo < 2 ^ 64 → after h es .deallocated .lo < 2 ^ 64
+unfolding chargedOf releasedOf plusOf
+after-low h [] p = p
+after-low h (charge bytes ∷ es) p = after-low (chargedOf h bytes) es p
+after-low h (release bytes ∷ es) p = after-low (releasedOf h bytes) es (mod-lt (value (h .deallocated) + bytes) (omega arith))

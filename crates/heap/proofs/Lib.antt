@@ -2,3 +2,4 @@
 pub mod Totals
 pub mod Bounds
 pub mod History
+pub mod Stays

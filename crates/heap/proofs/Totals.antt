@@ -1,6 +1,6 @@
 -- A number of two words, and one word added to it. Assumes nothing.
-use mathlib.Core.Path.{_≡_, refl, sym, ap, subst, _∙_}
-use mathlib.Core.Bool.{Bool, true, false, _&&_, _||_}
+use mathlib.Core.Path.{_≡_, refl, sym, ap, _∙_}
+use mathlib.Core.Bool.{true, _&&_, _||_}
 use mathlib.Core.Logic.{⊎-elim}
 use Prim.Native.Nat.{ℕ, _+_, _*_, _-_, _^_, _/_, _%_, _≤_, _<_}
 use native.Mathlib.Nat.{mod-eq-of-lt, suc-mul}
@@ -13,7 +13,7 @@ use borrow.Author.Tests.{eqb-true, eq-eqb, leb-true, le-leb, ltb-true, lt-ltb}
 use Rattle.lists.proofs.Bools.{and-left, and-right, and-both, or-cases, or-left, or-right, same-test, lt-or-le}
 use Rattle.counter.specs.Account.{value}
 use Rattle.counter.specs.declared.account.Total.{Total}
-use Rattle.heap.specs.Heap.{totalOf, plusOf}
+use Rattle.heap.specs.Heap.{plusOf}
 
 -- the words of a sum whose high word x and low word r are known
 low-word : (k s x r : ℕ) → r < 2 ^ k → s ≡ x * 2 ^ k + r → r ≡ s % 2 ^ k

@@ -2,7 +2,7 @@
 -- The size is stored and not enforced." Sums wrap where a word or a total ends; 01's numbers 4 and 10 are tested first,
 -- so none does in use (proofs/Bounds). Assumes nothing: these are definitions.
 use mathlib.Core.Bool.{Bool, _&&_}
-use Prim.Native.Nat.{ℕ, _+_, _-_, _/_, _%_, _^_}
+use Prim.Native.Nat.{ℕ, _+_, _-_, _/_, _%_, _^_, _<_}
 use lib.Dec.{eqb, leb, ltb}
 use Rattle.counter.specs.Account.{value}
 use Rattle.counter.specs.Limits.{heapBytesMost}
@@ -44,3 +44,7 @@ bearsOk h bytes = leb (h .used + bytes) heapBytesMost && ltb (value (h .allocate
 -- 01, number 4: heap used is allocated less deallocated
 unfoldable pub agreesOk : Heap → Bool
 agreesOk h = eqb (value (h .deallocated) + h .used) (value (h .allocated))
+
+-- a total's two words of 64 bits are below 2^128: every heap that code can lend has this
+abbrev pub Within : Heap → Type 0
+Within h = value (h .allocated) < 2 ^ 128

@@ -1,8 +1,11 @@
 -- The account of a call, put together of what its parts come to. Assumes nothing.
 use mathlib.Core.Path.{_≡_, ap, _∙_}
 use mathlib.Core.Bool.{Bool, true, false, _&&_}
-use Prim.Native.Nat.{ℕ, _+_, _-_}
+use Prim.Native.Nat.{ℕ, _+_, _-_, _≤_}
+use native.Mathlib.Omega.{arith}
 use lib.Dec.{leb}
+use borrow.Author.Tests.{leb-true, le-leb}
+use Rattle.lists.proofs.Bools.{same-test}
 use Rattle.counter.specs.Account.{heapAt, settledOf}
 use Rattle.counter.specs.Limits.{objectsMost}
 use Rattle.counter.specs.Paper.{freeOf}
@@ -16,9 +19,18 @@ use Rattle.heap.specs.Heap.{chargedOf, releasedOf, agreesOk}
 use Rattle.store_rules.specs.Outcomes.{withOrder, chargedAccount, backAccount, lostAccount, releasedAccount}
 use Rattle.store_rules.specs.Tests.{coversOk}
 
-pub covers-is : (h : Heap) (objects chunks bytes : ℕ) (ok : Bool) → ok ≡ agreesOk h → (leb bytes (h .used) && (ok && leb chunks (objectsMost - objects))) ≡ coversOk h objects chunks bytes
+-- the code compares with what is left of the most, so that no sum passes a word
+left-is : (objects chunks : ℕ) → objects ≤ objectsMost → leb chunks (objectsMost - objects) ≡ leb (objects + chunks) objectsMost
+left-is objects chunks h =
+    same-test (leb chunks (objectsMost - objects)) (leb (objects + chunks) objectsMost)
+    (λ e. le-leb (objects + chunks) objectsMost (omega (arith, leb-true chunks (objectsMost - objects) e)))
+    (λ e. le-leb chunks (objectsMost - objects) (omega (arith, leb-true (objects + chunks) objectsMost e)))
+
+pub covers-is : (h : Heap) (objects chunks bytes : ℕ) (ok : Bool) → objects ≤ objectsMost → ok ≡ agreesOk h → (leb bytes (h .used) && (ok && leb chunks (objectsMost - objects))) ≡ coversOk h objects chunks bytes
 unfolding coversOk
-covers-is h objects chunks bytes ok e = ap (λ (b : Bool). leb bytes (h .used) && (b && leb chunks (objectsMost - objects))) e
+covers-is h objects chunks bytes ok most e =
+    ap (λ (b : Bool). leb bytes (h .used) && (b && leb chunks (objectsMost - objects))) e
+    ∙ ap (λ (b : Bool). leb bytes (h .used) && (agreesOk h && b)) (left-is objects chunks most)
 
 pub charged-is : (s : StoreSettings) (a r : Account) (z left : ℕ) (h g : Heap) → h ≡ heapAt a (s .heap) → g ≡ chargedOf h z → left ≡ a .objects - 1 → r ≡ settledOf a (s .heap) g left Nothing → r ≡ chargedAccount s a z
 unfolding chargedAccount

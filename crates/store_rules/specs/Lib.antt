@@ -3,3 +3,4 @@ pub mod Orders
 pub mod Delivery
 pub mod Outcomes
 pub mod Loans
+pub mod Refusals

@@ -1,6 +1,6 @@
 -- A loan in words: 01, "A block carries serial, chunk, offset, size." Assumes nothing: these are definitions.
 use mathlib.Core.Path.{_≡_, refl}
-use mathlib.Core.Bool.{Bool, cond}
+use mathlib.Core.Bool.{cond}
 use mathlib.Core.List.{List, [], _∷_}
 use Prim.Native.Nat.{ℕ, _≤_}
 use native.Mathlib.Omega.{arith}

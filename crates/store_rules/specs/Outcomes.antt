@@ -1,6 +1,6 @@
 -- What a call of either engine leaves: what it says, the account, and the lent tables; a return and a clean-up leave the
 -- release list too. And what a call may do to the account. Assumes nothing: these are definitions.
-use mathlib.Core.Bool.{Bool, true, false, cond}
+use mathlib.Core.Bool.{Bool, true, false}
 use mathlib.Core.List.{List, [], _∷_}
 use Prim.Native.Nat.{ℕ, _+_, _-_}
 use lib.Dec.{leb}
@@ -9,7 +9,7 @@ use Rattle.counter.specs.Account.{heapAt, settledOf}
 use Rattle.counter.specs.Paper.{Said}
 use Rattle.counter.specs.declared.account.Account.{Account}
 use Rattle.counter.specs.declared.account.OpenOrder.{OpenOrder}
-use Rattle.counter.specs.declared.account.OpenOrder.the-variants.{Nothing, Kept}
+use Rattle.counter.specs.declared.account.OpenOrder.the-variants.{Nothing}
 use Rattle.counter.specs.declared.settings.StoreSettings.{StoreSettings}
 use Rattle.heap.specs.Heap.{chargedOf, releasedOf}
 

@@ -1,7 +1,7 @@
 -- The tests that both engines share: the gate, and 01's numbers 2 and 4. Assumes nothing: these are definitions.
 use mathlib.Core.Bool.{Bool, true, false, _&&_}
 use mathlib.Core.List.{[], _∷_}
-use Prim.Native.Nat.{ℕ, _-_}
+use Prim.Native.Nat.{ℕ, _+_}
 use lib.Dec.{eqb, leb}
 use Rattle.counter.specs.Gate.{Row}
 use Rattle.counter.specs.Limits.{objectsMost}
@@ -23,7 +23,7 @@ orderFor store (Kept k) = eqb (k .order .store) store
 -- 4: heap used covers the sum of the store's chunks and is allocated less deallocated, and objects with its chunks are
 -- at most 2^32 - 1
 unfoldable pub coversOk : Heap → ℕ → ℕ → ℕ → Bool
-coversOk h objects chunks bytes = leb bytes (h .used) && (agreesOk h && leb chunks (objectsMost - objects))
+coversOk h objects chunks bytes = leb bytes (h .used) && (agreesOk h && leb (objects + chunks) objectsMost)
 
 -- the gate that a call passes before it is decided: 1, every value and length; 2, the order; 3, the store; 4, the account
 abbrev pub gateRow : Bool → Bool → Bool → Bool → Row

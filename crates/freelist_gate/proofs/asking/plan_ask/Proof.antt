@@ -3,7 +3,7 @@ use mathlib.Core.Path.{_≡_, sym, ap, _∙_}
 use mathlib.Core.Bool.{true}
 use Rattle.counter.specs.Gate.{verdictOf}
 use Rattle.freelist_rules.specs.Tables.{tables}
-use Rattle.freelist_gate.proofs.Passing.{gate-passed}
+use Rattle.freelist_outcomes.proofs.Passing.{gate-passed}
 use Rattle.freelist_gate.proofs.Planned.{ask-shut, ask-go}
 use Rattle.freelist_gate.proofs.asking.plan_ask.Statement.{statement}
 use Rattle.freelist_gate.proofs.asking.plan_ask.Tie as tie

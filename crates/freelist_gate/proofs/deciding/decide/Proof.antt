@@ -4,7 +4,7 @@ use Rattle.lists.proofs.Bools.{not-yes, not-no}
 use Rattle.counter.proofs.Tables.{alignment-yes}
 use Rattle.freelist_regions.specs.Found.{foundOf}
 use Rattle.freelist_place.proofs.Asking.{both-ones}
-use Rattle.freelist_ready.proofs.Lending.{size-most}
+use Rattle.freelist_outcomes.proofs.Plans.{size-most}
 use Rattle.freelist_gate.proofs.Tests.{found-is, decide-mask, decide-size, decide-at, decide-nowhere}
 use Rattle.freelist_gate.proofs.deciding.decide.Statement.{statement}
 use Rattle.freelist_gate.proofs.deciding.decide.Tie as tie

@@ -2,7 +2,7 @@ use borrow.Author.Needs.{needs}
 use mathlib.Core.Path.{sym, _∙_}
 use Rattle.lists.proofs.Bools.{not-yes, not-no}
 use Rattle.freelist_rules.specs.Tables.{tables}
-use Rattle.freelist_gate.proofs.Gates.{lent-in}
+use Rattle.freelist_outcomes.proofs.Passing.{lent-in}
 use Rattle.freelist_gate.proofs.Arrivals.{delivery-lent, delivery-order, delivery-none, delivery-kept}
 use Rattle.freelist_gate.proofs.delivering.gate_delivery.Statement.{statement}
 use Rattle.freelist_gate.proofs.delivering.gate_delivery.Tie as tie

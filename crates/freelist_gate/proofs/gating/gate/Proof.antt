@@ -5,7 +5,8 @@ use Rattle.lists.proofs.Bools.{not-yes, not-no, and-left}
 use Rattle.counter.specs.declared.account.Heap.{Heap}
 use Rattle.freelist_rules.specs.Tables.{tables}
 use Rattle.freelist_gate.specs.Gates.{storeGate}
-use Rattle.freelist_gate.proofs.Gates.{gate-lent, gate-order, gate-rest, lent-in}
+use Rattle.freelist_gate.proofs.Gates.{gate-lent, gate-order, gate-rest}
+use Rattle.freelist_outcomes.proofs.Passing.{lent-in}
 use Rattle.freelist_gate.proofs.gating.gate.Statement.{statement}
 use Rattle.freelist_gate.proofs.gating.gate.Tie as tie
 

@@ -4,7 +4,7 @@ use native.Mathlib.Omega.{arith}
 use Rattle.lists.proofs.Bools.{not-yes, not-no}
 use Rattle.freelist_rules.specs.Tables.{tables}
 use Rattle.freelist_rules.proofs.Tested.{tables-yes}
-use Rattle.freelist_ready.proofs.Summing.{chunks-low}
+use Rattle.freelist_rules.proofs.Summing.{chunks-low}
 use Rattle.freelist_gate.proofs.Gates.{store-torn, store-short, store-go}
 use Rattle.freelist_gate.proofs.gating.gate_store.Statement.{statement}
 use Rattle.freelist_gate.proofs.gating.gate_store.Tie as tie

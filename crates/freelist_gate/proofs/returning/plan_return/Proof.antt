@@ -2,7 +2,7 @@ use borrow.Author.Needs.{needs}
 use mathlib.Core.Path.{sym, ap, _∙_}
 use Rattle.counter.specs.Gate.{verdictOf}
 use Rattle.freelist_rules.specs.Tables.{tables}
-use Rattle.freelist_gate.proofs.Passing.{gate-passed, few-places}
+use Rattle.freelist_outcomes.proofs.Passing.{gate-passed, few-places}
 use Rattle.freelist_gate.proofs.Stale.{plan-shut, plan-go}
 use Rattle.freelist_gate.proofs.returning.plan_return.Statement.{statement}
 use Rattle.freelist_gate.proofs.returning.plan_return.Tie as tie

@@ -13,7 +13,7 @@ agrees-requires : tie.Need-agrees-requires
 agrees-requires c κs = search needs
 
 returns : tie.Need-returns
-returns c = let a = c .before .before .args in covers-is (a .h) (a .objects) (a .chunks) (a .bytes) _ (c .agrees .ensures)
+returns c = let a = c .before .before .args in covers-is (a .h) (a .objects) (a .chunks) (a .bytes) _ (search needs) (c .agrees .ensures)
 
 pub covers-spec : {M : Type 1} → statement M
 covers-spec = tie.close (tie.spec sub-most cast-most agrees-requires returns)

@@ -1,15 +1,14 @@
 -- The loan at a place in use is one of the store's loans, and a block that is on loan is one of them. Assumes nothing.
 use mathlib.Core.Path.{_≡_, sym, ap, subst, _∙_}
 use mathlib.Core.Bool.{true, false, not}
-use mathlib.Core.Logic.{_⊎_, inl, inr, ⊎-elim}
-use mathlib.Core.List.{List, [], _∷_, List·Memᴰ, List·Memᴰ·head, List·Memᴰ·tail, List·Memᴰ·cases-cons, List·Memᴰ·not-nil}
+use mathlib.Core.List.{List·Memᴰ}
 use Prim.Native.Nat.{ℕ, _+_, _<_}
 use native.Mathlib.Omega.{arith}
-use lib.Dec.{eqb, ltb}
+use lib.Dec.{eqb}
 use lib.ListN.{length, getD}
 use borrow.Author.Tests.{eqb-false}
 use Rattle.lists.specs.Members.{Distinct}
-use Rattle.lists.proofs.Bools.{told, true-false, and-left, and-right, not-yes}
+use Rattle.lists.proofs.Bools.{and-left, and-right, not-yes}
 use Rattle.words.specs.Rows.{row, rows}
 use Rattle.words.proofs.Records.{length-rows, getD-rows, cell-row}
 use Rattle.counter.specs.InTable.{FreeListIn}
@@ -18,12 +17,13 @@ use Rattle.counter.specs.declared.settings.FreeListSettings.{FreeListSettings}
 use Rattle.slab.specs.Slab.{nowhere}
 use Rattle.store_rules.specs.Loans.{loanWords, sizeAt, loanRow, onLoan, loansOf}
 use Rattle.store_rules.specs.declared.Loan.{Loan}
+use Rattle.book.specs.Book.{serialOf}
 use Rattle.freelist_rules.specs.Records.{region}
 use Rattle.freelist_rules.specs.Pieces.{piece}
-use Rattle.freelist_rules.specs.Place.{at, putLoan}
+use Rattle.freelist_rules.specs.Place.{at}
 use Rattle.freelist_rules.specs.Seek.{sameLoan, seek}
 use Rattle.freelist_rules.specs.Steps.{noLoan}
-use Rattle.freelist_rules.specs.Tables.{Tables, givenAt, placesIn, ordered, storeOf, vacantIn, SoundTables}
+use Rattle.freelist_rules.specs.Tables.{Tables, givenAt, placesIn, storeOf, vacantIn, SoundTables}
 use Rattle.freelist_rules.specs.Walk.{serials}
 use Rattle.freelist_rules.proofs.Base.{at-in}
 use Rattle.freelist_rules.proofs.Decides.{differ-distinct}
@@ -54,14 +54,25 @@ module _ (s : FreeListSettings) (t : Tables) where
     pub here : spot < length (storeOf s t .loans)
     pub same : sameLoan b (getD (storeOf s t .loans) spot noLoan) ≡ true
 
+  -- the word that leads to its serial leads to a place in use that has it
+  pub block-leads : FreeListIn s → SoundTables s t → (b : Block) → onLoanOk s b t ≡ true
+      → (getD (t .index) (wordFor s b t) 0 < placesIn t)
+      × (vacantIn t (getD (t .index) (wordFor s b t) 0) ≡ false)
+      × (serialOf (t .loans) (getD (t .index) (wordFor s b t) 0) ≡ b .serial)
+  unfolding onLoanOk
+  block-leads fit sound b e =
+      let w = wordFor s b t in
+      let l = row loanRow (getD (t .index) w 0) (t .loans) in
+      let there = eqb-false w nowhere (not-yes (eqb w nowhere) (and-left (not (eqb w nowhere)) (sameLoan b l) e)) in
+      leads-used (t .loans) (t .index) (s .store .loans) (placesIn t) (getD (t .head) givenAt 0) (b .serial) (fit .store .loans-some) (omega (arith, sound .parted .limit, fit .store .loans-most)) (sound .chained) there
+
   pub block-stands : FreeListIn s → SoundTables s t → (b : Block) → onLoanOk s b t ≡ true → Stands b
   unfolding onLoanOk
   block-stands fit sound b e =
       let w = wordFor s b t in
       let p = getD (t .index) w 0 in
       let l = row loanRow p (t .loans) in
-      let there = eqb-false w nowhere (not-yes (eqb w nowhere) (and-left (not (eqb w nowhere)) (sameLoan b l) e)) in
-      let u = leads-used (t .loans) (t .index) (s .store .loans) (placesIn t) (getD (t .head) givenAt 0) (b .serial) (fit .store .loans-some) (omega (arith, sound .parted .limit, fit .store .loans-most)) (sound .chained) there in
+      let u = block-leads fit sound b e in
       let m = mem-at l (storeOf s t .loans) noLoan (used-loan p (u .0) (u .1)) in
       record { spot = m .0; here = m .1; same = ap (sameLoan b) (m .2) ∙ and-right (not (eqb w nowhere)) (sameLoan b l) e }
 

@@ -7,17 +7,28 @@ use Rattle.lists.proofs.Bools.{and-left, and-right}
 use Rattle.counter.specs.Gate.{pass}
 use Rattle.counter.specs.InTable.{FreeListIn}
 use Rattle.counter.specs.Limits.{loansMost}
+use Rattle.counter.specs.Table.{freeListOk, heapsOk}
 use Rattle.counter.specs.declared.account.Account.{Account}
 use Rattle.counter.specs.declared.settings.FreeListSettings.{FreeListSettings}
 use Rattle.counter.proofs.Gates.{passed}
+use Rattle.counter.proofs.Tables.{free-list-yes}
 use Rattle.store_rules.specs.Tests.{noOrder, gateRow}
 use Rattle.freelist_rules.specs.Tables.{Tables, placesIn, lengthsOk, soundOk, SoundTables}
 use Rattle.freelist_rules.proofs.Tested.{tables-yes}
 use Rattle.freelist_outcomes.specs.Gate.{lentOk, accountOk, gateOf}
-use Rattle.freelist_gate.proofs.Gates.{lent-in}
+
+-- what test 1 says
+pub lent-in : (s : FreeListSettings) (a : Account) (t : Tables) → lentOk s a t ≡ true → FreeListIn s × (lengthsOk s t ≡ true)
+unfolding lentOk
+lent-in s a t e = (free-list-yes s (and-left (freeListOk s) _ e), and-right (heapsOk (a .heaps)) _ (and-right (freeListOk s) _ e))
+
+pub lent-heaps : (s : FreeListSettings) (a : Account) (t : Tables) → lentOk s a t ≡ true → heapsOk (a .heaps) ≡ true
+unfolding lentOk
+lent-heaps s a t e = and-left (heapsOk (a .heaps)) _ (and-right (freeListOk s) _ e)
 
 pub record Passed (s : FreeListSettings) (a : Account) (t : Tables) (list : Bool) : Type 0 where
   pub settings : FreeListIn s
+  pub heaps : heapsOk (a .heaps) ≡ true
   pub lengths : lengthsOk s t ≡ true
   pub listed : list ≡ true
   pub sound : SoundTables s t
@@ -30,6 +41,7 @@ gate-passed s a t list e =
     let lent = lent-in s a t (and-left (lentOk s a t) list (held .0)) in
     record {
       settings = lent .0;
+      heaps = lent-heaps s a t (and-left (lentOk s a t) list (held .0));
       lengths = lent .1;
       listed = and-right (lentOk s a t) list (held .0);
       sound = tables-yes s t (lent .0) (held .1 .1 .0);

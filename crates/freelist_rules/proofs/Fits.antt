@@ -1,37 +1,28 @@
 -- What the lengths of a store's tables and its soundness say of the counts in them, and its regions written back.
 -- Assumes nothing.
-use mathlib.Core.Path.{_≡_, refl, sym, ap, _∙_}
+use mathlib.Core.Path.{_≡_, sym, ap, _∙_}
 use mathlib.Core.Bool.{true}
 use mathlib.Core.Logic.{⊎-elim}
 use mathlib.Core.List.{List, [], _∷_, _++_}
 use Prim.Native.Nat.{ℕ, _+_, _-_, _*_, _≤_}
 use native.Mathlib.Omega.{arith}
-use lib.Dec.{eqb, ltb}
+use lib.Dec.{eqb}
 use lib.ListN.{length, getD, set, take, drop, length-set, take-append-drop}
 use lib.Seq.{getD-set-same, take-set-le, drop-set-add, take-at}
-use borrow.Author.Tests.{eqb-true}
-use Rattle.lists.proofs.Bools.{told, all-each}
+use borrow.Author.Tests.{eqb-true, eq-eqb}
+use Rattle.lists.proofs.Bools.{told, all-each, each-all}
 use Rattle.words.specs.Rows.{rows, flat, laid}
 use Rattle.words.proofs.Records.{length-rows, length-flat, length-laid, rows-flat}
 use Rattle.counter.specs.InTable.{FreeListIn}
 use Rattle.counter.specs.declared.settings.FreeListSettings.{FreeListSettings}
-use Rattle.store_rules.specs.Loans.{loanWords, loanRow, onLoan, loansOf}
+use Rattle.store_rules.specs.Loans.{loanRow, onLoan, loansOf}
 use Rattle.store_rules.specs.declared.Loan.{Loan}
-use Rattle.book.specs.Book.{indexWords}
-use Rattle.freelist_rules.specs.Records.{chunkWords, chunkRow, regionRow}
-use Rattle.freelist_rules.specs.Tables.{Tables, headWords, regionsMost, countAt, lengthsRow, lengthsOk, placesIn, chunksIn, regionsIn, ordered, storeOf, SoundTables, laidRegions}
+use Rattle.freelist_rules.specs.Records.{chunkRow, regionRow}
+use Rattle.freelist_rules.specs.Tables.{Tables, regionsMost, countAt, lengthsRow, lengthsOk, Lengths, placesIn, chunksIn, regionsIn, storeOf, SoundTables, laidRegions, RegionsFit, regionsOf}
 use Rattle.freelist_rules.specs.declared.Region.{Region}
 use Rattle.freelist_rules.proofs.Ordered.{ordered-length}
-use Rattle.freelist_place.specs.Ready.{RegionsFit, regionsOf}
 
 -- ---- the lengths
-
-pub record Lengths (s : FreeListSettings) (t : Tables) : Type 0 where
-  pub head : length (t .head) ≡ headWords
-  pub loans : length (t .loans) ≡ loanWords * s .store .loans
-  pub chunks : length (t .chunks) ≡ chunkWords * s .store .chunks
-  pub regions : length (t .regions) ≡ countAt s + 1
-  pub index : length (t .index) ≡ indexWords (s .store .loans)
 
 pub lengths-are : (s : FreeListSettings) (t : Tables) → lengthsOk s t ≡ true → Lengths s t
 unfolding lengthsOk
@@ -44,6 +35,11 @@ lengths-are s t e =
       regions = eqb-true _ _ (r .1 .1 .1 .0);
       index = eqb-true _ _ (r .1 .1 .1 .1 .0);
     }
+
+pub are-lengths : (s : FreeListSettings) (t : Tables) → Lengths s t → lengthsOk s t ≡ true
+unfolding lengthsOk
+are-lengths s t l =
+    each-all (lengthsRow s t) (eq-eqb _ _ (l .head), (eq-eqb _ _ (l .loans), (eq-eqb _ _ (l .chunks), (eq-eqb _ _ (l .regions), (eq-eqb _ _ (l .index), tt)))))
 
 pub regions-fit : (s : FreeListSettings) (t : Tables) → FreeListIn s → lengthsOk s t ≡ true → SoundTables s t → RegionsFit s (t .regions)
 regions-fit s t fit lengths sound = record { settings = fit; long = lengths-are s t lengths .regions; count = sound .regions-fit }

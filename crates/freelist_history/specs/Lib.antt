@@ -1,0 +1,4 @@
+pub mod Calls
+pub mod Serials
+pub mod Booked
+pub mod Handing

@@ -1,0 +1,198 @@
+-- Test 7 in the paper's words, and what the tables hold when a block has been taken back. Assumes nothing.
+use mathlib.Core.Path.{_≡_, sym, ap, subst, _∙_}
+use mathlib.Core.Bool.{true, false, not}
+use mathlib.Core.Logic.{⊎-elim}
+use mathlib.Core.List.{List, _∷_, _++_, List·Memᴰ, Memᴰ·cast}
+use Prim.Native.Nat.{ℕ, _*_, _≤_, _<_}
+use native.Mathlib.Omega.{arith}
+use lib.Dec.{eqb}
+use lib.ListN.{length, getD, set}
+use borrow.Author.Tests.{ne-eqb}
+use Rattle.lists.proofs.Bools.{true-false, and-both, same?}
+use Rattle.words.specs.Words.{cellOf}
+use Rattle.words.specs.Rows.{row}
+use Rattle.words.proofs.Records.{cell-row}
+use Rattle.counter.specs.InTable.{FreeListIn}
+use Rattle.counter.specs.declared.answers.Block.{Block}
+use Rattle.counter.specs.declared.settings.FreeListSettings.{FreeListSettings}
+use Rattle.slab.specs.Slab.{nowhere, changed}
+use Rattle.slab.proofs.Places.{changed-here, changed-other}
+use Rattle.store_rules.specs.Loans.{loanWords, serialAt, sizeAt, loanRow, loansOf}
+use Rattle.store_rules.specs.declared.Loan.{Loan}
+use Rattle.book.specs.Book.{indexWords, serialOf, wordTo, struck, struckIndex}
+use Rattle.book.proofs.Changed.{serial-kept, vacant-now}
+use Rattle.book.proofs.Decides.{serial-once}
+use Rattle.book.proofs.Keeps.{BookChained, BookParted, freeIn, firstIn, nextIn, found, struck-long, struck-wide, struck-chained, struck-parted}
+use Rattle.freelist_rules.specs.Join.{insert}
+use Rattle.freelist_rules.specs.Pieces.{All}
+use Rattle.freelist_rules.specs.Seek.{sameLoan}
+use Rattle.freelist_rules.specs.Sound.{Sound}
+use Rattle.freelist_rules.specs.Steps.{noLoan}
+use Rattle.freelist_rules.specs.Tables.{Tables, Lengths, SoundTables, RegionsFit, givenAt, placesIn, ordered, regionsMost, storeOf}
+use Rattle.freelist_rules.specs.declared.Region.{Region}
+use Rattle.freelist_rules.proofs.AnyOrder.{loanOf, loan-is, same-self}
+use Rattle.freelist_rules.proofs.Base.{at-in}
+use Rattle.freelist_rules.proofs.Fits.{are-lengths, regions-fit, laid-long, laid-count, laid-regions}
+use Rattle.freelist_rules.proofs.Gaps.{LoansRise}
+use Rattle.freelist_rules.proofs.Giving.{without, give, give-sound}
+use Rattle.freelist_rules.proofs.Ordered.{ordered-out, loan-place}
+use Rattle.freelist_rules.proofs.Struck.{earlier, later, loans-with, loans-less, ordered-less}
+use Rattle.freelist_outcomes.specs.Return.{wordFor, onLoanOk, givenTables}
+use Rattle.freelist_outcomes.proofs.Backs.{returning, back-room}
+use Rattle.freelist_outcomes.proofs.Loaned.{block-leads, block-stands}
+
+-- where a loan of the first n places stands, in the book's words
+record Place (n : ℕ) (t : List ℕ) (l : Loan) : Type 0 where
+  spot : ℕ
+  below : spot < n
+  is : row loanRow spot t ≡ l
+  used : freeIn t spot ≡ false
+  serial : serialOf t spot ≡ l .serial
+
+place-of : (n : ℕ) (t : List ℕ) (l : Loan) → List·Memᴰ l (loansOf n t) → Place n t l
+place-of n t l m =
+    let w = loan-place n t l m in
+    record {
+      spot = w .0;
+      below = w .1;
+      is = w .2;
+      used = ap (λ (v : ℕ). eqb v 0) (cell-row t sizeAt loanWords (w .0)) ∙ ap (λ (d : Loan). eqb (d .size) 0) (w .2) ∙ w .3;
+      serial = cell-row t serialAt loanWords (w .0) ∙ ap (λ (d : Loan). d .serial) (w .2);
+    }
+
+-- ---- 7: the test holds exactly when a loan has this serial, chunk, offset and size
+
+module _ (s : FreeListSettings) (t : Tables) (fit : FreeListIn s) (sound : SoundTables s t) (b : Block) where
+  pub on-loan-is : onLoanOk s b t ≡ true → List·Memᴰ (loanOf b) (storeOf s t .loans)
+  on-loan-is e =
+      let ls = storeOf s t .loans in
+      let w = block-stands s t fit sound b e in
+      Memᴰ·cast (sym (loan-is b (getD ls (w .spot) noLoan) (w .same))) (at-in (w .spot) ls noLoan (w .here))
+
+  pub is-on-loan : List·Memᴰ (loanOf b) (storeOf s t .loans) → onLoanOk s b t ≡ true
+  unfolding onLoanOk storeOf
+  is-on-loan m =
+      let n = s .store .loans in
+      let w = place-of (placesIn t) (t .loans) (loanOf b) (ordered-out (loanOf b) (loansOf (placesIn t) (t .loans)) m) in
+      let f = found (t .loans) (t .index) n (placesIn t) (getD (t .head) givenAt 0) (fit .store .loans-some) (sound .parted .limit) (omega (arith, fit .store .loans-most)) (sound .chained) (w .spot) (w .below) (w .used) in
+      let g : (wordFor s b t < indexWords n) × (getD (t .index) (wordFor s b t) 0 ≡ w .spot) =
+      subst (λ (k : ℕ). (wordTo (t .loans) (t .index) n (placesIn t) k < indexWords n) × (getD (t .index) (wordTo (t .loans) (t .index) n (placesIn t) k) 0 ≡ w .spot)) (w .serial) f in
+      let there : not (eqb (wordFor s b t) nowhere) ≡ true = ap not (ne-eqb (wordFor s b t) nowhere (λ e. omega (arith, g .0, fit .store .loans-most))) in
+      let same : sameLoan b (row loanRow (getD (t .index) (wordFor s b t) 0) (t .loans)) ≡ true =
+      ap (λ (p : ℕ). sameLoan b (row loanRow p (t .loans))) (g .1) ∙ ap (sameLoan b) (w .is) ∙ same-self b in
+      and-both _ _ there same
+
+-- ---- a block on loan has been taken back
+
+module _ (s : FreeListSettings) (t : Tables) (fit : FreeListIn s) (lengths : Lengths s t) (sound : SoundTables s t) (b : Block) (on : onLoanOk s b t ≡ true) where
+  abbrev word : ℕ
+  word = wordFor s b t
+
+  abbrev place : ℕ
+  place = getD (t .index) word 0
+
+  abbrev n : ℕ
+  n = s .store .loans
+
+  abbrev given : ℕ
+  given = getD (t .head) givenAt 0
+
+  few : n < nowhere
+  few = omega (arith, fit .store .loans-most)
+
+  limit : placesIn t ≤ n
+  limit = sound .parted .limit
+
+  leads : (place < placesIn t) × (freeIn (t .loans) place ≡ false) × (serialOf (t .loans) place ≡ b .serial)
+  leads = block-leads s t fit sound b on
+
+  -- ---- the free regions
+
+  regions-whole : RegionsFit s (t .regions)
+  regions-whole = regions-fit s t fit (are-lengths s t lengths) sound
+
+  abbrev joined : List Region
+  joined = insert (returning b) (storeOf s t .regions)
+
+  room : length joined ≤ regionsMost s
+  room = back-room s t fit sound b on
+
+  pub given-lengths : Lengths s (givenTables s b (wordFor s b t) t)
+  unfolding givenTables
+  given-lengths =
+      record {
+        head = lengths .head;
+        loans = struck-long word (t .index) (t .loans) ∙ lengths .loans;
+        chunks = lengths .chunks;
+        regions = laid-long s joined (t .regions) regions-whole room;
+        index = struck-wide word (t .index) ∙ lengths .index;
+      }
+
+  -- ---- the loans
+
+  abbrev after : List ℕ
+  after = set (t .loans) (cellOf sizeAt loanWords place) 0
+
+  inside : place < n
+  inside = omega (arith, leads .0, limit)
+
+  -- each of those left has another serial
+  others : All (λ (d : Loan). d .serial ≡ serialOf (t .loans) place → ⊥) (loansOf (placesIn t) after)
+  others d m e =
+      let w = place-of (placesIn t) after d m in
+      let v : changed (freeIn (t .loans)) place true (w .spot) ≡ false = sym (vacant-now (t .loans) n place (lengths .loans) inside (w .spot)) ∙ w .used in
+      let k : serialOf (t .loans) (w .spot) ≡ serialOf (t .loans) place = sym (serial-kept (t .loans) n place (lengths .loans) inside (w .spot)) ∙ w .serial ∙ e in
+      ⊎-elim (λ q. true-false _ (changed-here (freeIn (t .loans)) place true (w .spot) q) v)
+      (λ q. q (serial-once (freeIn (t .loans)) (firstIn (t .index)) (nextIn (t .index)) (serialOf (t .loans)) n (placesIn t) given (w .spot) place (fit .store .loans-some) (sound .chained) (w .below) (leads .0) (sym (changed-other (freeIn (t .loans)) place true (w .spot) q) ∙ v) (leads .1) k))
+      (same? (w .spot) place)
+
+  given-loans : ordered (loansOf (placesIn t) after) ≡ without (b .serial) (storeOf s t .loans)
+  unfolding storeOf
+  given-loans =
+      let l = row loanRow place (t .loans) in
+      let long : loanWords * placesIn t ≤ length (t .loans) = omega (arith, lengths .loans, limit) in
+      let xs = earlier (placesIn t) place (t .loans) (leads .0) long in
+      let ys = later (placesIn t) place (t .loans) (leads .0) long in
+      let serial : serialOf (t .loans) place ≡ l .serial = cell-row (t .loans) serialAt loanWords place in
+      let less : loansOf (placesIn t) after ≡ xs ++ ys = loans-less (placesIn t) place (t .loans) (leads .0) long in
+      let full : loansOf (placesIn t) (t .loans) ≡ xs ++ (l ∷ ys) =
+      loans-with (placesIn t) place (t .loans) (leads .0) long (ap (λ (v : ℕ). eqb v 0) (sym (cell-row (t .loans) sizeAt loanWords place)) ∙ leads .1) in
+      let rise : LoansRise 0 (ordered (xs ++ (l ∷ ys))) = subst (λ (ls : List Loan). LoansRise 0 (ordered ls)) full (sound .store .loans-rise) in
+      let other : All (λ (d : Loan). d .serial ≡ l .serial → ⊥) (xs ++ ys) =
+      subst (λ (ls : List Loan). All (λ (d : Loan). d .serial ≡ l .serial → ⊥) ls) less (λ d m e. others d m (e ∙ sym serial)) in
+      ap ordered less
+      ∙ sym (ordered-less l xs ys rise other)
+      ∙ ap (λ (k : ℕ). without k (ordered (xs ++ (l ∷ ys)))) (sym serial ∙ leads .2)
+      ∙ ap (λ (ls : List Loan). without (b .serial) (ordered ls)) (sym full)
+
+  -- ---- the store
+
+  -- the store that the tables hold is the one with the loan given back
+  pub given-store : storeOf s (givenTables s b (wordFor s b t) t) ≡ give (loanOf b) (storeOf s t)
+  unfolding storeOf givenTables struck
+  given-store =
+      let l = given-loans in
+      let r = laid-regions s joined (t .regions) regions-whole room in
+      (λ j. record { given = storeOf s t .given; made = storeOf s t .made; size = storeOf s t .size; loans = l j; chunks = storeOf s t .chunks; regions = r j })
+
+  given-chained : BookChained (struck word (t .index) (t .loans)) (struckIndex word (t .index)) n (placesIn t) given
+  given-chained =
+      subst (λ (k : ℕ). BookChained (struck (wordTo (t .loans) (t .index) n (placesIn t) k) (t .index) (t .loans)) (struckIndex (wordTo (t .loans) (t .index) n (placesIn t) k) (t .index)) n (placesIn t) given) (leads .2)
+      (struck-chained (t .loans) (t .index) n (placesIn t) given (fit .store .loans-some) limit few (sound .chained) place (leads .0) (leads .1) (lengths .loans) (lengths .index))
+
+  given-parted : BookParted (struck word (t .index) (t .loans)) (struckIndex word (t .index)) n (placesIn t)
+  given-parted =
+      subst (λ (k : ℕ). BookParted (struck (wordTo (t .loans) (t .index) n (placesIn t) k) (t .index) (t .loans)) (struckIndex (wordTo (t .loans) (t .index) n (placesIn t) k) (t .index)) n (placesIn t)) (leads .2)
+      (struck-parted (t .loans) (t .index) n (placesIn t) given (fit .store .loans-some) limit few (sound .chained) place (leads .0) (leads .1) (lengths .loans) (lengths .index) (sound .parted))
+
+  pub given-sound : SoundTables s (givenTables s b (wordFor s b t) t)
+  unfolding givenTables
+  given-sound =
+      record {
+        marked = sound .marked;
+        chunks-fit = sound .chunks-fit;
+        regions-fit = omega (arith, laid-count s joined (t .regions) regions-whole room, room);
+        parted = given-parted;
+        chained = given-chained;
+        store = subst (Sound s) (sym given-store) (give-sound s (storeOf s t) fit (sound .store) (loanOf b) (on-loan-is s t fit sound b on));
+      }

@@ -1,0 +1,20 @@
+-- What follows from the definitions of a free-list store's calls.
+pub mod Passing
+pub mod Plans
+pub mod Loaned
+pub mod Backs
+pub mod Taken
+pub mod Changed
+pub mod Given
+pub mod Comes
+pub mod Arrives
+pub mod Sounds
+pub mod Asked
+pub mod Fitted
+pub mod Blocks
+pub mod Gated
+pub mod Refused
+pub mod Accounts
+pub mod Again
+pub mod Unique
+pub mod Told

@@ -1,0 +1,181 @@
+-- What the tables hold when a block has been lent: the store with the block lent, and it is sound. Assumes nothing.
+use mathlib.Core.Path.{_≡_, refl, sym, ap, subst, _∙_}
+use mathlib.Core.Bool.{true, false}
+use mathlib.Core.Logic.{inl, inr, ⊎-elim}
+use mathlib.Core.List.{List}
+use Prim.Native.Nat.{ℕ, _+_, _≤_, _<_}
+use native.Mathlib.Omega.{arith}
+use lib.Dec.{eqb, ltb}
+use lib.ListN.{length, getD, set, length-set}
+use lib.Seq.{getD-set-same, getD-set-other}
+use borrow.Author.Tests.{ne-eqb}
+use Rattle.lists.proofs.Bools.{told}
+use Rattle.words.specs.Rows.{rows}
+use Rattle.words.proofs.Records.{length-removeAt, cell-row}
+use Rattle.counter.specs.InTable.{FreeListIn}
+use Rattle.counter.specs.Table.{alignmentOk}
+use Rattle.counter.specs.declared.settings.FreeListSettings.{FreeListSettings}
+use Rattle.slab.specs.Slab.{nowhere}
+use Rattle.store_rules.specs.Loans.{loanWords, sizeAt, loansOf}
+use Rattle.store_rules.specs.declared.Loan.{Loan}
+use Rattle.book.specs.Book.{takenOf, entered, enteredIndex}
+use Rattle.book.proofs.Keeps.{BookChained, BookParted, entered-long, entered-wide, taken-where, entered-chained, entered-parted}
+use Rattle.freelist_rules.specs.Records.{Store, chunkRow}
+use Rattle.freelist_rules.specs.Pieces.{All}
+use Rattle.freelist_rules.specs.Place.{sizeFor, maskFor, at, cutOff, putLoan}
+use Rattle.freelist_rules.specs.Sound.{Sound}
+use Rattle.freelist_rules.specs.Steps.{noRegion, lent}
+use Rattle.freelist_rules.specs.Tables.{Tables, markAt, givenAt, madeAt, chunkSizeAt, placesAt, chunksAt, headWords, regionsMost, Lengths, placesIn, ordered, storeOf, SoundTables, RegionsFit}
+use Rattle.freelist_rules.specs.declared.Region.{Region}
+use Rattle.freelist_rules.proofs.Base.{rising-low, rising-apart}
+use Rattle.freelist_rules.proofs.Enters.{enters-new, enters-again}
+use Rattle.freelist_rules.proofs.Fits.{regions-length, laid-long, laid-count, laid-regions}
+use Rattle.freelist_rules.proofs.Gaps.{begins, stops}
+use Rattle.freelist_rules.proofs.Lends.{lent-block, lent-sound}
+use Rattle.freelist_rules.proofs.Ordered.{put-in, ordered-in}
+use Rattle.freelist_rules.proofs.Search.{find-fits}
+use Rattle.freelist_outcomes.specs.Ask.{foundFor, blockAt, loanFrom, takenTables}
+
+cut-length : (x i : ℕ) (rs : List Region) → i < length rs → length (cutOff x i rs) ≤ length rs
+unfolding cutOff
+cut-length x i rs h =
+    let r : Region = getD rs i noRegion in
+    ⊎-elim
+    (λ e. rw e (omega (arith, length-set rs i (record { chunk = r .chunk; start = r .start; end = x }))))
+    (λ e. rw e (omega (arith, length-removeAt i rs h)))
+    (told (ltb (r .start) x))
+
+-- ---- two words of the head are written
+
+abbrev headAfter : List ℕ → ℕ → ℕ → List ℕ
+headAfter h g q = set (set h givenAt g) placesAt q
+
+module _ (h : List ℕ) (long : length h ≡ headWords) (g q : ℕ) where
+  head-long : length (headAfter h g q) ≡ headWords
+  head-long = length-set (set h givenAt g) placesAt q ∙ length-set h givenAt g ∙ long
+
+  head-given : getD (headAfter h g q) givenAt 0 ≡ g
+  head-given = getD-set-other (set h givenAt g) placesAt givenAt q 0 (λ e. omega arith) ∙ getD-set-same h givenAt g 0 (omega arith)
+
+  head-places : getD (headAfter h g q) placesAt 0 ≡ q
+  head-places = getD-set-same (set h givenAt g) placesAt q 0 (omega (arith, length-set h givenAt g))
+
+  head-other : (k : ℕ) → (k ≡ givenAt → ⊥) → (k ≡ placesAt → ⊥) → getD (headAfter h g q) k 0 ≡ getD h k 0
+  head-other k a b = getD-set-other (set h givenAt g) placesAt k q 0 b ∙ getD-set-other h givenAt k g 0 a
+
+-- ---- a block is lent
+
+module _ (s : FreeListSettings) (t : Tables) (fit : FreeListIn s) (lengths : Lengths s t) (sound : SoundTables s t) (size mask i : ℕ)
+    (aligned : alignmentOk mask ≡ true) (some-size : 0 < size) (place : takenOf (placesIn t) (t .index) .place < s .store .loans)
+    (found : foundFor s size mask t ≡ at i) where
+  abbrev before : Store
+  before = storeOf s t
+
+  abbrev new : Loan
+  new = loanFrom s size mask t i
+
+  -- the regions that are left
+  abbrev left : List Region
+  left = cutOff (blockAt s size mask t i .start) i (before .regions)
+
+  abbrev after : Store
+  after = lent (maskFor s mask) (sizeFor s size) i before
+
+  -- how many places are used then
+  abbrev used : ℕ
+  used = takenOf (placesIn t) (t .index) .slab .places
+
+  after-sound : Sound s after
+  after-sound = lent-sound s before fit (sound .store) mask size aligned some-size i found
+
+  new-some : new .size ≡ 0 → ⊥
+  new-some e = omega (arith, lent-block s before fit (sound .store) mask size aligned some-size i found .2)
+
+  -- it begins where no other loan does
+  new-clear : All (λ (d : Loan). begins d ≡ begins new → ⊥) (before .loans)
+  new-clear d m e =
+      let rise = after-sound .loans-rise in
+      let k = put-in d new (before .loans) (inr m) in
+      let l = put-in new new (before .loans) (inl refl) in
+      let a = rising-low begins stops 0 0 (after .loans) rise d k .1 in
+      let b = rising-low begins stops 0 0 (after .loans) rise new l .1 in
+      ⊎-elim (λ z. omega (arith, ap (λ (c : Loan). c .serial) z, sound .store .serials-given d m .1))
+      (λ z. ⊎-elim (λ h. omega arith) (λ h. omega arith) z)
+      (rising-apart begins stops 0 0 (after .loans) rise d new k l)
+
+  few : s .store .loans < nowhere
+  few = omega (arith, fit .store .loans-most)
+
+  -- ---- the loans
+
+  loans-after : ordered (loansOf used (entered (placesIn t) (t .index) new (t .loans))) ≡ putLoan new (before .loans)
+  unfolding storeOf entered
+  loans-after =
+      let n : ℕ = placesIn t in
+      let o : All (λ (d : Loan). begins d ≡ begins new → ⊥) (loansOf n (t .loans)) = λ d m. new-clear d (ordered-in d (loansOf n (t .loans)) m) in
+      let some : eqb (new .size) 0 ≡ false = ne-eqb (new .size) 0 new-some in
+      ⊎-elim
+      (λ w. rw (w .0, w .1) (enters-new new some n (t .loans) (omega (arith, lengths .loans, place, w .0)) o))
+      (λ w. rw (w .2) (enters-again new some n (takenOf n (t .index) .place) (t .loans) (w .0) (omega (arith, lengths .loans, sound .parted .limit)) (ap (λ (k : ℕ). eqb k 0) (sym (cell-row (t .loans) sizeAt loanWords (takenOf n (t .index) .place))) ∙ w .1) o))
+      (taken-where (t .loans) (t .index) (s .store .loans) n few (sound .parted))
+
+  -- ---- the regions
+
+  table-fit : RegionsFit s (t .regions)
+  table-fit = record { settings = fit; long = lengths .regions; count = sound .regions-fit }
+
+  left-room : length left ≤ regionsMost s
+  left-room =
+      let h = find-fits (maskFor s mask) (sizeFor s size) i (before .regions) noRegion found .0 in
+      omega (arith, cut-length (blockAt s size mask t i .start) i (before .regions) h, regions-length s t, sound .regions-fit)
+
+  -- the tables are as long as before
+  pub taken-lengths : Lengths s (takenTables s size mask t i)
+  unfolding takenTables
+  taken-lengths =
+      record {
+        head = head-long (t .head) (lengths .head) (before .given + 1) used;
+        loans = entered-long (placesIn t) (t .index) new (t .loans) ∙ lengths .loans;
+        chunks = lengths .chunks;
+        regions = laid-long s left (t .regions) table-fit left-room;
+        index = entered-wide (s .store .loans) (placesIn t) (before .given + 1) (t .index) ∙ lengths .index;
+      }
+
+  -- the store that they hold is the one with the block lent
+  pub taken-store : storeOf s (takenTables s size mask t i) ≡ lent (maskFor s mask) (sizeFor s size) i (storeOf s t)
+  unfolding takenTables storeOf
+  taken-store =
+      let g : ℕ = getD (t .head) givenAt 0 + 1 in
+      let other = head-other (t .head) (lengths .head) g used in
+      let a = head-given (t .head) (lengths .head) g used in
+      let b = other madeAt (λ e. omega arith) (λ e. omega arith) in
+      let c = other chunkSizeAt (λ e. omega arith) (λ e. omega arith) in
+      let d = ap (λ (k : ℕ). ordered (loansOf k (entered (placesIn t) (t .index) new (t .loans)))) (head-places (t .head) (lengths .head) g used) ∙ loans-after in
+      let e = ap (λ (k : ℕ). rows chunkRow k (t .chunks)) (other chunksAt (λ e. omega arith) (λ e. omega arith)) in
+      let f = laid-regions s left (t .regions) table-fit left-room in
+      (λ j. record { given = a j; made = b j; size = c j; loans = d j; chunks = e j; regions = f j })
+
+  -- and they are sound
+  pub taken-sound : SoundTables s (takenTables s size mask t i)
+  unfolding takenTables storeOf
+  taken-sound =
+      let g : ℕ = getD (t .head) givenAt 0 + 1 in
+      let n : ℕ = s .store .loans in
+      let other = head-other (t .head) (lengths .head) g used in
+      let a = head-given (t .head) (lengths .head) g used in
+      let c = head-places (t .head) (lengths .head) g used in
+      let loans′ : List ℕ = entered (placesIn t) (t .index) new (t .loans) in
+      let index′ : List ℕ = enteredIndex n (placesIn t) g (t .index) in
+      record {
+        marked = other markAt (λ e. omega arith) (λ e. omega arith) ∙ sound .marked;
+        chunks-fit = omega (arith, other chunksAt (λ e. omega arith) (λ e. omega arith), sound .chunks-fit);
+        regions-fit = omega (arith, laid-count s left (t .regions) table-fit left-room, left-room);
+        parted =
+            subst (λ (k : ℕ). BookParted loans′ index′ n k) (sym c)
+            (entered-parted (t .loans) (t .index) n (placesIn t) few (sound .parted) (getD (t .head) givenAt 0) new (lengths .loans) (lengths .index) place refl new-some);
+        chained =
+            subst (λ (k : ℕ). BookChained loans′ index′ n k (getD (headAfter (t .head) g used) givenAt 0)) (sym c)
+            (subst (λ (k : ℕ). BookChained loans′ index′ n used k) (sym a)
+            (entered-chained (t .loans) (t .index) n (placesIn t) few (sound .parted) (getD (t .head) givenAt 0) new (lengths .loans) (lengths .index) place refl new-some (sound .chained)));
+        store = subst (Sound s) (sym taken-store) after-sound;
+      }

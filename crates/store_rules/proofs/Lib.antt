@@ -1,0 +1,2 @@
+-- What follows from the definitions that both engines share.
+pub mod Refused
