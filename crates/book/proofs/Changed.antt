@@ -32,7 +32,7 @@ module _ (loans : List ℕ) (n p : ℕ) (l : Loan) (long : length loans ≡ loan
   abbrev three : List ℕ
   three = set two (cellOf 2 loanWords p) (l .offset)
 
-  by-words : written loanRow p l loans ≡ set three (cellOf 3 loanWords p) (l .size)
+  pub by-words : written loanRow p l loans ≡ set three (cellOf 3 loanWords p) (l .size)
   by-words = sym (loan-written loans p (l .serial) (l .chunk) (l .offset) (l .size) one two three _ refl refl refl refl)
 
   -- words other than its serial's leave the serials

@@ -1,6 +1,6 @@
 -- The worked days of 01 that are marked * : what the definitions give beside what the paper says, as one checked table.
 -- Assumes nothing.
-use mathlib.Core.Path.{_≡_, refl}
+use mathlib.Core.Path.{_≡_, refl, sym, ap, _∙_}
 use mathlib.Core.Bool.{false}
 use mathlib.Core.List.{List, [], _∷_, _++_, map}
 use Prim.Native.Nat.{ℕ}
@@ -8,22 +8,16 @@ use lib.ListN.{take, replicate}
 use Rattle.rounding.specs.Masks.{onesOk, powerOk}
 use Rattle.rounding.specs.Raising.{upTo, downTo, bits, powerUp}
 use Rattle.rounding.specs.Growth.{ceilDiv, grown, doubled}
-use Rattle.counter.specs.Account.{noHeap}
 use Rattle.counter.specs.Paper as Paper
 use Rattle.counter.specs.Table.{alignmentOk, storeOk, freeListOk, heapsUpto}
-use Rattle.counter.specs.declared.account.Account.{Account}
-use Rattle.counter.specs.declared.account.OpenOrder.{OpenOrder}
-use Rattle.counter.specs.declared.account.OpenOrder.the-variants.{Nothing, Kept}
-use Rattle.counter.specs.declared.answers.Mapping.the-variants as M
-use Rattle.counter.specs.declared.answers.Outcome.{Outcome}
-use Rattle.counter.specs.declared.answers.Outcome.the-variants as O
+use Rattle.counter.specs.declared.account.OpenOrder.the-variants.{Nothing}
 use Rattle.counter.specs.declared.settings.FreeListSettings.{FreeListSettings}
 use Rattle.heap.specs.Heap.{plusOf, chargedOf, releasedOf, bearsOk, agreesOk}
 use Rattle.slab.specs.Slab.{nowhere, inserted}
 use Rattle.slab.specs.Test.{vacancies, leads, partedOk}
 use Rattle.store_rules.specs.Delivery.{deliveryOk}
 use Rattle.store_rules.specs.Loans.{loansOf}
-use Rattle.store_rules.specs.Outcomes.{Out, out, Listed, listed, chargedAccount, releasedAccount}
+use Rattle.store_rules.specs.Outcomes.{out, listed, chargedAccount, releasedAccount}
 use Rattle.store_rules.specs.Tests.{coversOk}
 use Rattle.book.specs.Book.{entered, enteredIndex, seekIn, wordTo, struck, struckIndex}
 use Rattle.book.specs.Chains.{linkOk, leftAfter, leftOf, chainsOk}
@@ -37,25 +31,11 @@ use Rattle.freelist_outcomes.specs.Ask.{sizeOk, roomOk, countOk, objectsOk, dec
 use Rattle.freelist_outcomes.specs.Deliver.{deliverGateOf, deliveredTables, carryFate, planDeliver, carryDeliver, deliverOf}
 use Rattle.freelist_outcomes.specs.Return.{onLoanOk, givenTables, releasedTables, releaseOf, decideReturn, planReturn, carryReturn, returnOf}
 use Rattle.freelist_outcomes.specs.SetUp.{freshTables, fitOk, setUpOf}
+use Rattle.days.specs.Facts.{Fact, left, back, Day, day, ranks, account, openFor, made}
+use Rattle.days.specs.Splitting.{splitting, split-worked}
 use Rattle.usage_rules.specs.Usage.{servesOk, patternOf, wantedOf, keyOf}
 use Rattle.usage_rules.specs.Ranking.{before, placed, order, rowAs, rowOf}
 use Rattle.usage_rules.specs.declared.Row.{Row}
-
--- what a definition gives and what the paper says: numbers, or all that a call leaves
-pub data Fact : Type 0 where
-  row : List ℕ → Fact
-  left : Out Tables → Fact
-  back : Listed Tables → Fact
-
-pub record Day : Type 0 where
-  pub gives : Fact
-  pub says : Fact
-
-abbrev pub day : Fact → Fact → Day
-day g s = record { gives = g; says = s }
-
-abbrev pub ranks : List ℕ → List ℕ → Day
-ranks g s = day (row g) (row s)
 
 -- a row's types, the best first
 abbrev pub types : Row → List ℕ
@@ -86,25 +66,6 @@ ranking =
 -- "Free list, atom mask 63, start 4,096, final 16,384."
 abbrev pub list : FreeListSettings
 list = record { store = record { number = 7; kind = 0; properties = 1; heap = 0; atom = 63; loans = 3; chunks = 2 }; start = 4096; last = 16384 }
-
--- an account with so much used of heap 0, allocated and deallocated, so many objects still allowed, and an order or none
-abbrev pub account : ℕ → ℕ → ℕ → ℕ → OpenOrder → Account
-account used allocated deallocated objects order =
-    record {
-      heaps =
-          record { size = 0; used = used; allocated = record { hi = 0; lo = allocated }; deallocated = record { hi = 0; lo = deallocated } }
-          ∷ replicate 15 noHeap;
-      objects = objects;
-      order = order;
-    }
-
-abbrev pub openFor : ℕ → ℕ → OpenOrder
-openFor size z =
-    Kept (record { ask = record { size = size; mask = 0 }; order = record { store = 7; size = z; kind = 0; map = false } })
-
--- the memory is made, and a map was not wanted
-abbrev pub made : ℕ → Outcome
-made memory = O.Made (record { number = memory; mapping = M.NotWanted })
 
 -- ---- the store's tables, word by word, as the day goes on
 
@@ -197,9 +158,20 @@ lending =
     ∷ []
 
 pub days : List Day
-days = ranking ++ lending
+days = (ranking ++ lending) ++ splitting
 
 -- on each of these days the definitions give what the paper says
+first-worked : map (λ (d : Day). d .gives) (ranking ++ lending) ≡ map (λ (d : Day). d .says) (ranking ++ lending)
+unfolding ranking lending servesOk patternOf wantedOf keyOf before placed order rowAs alignmentOk storeOk freeListOk heapsUpto onesOk powerOk upTo downTo bits powerUp ceilDiv grown doubled plusOf chargedOf releasedOf bearsOk agreesOk inserted vacancies leads partedOk deliveryOk loansOf chargedAccount releasedAccount coversOk entered enteredIndex seekIn wordTo struck struckIndex linkOk leftAfter leftOf chainsOk fillsOk sizedOk chunkOk loanOk fitsIn findFrom cutOff insert staying leaving remaining lengthsOk ordered storeOf soundOk laidRegions lentOk accountOk gateOf sizeOk roomOk countOk objectsOk decideAsk takenTables orderedTables carryAsk planAsk askOf deliverGateOf deliveredTables carryFate planDeliver carryDeliver deliverOf onLoanOk givenTables releasedTables releaseOf decideReturn planReturn carryReturn returnOf freshTables fitOk setUpOf
+first-worked = refl
+
+map-append : (f : Day → Fact) (xs ys : List Day) → map f (xs ++ ys) ≡ map f xs ++ map f ys
+map-append f [] ys = refl
+map-append f (x ∷ xs) ys = ap (λ (zs : List Fact). f x ∷ zs) (map-append f xs ys)
+
 pub worked : map (λ (d : Day). d .gives) days ≡ map (λ (d : Day). d .says) days
-unfolding days ranking lending servesOk patternOf wantedOf keyOf before placed order rowAs alignmentOk storeOk freeListOk heapsUpto onesOk powerOk upTo downTo bits powerUp ceilDiv grown doubled plusOf chargedOf releasedOf bearsOk agreesOk inserted vacancies leads partedOk deliveryOk loansOf chargedAccount releasedAccount coversOk entered enteredIndex seekIn wordTo struck struckIndex linkOk leftAfter leftOf chainsOk fillsOk sizedOk chunkOk loanOk fitsIn findFrom cutOff insert staying leaving remaining lengthsOk ordered storeOf soundOk laidRegions lentOk accountOk gateOf sizeOk roomOk countOk objectsOk decideAsk takenTables orderedTables carryAsk planAsk askOf deliverGateOf deliveredTables carryFate planDeliver carryDeliver deliverOf onLoanOk givenTables releasedTables releaseOf decideReturn planReturn carryReturn returnOf freshTables fitOk setUpOf
-worked = refl
+unfolding days
+worked =
+    map-append (λ (d : Day). d .gives) (ranking ++ lending) splitting
+    ∙ (λ j. first-worked j ++ split-worked j)
+    ∙ sym (map-append (λ (d : Day). d .says) (ranking ++ lending) splitting)

@@ -1,1 +1,3 @@
+pub mod Facts
+pub mod Splitting
 pub mod Days

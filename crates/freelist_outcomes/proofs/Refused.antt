@@ -16,14 +16,12 @@ use Rattle.counter.specs.declared.account.Account.{Account}
 use Rattle.counter.specs.declared.account.KeptOrder.{KeptOrder}
 use Rattle.counter.specs.declared.account.OpenOrder.{OpenOrder}
 use Rattle.counter.specs.declared.account.OpenOrder.the-variants.{Nothing, Kept}
-use Rattle.counter.specs.declared.account.Order.{Order}
 use Rattle.counter.specs.declared.answers.Block.{Block}
 use Rattle.counter.specs.declared.answers.Mapping.{Mapping}
 use Rattle.counter.specs.declared.answers.Mapping.the-variants as M
 use Rattle.counter.specs.declared.answers.Outcome.{Outcome}
 use Rattle.counter.specs.declared.answers.Outcome.the-variants as O
 use Rattle.counter.specs.declared.settings.FreeListSettings.{FreeListSettings}
-use Rattle.counter.specs.declared.settings.StoreSettings.{StoreSettings}
 use Rattle.counter.proofs.Gates.{passed, never, same-number}
 use Rattle.counter.proofs.Reasoned.{given-first, decides-then, andThen, first-then}
 use Rattle.counter.proofs.Tables.{free-list-yes, free-list-all}
@@ -32,7 +30,7 @@ use Rattle.store_rules.specs.Orders.{Plan, deny, take, buy, orderFrom, leadsTo}
 use Rattle.store_rules.specs.Outcomes.{Out, out, listed, listOk, withOrder, chargedAccount, backAccount, lostAccount}
 use Rattle.store_rules.specs.Refusals.{OrderOpen, Unwelcome, DeviceOut, HostOut}
 use Rattle.store_rules.specs.Tests.{noOrder, orderFor, gateRow}
-use Rattle.store_rules.proofs.Refused.{fails, none-for, unwelcome, same-order-is, is-same-order}
+use Rattle.store_rules.proofs.Refused.{fails, none-for, unwelcome, is-same-order, leads-buy}
 use Rattle.freelist_rules.specs.Place.{Found, nowhere, at}
 use Rattle.freelist_rules.specs.Tables.{Tables, lengthsOk, Lengths, storeOf, soundOk, SoundTables}
 use Rattle.freelist_rules.specs.Walk.{memories}
@@ -379,12 +377,6 @@ module _ (s : FreeListSettings) (a : Account) (o : Outcome) (t : Tables) where
       by (refuse m) ord f u e = rw e (tells-refused m n [])
       by pass Nothing f u e = absurd (true-false false (f refl) refl)
       by pass (Kept k) f u e = rw e (on (deliveryOk (k .order .map) held o) k)
-
--- 3: the kept ask leads to that order
-leads-buy : (s : StoreSettings) (o : Order) (p : Plan ℕ) → leadsTo s o p ≡ true → (z : ℕ) × (p ≡ buy z) × (o ≡ orderFrom s z)
-leads-buy s o (deny n) e = absurd (true-false false e refl)
-leads-buy s o (take i) e = absurd (true-false false e refl)
-leads-buy s o (buy z) e = (z, refl, same-order-is o (orderFrom s z) e)
 
 module _ (s : FreeListSettings) (a : Account) (o : Outcome) (t : Tables) where
   leads : FreeListIn s → ((soundOk s t && stillOk s a t (a .order)) ≡ true) ↔ (SoundTables s t × Leads s a t)

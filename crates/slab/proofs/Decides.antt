@@ -18,7 +18,7 @@ use Rattle.slab.specs.Test.{vacancies, leads, partedOk}
 use Rattle.slab.proofs.Places.{chain-distinct}
 
 -- the test counts the vacant places
-counted-long : (free : ℕ → Bool) (k : ℕ) → length (picked free k) ≡ vacancies free k
+pub counted-long : (free : ℕ → Bool) (k : ℕ) → length (picked free k) ≡ vacancies free k
 unfolding picked vacancies
 counted-long free zero = refl
 counted-long free (suc k) = by (free k) (counted-long free k)

@@ -23,8 +23,9 @@ use Rattle.counter.specs.declared.answers.Outcome.the-variants as O
 use Rattle.counter.proofs.Tables.{alignment-yes, alignment-all}
 use Rattle.heap.specs.Heap.{agreesOk}
 use Rattle.heap.proofs.Bounds.{agrees-yes, agrees-all}
+use Rattle.counter.specs.declared.settings.StoreSettings.{StoreSettings}
 use Rattle.store_rules.specs.Delivery.{suits, holds, deliveryOk}
-use Rattle.store_rules.specs.Orders.{sameBool, sameOrder}
+use Rattle.store_rules.specs.Orders.{Plan, deny, take, buy, orderFrom, sameBool, sameOrder, leadsTo}
 use Rattle.store_rules.specs.Refusals.{OrderOpen, NoneFor, Uncovered, MaskOff, Unsuited, Unwelcome}
 use Rattle.store_rules.specs.Tests.{noOrder, orderFor, coversOk}
 
@@ -177,3 +178,9 @@ order-same o =
 
 pub is-same-order : (o p : Order) → o ≡ p → sameOrder o p ≡ true
 is-same-order o p e = ap (sameOrder o) (sym e) ∙ order-same o
+
+-- 3: the kept ask leads to that order
+pub leads-buy : (s : StoreSettings) (o : Order) (p : Plan ℕ) → leadsTo s o p ≡ true → (z : ℕ) × (p ≡ buy z) × (o ≡ orderFrom s z)
+leads-buy s o (deny n) e = absurd (true-false false e refl)
+leads-buy s o (take i) e = absurd (true-false false e refl)
+leads-buy s o (buy z) e = (z, refl, same-order-is o (orderFrom s z) e)

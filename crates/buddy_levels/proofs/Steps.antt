@@ -1,0 +1,107 @@
+-- What the code of a level has done where it returns. Assumes nothing.
+use mathlib.Core.Path.{_≡_, sym, ap, _∙_}
+use mathlib.Core.Bool.{Bool, true, false}
+use mathlib.Core.List.{List}
+use Prim.Native.Nat.{ℕ, _+_, _<_}
+use native.Mathlib.Omega.{arith}
+use lib.Dec.{eqb}
+use lib.ListN.{getD, set}
+use borrow.Author.Tests.{eq-eqb, ne-eqb}
+use Rattle.slab.specs.Slab.{nowhere, inserted}
+use Rattle.slab.specs.declared.Taken.{Taken}
+use Rattle.ring.specs.Ring.{alone}
+use Rattle.buddy_rules.specs.Levels.{sideBy, sideOf}
+use Rattle.buddy_levels.specs.Level.{
+  ringAt,
+  usedAt,
+  vacatedAt,
+  tagAt,
+  chunkAt,
+  offAt,
+  leftAt,
+  rightAt,
+  nextAt,
+  prevAt,
+  upAt,
+  pairWords,
+  sideAt,
+  fieldAt,
+  pairCell,
+  ringHead,
+  spotIn,
+  leaves,
+  joins,
+  dropped,
+  backed,
+  acquired,
+  entered,
+  added,
+  freshLevel,
+}
+
+-- ---- the side that is ready
+
+pub ready-left : (x : ℕ) (n : ℕ) → x ≡ n → x ≡ 2 → leftAt ≡ sideAt (sideOf n)
+ready-left x n e f = sym (simp (eq-eqb n 2 (sym e ∙ f)))
+
+pub ready-right : (x : ℕ) (n : ℕ) → x ≡ n → (x ≡ 2 → ⊥) → rightAt ≡ sideAt (sideOf n)
+ready-right x n e f = sym (simp (ne-eqb n 2 (λ s. f (e ∙ s))))
+
+-- and it is a field of the pair
+pub side-field : (s n : ℕ) → s ≡ sideAt (sideOf n) → s < pairWords
+side-field s n e = rw e (by (eqb n 2))
+  where
+    by : (l : Bool) → sideAt (sideBy l) < pairWords
+    by true = omega arith
+    by false = omega arith
+
+-- ---- what the stores, one after the other, have made of a level that begins at b of t
+
+module _ (b : ℕ) (t : List ℕ) where
+  pub level-fresh : (x y z : List ℕ) → x ≡ set t (b + ringAt) nowhere → y ≡ set x (b + usedAt) 0 → z ≡ set y (b + vacatedAt) nowhere → z ≡ freshLevel b t
+  unfolding freshLevel
+  level-fresh x y z e f g = g ∙ rw (f, e)
+
+  pub pair-dropped : (p v : ℕ) (w x y z : List ℕ) → v ≡ getD t (b + vacatedAt) 0 → w ≡ leaves b p t → x ≡ set w (pairCell b tagAt p) 0 → y ≡ set x (pairCell b offAt p) v → z ≡ set y (b + vacatedAt) p → z ≡ dropped b p t
+  unfolding dropped
+  pair-dropped p v w x y z d e f g h = h ∙ rw (g, f, e, d)
+
+  module _ (p : ℕ) (x y z : List ℕ) (s : Bool) (e : x ≡ joins b p t) where
+    pub left-backed : s ≡ true → y ≡ set x (pairCell b tagAt p) 2 → z ≡ set y (pairCell b leftAt p) 0 → z ≡ backed b p (sideBy s) t
+    unfolding backed
+    left-backed d f g = g ∙ rw (f, e, d)
+
+    pub right-backed : s ≡ false → y ≡ set x (pairCell b tagAt p) 3 → z ≡ set y (pairCell b rightAt p) 0 → z ≡ backed b p (sideBy s) t
+    unfolding backed
+    right-backed d f g = g ∙ rw (f, e, d)
+
+  pub head-acquired : (w h s : ℕ) (x y z : List ℕ) → h ≡ ringHead b t → s ≡ sideAt (sideOf (getD t (pairCell b tagAt h) 0)) → x ≡ leaves b h t → y ≡ set x (pairCell b tagAt h) 1 → z ≡ set y (pairCell b s h) w → z ≡ acquired b w t
+  unfolding acquired
+  head-acquired w h s x y z c d e f g = g ∙ rw (f, e, d, c)
+
+  pub alone-stood : (p : ℕ) (x y z : List ℕ) → x ≡ set t (pairCell b nextAt p) p → y ≡ set x (pairCell b prevAt p) p → z ≡ set y (b + ringAt) p → z ≡ alone (b + ringAt) (fieldAt b nextAt) (fieldAt b prevAt) pairWords p t
+  alone-stood p x y z e f g = g ∙ rw (f, e)
+
+  module _ (p c o n w : ℕ) where
+    pub pair-written : (u v x y z r : List ℕ) → u ≡ set t (pairCell b tagAt p) 3 → v ≡ set u (pairCell b chunkAt p) c → x ≡ set v (pairCell b offAt p) o → y ≡ set x (pairCell b leftAt p) w → z ≡ set y (pairCell b rightAt p) 0 → r ≡ set z (pairCell b upAt p) n
+        → r ≡ set (set (set (set (set (set t (pairCell b tagAt p) 3) (pairCell b chunkAt p) c) (pairCell b offAt p) o) (pairCell b leftAt p) w) (pairCell b rightAt p) 0) (pairCell b upAt p) n
+    pair-written u v x y z r d e f g h k = k ∙ rw (h, g, f, e, d)
+
+    pub pair-entered : (x y : List ℕ) → x ≡ set (set (set (set (set (set t (pairCell b tagAt p) 3) (pairCell b chunkAt p) c) (pairCell b offAt p) o) (pairCell b leftAt p) w) (pairCell b rightAt p) 0) (pairCell b upAt p) n
+        → y ≡ alone (b + ringAt) (fieldAt b nextAt) (fieldAt b prevAt) pairWords p x → y ≡ entered b p c o n w t
+    unfolding entered
+    pair-entered x y e f = f ∙ ap (alone (b + ringAt) (fieldAt b nextAt) (fieldAt b prevAt) pairWords p) e
+
+  -- ---- the place that a new pair takes
+
+  pub spot-read : (u v : ℕ) (k : Taken) → u ≡ getD t (b + usedAt) 0 → v ≡ getD t (b + vacatedAt) 0 → k ≡ inserted (record { places = u; vacant = v }) t (fieldAt b offAt) pairWords → k ≡ spotIn b t
+  spot-read u v k d e f = f ∙ (λ j. inserted (record { places = d j; vacant = e j }) t (fieldAt b offAt) pairWords)
+
+  module _ (k : Taken) (s : k ≡ spotIn b t) where
+    pub spot-place : k .place ≡ spotIn b t .place
+    spot-place = ap (λ (u : Taken). u .place) s
+
+    pub pair-added : (c o n w : ℕ) (x y z : List ℕ) → x ≡ set t (b + usedAt) (k .slab .places) → y ≡ set x (b + vacatedAt) (k .slab .vacant) → z ≡ entered b (k .place) c o n w y → z ≡ added b c o n w t
+    unfolding added
+    pair-added c o n w x y z e f g =
+        g ∙ rw (f, e) (ap (λ (u : Taken). entered b (u .place) c o n w (set (set t (b + usedAt) (u .slab .places)) (b + vacatedAt) (u .slab .vacant))) s)

@@ -1,0 +1,210 @@
+// A level of a buddy store's pairs in words, which begin at `base` of a lent table: its ring of ready pairs and its vacant
+// places. What is done to it is defined for all words, so none that the table holds can make any of these fail.
+mod good;
+
+pub use good::is_good;
+ghost use mathlib.Core.Path.{_≡_};
+ghost use Prim.Native.Nat.{_+_, _≤_, _<_};
+ghost use lib.ListN.{getD, set};
+ghost use Rattle.buddy_rules.specs.Levels.{sideBy, sideOf};
+ghost use Rattle.ring.specs.Ring.{alone};
+ghost use Rattle.buddy_levels.specs.Level.{baseMost, pairWords, tagAt, chunkAt, offAt, leftAt, rightAt, nextAt, prevAt, upAt, ringAt, sideAt, fieldAt, pairCell, leaves, joins, spotIn, dropped, backed, acquired, entered, added, freshLevel};
+use slab::NOWHERE;
+use slab::Slab;
+use slab::Taken;
+
+// Where the words stand; specs/Level has the same names.
+pub const HEADER_WORDS: usize = 8;
+
+pub const RING_AT: usize = 0;
+
+pub const USED_AT: usize = 1;
+
+pub const VACATED_AT: usize = 2;
+
+pub const PAIR_WORDS: usize = 8;
+
+pub const TAG_AT: usize = 0;
+
+pub const CHUNK_AT: usize = 1;
+
+pub const OFF_AT: usize = 2;
+
+pub const LEFT_AT: usize = 3;
+
+pub const RIGHT_AT: usize = 4;
+
+pub const NEXT_AT: usize = 5;
+
+pub const PREV_AT: usize = 6;
+
+pub const UP_AT: usize = 7;
+
+// Field f of pair p.
+pub fn field(tree: &[u64], base: usize, f: usize, p: u64) -> u64
+    requires { ⌜ (base ≤ baseMost) × (f < pairWords) ⌝ }
+    ensures { λ r. ⌜ r ≡ getD (now (tree .entry)) (pairCell base f p) 0 ⌝ }
+{
+    words::cell(tree, base + (HEADER_WORDS + f), PAIR_WORDS, p as usize)
+}
+
+// The same written.
+pub fn put_field(tree: &mut [u64], base: usize, f: usize, p: u64, v: u64)
+    requires { ⌜ (base ≤ baseMost) × (f < pairWords) ⌝ }
+    ensures { λ _. ⌜ now (tree .exit) ≡ set (now (tree .entry)) (pairCell base f p) v ⌝ }
+{
+    words::put_cell(tree, base + (HEADER_WORDS + f), PAIR_WORDS, p as usize, v);
+}
+
+// Pair p leaves the ring.
+fn leave(tree: &mut [u64], base: usize, p: u64)
+    requires { ⌜ base ≤ baseMost ⌝ }
+    ensures { λ _. ⌜ now (tree .exit) ≡ leaves base p (now (tree .entry)) ⌝ }
+{
+    let next = base + (HEADER_WORDS + NEXT_AT);
+    let prev = base + (HEADER_WORDS + PREV_AT);
+    ring::unlink(
+        tree,
+        (base + RING_AT) as u64,
+        next as u64,
+        prev as u64,
+        PAIR_WORDS as u64,
+        p,
+    );
+}
+
+// Pair p joins the ring.
+fn join(tree: &mut [u64], base: usize, p: u64)
+    requires { ⌜ base ≤ baseMost ⌝ }
+    ensures { λ _. ⌜ now (tree .exit) ≡ joins base p (now (tree .entry)) ⌝ }
+{
+    let next = base + (HEADER_WORDS + NEXT_AT);
+    let prev = base + (HEADER_WORDS + PREV_AT);
+    ring::link(
+        tree,
+        (base + RING_AT) as u64,
+        next as u64,
+        prev as u64,
+        PAIR_WORDS as u64,
+        p,
+    );
+}
+
+// The pair p goes: it leaves the ring, and its place is the one vacated last.
+pub fn drop_pair(tree: &mut [u64], base: usize, p: u64)
+    requires { ⌜ base ≤ baseMost ⌝ }
+    ensures { λ _. ⌜ now (tree .exit) ≡ dropped base p (now (tree .entry)) ⌝ }
+{
+    let vacated = words::word(tree, base + VACATED_AT);
+    leave(tree, base, p);
+    put_field(tree, base, TAG_AT, p, 0);
+    put_field(tree, base, OFF_AT, p, vacated);
+    words::put(tree, base + VACATED_AT, p);
+}
+
+// The pair p joins the ring before the head, ready at its left or its right, where the node is free.
+pub fn ready_pair(tree: &mut [u64], base: usize, p: u64, left: bool)
+    requires { ⌜ base ≤ baseMost ⌝ }
+    ensures { λ _. ⌜ now (tree .exit) ≡ backed base p (sideBy left) (now (tree .entry)) ⌝ }
+{
+    join(tree, base, p);
+    if left {
+        put_field(tree, base, TAG_AT, p, 2);
+        put_field(tree, base, LEFT_AT, p, 0);
+    } else {
+        put_field(tree, base, TAG_AT, p, 3);
+        put_field(tree, base, RIGHT_AT, p, 0);
+    }
+}
+
+// The head pair leaves the ring, exhausted: the node at its ready side has the word w.
+pub fn acquire(tree: &mut [u64], base: usize, w: u64)
+    requires { ⌜ base ≤ baseMost ⌝ }
+    ensures { λ _. ⌜ now (tree .exit) ≡ acquired base w (now (tree .entry)) ⌝ }
+{
+    let h = words::word(tree, base + RING_AT);
+    let side = ready_at(tree, base, h);
+    leave(tree, base, h);
+    put_field(tree, base, TAG_AT, h, 1);
+    put_field(tree, base, side, h, w);
+}
+
+// The field of the node at which pair p is ready.
+fn ready_at(tree: &[u64], base: usize, p: u64) -> usize
+    requires { ⌜ base ≤ baseMost ⌝ }
+    ensures { λ r. ⌜ r ≡ sideAt (sideOf (getD (now (tree .entry)) (pairCell base tagAt p) 0)) ⌝ }
+{
+    if field(tree, base, TAG_AT, p) == 2 {
+        LEFT_AT
+    } else {
+        RIGHT_AT
+    }
+}
+
+// The place that a new pair takes, and the slab from then on.
+pub fn spot(tree: &[u64], base: usize) -> Taken
+    requires { ⌜ base ≤ baseMost ⌝ }
+    ensures { λ r. ⌜ r ≡ spotIn base (now (tree .entry)) ⌝ }
+{
+    let s = Slab {
+        places: words::word(tree, base + USED_AT),
+        vacant: words::word(tree, base + VACATED_AT),
+    };
+    s.insert(tree, base + (HEADER_WORDS + OFF_AT), PAIR_WORDS)
+}
+
+// A new pair of a node, whose left node has the word `left`: ready at its right, and alone in the ring. Answers its place.
+pub fn add_pair(tree: &mut [u64], base: usize, chunk: u64, offset: u64, node: u64, left: u64) -> u64
+    requires { ⌜ base ≤ baseMost ⌝ }
+    ensures { λ r. ⌜ r ≡ spotIn base (now (tree .entry)) .place ⌝ }
+    ensures { λ _. ⌜ now (tree .exit) ≡ added base chunk offset node left (now (tree .entry)) ⌝ }
+{
+    let taken = spot(tree, base);
+    let s = taken.slab;
+    words::put(tree, base + USED_AT, s.places);
+    words::put(tree, base + VACATED_AT, s.vacant);
+    enter_pair(tree, base, taken.place, chunk, offset, node, left);
+    taken.place
+}
+
+// A new pair at the place p, alone in the ring.
+fn enter_pair(tree: &mut [u64], base: usize, p: u64, chunk: u64, offset: u64, node: u64, left: u64)
+    requires { ⌜ base ≤ baseMost ⌝ }
+    ensures { λ _. ⌜ now (tree .exit) ≡ entered base p chunk offset node left (now (tree .entry)) ⌝ }
+{
+    write_pair(tree, base, p, chunk, offset, node, left);
+    stand_alone(tree, base, p);
+}
+
+// The words of a new pair but for its links.
+fn write_pair(tree: &mut [u64], base: usize, p: u64, chunk: u64, offset: u64, node: u64, left: u64)
+    requires { ⌜ base ≤ baseMost ⌝ }
+    ensures { λ _. ⌜ now (tree .exit) ≡ set (set (set (set (set (set (now (tree .entry)) (pairCell base tagAt p) 3) (pairCell base chunkAt p) chunk) (pairCell base offAt p) offset) (pairCell base leftAt p) left) (pairCell base rightAt p) 0) (pairCell base upAt p) node ⌝ }
+{
+    put_field(tree, base, TAG_AT, p, 3);
+    put_field(tree, base, CHUNK_AT, p, chunk);
+    put_field(tree, base, OFF_AT, p, offset);
+    put_field(tree, base, LEFT_AT, p, left);
+    put_field(tree, base, RIGHT_AT, p, 0);
+    put_field(tree, base, UP_AT, p, node);
+}
+
+// Pair p alone is the ring.
+fn stand_alone(tree: &mut [u64], base: usize, p: u64)
+    requires { ⌜ base ≤ baseMost ⌝ }
+    ensures { λ _. ⌜ now (tree .exit) ≡ alone (base + ringAt) (fieldAt base nextAt) (fieldAt base prevAt) pairWords p (now (tree .entry)) ⌝ }
+{
+    put_field(tree, base, NEXT_AT, p, p);
+    put_field(tree, base, PREV_AT, p, p);
+    words::put(tree, base + RING_AT, p);
+}
+
+// A level with no pair.
+pub fn fresh_level(tree: &mut [u64], base: usize)
+    requires { ⌜ base ≤ baseMost ⌝ }
+    ensures { λ _. ⌜ now (tree .exit) ≡ freshLevel base (now (tree .entry)) ⌝ }
+{
+    words::put(tree, base + RING_AT, NOWHERE);
+    words::put(tree, base + USED_AT, 0);
+    words::put(tree, base + VACATED_AT, NOWHERE);
+}

@@ -1,0 +1,2 @@
+-- What follows from the moves, for the code.
+pub mod Moved

@@ -1,0 +1,141 @@
+-- What each turn of the climb and of the split comes to. Assumes nothing.
+use mathlib.Core.Path.{_≡_, refl, sym, ap, _∙_}
+use mathlib.Core.Bool.{true, false, cond, _&&_, not}
+use mathlib.Core.Logic.{_⊎_, ⊎-elim}
+use mathlib.Core.List.{List}
+use Prim.Native.Nat.{ℕ, zero, suc, _+_, _-_, _*_, _/_, _%_, _≤_, _<_}
+use native.Mathlib.Omega.{arith}
+use native.Mathlib.Nat.{mul-le-mul-left}
+use lib.Dec.{eqb, ltb}
+use lib.ListN.{getD, set}
+use borrow.Author.Tests.{eqb-false, eq-eqb, ne-eqb, ltb-true, ltb-false}
+use Rattle.lists.proofs.Bools.{and-left, and-right, not-yes, not-no, told}
+use Rattle.counter.specs.Limits.{levelsMost, pairsMost}
+use Rattle.slab.specs.Slab.{nowhere}
+use Rattle.buddy_rules.specs.Nodes.{other, word}
+use Rattle.buddy_levels.specs.Level.{baseMost, entOf, levelWords, pairCell, sideAt, leftAt, rightAt, upAt, spotIn, dropped, backed, added}
+use Rattle.buddy_stores.specs.Tables.{levelAfter}
+use Rattle.buddy_stores.specs.Moves.{sideIn, climbed, worded, splitDown}
+use Rattle.buddy_trees.specs.Trees.{up}
+use Rattle.buddy_moves.specs.Roomy.{Roomy, halved}
+
+-- ---- where a level begins
+
+pub level-low : (pairs l : ℕ) → pairs ≤ pairsMost → l ≤ levelsMost → levelAfter pairs l ≤ baseMost
+level-low pairs l p h = omega (arith, mul-le-mul-left (levelWords pairs) h)
+
+-- ---- the two nodes of a pair
+
+module _ (b n : ℕ) (t : List ℕ) where
+  pub left-twin : (x : ℕ) → n % 2 ≡ 0 → x ≡ getD t (pairCell b rightAt (n / 2)) 0 → x ≡ word (other (sideIn n)) (entOf b t (n / 2))
+  left-twin x e h = h ∙ sym (simp (eq-eqb (n % 2) 0 e))
+
+  pub right-twin : (x : ℕ) → (n % 2 ≡ 0 → ⊥) → x ≡ getD t (pairCell b leftAt (n / 2)) 0 → x ≡ word (other (sideIn n)) (entOf b t (n / 2))
+  right-twin x e h = h ∙ sym (simp (ne-eqb (n % 2) 0 e))
+
+  pub left-put : (w : ℕ) (t′ : List ℕ) → n % 2 ≡ 0 → t′ ≡ set t (pairCell b leftAt (n / 2)) w → t′ ≡ set t (pairCell b (sideAt (sideIn n)) (n / 2)) w
+  left-put w t′ e h = h ∙ sym (simp (eq-eqb (n % 2) 0 e))
+
+  pub right-put : (w : ℕ) (t′ : List ℕ) → (n % 2 ≡ 0 → ⊥) → t′ ≡ set t (pairCell b rightAt (n / 2)) w → t′ ≡ set t (pairCell b (sideAt (sideIn n)) (n / 2)) w
+  right-put w t′ e h = h ∙ sym (simp (ne-eqb (n % 2) 0 e))
+
+-- ---- the climb
+
+pub goes-on : (f n : ℕ) → (ltb 0 f && not (eqb n nowhere)) ≡ true → (0 < f) × (n ≡ nowhere → ⊥)
+goes-on f n e =
+    (ltb-true 0 f (and-left (ltb 0 f) (not (eqb n nowhere)) e), eqb-false n nowhere (not-yes (eqb n nowhere) (and-right (ltb 0 f) (not (eqb n nowhere)) e)))
+
+module _ (pairs f l n : ℕ) (t : List ℕ) where
+  pub climb-done : (ltb 0 f && not (eqb n nowhere)) ≡ false → climbed pairs f l n t ≡ record { freed = true; tree = t }
+  unfolding climbed
+  climb-done e = by f refl
+    where
+      by : (g : ℕ) → f ≡ g → climbed pairs g l n t ≡ record { freed = true; tree = t }
+      by zero h = refl
+      by (suc g) h =
+          let o : 0 < f = omega arith in
+          let top : not (eqb n nowhere) ≡ false = sym (simp (lt-one o)) ∙ e in
+          simp (not-no (eqb n nowhere) top)
+        where
+          lt-one : 0 < f → ltb 0 f ≡ true
+          lt-one o = ⊎-elim (λ a. a) (λ a. absurd (omega (arith, ltb-false 0 f a))) (told (ltb 0 f))
+
+  module _ (o : 0 < f) (top : n ≡ nowhere → ⊥) (b : ℕ) (at : b ≡ levelAfter pairs l) (w : ℕ) (twin : w ≡ word (other (sideIn n)) (entOf b t (n / 2))) where
+    twin-is : w ≡ word (other (sideIn n)) (entOf (levelAfter pairs l) t (n / 2))
+    twin-is = twin ∙ ap (λ (d : ℕ). word (other (sideIn n)) (entOf d t (n / 2))) at
+
+    step : climbed pairs f l n t
+        ≡ cond (eqb w 0) (climbed pairs (f - 1) (l + 1) (getD t (pairCell b upAt (n / 2)) 0) (dropped b (n / 2) t))
+        (record { freed = false; tree = backed b (n / 2) (sideIn n) t })
+    unfolding climbed
+    step = by f o
+      where
+        by : (f : ℕ) → 0 < f → climbed pairs f l n t
+            ≡ cond (eqb w 0) (climbed pairs (f - 1) (l + 1) (getD t (pairCell b upAt (n / 2)) 0) (dropped b (n / 2) t))
+            (record { freed = false; tree = backed b (n / 2) (sideIn n) t })
+        by zero o = absurd (omega arith)
+        by (suc g) o =
+            let p : suc g - 1 ≡ g = omega arith in
+            let q : l + 1 ≡ suc l = omega arith in
+            rw (p, q, at, twin-is, ne-eqb n nowhere top) refl
+
+    pub climb-on : w ≡ 0 → (m : ℕ) → m ≡ getD t (pairCell b upAt (n / 2)) 0 → (t′ : List ℕ) → t′ ≡ dropped b (n / 2) t
+        → climbed pairs f l n t ≡ climbed pairs (f - 1) (l + 1) m t′
+    climb-on z m e t′ d = step ∙ simp (eq-eqb w 0 z, e, d)
+
+    pub climb-stays : (w ≡ 0 → ⊥) → (t′ : List ℕ) → t′ ≡ backed b (n / 2) (sideIn n) t → climbed pairs f l n t ≡ record { freed = false; tree = t′ }
+    climb-stays z t′ d = step ∙ simp (ne-eqb w 0 z, d)
+
+-- ---- the split
+
+up-sum : (d lev : ℕ) → up d lev ≡ lev + d
+up-sum zero lev = omega arith
+up-sum (suc d) lev = omega (arith, up-sum d lev)
+
+module _ (pairs lev c o k n : ℕ) (t : List ℕ) where
+  pub split-done : (d : ℕ) → d ≤ 0 → (b : ℕ) → b ≡ levelAfter pairs lev → (t′ : List ℕ) → t′ ≡ set t (pairCell b (sideAt (sideIn n)) (n / 2)) (2 * k + 1)
+      → splitDown pairs lev c o k n d t ≡ record { node = n; tree = t′ }
+  unfolding splitDown worded
+  split-done zero h b e t′ f = rw (f, e) refl
+  split-done (suc d) h b e t′ f = absurd (omega arith)
+
+  -- one level, from d levels above
+  module _ (b p : ℕ) (place : p ≡ spotIn b t .place) where
+    pub roomy-place : (d : ℕ) → 0 < d → b ≡ levelAfter pairs (lev + (d - 1)) → Roomy pairs lev c o n d t → p < pairs
+    unfolding Roomy
+    roomy-place zero h e r = absurd (omega arith)
+    roomy-place (suc d) h e r =
+        let q : lev + (suc d - 1) ≡ up d lev = omega (arith, up-sum d lev) in
+        let i : p ≡ spotIn (levelAfter pairs (up d lev)) t .place = place ∙ ap (λ (z : ℕ). spotIn z t .place) (e ∙ ap (levelAfter pairs) q) in
+        rw i (r .0)
+
+    module _ (t₁ t₂ : List ℕ) (g : ℕ) (more : t₁ ≡ added b c o n 0 t) (cut : t₂ ≡ set t₁ (pairCell g (sideAt (sideIn n)) (n / 2)) (2 * p + 2)) where
+      halved-is : (l : ℕ) → b ≡ levelAfter pairs l → g ≡ levelAfter pairs (suc l) → t₂ ≡ halved pairs l c o n t
+      unfolding worded
+      halved-is l e f = rw (cut, more, place, e, f) refl
+
+      pub split-roomy : (d : ℕ) → 0 < d → b ≡ levelAfter pairs (lev + (d - 1)) → g ≡ levelAfter pairs (lev + (d - 1) + 1) → Roomy pairs lev c o n d t
+          → Roomy pairs lev c o (2 * p) (d - 1) t₂
+      unfolding Roomy
+      split-roomy zero h e f r = absurd (omega arith)
+      split-roomy (suc d) h e f r =
+          let q : lev + (suc d - 1) ≡ up d lev = omega (arith, up-sum d lev) in
+          let i : suc d - 1 ≡ d = omega arith in
+          let j : lev + (suc d - 1) + 1 ≡ suc (up d lev) = omega (arith, up-sum d lev) in
+          let e′ : b ≡ levelAfter pairs (up d lev) = e ∙ ap (levelAfter pairs) q in
+          let x : t₂ ≡ halved pairs (up d lev) c o n t = halved-is (up d lev) e′ (f ∙ ap (levelAfter pairs) j) in
+          let y : p ≡ spotIn (levelAfter pairs (up d lev)) t .place = place ∙ ap (λ (z : ℕ). spotIn z t .place) e′ in
+          rw (i, x, y) (r .1)
+
+      pub split-on : (d : ℕ) → 0 < d → b ≡ levelAfter pairs (lev + (d - 1)) → g ≡ levelAfter pairs (lev + (d - 1) + 1)
+          → splitDown pairs lev c o k n d t ≡ splitDown pairs lev c o k (2 * p) (d - 1) t₂
+      unfolding splitDown
+      split-on zero h e f = absurd (omega arith)
+      split-on (suc d) h e f =
+          let q : lev + (suc d - 1) ≡ up d lev = omega (arith, up-sum d lev) in
+          let i : suc d - 1 ≡ d = omega arith in
+          let j : lev + (suc d - 1) + 1 ≡ suc (up d lev) = omega (arith, up-sum d lev) in
+          let e′ : b ≡ levelAfter pairs (up d lev) = e ∙ ap (levelAfter pairs) q in
+          let x : t₂ ≡ halved pairs (up d lev) c o n t = halved-is (up d lev) e′ (f ∙ ap (levelAfter pairs) j) in
+          let y : p ≡ spotIn (levelAfter pairs (up d lev)) t .place = place ∙ ap (λ (z : ℕ). spotIn z t .place) e′ in
+          rw (i, x, y) refl

@@ -1,0 +1,2 @@
+-- What the code of a buddy store's moves asks of the words.
+pub mod Roomy

@@ -1,0 +1,104 @@
+// What a return and a loan do to a buddy store's tree: the climb and the split, level by level.
+ghost use mathlib.Core.Path.{_≡_};
+ghost use lib.ListN.{set};
+ghost use Prim.Native.Nat.{_+_, _*_, _/_, _≤_, _<_};
+ghost use Rattle.counter.specs.Limits.{levelsMost, pairsMost, loansMost};
+ghost use Rattle.buddy_rules.specs.Nodes.{other, word};
+ghost use Rattle.buddy_levels.specs.Level.{baseMost, entOf, pairCell, sideAt};
+ghost use Rattle.buddy_stores.specs.Tables.{levelAfter};
+ghost use Rattle.buddy_stores.specs.Moves.{sideIn, climbed, worded, splitDown};
+ghost use Rattle.buddy_moves.specs.Roomy.{Roomy};
+use buddy_levels::HEADER_WORDS;
+use buddy_levels::LEFT_AT;
+use buddy_levels::PAIR_WORDS;
+use buddy_levels::RIGHT_AT;
+use buddy_levels::UP_AT;
+use slab::NOWHERE;
+
+// Where level l begins.
+fn level_from(pairs: usize, l: usize) -> usize
+    requires { ⌜ (pairs ≤ pairsMost) × (l ≤ levelsMost) ⌝ }
+    ensures { λ r. ⌜ r ≡ levelAfter pairs l ⌝ }
+    ensures { λ r. ⌜ r ≤ baseMost ⌝ }
+{
+    (HEADER_WORDS + PAIR_WORDS * pairs) * l
+}
+
+// The word of node n's twin.
+fn twin_word(tree: &[u64], base: usize, n: u64) -> u64
+    requires { ⌜ base ≤ baseMost ⌝ }
+    ensures { λ r. ⌜ r ≡ word (other (sideIn n)) (entOf base (now (tree .entry)) (n / 2)) ⌝ }
+{
+    if n % 2 == 0 {
+        buddy_levels::field(tree, base, RIGHT_AT, n / 2)
+    } else {
+        buddy_levels::field(tree, base, LEFT_AT, n / 2)
+    }
+}
+
+// Node n of a level was given back. While its twin is free its pair goes, and the node above is given back in turn; at most
+// `levels` times. Answers whether that was all of the chunk.
+pub fn climb(tree: &mut [u64], pairs: usize, level: usize, levels: usize, node: u64) -> bool
+    requires { ⌜ (pairs ≤ pairsMost) × (level + levels ≤ levelsMost) ⌝ }
+    ensures { λ r. ⌜ r ≡ climbed pairs levels level node (now (tree .entry)) .freed ⌝ }
+    ensures { λ _. ⌜ now (tree .exit) ≡ climbed pairs levels level node (now (tree .entry)) .tree ⌝ }
+{
+    let mut l = level;
+    let mut left = levels;
+    let mut n = node;
+    while (0 < left) & (n != NOWHERE) {
+        let base = level_from(pairs, l);
+        let p = n / 2;
+        if twin_word(tree, base, n) != 0 {
+            buddy_levels::ready_pair(tree, base, p, n % 2 == 0);
+            return false;
+        }
+        n = buddy_levels::field(tree, base, UP_AT, p);
+        buddy_levels::drop_pair(tree, base, p);
+        l += 1;
+        left -= 1;
+    }
+    true
+}
+
+// Node n of the level at `base` has the word w from now on.
+fn put_word(tree: &mut [u64], base: usize, n: u64, w: u64)
+    requires { ⌜ base ≤ baseMost ⌝ }
+    ensures { λ _. ⌜ now (tree .exit) ≡ set (now (tree .entry)) (pairCell base (sideAt (sideIn n)) (n / 2)) w ⌝ }
+{
+    if n % 2 == 0 {
+        buddy_levels::put_field(tree, base, LEFT_AT, n / 2, w);
+    } else {
+        buddy_levels::put_field(tree, base, RIGHT_AT, n / 2, w);
+    }
+}
+
+// A node `above` levels over the asked level is split down to it, always keeping the left half, which is lent: its word says
+// which loan it is. Answers that node.
+pub fn split_down(
+    tree: &mut [u64],
+    pairs: usize,
+    level: usize,
+    above: usize,
+    chunk: u64,
+    offset: u64,
+    loan: u64,
+    node: u64,
+) -> u64
+    requires { ⌜ (pairs ≤ pairsMost) × (level + above ≤ levelsMost) × (loan < loansMost) ⌝ }
+    requires { ⌜ Roomy pairs level chunk offset node above (now tree) ⌝ }
+    ensures { λ r. ⌜ r ≡ splitDown pairs level chunk offset loan node above (now (tree .entry)) .node ⌝ }
+    ensures { λ _. ⌜ now (tree .exit) ≡ splitDown pairs level chunk offset loan node above (now (tree .entry)) .tree ⌝ }
+{
+    let mut d = above;
+    let mut n = node;
+    while 0 < d {
+        d -= 1;
+        let base = level_from(pairs, level + d);
+        let p = buddy_levels::add_pair(tree, base, chunk, offset, n, 0);
+        put_word(tree, level_from(pairs, level + d + 1), n, 2 * p + 2);
+        n = 2 * p;
+    }
+    put_word(tree, level_from(pairs, level), n, 2 * loan + 1);
+    n
+}

@@ -1,0 +1,286 @@
+-- A loan entered in a buddy store's book, and its node beside the tree: the tables are sound when the store with that loan is.
+-- Assumes nothing.
+use mathlib.Core.Path.{_≡_, refl, sym, ap, _∙_, subst}
+use mathlib.Core.Bool.{Bool, true, false, cond, _&&_, not}
+use mathlib.Core.Logic.{_⊎_, inl, inr, ⊎-elim}
+use mathlib.Core.List.{List}
+use Prim.Native.Nat.{ℕ, _+_, _%_, _≤_, _<_}
+use native.Mathlib.Omega.{arith}
+use lib.Dec.{eqb, ltb}
+use lib.ListN.{length, getD, set, length-set}
+use lib.Seq.{getD-set-same, getD-set-other}
+use borrow.Author.Tests.{eq-eqb, ne-eqb, lt-ltb, le-ltb, ltb-true}
+use Rattle.lists.proofs.Bools.{told, and-left, same?, lt-or-le}
+use Rattle.words.specs.Words.{cellOf}
+use Rattle.rounding.specs.Raising.{levelOf}
+use Rattle.counter.specs.InTable.{BuddyIn}
+use Rattle.counter.specs.Limits.{levelsMost}
+use Rattle.counter.specs.declared.settings.BuddySettings.{BuddySettings}
+use Rattle.slab.specs.Slab.{nowhere, Parted}
+use Rattle.slab.specs.declared.Slab.{Slab}
+use Rattle.slab.proofs.Places.{parted-same}
+use Rattle.store_rules.specs.Loans.{loan, loanWords, sizeAt}
+use Rattle.store_rules.specs.declared.Loan.{Loan}
+use Rattle.book.specs.Book.{takenOf, entered, enteredIndex}
+use Rattle.book.proofs.Keeps.{BookChained, BookParted, entered-long, entered-wide, taken-where, entered-chained, entered-parted}
+use Rattle.buddy_trees.specs.Trees.{Tree, bytes}
+use Rattle.buddy_trees.proofs.Bytes.{bytes-pos}
+use Rattle.buddy_rules.specs.Nodes as Nodes
+use Rattle.buddy_rules.specs.Stores.{with}
+use Rattle.buddy_rules.specs.Stores as Stores
+use Rattle.buddy_levels.specs.Level.{part}
+use Rattle.buddy_levels.proofs.Ops.{levelOps}
+use Rattle.buddy_stores.specs.Tables.{Tables, tables, Lengths, mark, markAt, givenAt, levelsAt, placesAt, chunkPlacesAt, givenIn, levelsIn, placesIn, chunkPlacesIn, memoryIn, chunkSizeIn, chunksFrom, placeAt, topAt, afterAt, placeWords, nodesFrom, loanCell, loanIn, liveIn, heldIn, highIn, topIn, vacantChunk, chunkAfter, chunkSlab, initialLevels}
+use Rattle.buddy_stores.specs.Moves.{Cut}
+use Rattle.buddy_stores.specs.Sound.{Sound}
+use Rattle.buddy_stores.proofs.Abstract.{storeOf, Sizes, store-trees}
+use Rattle.buddy_stores.proofs.Walks.{minimal-pos}
+use Rattle.buddy_outcomes.specs.Ask.{bookedTables}
+use Rattle.buddy_outcomes.proofs.Same.{sound-as}
+use Rattle.buddy_outcomes.proofs.Changed.{few-pairs, part-set}
+use Rattle.buddy_outcomes.proofs.Written.{chunk-here, offset-here, size-here, cell-other}
+
+-- ---- what is asked of the tables before: all but the trees
+pub record Kept (s : BuddySettings) (t : Tables) : Type 0 where
+  pub marked : getD (t .head) markAt 0 ≡ mark
+  pub levels-least : initialLevels s ≤ levelsIn t
+  pub levels-most : levelsIn t ≤ levelsMost
+  pub loans-parted : BookParted (t .loans) (t .index) (s .store .loans) (placesIn t)
+  pub chained : BookChained (t .loans) (t .index) (s .store .loans) (placesIn t) (givenIn t)
+  pub chunks-parted : Parted (vacantChunk t) (chunkAfter s t) (chunkSlab s t) (s .store .chunks)
+  pub memories-differ : (c d : ℕ) → heldIn t c ≡ true → heldIn t d ≡ true → memoryIn t c ≡ memoryIn t d → c ≡ d
+  pub sizes : Sizes s t
+  pub units : (k : ℕ) → liveIn t k ≡ true → (loanIn s t k .at % (s .store .atom + 1) ≡ 0) × (loanCell t sizeAt k % (s .store .atom + 1) ≡ 0)
+
+pub and-no : (a b : Bool) → b ≡ false → (a && b) ≡ false
+and-no true b e = e
+and-no false b e = refl
+
+-- of the places before p and the new one, those but p are the ones before
+pub lower : (x p n m : ℕ) → ((p ≡ n) × (m ≡ n + 1)) ⊎ ((p < n) × (m ≡ n)) → (x ≡ p → ⊥) → ltb x m ≡ ltb x n
+lower x p n m w o = by (lt-or-le x n)
+  where
+    above : n ≤ x → m ≤ x
+    above h = ⊎-elim (λ z. ⊎-elim (λ g. absurd (o (omega (arith, z .0, z .1)))) (λ g. g) (lt-or-le x m)) (λ z. omega (arith, z .1)) w
+
+    under : x < n → x < m
+    under h = ⊎-elim (λ z. omega (arith, z .1)) (λ z. omega (arith, z .1)) w
+
+    by : (x < n) ⊎ (n ≤ x) → ltb x m ≡ ltb x n
+    by (inl h) = lt-ltb x m (under h) ∙ sym (lt-ltb x n h)
+    by (inr h) = le-ltb x m (above h) ∙ sym (le-ltb x n h)
+
+module _ (s : BuddySettings) (t : Tables) (fit : BuddyIn s) (lengths : Lengths s t) (c o size : ℕ) (cut : Cut)
+    (long : length (cut .tree) ≡ length (t .tree)) where
+  abbrev k : ℕ
+  k = takenOf (placesIn t) (t .index) .place
+
+  abbrev q : ℕ
+  q = takenOf (placesIn t) (t .index) .slab .places
+
+  abbrev new : Loan
+  new = loan (givenIn t + 1) c o size
+
+  abbrev booked : Tables
+  booked =
+      tables (set (set (t .head) givenAt (givenIn t + 1)) placesAt q)
+      (entered (placesIn t) (t .index) new (t .loans))
+      (t .chunks)
+      (enteredIndex (s .store .loans) (placesIn t) (givenIn t + 1) (t .index))
+      (set (cut .tree) (nodesFrom s + k) (cut .node))
+
+  booked-long : Lengths s booked
+  booked-long = record {
+    head = length-set (set (t .head) givenAt (givenIn t + 1)) placesAt q ∙ length-set (t .head) givenAt (givenIn t + 1) ∙ lengths .head;
+    loans = entered-long (placesIn t) (t .index) new (t .loans) ∙ lengths .loans;
+    chunks = lengths .chunks;
+    index = entered-wide (s .store .loans) (placesIn t) (givenIn t + 1) (t .index) ∙ lengths .index;
+    tree = length-set (cut .tree) (nodesFrom s + k) (cut .node) ∙ long ∙ lengths .tree;
+  }
+
+  pub booked-lengths : Lengths s (bookedTables s c o size cut t)
+  unfolding bookedTables
+  booked-lengths = booked-long
+
+  -- ---- words of the head
+
+  head-given : givenIn booked ≡ givenIn t + 1
+  head-given =
+      getD-set-other (set (t .head) givenAt (givenIn t + 1)) placesAt givenAt q 0 (λ e. omega arith)
+      ∙ getD-set-same (t .head) givenAt (givenIn t + 1) 0 (omega (arith, lengths .head))
+
+  head-places : placesIn booked ≡ q
+  head-places = getD-set-same (set (t .head) givenAt (givenIn t + 1)) placesAt q 0 (omega (arith, length-set (t .head) givenAt (givenIn t + 1), lengths .head))
+
+  head-other : (i : ℕ) → (i ≡ givenAt → ⊥) → (i ≡ placesAt → ⊥) → getD (booked .head) i 0 ≡ getD (t .head) i 0
+  head-other i a b = getD-set-other (set (t .head) givenAt (givenIn t + 1)) placesAt i q 0 b ∙ getD-set-other (t .head) givenAt i (givenIn t + 1) 0 a
+
+  chunk-places : chunkPlacesIn booked ≡ chunkPlacesIn t
+  chunk-places = head-other chunkPlacesAt (λ e. omega arith) (λ e. omega arith)
+
+  held : (b : ℕ) → heldIn booked b ≡ heldIn t b
+  held b = ap (λ (p : ℕ). ltb b p && not (eqb (chunkSizeIn t b) 0)) chunk-places
+
+  high : (b : ℕ) → highIn s booked b ≡ highIn s t b
+  high b = ap (λ (x : Bool). cond x (levelOf (chunkSizeIn t b) (s .minimal)) 0) (held b)
+
+  module _ (lev : ℕ) (K : Kept s t) (place : takenOf (placesIn t) (t .index) .place < s .store .loans)
+      (level : levelOf size (s .minimal) ≡ lev) (is : size ≡ bytes (s .minimal) lev) (at-units : o % (s .store .atom + 1) ≡ 0) (size-units : size % (s .store .atom + 1) ≡ 0)
+      (past : (i : ℕ) → chunksFrom s ≤ i → getD (cut .tree) i 0 ≡ getD (t .tree) i 0) where
+    few : s .store .loans < nowhere
+    few = omega (arith, fit .store .loans-most)
+
+    some : size ≡ 0 → ⊥
+    some e = omega (arith, bytes-pos (s .minimal) lev (minimal-pos s fit))
+
+    -- ---- words of the tree
+
+    node-here : getD (booked .tree) (nodesFrom s + k) 0 ≡ cut .node
+    node-here = getD-set-same (cut .tree) (nodesFrom s + k) (cut .node) 0 (omega (arith, long, lengths .tree))
+
+    tree-other : (i : ℕ) → chunksFrom s ≤ i → (i ≡ nodesFrom s + k → ⊥) → getD (booked .tree) i 0 ≡ getD (t .tree) i 0
+    tree-other i h n = getD-set-other (cut .tree) (nodesFrom s + k) i (cut .node) 0 n ∙ past i h
+
+    -- ---- words of the loans
+
+    cell-same : (f x : ℕ) → f < loanWords → (x ≡ k → ⊥) → loanCell booked f x ≡ loanCell t f x
+    unfolding entered
+    cell-same f x h n = cell-other (t .loans) (s .store .loans) k new (lengths .loans) place f x h n
+
+    size-new : loanCell booked sizeAt k ≡ size
+    unfolding entered
+    size-new = size-here (t .loans) (s .store .loans) k new (lengths .loans) place
+
+    chunk-new : loanCell booked 1 k ≡ c
+    unfolding entered
+    chunk-new = chunk-here (t .loans) (s .store .loans) k new (lengths .loans) place
+
+    offset-new : loanCell booked 2 k ≡ o
+    unfolding entered
+    offset-new = offset-here (t .loans) (s .store .loans) k new (lengths .loans) place
+
+    taken : ((k ≡ placesIn t) × (q ≡ placesIn t + 1)) ⊎ ((k < placesIn t) × (q ≡ placesIn t))
+    taken = ⊎-elim (λ w. inl w) (λ w. inr (w .0, w .2)) (taken-where (t .loans) (t .index) (s .store .loans) (placesIn t) few (K .loans-parted))
+
+    within-places : k < q
+    within-places = ⊎-elim (λ w. omega (arith, w .0, w .1)) (λ w. omega (arith, w .0, w .1)) taken
+
+    live-here : liveIn booked k ≡ true
+    live-here = rw (head-places, size-new, lt-ltb k q within-places, ne-eqb size 0 some)
+
+    live-other : (j : ℕ) → (j ≡ k → ⊥) → liveIn booked j ≡ liveIn t j
+    live-other j n = rw (head-places, cell-same sizeAt j (omega arith) n, lower j k (placesIn t) q taken n)
+
+    abbrev d : Nodes.Loan
+    d = record { chunk = c; at = o; lev = lev; node = cut .node }
+
+    loan-here : loanIn s booked k ≡ d
+    loan-here =
+        let a = chunk-new in
+        let b = offset-new in
+        let e : levelOf (loanCell booked sizeAt k) (s .minimal) ≡ lev = ap (λ (z : ℕ). levelOf z (s .minimal)) size-new ∙ level in
+        let f = node-here in
+        (λ j. record { chunk = a j; at = b j; lev = e j; node = f j })
+
+    loan-other : (x : ℕ) → (x ≡ k → ⊥) → loanIn s booked x ≡ loanIn s t x
+    loan-other x n =
+        let a = cell-same 1 x (omega arith) n in
+        let b = cell-same 2 x (omega arith) n in
+        let e = ap (λ (z : ℕ). levelOf z (s .minimal)) (cell-same sizeAt x (omega arith) n) in
+        let f = tree-other (nodesFrom s + x) (omega arith) (λ z. n (omega arith)) in
+        (λ j. record { chunk = a j; at = b j; lev = e j; node = f j })
+
+    live : (j : ℕ) → liveIn booked j ≡ with (liveIn t) k true j
+    live j = ⊎-elim (λ e. rw (eq-eqb j k e) (ap (liveIn booked) e ∙ live-here)) (λ n. rw (ne-eqb j k n) (live-other j n)) (same? j k)
+
+    loaned : (j : ℕ) → loanIn s booked j ≡ with (loanIn s t) k d j
+    loaned j = ⊎-elim (λ e. rw (eq-eqb j k e) (ap (loanIn s booked) e ∙ loan-here)) (λ n. rw (ne-eqb j k n) (loan-other j n)) (same? j k)
+
+    -- ---- the chunks
+
+    held-low : (b : ℕ) → heldIn t b ≡ true → b < s .store .chunks
+    held-low b h = omega (arith, ltb-true b (chunkPlacesIn t) (and-left (ltb b (chunkPlacesIn t)) (not (eqb (chunkSizeIn t b) 0)) h), K .chunks-parted .limit)
+
+    top : (b : ℕ) → topIn s booked b ≡ topIn s t b
+    top b = ap (λ (x : Bool). cond x (getD (booked .tree) (cellOf (placeAt s topAt) placeWords b) 0) 0) (held b) ∙ by (told (heldIn t b))
+      where
+        by : (heldIn t b ≡ true) ⊎ (heldIn t b ≡ false) → cond (heldIn t b) (getD (booked .tree) (cellOf (placeAt s topAt) placeWords b) 0) 0 ≡ topIn s t b
+        by (inl h) =
+            let l : b < s .store .chunks = held-low b h in
+            rw h (tree-other (cellOf (placeAt s topAt) placeWords b) (omega arith) (λ e. omega arith))
+        by (inr h) = rw h
+
+    slab : chunkSlab s t ≡ chunkSlab s booked
+    slab =
+        let a = sym chunk-places in
+        let b = sym (tree-other (chunksFrom s) (omega arith) (λ e. omega arith)) in
+        (λ j. record { places = a j; vacant = b j })
+
+    chunks-parted : Parted (vacantChunk t) (chunkAfter s booked) (chunkSlab s booked) (s .store .chunks)
+    chunks-parted =
+        subst (λ (z : Slab). Parted (vacantChunk t) (chunkAfter s booked) z (s .store .chunks)) slab
+        (parted-same (vacantChunk t) (vacantChunk t) (chunkAfter s t) (chunkAfter s booked) (chunkSlab s t) (s .store .chunks) (λ x h. refl)
+        (λ x h. tree-other (cellOf (placeAt s afterAt) placeWords x) (omega arith) (λ e. omega (arith, K .chunks-parted .limit))) (K .chunks-parted))
+
+    -- ---- what the bytes say
+
+    loan-sized : (j : ℕ) → liveIn booked j ≡ true → (j ≡ k) ⊎ (j ≡ k → ⊥) → loanCell booked sizeAt j ≡ bytes (s .minimal) (loanIn s booked j .lev)
+    loan-sized j h (inl e) = subst (λ (x : ℕ). loanCell booked sizeAt x ≡ bytes (s .minimal) (loanIn s booked x .lev)) (sym e) (size-new ∙ is ∙ ap (λ (l : Nodes.Loan). bytes (s .minimal) (l .lev)) (sym loan-here))
+    loan-sized j h (inr n) = cell-same sizeAt j (omega arith) n ∙ K .sizes .loans j (sym (live-other j n) ∙ h) ∙ ap (λ (l : Nodes.Loan). bytes (s .minimal) (l .lev)) (sym (loan-other j n))
+
+    sizes : Sizes s booked
+    sizes = record {
+      chunks = λ b h. let r = K .sizes .chunks b (sym (held b) ∙ h) in let e = high b in (rw e (r .0), rw e (r .1), rw e (r .2));
+      loans = λ j h. loan-sized j h (same? j k);
+    }
+
+    loan-units : (j : ℕ) → liveIn booked j ≡ true → (j ≡ k) ⊎ (j ≡ k → ⊥) → (loanIn s booked j .at % (s .store .atom + 1) ≡ 0) × (loanCell booked sizeAt j % (s .store .atom + 1) ≡ 0)
+    loan-units j h (inl e) =
+        subst (λ (x : ℕ). (loanCell booked 2 x % (s .store .atom + 1) ≡ 0) × (loanCell booked sizeAt x % (s .store .atom + 1) ≡ 0)) (sym e)
+        (ap (λ (z : ℕ). z % (s .store .atom + 1)) offset-new ∙ at-units, ap (λ (z : ℕ). z % (s .store .atom + 1)) size-new ∙ size-units)
+    loan-units j h (inr n) =
+        let r = K .units j (sym (live-other j n) ∙ h) in
+        (ap (λ (z : ℕ). z % (s .store .atom + 1)) (cell-same 2 j (omega arith) n) ∙ r .0, ap (λ (z : ℕ). z % (s .store .atom + 1)) (cell-same sizeAt j (omega arith) n) ∙ r .1)
+
+    -- ---- the whole: W are the levels of the tree that was cut
+
+    module _ (T : ℕ → Tree) (W : ℕ → List ℕ) (levels : (i : ℕ) → i < levelsMost → part (s .pairs) i (cut .tree) ≡ W i)
+        (A : Stores.Sound (s .minimal) (levelOps (s .pairs) (few-pairs s fit)) (record {
+          count = levelsIn t;
+          levels = W;
+          loans = with (loanIn s t) (takenOf (placesIn t) (t .index) .place) (record { chunk = c; at = o; lev = lev; node = cut .node });
+          live = with (liveIn t) (takenOf (placesIn t) (t .index) .place) true;
+          high = highIn s t;
+          top = topIn s t;
+        }) T) where
+      count : levelsIn booked ≡ levelsIn t
+      count = head-other levelsAt (λ e. omega arith) (λ e. omega arith)
+
+      booked-store : Stores.Sound (s .minimal) (levelOps (s .pairs) (few-pairs s fit)) (storeOf s (few-pairs s fit) booked) T
+      booked-store =
+          sound-as (s .minimal) (levelOps (s .pairs) (few-pairs s fit)) (minimal-pos s fit) _ (storeOf s (few-pairs s fit) booked) T A count
+          (λ i h. let l : i < levelsMost = omega (arith, K .levels-most) in part-set s i (nodesFrom s + k) (cut .node) (cut .tree) l (omega arith) ∙ levels i l)
+          loaned live high top
+
+      pub booked-sound : Sound s (bookedTables s c o size cut t)
+      unfolding bookedTables
+      booked-sound =
+          let X = store-trees s (few-pairs s fit) booked T fit booked-long booked-store sizes (omega (arith, count, K .levels-most)) in
+          let n : ℕ = s .store .loans in
+          record {
+            marked = head-other markAt (λ e. omega arith) (λ e. omega arith) ∙ K .marked;
+            levels-least = omega (arith, count, K .levels-least);
+            levels-most = omega (arith, count, K .levels-most);
+            loans-parted =
+                subst (λ (p : ℕ). BookParted (booked .loans) (booked .index) n p) (sym head-places)
+                (entered-parted (t .loans) (t .index) n (placesIn t) few (K .loans-parted) (givenIn t) new (lengths .loans) (lengths .index) place refl some);
+            chained =
+                subst (λ (p : ℕ). BookChained (booked .loans) (booked .index) n p (givenIn booked)) (sym head-places)
+                (subst (λ (g : ℕ). BookChained (booked .loans) (booked .index) n q g) (sym head-given)
+                (entered-chained (t .loans) (t .index) n (placesIn t) few (K .loans-parted) (givenIn t) new (lengths .loans) (lengths .index) place refl some (K .chained)));
+            chunks-parted = chunks-parted;
+            memories-differ = λ a b h g. K .memories-differ a b (sym (held a) ∙ h) (sym (held b) ∙ g);
+            good = X .1;
+            standing = X .0;
+            loans-units = λ j h. loan-units j h (same? j k);
+          }

@@ -1,0 +1,292 @@
+-- What the tables hold after set-up, and when levels have grown: they are sound. Assumes nothing.
+use mathlib.Core.Path.{_≡_, refl, sym, ap, _∙_, subst}
+use mathlib.Core.Bool.{Bool, true, false, cond, _&&_, not}
+use mathlib.Core.Logic.{⊎-elim}
+use mathlib.Core.List.{List}
+use Prim.Native.Nat.{ℕ, _+_, _-_, _*_, _^_, _≤_, _<_}
+use native.Mathlib.Nat.{mul-suc}
+use native.Mathlib.Omega.{arith}
+use lib.Dec.{eqb, ltb}
+use lib.ListN.{length, getD, set, take, drop, length-set, length-replicate, getD-replicate}
+use lib.Seq.{getD-set-same, getD-set-other, drop-set-add, take-set-le}
+use borrow.Author.Tests.{le-ltb}
+use Rattle.lists.proofs.Bools.{true-false, lt-or-le}
+use Rattle.words.specs.Words.{cellOf}
+use Rattle.rounding.specs.Raising.{levelOf}
+use Rattle.counter.specs.InTable.{BuddyIn}
+use Rattle.counter.specs.Limits.{levelsMost}
+use Rattle.counter.specs.declared.settings.BuddySettings.{BuddySettings}
+use Rattle.slab.specs.Slab.{nowhere, Parted}
+use Rattle.slab.specs.declared.Slab.{Slab}
+use Rattle.slab.specs.declared.Taken.{Taken}
+use Rattle.slab.proofs.Places.{parted-fresh, parted-same}
+use Rattle.book.specs.Book.{vacatedAt, indexWords, firstOf}
+use Rattle.book.proofs.Keeps.{BookChained, BookParted, fresh-chained}
+use Rattle.buddy_trees.specs.Trees.{Tree, free}
+use Rattle.buddy_rules.specs.Nodes.{Ent}
+use Rattle.buddy_rules.specs.Stores.{Store, grownTo}
+use Rattle.buddy_rules.specs.Stores as Stores
+use Rattle.buddy_rules.proofs.Made.{empty-sound, grown-sound}
+use Rattle.buddy_levels.specs.Level.{levelWords, ringHead, spotIn, freshLevel, part, pairIn}
+use Rattle.buddy_levels.proofs.Fresh.{fresh-length, fresh-head, fresh-spot, fresh-none, fresh-good}
+use Rattle.buddy_levels.proofs.Ops.{levelOps}
+use Rattle.buddy_levels.proofs.Parts.{part-length, part-head, part-spot}
+use Rattle.buddy_stores.specs.Tables.{Tables, tables, Lengths, markAt, givenAt, levelsAt, placesAt, chunkPlacesAt, givenIn, levelsIn, placesIn, chunkPlacesIn, levelFrom, chunksFrom, placeAt, topAt, placeWords, nodesFrom, loanIn, liveIn, heldIn, highIn, topIn, vacantChunk, chunkAfter, chunkSlab, vacantLoan, loanAfter, initialLevels}
+use Rattle.buddy_stores.specs.Sound.{Sound}
+use Rattle.buddy_stores.proofs.Abstract.{storeOf, levels-in, sound-store, Sizes, store-trees}
+use Rattle.buddy_stores.proofs.Walks.{minimal-pos}
+use Rattle.buddy_outcomes.specs.Ask.{freshLevels, grownTables}
+use Rattle.buddy_outcomes.specs.SetUp.{freshTables}
+use Rattle.buddy_outcomes.proofs.Same.{sound-levels, sound-as, Freshened, freshened, freshened-long}
+
+pub few-pairs : (s : BuddySettings) → BuddyIn s → s .pairs ≤ 2 ^ 32
+few-pairs s fit = omega (arith, fit .pairs-most)
+
+-- a word past a level is none of its own
+pub part-set : (s : BuddySettings) (i j v : ℕ) (t : List ℕ) → i < levelsMost → chunksFrom s ≤ j → part (s .pairs) i (set t j v) ≡ part (s .pairs) i t
+part-set s i j v t h k =
+    let m = levelWords (s .pairs) in
+    let a : m * i + m ≤ j = omega (arith, mul-suc m i, levels-in s i h) in
+    let e : j ≡ m * i + (j - m * i) = omega arith in
+    ap (λ (x : ℕ). take m (drop (m * i) (set t x v))) e
+    ∙ ap (take m) (drop-set-add (m * i) t (j - m * i) v)
+    ∙ take-set-le m (drop (m * i) t) (j - m * i) v (omega arith)
+
+module _ (s : BuddySettings) (t : Tables) (fit : BuddyIn s) (lengths : Lengths s t) where
+  abbrev small : s .pairs ≤ 2 ^ 32
+  small = few-pairs s fit
+
+  -- a level that is fresh is good, and has no pair
+  fresh-part : (i : ℕ) → i < levelsMost → length (part (s .pairs) i (t .tree)) ≡ levelWords (s .pairs)
+  fresh-part i h = part-length (s .pairs) i (t .tree) (omega (arith, levels-in s i h, lengths .tree))
+
+  level-good : (i : ℕ) (v : List ℕ) → i < levelsMost → v ≡ freshLevel 0 (part (s .pairs) i (t .tree)) → levelOps (s .pairs) (few-pairs s fit) .Good v
+  level-good i v h e =
+      let p : List ℕ = part (s .pairs) i (t .tree) in
+      let l : length p ≡ levelWords (s .pairs) = fresh-part i h in
+      rw e (fresh-length 0 p ∙ l, fresh-good 0 p (omega arith) (s .pairs))
+
+  level-none : (i p : ℕ) (v : List ℕ) → i < levelsMost → v ≡ freshLevel 0 (part (s .pairs) i (t .tree)) → pairIn 0 v p .tag ≡ 0
+  level-none i p v h e =
+      let l : length (part (s .pairs) i (t .tree)) ≡ levelWords (s .pairs) = fresh-part i h in
+      ap (λ (w : List ℕ). pairIn 0 w p .tag) e ∙ ap (λ (x : Ent). x .tag) (fresh-none 0 (part (s .pairs) i (t .tree)) (omega arith) p)
+
+  -- ---- set-up
+
+  pub fresh-lengths : Lengths s (freshTables s t)
+  unfolding freshTables
+  fresh-lengths =
+      record {
+        head = refl;
+        loans = lengths .loans;
+        chunks = lengths .chunks;
+        index = length-replicate (indexWords (s .store .loans)) nowhere;
+        tree = length-set (freshLevels s 0 (initialLevels s) (t .tree)) (chunksFrom s) nowhere ∙ freshened-long s 0 (initialLevels s) (t .tree) ∙ lengths .tree;
+      }
+
+  -- no place was ever vacated, and no chain leads anywhere
+  fresh-index : (i : ℕ) → i < indexWords (s .store .loans) → getD (freshTables s t .index) i 0 ≡ nowhere
+  unfolding freshTables
+  fresh-index i h = getD-replicate (indexWords (s .store .loans)) i nowhere 0 h
+
+  fresh-held : (c : ℕ) → heldIn (freshTables s t) c ≡ false
+  unfolding freshTables
+  fresh-held c = rw (le-ltb c 0 (omega arith))
+
+  fresh-live : (k : ℕ) → liveIn (freshTables s t) k ≡ false
+  unfolding freshTables
+  fresh-live k = rw (le-ltb k 0 (omega arith))
+
+  fresh-vacated : getD (freshTables s t .tree) (chunksFrom s) 0 ≡ nowhere
+  unfolding freshTables
+  fresh-vacated =
+      getD-set-same (freshLevels s 0 (initialLevels s) (t .tree)) (chunksFrom s) nowhere 0
+      (omega (arith, freshened-long s 0 (initialLevels s) (t .tree), lengths .tree))
+
+  module _ (few : initialLevels s ≤ levelsMost) where
+    fresh-level : (i : ℕ) → i < initialLevels s → part (s .pairs) i (freshTables s t .tree) ≡ freshLevel 0 (part (s .pairs) i (t .tree))
+    unfolding freshTables
+    fresh-level i h =
+        part-set s i (chunksFrom s) nowhere (freshLevels s 0 (initialLevels s) (t .tree)) (omega arith) (omega arith)
+        ∙ freshened s 0 (initialLevels s) (t .tree) (omega arith) .inside i (omega arith) (omega arith)
+
+    fresh-store : Stores.Sound (s .minimal) (levelOps (s .pairs) small) (storeOf s small (freshTables s t)) (λ (c : ℕ). free)
+    unfolding freshTables
+    fresh-store =
+        let u : Tables = freshTables s t in
+        let W : ℕ → List ℕ = λ i. part (s .pairs) i (u .tree) in
+        sound-as (s .minimal) (levelOps (s .pairs) small) (minimal-pos s fit)
+        (record { count = initialLevels s; levels = W; loans = loanIn s u; live = λ k. false; high = λ c. 0; top = λ c. 0 })
+        (storeOf s small u) (λ (c : ℕ). free)
+        (empty-sound (s .minimal) (levelOps (s .pairs) small) (minimal-pos s fit) (initialLevels s) W (loanIn s u)
+        (λ i h. level-good i (W i) (omega arith) (fresh-level i h)) (λ i p h. level-none i p (W i) (omega arith) (fresh-level i h)))
+        refl (λ i h. refl) (λ k. refl) fresh-live (λ c. rw (fresh-held c)) (λ c. rw (fresh-held c))
+
+  pub fresh-sound : initialLevels s ≤ levelsMost → Sound s (freshTables s t)
+  unfolding freshTables
+  fresh-sound few =
+      let u : Tables = freshTables s t in
+      let never : (c : ℕ) → heldIn u c ≡ true → ⊥ = λ c h. true-false _ h (fresh-held c) in
+      let dead : (k : ℕ) → liveIn u k ≡ true → ⊥ = λ k h. true-false _ h (fresh-live k) in
+      let Z : Sizes s u = record { chunks = λ c h. absurd (never c h); loans = λ k h. absurd (dead k h) } in
+      let X = store-trees s small u (λ (c : ℕ). free) fit fresh-lengths (fresh-store few) Z few in
+      record {
+        marked = refl;
+        levels-least = omega arith;
+        levels-most = few;
+        loans-parted = subst (λ (v : ℕ). Parted (vacantLoan u) (loanAfter u) (record { places = 0; vacant = v }) (s .store .loans)) (sym (fresh-index vacatedAt (omega arith))) (parted-fresh (vacantLoan u) (loanAfter u) (s .store .loans));
+        chained = fresh-chained (u .loans) (u .index) (s .store .loans) 0 (λ i h. fresh-index (firstOf i) (omega arith));
+        chunks-parted = subst (λ (v : ℕ). Parted (vacantChunk u) (chunkAfter s u) (record { places = 0; vacant = v }) (s .store .chunks)) (sym fresh-vacated) (parted-fresh (vacantChunk u) (chunkAfter s u) (s .store .chunks));
+        memories-differ = λ c d h. absurd (never c h);
+        good = X .1;
+        standing = X .0;
+        loans-units = λ k h. absurd (dead k h);
+      }
+
+  -- ---- levels grow
+
+  module _ (sound : Sound s t) where
+    pub grown-lengths : (n : ℕ) → Lengths s (grownTables s n t)
+    unfolding grownTables
+    grown-lengths n =
+        record {
+          head = length-set (t .head) levelsAt n ∙ lengths .head;
+          loans = lengths .loans;
+          chunks = lengths .chunks;
+          index = lengths .index;
+          tree = freshened-long s (levelsIn t) (n - levelsIn t) (t .tree) ∙ lengths .tree;
+        }
+
+    module _ (n : ℕ) (more : levelsIn t ≤ n) (most : n ≤ levelsMost) where
+      abbrev grown : Tables
+      grown = tables (set (t .head) levelsAt n) (t .loans) (t .chunks) (t .index) (freshLevels s (levelsIn t) (n - levelsIn t) (t .tree))
+
+      made : Freshened s (levelsIn t) (n - levelsIn t) (t .tree) (freshLevels s (levelsIn t) (n - levelsIn t) (t .tree))
+      made = freshened s (levelsIn t) (n - levelsIn t) (t .tree) (omega arith)
+
+      word : (k : ℕ) → (k ≡ levelsAt → ⊥) → getD (grown .head) k 0 ≡ getD (t .head) k 0
+      word k o = getD-set-other (t .head) levelsAt k n 0 o
+
+      count : levelsIn grown ≡ n
+      count = getD-set-same (t .head) levelsAt n 0 (omega (arith, lengths .head))
+
+      chunk-places : chunkPlacesIn grown ≡ chunkPlacesIn t
+      chunk-places = word chunkPlacesAt (λ e. omega arith)
+
+      places : placesIn grown ≡ placesIn t
+      places = word placesAt (λ e. omega arith)
+
+      held : (c : ℕ) → heldIn grown c ≡ heldIn t c
+      held c = ap (λ (p : ℕ). ltb c p && not (eqb (getD (t .chunks) (cellOf 1 2 c) 0) 0)) chunk-places
+
+      live : (k : ℕ) → liveIn grown k ≡ liveIn t k
+      live k = ap (λ (p : ℕ). ltb k p && not (eqb (getD (t .loans) (cellOf 3 4 k) 0) 0)) places
+
+      high : (c : ℕ) → highIn s grown c ≡ highIn s t c
+      high c = ap (λ (b : Bool). cond b (levelOf (getD (t .chunks) (cellOf 1 2 c) 0) (s .minimal)) 0) (held c)
+
+      top : (c : ℕ) → topIn s grown c ≡ topIn s t c
+      top c =
+          ap (λ (b : Bool). cond b (getD (grown .tree) (cellOf (placeAt s topAt) placeWords c) 0) 0) (held c)
+          ∙ ap (λ (w : ℕ). cond (heldIn t c) w 0) (made .past (cellOf (placeAt s topAt) placeWords c) (omega arith))
+
+      loaned : (k : ℕ) → loanIn s grown k ≡ loanIn s t k
+      loaned k =
+          let e = made .past (nodesFrom s + k) (omega arith) in
+          (λ j. record { chunk = loanIn s t k .chunk; at = loanIn s t k .at; lev = loanIn s t k .lev; node = e j })
+
+      grown-store : Stores.Sound (s .minimal) (levelOps (s .pairs) small) (storeOf s small grown) (λ (c : ℕ). cond (heldIn t c) (sound .standing .trees c) free)
+      grown-store =
+          let O = levelOps (s .pairs) small in
+          let T : ℕ → Tree = λ c. cond (heldIn t c) (sound .standing .trees c) free in
+          let W : ℕ → List ℕ = λ i. part (s .pairs) i (grown .tree) in
+          let u : Store (s .minimal) O = record { count = levelsIn t; levels = W; loans = loanIn s t; live = liveIn t; high = highIn s t; top = topIn s t } in
+          let A : Stores.Sound (s .minimal) O u T = sound-levels (s .minimal) O (minimal-pos s fit) (storeOf s small t) T (sound-store s small t fit lengths sound) W (λ i h. made .below i h) in
+          let fresh : (i : ℕ) → levelsIn t ≤ i → i < n → W i ≡ freshLevel 0 (part (s .pairs) i (t .tree)) = λ i k h. made .inside i k (omega arith) in
+          let B = grown-sound (s .minimal) O (minimal-pos s fit) u T A n more (λ i k h. level-good i (W i) (omega arith) (fresh i k h)) (λ i p k h. level-none i p (W i) (omega arith) (fresh i k h)) in
+          sound-as (s .minimal) O (minimal-pos s fit) (grownTo (s .minimal) O n u) (storeOf s small grown) T B count (λ i h. refl) loaned live high top
+
+      sizes : Sizes s grown
+      sizes = record {
+        chunks = λ c h. let r = sound .standing .sized c (sym (held c) ∙ h) in let e = high c in (rw e (r .0), rw e (r .1), rw e (r .2));
+        loans = λ k h. sound .standing .loans-sized k (sym (live k) ∙ h);
+      }
+
+      slab : chunkSlab s t ≡ chunkSlab s grown
+      slab = let a = sym chunk-places in let b = sym (made .past (chunksFrom s) (omega arith)) in (λ j. record { places = a j; vacant = b j })
+
+      grown-is-sound : Lengths s grown → Sound s grown
+      grown-is-sound len =
+          let X = store-trees s small grown (λ (c : ℕ). cond (heldIn t c) (sound .standing .trees c) free) fit len grown-store sizes (omega (arith, count)) in
+          let e = sym places in
+          let f : givenIn t ≡ givenIn grown = sym (word givenAt (λ e. omega arith)) in
+          record {
+            marked = word markAt (λ e. omega arith) ∙ sound .marked;
+            levels-least = omega (arith, count, sound .levels-least);
+            levels-most = omega (arith, count);
+            loans-parted = subst (λ (p : ℕ). BookParted (t .loans) (t .index) (s .store .loans) p) e (sound .loans-parted);
+            chained =
+                subst (λ (p : ℕ). BookChained (t .loans) (t .index) (s .store .loans) p (givenIn grown)) e
+                (subst (λ (g : ℕ). BookChained (t .loans) (t .index) (s .store .loans) (placesIn t) g) f (sound .chained));
+            chunks-parted =
+                subst (λ (z : Slab). Parted (vacantChunk t) (chunkAfter s grown) z (s .store .chunks)) slab
+                (parted-same (vacantChunk t) (vacantChunk t) (chunkAfter s t) (chunkAfter s grown) (chunkSlab s t) (s .store .chunks) (λ x h. refl)
+                (λ x h. made .past (cellOf (placeAt s 1) placeWords x) (omega arith)) (sound .chunks-parted));
+            memories-differ = λ c d h k. sound .memories-differ c d (sym (held c) ∙ h) (sym (held d) ∙ k);
+            good = X .1;
+            standing = X .0;
+            loans-units = λ k h. sound .loans-units k (sym (live k) ∙ h);
+          }
+
+    pub grown-tables-sound : (n : ℕ) → levelsIn t ≤ n → n ≤ levelsMost → Sound s (grownTables s n t)
+    unfolding grownTables
+    grown-tables-sound n more most = grown-is-sound n more most (grown-lengths n)
+
+    -- ---- what a grown store says
+
+    module _ (n : ℕ) (more : levelsIn t ≤ n) (most : n ≤ levelsMost) where
+      pub grown-count : levelsIn (grownTables s n t) ≡ n
+      unfolding grownTables
+      grown-count = count n more most
+
+      pub grown-held : (c : ℕ) → heldIn (grownTables s n t) c ≡ heldIn t c
+      unfolding grownTables
+      grown-held = held n more most
+
+      pub grown-places : placesIn (grownTables s n t) ≡ placesIn t
+      unfolding grownTables
+      grown-places = places n more most
+
+      pub grown-slab : chunkSlab s (grownTables s n t) ≡ chunkSlab s t
+      unfolding grownTables
+      grown-slab = sym (slab n more most)
+
+      -- a new level has no ready side
+      pub grown-head : (j : ℕ) → j < n → (j < levelsIn t → ringHead (levelFrom s j) (t .tree) ≡ nowhere) → ringHead (levelFrom s j) (grownTables s n t .tree) ≡ nowhere
+      unfolding grownTables
+      grown-head j h f =
+          let u = freshLevels s (levelsIn t) (n - levelsIn t) (t .tree) in
+          part-head (s .pairs) j u
+          ∙ ⊎-elim
+          (λ k. ap (ringHead 0) (made n more most .below j k) ∙ sym (part-head (s .pairs) j (t .tree)) ∙ f k)
+          (λ k. ap (ringHead 0) (made n more most .inside j k (omega arith)) ∙ fresh-head 0 (part (s .pairs) j (t .tree)) (omega (arith, fresh-part j (omega arith))))
+          (lt-or-le j (levelsIn t))
+
+      spot-there : (j : ℕ) → j < n → (j < levelsIn t → spotIn (levelFrom s j) (t .tree) .place < s .pairs) → spotIn 0 (part (s .pairs) j (grownTables s n t .tree)) .place < s .pairs
+      unfolding grownTables
+      spot-there j h f = ⊎-elim
+          (λ k. let e : spotIn 0 (part (s .pairs) j (grown n more most .tree)) .place ≡ spotIn (levelFrom s j) (t .tree) .place =
+          ap (λ (x : List ℕ). spotIn 0 x .place) (made n more most .below j k) ∙ sym (ap (λ (x : Taken). x .place) (part-spot (s .pairs) j (t .tree) (sound .good j k))) in
+          omega (arith, e, f k))
+          (λ k. let e : spotIn 0 (part (s .pairs) j (grown n more most .tree)) .place ≡ 0 =
+          ap (λ (x : List ℕ). spotIn 0 x .place) (made n more most .inside j k (omega arith)) ∙ fresh-spot 0 (part (s .pairs) j (t .tree)) (omega (arith, fresh-part j (omega arith))) in
+          omega (arith, e, fit .pairs-some))
+          (lt-or-le j (levelsIn t))
+
+      -- and all its pair places
+      pub grown-spot : (j : ℕ) → j < n → (j < levelsIn t → spotIn (levelFrom s j) (t .tree) .place < s .pairs) → spotIn (levelFrom s j) (grownTables s n t .tree) .place < s .pairs
+      grown-spot j h f =
+          let v = part (s .pairs) j (grownTables s n t .tree) in
+          let G = grown-tables-sound n more most .good j (omega (arith, grown-count)) in
+          let e : spotIn (levelFrom s j) (grownTables s n t .tree) .place ≡ spotIn 0 v .place = ap (λ (x : Taken). x .place) (part-spot (s .pairs) j (grownTables s n t .tree) G) in
+          omega (arith, e, spot-there j h f)

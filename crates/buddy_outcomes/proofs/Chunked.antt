@@ -1,0 +1,265 @@
+-- What the tables say when a chunk stands at the place that is taken next: all but its tree. Assumes nothing.
+use mathlib.Core.Path.{_≡_, refl, sym, ap, _∙_, subst}
+use mathlib.Core.Bool.{Bool, true, false, cond, _&&_, not}
+use mathlib.Core.Logic.{_⊎_, inl, inr, ⊎-elim}
+use mathlib.Core.List.{List, [], _∷_}
+use Prim.Native.Nat.{ℕ, _+_, _-_, _*_, _^_, _%_, _≤_, _<_}
+use native.Mathlib.Nat.{mod-eq-of-lt}
+use native.Mathlib.Omega.{arith}
+use lib.Dec.{eqb, ltb}
+use lib.ListN.{length, getD, set, length-set}
+use lib.Seq.{getD-set-same, getD-set-other}
+use borrow.Author.Tests.{eq-eqb, ne-eqb, lt-ltb, le-ltb}
+use Rattle.lists.specs.Members.{Below, headOr}
+use Rattle.lists.proofs.Bools.{same?}
+use Rattle.words.specs.Words.{cellOf}
+use Rattle.rounding.specs.Raising.{levelOf}
+use Rattle.counter.specs.InTable.{BuddyIn}
+use Rattle.counter.specs.Limits.{levelsMost}
+use Rattle.counter.specs.declared.settings.BuddySettings.{BuddySettings}
+use Rattle.slab.specs.Slab.{nowhere, linkAt, inserted, Chain, Parted, changed}
+use Rattle.slab.specs.declared.Slab.{Slab}
+use Rattle.slab.specs.declared.Taken.{Taken}
+use Rattle.slab.proofs.Places.{parted-same, insert-first, insert-next, insert-last, inserted-parted, changed-here, changed-other}
+use Rattle.book.proofs.Keeps.{BookChained, BookParted}
+use Rattle.buddy_trees.specs.Trees.{bytes}
+use Rattle.buddy_trees.proofs.Bytes.{bytes-pos}
+use Rattle.buddy_rules.specs.Stores.{with}
+use Rattle.buddy_levels.specs.Level.{spotIn, part}
+use Rattle.buddy_stores.specs.Tables.{Tables, tables, Lengths, markAt, givenAt, levelsAt, placesAt, chunkPlacesAt, memoryAt, chunkSizeAt, chunkWords, givenIn, levelsIn, placesIn, chunkPlacesIn, memoryIn, chunkSizeIn, levelFrom, chunksFrom, placeAt, topAt, afterAt, placeWords, nodesFrom, loanIn, liveIn, loanCell, heldIn, highIn, topIn, vacantChunk, chunkAfter, chunkSlab, initialLevels}
+use Rattle.buddy_stores.specs.Sound.{Sound}
+use Rattle.buddy_stores.proofs.Walks.{minimal-pos, level-bytes}
+use Rattle.buddy_outcomes.specs.Ask.{chunkSpot}
+use Rattle.buddy_outcomes.proofs.Changed.{part-set}
+use Rattle.buddy_outcomes.proofs.Booked.{Kept, and-no, lower}
+
+-- the place that is taken is the next new one, or one that was vacant, and then no place more is used
+inserted-where : (free : ℕ → Bool) (links : List ℕ) (at step : ℕ) (s : Slab) (most : ℕ) → Parted free (linkAt links at step) s most → most < nowhere
+    → ((inserted s links at step .place ≡ s .places) × (inserted s links at step .slab .places ≡ s .places + 1))
+    ⊎ ((inserted s links at step .place < s .places) × (free (inserted s links at step .place) ≡ true) × (inserted s links at step .slab .places ≡ s .places))
+inserted-where free links at step s most P few = by (P .chained) refl
+  where
+    by : (l : List ℕ) → P .chained ≡ l
+        → ((inserted s links at step .place ≡ s .places) × (inserted s links at step .slab .places ≡ s .places + 1))
+        ⊎ ((inserted s links at step .place < s .places) × (free (inserted s links at step .place) ≡ true) × (inserted s links at step .slab .places ≡ s .places))
+    by [] e =
+        let v : s .vacant ≡ nowhere = rw e at (P .chain) in
+        let h : s .places ≤ most = P .limit in
+        let m : (s .places + 1) % 2 ^ 64 ≡ s .places + 1 = mod-eq-of-lt (omega arith) in
+        let t = insert-next s links at step (omega arith) in
+        inl (ap (λ (u : Taken). u .place) t, ap (λ (u : Taken). u .slab .places) t ∙ m)
+    by (x ∷ l) e =
+        let c : Chain (linkAt links at step) (s .vacant) (x ∷ l) = rw e at (P .chain) in
+        let b : Below (s .places) (x ∷ l) = rw e at (P .below) in
+        let v : s .vacant ≡ x = c .0 in
+        let h : x < s .places = b .0 in
+        let t = insert-first s links at step (omega arith) in
+        let p : inserted s links at step .place ≡ x = ap (λ (u : Taken). u .place) t ∙ v in
+        inr (omega arith, ap free p ∙ P .vacant x (rw e (inl refl)), ap (λ (u : Taken). u .slab .places) t)
+
+module _ (s : BuddySettings) (t : Tables) (fit : BuddyIn s) (lengths : Lengths s t) (memory z : ℕ) where
+  abbrev p : ℕ
+  p = chunkSpot s t .place
+
+  abbrev q : ℕ
+  q = chunkSpot s t .slab .places
+
+  abbrev topCell : ℕ
+  topCell = cellOf (placeAt s topAt) placeWords p
+
+  abbrev topWord : ℕ
+  topWord = 2 * spotIn (levelFrom s (levelsIn t - 1)) (t .tree) .place + 2
+
+  abbrev pub chunked : Tables
+  chunked =
+      tables (set (t .head) chunkPlacesAt q) (t .loans)
+      (set (set (t .chunks) (cellOf memoryAt chunkWords p) memory) (cellOf chunkSizeAt chunkWords p) z)
+      (t .index)
+      (set (set (t .tree) (chunksFrom s) (chunkSpot s t .slab .vacant)) topCell topWord)
+
+  pub chunked-lengths : Lengths s chunked
+  chunked-lengths = record {
+    head = length-set (t .head) chunkPlacesAt q ∙ lengths .head;
+    loans = lengths .loans;
+    chunks = length-set (set (t .chunks) (cellOf memoryAt chunkWords p) memory) (cellOf chunkSizeAt chunkWords p) z ∙ length-set (t .chunks) (cellOf memoryAt chunkWords p) memory ∙ lengths .chunks;
+    index = lengths .index;
+    tree = length-set (set (t .tree) (chunksFrom s) (chunkSpot s t .slab .vacant)) topCell topWord ∙ length-set (t .tree) (chunksFrom s) (chunkSpot s t .slab .vacant) ∙ lengths .tree;
+  }
+
+  -- ---- words of the head
+
+  head-places : chunkPlacesIn chunked ≡ q
+  head-places = getD-set-same (t .head) chunkPlacesAt q 0 (omega (arith, lengths .head))
+
+  head-other : (i : ℕ) → (i ≡ chunkPlacesAt → ⊥) → getD (chunked .head) i 0 ≡ getD (t .head) i 0
+  head-other i n = getD-set-other (t .head) chunkPlacesAt i q 0 n
+
+  pub chunked-count : levelsIn chunked ≡ levelsIn t
+  chunked-count = head-other levelsAt (λ e. omega arith)
+
+  pub chunked-places : placesIn chunked ≡ placesIn t
+  chunked-places = head-other placesAt (λ e. omega arith)
+
+  pub chunked-level : (i : ℕ) → i < levelsMost → part (s .pairs) i (chunked .tree) ≡ part (s .pairs) i (t .tree)
+  chunked-level i h = part-set s i topCell topWord (set (t .tree) (chunksFrom s) (chunkSpot s t .slab .vacant)) h (omega arith) ∙ part-set s i (chunksFrom s) (chunkSpot s t .slab .vacant) (t .tree) h (omega arith)
+
+  -- ---- words of the tree
+
+  tree-other : (i : ℕ) → (i ≡ chunksFrom s → ⊥) → (i ≡ topCell → ⊥) → getD (chunked .tree) i 0 ≡ getD (t .tree) i 0
+  tree-other i a b = getD-set-other (set (t .tree) (chunksFrom s) (chunkSpot s t .slab .vacant)) topCell i topWord 0 b ∙ getD-set-other (t .tree) (chunksFrom s) i (chunkSpot s t .slab .vacant) 0 a
+
+  module _ (room : chunkSpot s t .place < s .store .chunks) where
+    tree-vacated : getD (chunked .tree) (chunksFrom s) 0 ≡ chunkSpot s t .slab .vacant
+    tree-vacated =
+        getD-set-other (set (t .tree) (chunksFrom s) (chunkSpot s t .slab .vacant)) topCell (chunksFrom s) topWord 0 (λ e. omega arith)
+        ∙ getD-set-same (t .tree) (chunksFrom s) (chunkSpot s t .slab .vacant) 0 (omega (arith, lengths .tree))
+
+    tree-top : getD (chunked .tree) (cellOf (placeAt s topAt) placeWords (chunkSpot s t .place)) 0 ≡ topWord
+    tree-top = getD-set-same (set (t .tree) (chunksFrom s) (chunkSpot s t .slab .vacant)) topCell topWord 0 (omega (arith, length-set (t .tree) (chunksFrom s) (chunkSpot s t .slab .vacant), lengths .tree))
+
+    -- ---- the loans are the same
+
+    pub chunked-live : (j : ℕ) → liveIn chunked j ≡ liveIn t j
+    chunked-live j = ap (λ (n : ℕ). ltb j n && not (eqb (loanCell t 3 j) 0)) chunked-places
+
+    pub chunked-loan : (j : ℕ) → loanIn s chunked j ≡ loanIn s t j
+    chunked-loan j =
+        let e = tree-other (nodesFrom s + j) (λ e. omega arith) (λ e. omega arith) in
+        (λ i. record { chunk = loanIn s t j .chunk; at = loanIn s t j .at; lev = loanIn s t j .lev; node = e i })
+
+    -- ---- words of the chunks
+
+    abbrev first : List ℕ
+    first = set (t .chunks) (cellOf memoryAt chunkWords p) memory
+
+    first-long : length first ≡ chunkWords * s .store .chunks
+    first-long = length-set (t .chunks) (cellOf memoryAt chunkWords p) memory ∙ lengths .chunks
+
+    size-here : chunkSizeIn chunked p ≡ z
+    size-here = getD-set-same first (cellOf chunkSizeAt chunkWords p) z 0 (omega (arith, first-long))
+
+    size-other : (b : ℕ) → (b ≡ p → ⊥) → chunkSizeIn chunked b ≡ chunkSizeIn t b
+    size-other b n =
+        getD-set-other first (cellOf chunkSizeAt chunkWords p) (cellOf chunkSizeAt chunkWords b) z 0 (λ e. n (omega arith))
+        ∙ getD-set-other (t .chunks) (cellOf memoryAt chunkWords p) (cellOf chunkSizeAt chunkWords b) memory 0 (λ e. omega arith)
+
+    memory-here : memoryIn chunked p ≡ memory
+    memory-here =
+        getD-set-other first (cellOf chunkSizeAt chunkWords p) (cellOf memoryAt chunkWords p) z 0 (λ e. omega arith)
+        ∙ getD-set-same (t .chunks) (cellOf memoryAt chunkWords p) memory 0 (omega (arith, lengths .chunks))
+
+    memory-other : (b : ℕ) → (b ≡ p → ⊥) → memoryIn chunked b ≡ memoryIn t b
+    memory-other b n =
+        getD-set-other first (cellOf chunkSizeAt chunkWords p) (cellOf memoryAt chunkWords b) z 0 (λ e. omega arith)
+        ∙ getD-set-other (t .chunks) (cellOf memoryAt chunkWords p) (cellOf memoryAt chunkWords b) memory 0 (λ e. n (omega arith))
+
+    -- ---- the place was vacant, and is held now
+
+    module _ (sound : Sound s t) (tall : 0 < levelsIn t) (is : z ≡ bytes (s .minimal) (levelsIn t)) where
+      few : s .store .chunks < nowhere
+      few = omega (arith, fit .store .chunks-most)
+
+      some : z ≡ 0 → ⊥
+      some e = omega (arith, bytes-pos (s .minimal) (levelsIn t) (minimal-pos s fit))
+
+      spot : ((p ≡ chunkPlacesIn t) × (q ≡ chunkPlacesIn t + 1)) ⊎ ((p < chunkPlacesIn t) × (vacantChunk t p ≡ true) × (q ≡ chunkPlacesIn t))
+      spot = inserted-where (vacantChunk t) (t .tree) (placeAt s afterAt) placeWords (chunkSlab s t) (s .store .chunks) (sound .chunks-parted) few
+
+      spot-low : ((p ≡ chunkPlacesIn t) × (q ≡ chunkPlacesIn t + 1)) ⊎ ((p < chunkPlacesIn t) × (q ≡ chunkPlacesIn t))
+      spot-low = ⊎-elim (λ w. inl w) (λ w. inr (w .0, w .2)) spot
+
+      within-places : p < q
+      within-places = ⊎-elim (λ w. omega (arith, w .0, w .1)) (λ w. omega (arith, w .0, w .1)) spot-low
+
+      pub spot-dead : heldIn t (chunkSpot s t .place) ≡ false
+      spot-dead = by spot
+        where
+          by : ((p ≡ chunkPlacesIn t) × (q ≡ chunkPlacesIn t + 1)) ⊎ ((p < chunkPlacesIn t) × (vacantChunk t p ≡ true) × (q ≡ chunkPlacesIn t)) → heldIn t p ≡ false
+          by (inl w) = rw (le-ltb p (chunkPlacesIn t) (omega (arith, w .0)))
+          by (inr w) = and-no (ltb p (chunkPlacesIn t)) (not (vacantChunk t p)) (ap not (w .1))
+
+      held-here : heldIn chunked p ≡ true
+      held-here = rw (head-places, size-here, lt-ltb p q within-places, ne-eqb z 0 some)
+
+      held-other : (b : ℕ) → (b ≡ p → ⊥) → heldIn chunked b ≡ heldIn t b
+      held-other b n = rw (head-places, size-other b n, lower b p (chunkPlacesIn t) q spot-low n)
+
+      high-here : highIn s chunked p ≡ levelsIn t
+      high-here = rw (held-here) (ap (λ (x : ℕ). levelOf x (s .minimal)) (size-here ∙ is) ∙ level-bytes s fit (levelsIn t) (sound .levels-most))
+
+      high-other : (b : ℕ) → (b ≡ p → ⊥) → highIn s chunked b ≡ highIn s t b
+      high-other b n = rw (held-other b n, size-other b n)
+
+      pub chunked-high : (b : ℕ) → highIn s chunked b ≡ with (highIn s t) (chunkSpot s t .place) (levelsIn t) b
+      chunked-high b = ⊎-elim (λ e. rw (eq-eqb b p e) (ap (highIn s chunked) e ∙ high-here)) (λ n. rw (ne-eqb b p n) (high-other b n)) (same? b p)
+
+      top-other : (b : ℕ) → (b ≡ p → ⊥) → topIn s chunked b ≡ topIn s t b
+      top-other b n =
+          let e = tree-other (cellOf (placeAt s topAt) placeWords b) (λ e. omega arith) (λ e. n (omega arith)) in
+          ap (λ (x : Bool). cond x (getD (chunked .tree) (cellOf (placeAt s topAt) placeWords b) 0) 0) (held-other b n) ∙ ap (λ (w : ℕ). cond (heldIn t b) w 0) e
+
+      top-here : topIn s chunked p ≡ topWord
+      top-here = ap (λ (x : Bool). cond x (getD (chunked .tree) topCell 0) 0) held-here ∙ tree-top
+
+      pub chunked-top : (b : ℕ) → topIn s chunked b ≡ with (topIn s t) (chunkSpot s t .place) (2 * spotIn (levelFrom s (levelsIn t - 1)) (t .tree) .place + 2) b
+      chunked-top b = ⊎-elim (λ e. rw (eq-eqb b p e) (ap (topIn s chunked) e ∙ top-here)) (λ n. rw (ne-eqb b p n) (top-other b n)) (same? b p)
+
+      -- ---- the slab of chunk places
+
+      vacant-now : (x : ℕ) → vacantChunk chunked x ≡ changed (vacantChunk t) p false x
+      vacant-now x = ⊎-elim
+          (λ e. ap (vacantChunk chunked) e ∙ ap (λ (w : ℕ). eqb w 0) size-here ∙ ne-eqb z 0 some ∙ sym (changed-here (vacantChunk t) p false x e))
+          (λ n. ap (λ (w : ℕ). eqb w 0) (size-other x n) ∙ sym (changed-other (vacantChunk t) p false x n))
+          (same? x p)
+
+      slab : chunkSpot s t .slab ≡ chunkSlab s chunked
+      slab = let a = sym head-places in let b = sym tree-vacated in (λ j. record { places = a j; vacant = b j })
+
+      chunks-parted : Parted (vacantChunk chunked) (chunkAfter s chunked) (chunkSlab s chunked) (s .store .chunks)
+      chunks-parted =
+          let h : headOr (chunkPlacesIn t) (sound .chunks-parted .chained) < s .store .chunks = omega (arith, insert-last (vacantChunk t) (t .tree) (placeAt s afterAt) placeWords (chunkSlab s t) (s .store .chunks) (sound .chunks-parted) few, room) in
+          subst (λ (y : Slab). Parted (vacantChunk chunked) (chunkAfter s chunked) y (s .store .chunks)) slab
+          (parted-same (changed (vacantChunk t) p false) (vacantChunk chunked) (chunkAfter s t) (chunkAfter s chunked) (chunkSpot s t .slab) (s .store .chunks) (λ x g. vacant-now x)
+          (λ x g. tree-other (cellOf (placeAt s afterAt) placeWords x) (λ e. omega arith) (λ e. omega arith))
+          (inserted-parted (vacantChunk t) (t .tree) (placeAt s afterAt) placeWords (chunkSlab s t) (s .store .chunks) (sound .chunks-parted) few h))
+
+      -- ---- all but the trees
+
+      chunk-sized : (b : ℕ) → heldIn chunked b ≡ true → (b ≡ p) ⊎ (b ≡ p → ⊥) → (chunkSizeIn chunked b ≡ bytes (s .minimal) (highIn s chunked b)) × (0 < highIn s chunked b) × (initialLevels s ≤ highIn s chunked b)
+      chunk-sized b h (inl e) =
+          subst (λ (x : ℕ). (chunkSizeIn chunked x ≡ bytes (s .minimal) (highIn s chunked x)) × (0 < highIn s chunked x) × (initialLevels s ≤ highIn s chunked x)) (sym e)
+          (size-here ∙ is ∙ ap (bytes (s .minimal)) (sym high-here), omega (arith, high-here), omega (arith, high-here, sound .levels-least))
+      chunk-sized b h (inr n) =
+          let r = sound .standing .sized b (sym (held-other b n) ∙ h) in
+          let e = high-other b n in
+          (size-other b n ∙ r .0 ∙ ap (bytes (s .minimal)) (sym e), omega (arith, e, r .1), omega (arith, e, r .2))
+
+      differ : ((c : ℕ) → heldIn t c ≡ true → memoryIn t c ≡ memory → ⊥) → (a b : ℕ) → heldIn chunked a ≡ true → heldIn chunked b ≡ true → memoryIn chunked a ≡ memoryIn chunked b → a ≡ b
+      differ new a b h g e = ⊎-elim
+          (λ x. ⊎-elim
+          (λ y. x ∙ sym y)
+          (λ m. absurd (new b (sym (held-other b m) ∙ g) (sym (memory-other b m) ∙ sym e ∙ ap (memoryIn chunked) x ∙ memory-here)))
+          (same? b p))
+          (λ n. ⊎-elim
+          (λ y. absurd (new a (sym (held-other a n) ∙ h) (sym (memory-other a n) ∙ e ∙ ap (memoryIn chunked) y ∙ memory-here)))
+          (λ m. sound .memories-differ a b (sym (held-other a n) ∙ h) (sym (held-other b m) ∙ g) (sym (memory-other a n) ∙ e ∙ memory-other b m))
+          (same? b p))
+          (same? a p)
+
+      pub chunked-kept : ((c : ℕ) → heldIn t c ≡ true → memoryIn t c ≡ memory → ⊥) → Kept s chunked
+      chunked-kept new =
+          let e = sym chunked-places in
+          let f : givenIn t ≡ givenIn chunked = sym (head-other givenAt (λ e. omega arith)) in
+          record {
+            marked = head-other markAt (λ e. omega arith) ∙ sound .marked;
+            levels-least = omega (arith, chunked-count, sound .levels-least);
+            levels-most = omega (arith, chunked-count, sound .levels-most);
+            loans-parted = subst (λ (n : ℕ). BookParted (t .loans) (t .index) (s .store .loans) n) e (sound .loans-parted);
+            chained =
+                subst (λ (n : ℕ). BookChained (t .loans) (t .index) (s .store .loans) n (givenIn chunked)) e
+                (subst (λ (g : ℕ). BookChained (t .loans) (t .index) (s .store .loans) (placesIn t) g) f (sound .chained));
+            chunks-parted = chunks-parted;
+            memories-differ = differ new;
+            sizes = record { chunks = λ b h. chunk-sized b h (same? b p); loans = λ j h. sound .standing .loans-sized j (sym (chunked-live j) ∙ h) };
+            units = λ j h. sound .loans-units j (sym (chunked-live j) ∙ h);
+          }

@@ -1,0 +1,224 @@
+-- A delivery on a sound store leaves it sound, whatever it answers: the memory kept, lost, or refused. Assumes nothing.
+use mathlib.Core.Path.{_≡_, refl, sym, ap, subst, _∙_}
+use mathlib.Core.Bool.{Bool, true, false, cond, not, _&&_, _||_}
+use mathlib.Core.Logic.{_⊎_, ⊎-elim}
+use mathlib.Core.List.{List, [], _∷_, _++_}
+use Prim.Native.Nat.{ℕ, zero, suc, _+_, _-_, _≤_, _<_}
+use native.Mathlib.Omega.{arith}
+use lib.Dec.{eqb, ltb}
+use borrow.Author.Tests.{eqb-false, ltb-true}
+use Rattle.lists.proofs.Bools.{told, true-false, and-left, and-right, not-yes, same?}
+use Rattle.counter.specs.Account.{heapAt}
+use Rattle.counter.specs.Gate.{Verdict, refuse, pass, first}
+use Rattle.counter.specs.InTable.{BuddyIn}
+use Rattle.counter.specs.Limits.{levelsMost}
+use Rattle.counter.specs.declared.account.Account.{Account}
+use Rattle.counter.specs.declared.account.KeptOrder.{KeptOrder}
+use Rattle.counter.specs.declared.account.OpenOrder.{OpenOrder}
+use Rattle.counter.specs.declared.account.OpenOrder.the-variants.{Nothing, Kept}
+use Rattle.counter.specs.declared.account.Order.{Order}
+use Rattle.counter.specs.declared.answers.Mapping.{Mapping}
+use Rattle.counter.specs.declared.answers.Mapping.the-variants as M
+use Rattle.counter.specs.declared.answers.Memory.{Memory}
+use Rattle.counter.specs.declared.answers.Outcome.{Outcome}
+use Rattle.counter.specs.declared.answers.Outcome.the-variants as O
+use Rattle.counter.specs.declared.settings.BuddySettings.{BuddySettings}
+use Rattle.counter.proofs.Gates.{passed}
+use Rattle.slab.specs.Slab.{inserted}
+use Rattle.slab.specs.declared.Slab.{Slab}
+use Rattle.store_rules.specs.Delivery.{buddy, holds, suits, deliveryOk, mapped, fateOf}
+use Rattle.store_rules.specs.Orders.{Plan, deny, take, buy}
+use Rattle.store_rules.specs.Tests.{orderFor, gateRow}
+use Rattle.store_rules.proofs.Refused.{leads-buy}
+use Rattle.book.specs.Book.{takenOf}
+use Rattle.buddy_trees.specs.Trees.{bytes}
+use Rattle.buddy_levels.specs.Level.{spotIn, ringHead}
+use Rattle.buddy_stores.specs.Tables.{Tables, Lengths, levelsIn, placesIn, chunkPlacesIn, heldIn, memoryIn, levelFrom, placeAt, afterAt, placeWords}
+use Rattle.buddy_stores.specs.Sound.{Sound}
+use Rattle.buddy_stores.specs.Test.{soundOk}
+use Rattle.slab.specs.Slab as Slab
+use Rattle.buddy_outcomes.specs.Gate.{lentOk, accountOk}
+use Rattle.buddy_outcomes.specs.Ask as Ask
+use Rattle.buddy_outcomes.specs.Ask.{Found, at, levelFor, grownFor, foundFor, sizeOk, roomOk, chunkSpot, askRow, planned, decideAsk, grownTables}
+use Rattle.buddy_outcomes.specs.Deliver as Deliver
+use Rattle.buddy_outcomes.specs.Deliver.{stillOk, deliverGateOf, memories, servedTables, carryFate, decideDeliver, planDeliver, carryDeliver, deliverOf}
+use Rattle.buddy_outcomes.proofs.Passing.{Lent, lent-in}
+use Rattle.buddy_outcomes.proofs.Rounds.{level-low}
+use Rattle.buddy_outcomes.proofs.Changed.{grown-lengths, grown-tables-sound, grown-count, grown-held, grown-places, grown-slab, grown-head, grown-spot}
+use Rattle.buddy_outcomes.proofs.Searches.{search-none, room-place, room-chunk, room-pair}
+use Rattle.buddy_outcomes.proofs.Served.{served-sound}
+
+-- ---- what the kept ask still leads to
+
+-- which place is taken next hangs on the slab alone
+spot-same : (z : Slab) (x y : List ℕ) (f w : ℕ) → inserted z x f w .place ≡ inserted z y f w .place
+unfolding inserted
+spot-same z x y f w = ⊎-elim (λ e. rw e refl) (λ e. rw e refl) (told (ltb (z .vacant) (z .places)))
+
+abbrev isBuy : Plan ℕ → Bool
+isBuy (deny n) = false
+isBuy (take i) = false
+isBuy (buy z) = true
+
+abbrev bought : Plan ℕ → ℕ
+bought (deny n) = 0
+bought (take i) = 0
+bought (buy z) = z
+
+-- what such an ask has shown
+record Buys (s : BuddySettings) (size mask : ℕ) (t : Tables) (z : ℕ) : Type 0 where
+  pub found : foundFor s size mask t ≡ Ask.nowhere
+  pub sized : sizeOk s size mask ≡ true
+  pub room : roomOk s size mask t Ask.nowhere ≡ true
+  pub order : bytes (s .minimal) (grownFor s size mask t) ≡ z
+
+module _ (s : BuddySettings) (a : Account) (size mask : ℕ) (t : Tables) (z : ℕ) where
+  by-found : (f : Found) → foundFor s size mask t ≡ f → (v : Verdict) → first (askRow s (heapAt a (s .store .heap)) (a .objects) size mask t f) ≡ v
+      → planned s size mask t f v ≡ buy z → Buys s size mask t z
+  by-found f e (refuse n) w p = absurd (true-false true refl (sym (ap isBuy p)))
+  by-found (at i) e pass w p = absurd (true-false true refl (sym (ap isBuy p)))
+  by-found Ask.nowhere e pass w p =
+      let h = passed (askRow s (heapAt a (s .store .heap)) (a .objects) size mask t Ask.nowhere) w in
+      record { found = e; sized = h .1 .0; room = h .1 .1 .0; order = ap bought p }
+
+  buys : decideAsk s (heapAt a (s .store .heap)) (a .objects) size mask t ≡ buy z → Buys s size mask t z
+  unfolding decideAsk
+  buys p = by-found (foundFor s size mask t) refl _ refl p
+
+-- ---- the chunk arrives
+
+module _ (s : BuddySettings) (t : Tables) (fit : BuddyIn s) (lengths : Lengths s t) (sound : Sound s t) (size mask z : ℕ) (b : Buys s size mask t z) where
+  abbrev n : ℕ
+  n = grownFor s size mask t
+
+  more : levelsIn t ≤ n
+  more = omega arith
+
+  most : n ≤ levelsMost
+  most = omega (arith, level-low s fit size mask (b .sized), sound .levels-most)
+
+  grown-sound : Sound s (grownTables s n t)
+  grown-sound = grown-tables-sound s t fit lengths sound n more most
+
+  count : levelsIn (grownTables s n t) ≡ n
+  count = grown-count s t fit lengths sound n more most
+
+  place-before : takenOf (placesIn t) (grownTables s n t .index) .place < s .store .loans
+  unfolding grownTables
+  place-before = room-place s t size mask Ask.nowhere (b .room)
+
+  place : takenOf (placesIn (grownTables s n t)) (grownTables s n t .index) .place < s .store .loans
+  place = subst (λ (p : ℕ). takenOf p (grownTables s n t .index) .place < s .store .loans) (sym (grown-places s t fit lengths sound n more most)) place-before
+
+  spot : chunkSpot s (grownTables s n t) .place < s .store .chunks
+  spot =
+      let e : chunkSpot s (grownTables s n t) .place ≡ chunkSpot s t .place =
+      ap (λ (z : Slab). inserted z (grownTables s n t .tree) (placeAt s afterAt) placeWords .place) (grown-slab s t fit lengths sound n more most)
+      ∙ spot-same _ (grownTables s n t .tree) (t .tree) (placeAt s afterAt) placeWords in
+      omega (arith, e, room-chunk s t size mask Ask.nowhere (b .room) refl)
+
+  empty : (j : ℕ) → levelFor s size mask ≤ j → j < levelsIn (grownTables s n t) → ringHead (levelFrom s j) (grownTables s n t .tree) ≡ Slab.nowhere
+  unfolding foundFor
+  empty j h g =
+      grown-head s t fit lengths sound n more most j (omega (arith, count))
+      (λ k. search-none s (t .tree) (levelFor s size mask) (levelsIn t - levelFor s size mask) (b .found) j h (omega arith))
+
+  pair : (j : ℕ) → levelFor s size mask ≤ j → j < levelsIn (grownTables s n t) → spotIn (levelFrom s j) (grownTables s n t .tree) .place < s .pairs
+  pair j h g =
+      grown-spot s t fit lengths sound n more most j (omega (arith, count)) (λ k. room-pair s t size mask Ask.nowhere (b .room) j h (omega (arith, count)) k)
+
+  module _ (memory : ℕ) (new : (c : ℕ) → heldIn t c ≡ true → memoryIn t c ≡ memory → ⊥) where
+    new-in : (c : ℕ) → heldIn (grownTables s n t) c ≡ true → memoryIn (grownTables s n t) c ≡ memory → ⊥
+    unfolding grownTables
+    new-in c h e = new c (sym (grown-held s t fit lengths sound n more most c) ∙ h) e
+
+    arrived-sound : Sound s (servedTables s size mask memory z (grownTables s n t))
+    arrived-sound =
+        let e : bytes (s .minimal) (levelsIn (grownTables s n t)) ≡ z = ap (bytes (s .minimal)) count ∙ b .order in
+        subst (λ (x : ℕ). Sound s (servedTables s size mask memory x (grownTables s n t))) e
+        (served-sound s (grownTables s n t) fit (grown-lengths s t fit lengths sound n) grown-sound size mask memory (b .sized) (omega (arith, count)) new-in empty pair place spot)
+
+-- ---- the memory is new
+
+holds-there : (m : ℕ) (xs ys : List ℕ) → holds m (xs ++ ys) ≡ false → (holds m xs ≡ false) × (holds m ys ≡ false)
+holds-there m [] ys e = (refl, e)
+holds-there m (x ∷ xs) ys e = by (holds-there m xs ys) (eqb x m) e
+  where
+    by : (holds m (xs ++ ys) ≡ false → (holds m xs ≡ false) × (holds m ys ≡ false)) → (b : Bool) → (b || holds m (xs ++ ys)) ≡ false
+        → ((b || holds m xs) ≡ false) × (holds m ys ≡ false)
+    by rest true e = absurd (true-false true refl e)
+    by rest false e = rest e
+
+new-memory : (m : ℕ) (t : Tables) (n : ℕ) → holds m (memories t n) ≡ false → (c : ℕ) → c < n → heldIn t c ≡ true → memoryIn t c ≡ m → ⊥
+unfolding memories
+new-memory m t zero e c h k q = absurd (omega arith)
+new-memory m t (suc n) e c h k q =
+    let r = holds-there m (memories t n) (cond (heldIn t n) (memoryIn t n ∷ []) []) e in
+    ⊎-elim
+    (λ i. here n (ap (heldIn t) (sym i) ∙ k) (ap (memoryIn t) (sym i) ∙ q) (r .1))
+    (λ i. new-memory m t n (r .0) c (omega arith) k q)
+    (same? c n)
+  where
+    here : (d : ℕ) → heldIn t d ≡ true → memoryIn t d ≡ m → holds m (cond (heldIn t d) (memoryIn t d ∷ []) []) ≡ false → ⊥
+    here d k q e =
+        let f : holds m (memoryIn t d ∷ []) ≡ false = ap (λ (x : Bool). holds m (cond x (memoryIn t d ∷ []) [])) (sym k) ∙ e in
+        eqb-false (memoryIn t d) m (by (eqb (memoryIn t d) m) f) q
+      where
+        by : (x : Bool) → (x || false) ≡ false → x ≡ false
+        by true e = e
+        by false e = refl
+
+held-low : (t : Tables) (c : ℕ) → heldIn t c ≡ true → c < chunkPlacesIn t
+held-low t c e = ltb-true c (chunkPlacesIn t) (and-left (ltb c (chunkPlacesIn t)) _ e)
+
+-- ---- the call
+
+module _ (s : BuddySettings) (a : Account) (o : Outcome) (t : Tables) (sound : Sound s t) where
+  abbrev held : List ℕ
+  held = memories t (chunkPlacesIn t)
+
+  module _ (k : KeptOrder) (fit : BuddyIn s) (lengths : Lengths s t) (b : Buys s (k .ask .size) (k .ask .mask) t (k .order .size)) where
+    lost-sound : Sound s (grownTables s (grownFor s (k .ask .size) (k .ask .mask) t) t)
+    lost-sound = grown-sound s t fit lengths sound (k .ask .size) (k .ask .mask) (k .order .size) b
+
+    made-sound : (m : Memory) (x : Mapping) → holds (m .number) held ≡ false → Sound s (carryFate s a k t (mapped buddy (m .number) x) .tables)
+    unfolding carryFate
+    made-sound m M.Failed e = lost-sound
+    made-sound m M.OutOfDevice e = lost-sound
+    made-sound m M.OutOfHost e = lost-sound
+    made-sound m M.Mapped e = arrived-sound s t fit lengths sound (k .ask .size) (k .ask .mask) (k .order .size) b (m .number) (λ c h. new-memory (m .number) t (chunkPlacesIn t) e c (held-low t c h) h)
+    made-sound m M.NotWanted e = arrived-sound s t fit lengths sound (k .ask .size) (k .ask .mask) (k .order .size) b (m .number) (λ c h. new-memory (m .number) t (chunkPlacesIn t) e c (held-low t c h) h)
+
+    fate-sound : (x : Outcome) → deliveryOk (k .order .map) held x ≡ true → Sound s (carryFate s a k t (fateOf buddy x) .tables)
+    unfolding carryFate deliveryOk
+    fate-sound O.OutOfDevice e = lost-sound
+    fate-sound O.OutOfHost e = lost-sound
+    fate-sound (O.Made m) e = made-sound m (m .mapping) (not-yes (holds (m .number) held) (and-left (not (holds (m .number) held)) (suits (k .order .map) (m .mapping)) e))
+
+  -- what a passed gate says
+  record Open (k : KeptOrder) : Type 0 where
+    pub lent : Lent s a t
+    pub buys-it : Buys s (k .ask .size) (k .ask .mask) t (k .order .size)
+
+  opened : (k : KeptOrder) → a .order ≡ Kept k → deliverGateOf s a t ≡ pass → Open k
+  unfolding deliverGateOf
+  opened k e g =
+      let r = passed (gateRow (lentOk s a t) (orderFor (s .store .number) (a .order)) (soundOk s t && stillOk s a t (a .order)) (accountOk s a t)) g in
+      let still : stillOk s a t (Kept k) ≡ true = ap (stillOk s a t) (sym e) ∙ and-right (soundOk s t) (stillOk s a t (a .order)) (r .1 .1 .0) in
+      let l = leads-buy (s .store) (k .order) (decideAsk s (heapAt a (s .store .heap)) (a .objects) (k .ask .size) (k .ask .mask) t) still in
+      record {
+        lent = lent-in s a t (r .0);
+        buys-it = subst (λ (z : ℕ). Buys s (k .ask .size) (k .ask .mask) t z) (sym (ap (λ (x : Order). x .size) (l .2))) (buys s a (k .ask .size) (k .ask .mask) t (l .0) (l .1));
+      }
+
+  after : (v : Verdict) → deliverGateOf s a t ≡ v → (ord : OpenOrder) → a .order ≡ ord → Sound s (carryDeliver s a t (Deliver.gated v (decideDeliver o held ord)) .tables)
+  unfolding carryDeliver
+  after (refuse n) g ord e = sound
+  after pass g Nothing e = sound
+  after pass g (Kept k) e =
+      let p = opened k e g in
+      ⊎-elim (λ d. rw d (fate-sound k (p .lent .settings) (p .lent .lengths) (p .buys-it) o d)) (λ d. rw d sound) (told (deliveryOk (k .order .map) held o))
+
+  pub deliver-sound : Sound s (deliverOf s a o t .tables)
+  unfolding deliverOf planDeliver
+  deliver-sound = after (deliverGateOf s a t) refl (a .order) refl

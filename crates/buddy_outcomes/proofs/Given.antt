@@ -1,0 +1,264 @@
+-- What the tables hold when a block on loan has been taken back: the store with that loan returned, which is sound.
+-- Assumes nothing.
+use mathlib.Core.Path.{_≡_, refl, sym, ap, subst, _∙_}
+use mathlib.Core.Bool.{Bool, true, false, cond, not, _&&_, and-false}
+use mathlib.Core.Logic.{⊎-elim}
+use mathlib.Core.List.{List}
+use Prim.Native.Nat.{ℕ, _+_, _-_, _^_, _%_, _≤_, _<_}
+use native.Mathlib.Omega.{arith}
+use lib.Dec.{eqb, ltb}
+use lib.ListN.{length, getD}
+use lib.Seq.{getD-set-other}
+use borrow.Author.Tests.{eq-eqb, ne-eqb, ltb-true}
+use Rattle.lists.proofs.Bools.{same?, true-false, and-left, and-right, not-yes}
+use Rattle.words.specs.Words.{cellOf}
+use Rattle.words.proofs.Records.{cell-row}
+use Rattle.rounding.specs.Raising.{levelOf}
+use Rattle.counter.specs.Limits.{levelsMost}
+use Rattle.counter.specs.InTable.{BuddyIn}
+use Rattle.counter.specs.declared.answers.Block.{Block}
+use Rattle.counter.specs.declared.settings.BuddySettings.{BuddySettings}
+use Rattle.slab.specs.Slab.{nowhere}
+use Rattle.store_rules.specs.Loans.{loanWords, serialAt, sizeAt}
+use Rattle.store_rules.specs.declared.Loan.{Loan}
+use Rattle.book.specs.Book.{serialOf, wordTo, struck, struckIndex}
+use Rattle.book.proofs.Changed.{vacant-now}
+use Rattle.book.proofs.Keeps.{BookChained, BookParted, freeIn, struck-long, struck-wide, struck-chained, struck-parted}
+use Rattle.buddy_trees.specs.Trees.{Tree, remove, bytes}
+use Rattle.buddy_rules.specs.Nodes as Nodes
+use Rattle.buddy_rules.specs.Returns.{Out}
+use Rattle.buddy_rules.specs.Stores.{with, climbs, returned}
+use Rattle.buddy_rules.specs.Stores as Stores
+use Rattle.buddy_rules.proofs.Returned.{returned-sound}
+use Rattle.buddy_levels.specs.Level.{part}
+use Rattle.buddy_levels.proofs.Ops.{levelOps}
+use Rattle.buddy_stores.specs.Tables.{Tables, Lengths, givenIn, levelsIn, placesIn, chunkPlacesIn, chunkSizeIn, chunksFrom, nodesFrom, loanCell, loanIn, liveIn, heldIn, highIn, topIn, vacantChunk}
+use Rattle.buddy_stores.specs.Sound.{Sound}
+use Rattle.buddy_stores.specs.Moves.{Climbed, climbed}
+use Rattle.buddy_stores.proofs.Abstract.{storeOf, treeIn, sound-store, Sizes, store-trees}
+use Rattle.buddy_stores.proofs.Climbing.{climbed-is}
+use Rattle.buddy_stores.proofs.Walks.{minimal-pos}
+use Rattle.buddy_outcomes.specs.Return.{wordFor, onLoanOk, climbFor, givenTables}
+use Rattle.buddy_outcomes.proofs.Agree.{Agree, agree-sound}
+use Rattle.buddy_outcomes.proofs.Loaned.{live-used, on-loan-is}
+use Rattle.buddy_outcomes.proofs.Vacated.{Past, tablesBy, part-by, word-by, tree-by, chunks-by, memory-by, still-held, high-by, top-by, parted-by}
+
+module _ (s : BuddySettings) (t : Tables) (fit : BuddyIn s) (lengths : Lengths s t) (sound : Sound s t) (b : Block) (on : onLoanOk s b t ≡ true) where
+  abbrev w : ℕ
+  w = wordFor s b t
+
+  abbrev k : ℕ
+  k = getD (t .index) w 0
+
+  abbrev n : ℕ
+  n = s .store .loans
+
+  abbrev c : ℕ
+  c = b .chunk
+
+  few : n < nowhere
+  few = omega (arith, fit .store .loans-most)
+
+  limit : placesIn t ≤ n
+  limit = sound .loans-parted .limit
+
+  -- ---- the loan that comes back
+
+  live : liveIn t k ≡ true
+  live = on-loan-is s t fit lengths sound b on .0
+
+  used : (k < placesIn t) × (freeIn (t .loans) k ≡ false)
+  used = live-used t k live
+
+  room : k < n
+  room = omega (arith, used .0, limit)
+
+  -- its words are the block's
+  record Says : Type 0 where
+    serial : serialOf (t .loans) k ≡ b .serial
+    chunk : loanCell t 1 k ≡ b .chunk
+    size : loanCell t sizeAt k ≡ b .size
+
+  says : Says
+  says =
+      let r = on-loan-is s t fit lengths sound b on .1 in
+      record {
+        serial = cell-row (t .loans) serialAt loanWords k ∙ ap (λ (d : Loan). d .serial) r;
+        chunk = cell-row (t .loans) 1 loanWords k ∙ ap (λ (d : Loan). d .chunk) r;
+        size = cell-row (t .loans) sizeAt loanWords k ∙ ap (λ (d : Loan). d .size) r;
+      }
+
+  -- its chunk is held
+  held : heldIn t c ≡ true
+  held = ap (heldIn t) (sym (says .chunk)) ∙ sound .standing .has k live .0
+
+  place : (c < chunkPlacesIn t) × (vacantChunk t c ≡ false)
+  place =
+      let a = ltb c (chunkPlacesIn t) in
+      let z = eqb (chunkSizeIn t c) 0 in
+      (ltb-true c (chunkPlacesIn t) (and-left a (not z) held), not-yes z (and-right a (not z) held))
+
+  -- ---- the tables, when the chunk is released and when it is not
+
+  abbrev r : Climbed
+  r = climbFor s b w t
+
+  abbrev loans′ : List ℕ
+  loans′ = struck w (t .index) (t .loans)
+
+  abbrev index′ : List ℕ
+  index′ = struckIndex w (t .index)
+
+  abbrev after : Bool → Tables
+  after = tablesBy s t c (r .tree) loans′ index′
+
+  -- its loans
+  live-left : (f : Bool) (j : ℕ) → liveIn (after f) j ≡ with (liveIn t) k false j
+  unfolding struck
+  live-left f j = ap (λ (z : Bool). ltb j (placesIn t) && not z) (vacant-now (t .loans) n k (lengths .loans) room j) ∙ ⊎-elim
+      (λ e. rw (eq-eqb j k e) (and-false (ltb j (placesIn t))))
+      (λ o. rw (ne-eqb j k o) refl)
+      (same? j k)
+
+  -- one that is still on loan is another, and was on loan
+  still : (j : ℕ) → with (liveIn t) k false j ≡ true → (j ≡ k → ⊥) × (liveIn t j ≡ true)
+  still j h =
+      let o : j ≡ k → ⊥ = λ e. true-false false (rw (eq-eqb j k e) at h) refl in
+      (o, rw (ne-eqb j k o) at h)
+
+  still-live : (f : Bool) (j : ℕ) → liveIn (after f) j ≡ true → (j ≡ k → ⊥) × (liveIn t j ≡ true)
+  still-live f j h = still j (sym (live-left f j) ∙ h)
+
+  cell-left : (g : Bool) (f j : ℕ) → f < loanWords → (j ≡ k → ⊥) → loanCell (after g) f j ≡ loanCell t f j
+  unfolding struck
+  cell-left g f j h o = getD-set-other (t .loans) (cellOf sizeAt loanWords k) (cellOf f loanWords j) 0 0 (λ e. o (omega arith))
+
+  after-chained : BookChained loans′ index′ n (placesIn t) (givenIn t)
+  after-chained =
+      subst (λ (x : ℕ). BookChained (struck (wordTo (t .loans) (t .index) n (placesIn t) x) (t .index) (t .loans)) (struckIndex (wordTo (t .loans) (t .index) n (placesIn t) x) (t .index)) n (placesIn t) (givenIn t)) (says .serial)
+      (struck-chained (t .loans) (t .index) n (placesIn t) (givenIn t) (fit .store .loans-some) limit few (sound .chained) k (used .0) (used .1) (lengths .loans) (lengths .index))
+
+  after-parted : BookParted loans′ index′ n (placesIn t)
+  after-parted =
+      subst (λ (x : ℕ). BookParted (struck (wordTo (t .loans) (t .index) n (placesIn t) x) (t .index) (t .loans)) (struckIndex (wordTo (t .loans) (t .index) n (placesIn t) x) (t .index)) n (placesIn t)) (says .serial)
+      (struck-parted (t .loans) (t .index) n (placesIn t) (givenIn t) (fit .store .loans-some) limit few (sound .chained) k (used .0) (used .1) (lengths .loans) (lengths .index) (sound .loans-parted))
+
+  module _ (small : s .pairs ≤ 2 ^ 32) where
+    -- ---- the climb in words and that of the store which the tables hold
+
+    abbrev q : Out (levelOps (s .pairs) small)
+    q = climbs (s .minimal) (levelOps (s .pairs) small) (storeOf s small t) k
+
+    record Climbs (x : Climbed) : Type 0 where
+      freed : x .freed ≡ q .freed
+      levels : (i : ℕ) → i < levelsMost → part (s .pairs) i (x .tree) ≡ q .levels i
+      same : (i : ℕ) → chunksFrom s ≤ i → getD (x .tree) i 0 ≡ getD (t .tree) i 0
+      long : length (x .tree) ≡ length (t .tree)
+
+    climb-is : Climbs r
+    climb-is =
+        let z = climbed-is s small t fit lengths sound k live in
+        subst (λ (y : ℕ). Climbs (climbed (s .pairs) (levelsIn t - levelOf y (s .minimal)) (levelOf y (s .minimal)) (getD (t .tree) (nodesFrom s + k) 0) (t .tree))) (says .size)
+        (record { freed = z .0; levels = z .1; same = z .2; long = z .3 })
+
+    past : Past s t c (r .tree)
+    past = record { same = climb-is .same; long = climb-is .long; inside = omega (arith, place .0, sound .chunks-parted .limit) }
+
+    after-lengths : (f : Bool) → Lengths s (after f)
+    after-lengths f = record {
+      head = lengths .head;
+      loans = struck-long w (t .index) (t .loans) ∙ lengths .loans;
+      chunks = chunks-by s t c (r .tree) loans′ index′ lengths past f ∙ lengths .chunks;
+      index = struck-wide w (t .index) ∙ lengths .index;
+      tree = tree-by s t c (r .tree) loans′ index′ lengths past f ∙ lengths .tree;
+    }
+
+    loan-left : (f : Bool) (j : ℕ) → (j ≡ k → ⊥) → loanIn s (after f) j ≡ loanIn s t j
+    loan-left f j o =
+        let chunk = cell-left f 1 j (omega arith) o in
+        let at = cell-left f 2 j (omega arith) o in
+        let size = cell-left f sizeAt j (omega arith) o in
+        let node = word-by s t c (r .tree) loans′ index′ lengths past f (nodesFrom s + j) (omega arith) (λ z. omega (arith, past .inside)) in
+        (λ i. record { chunk = chunk i; at = at i; lev = levelOf (size i) (s .minimal); node = node i })
+
+    -- ---- the store that the tables hold is the one with the loan returned
+
+    agrees : (f : Bool) → r .freed ≡ f → Agree (s .minimal) (levelOps (s .pairs) small) (returned (s .minimal) (levelOps (s .pairs) small) (storeOf s small t) k) (storeOf s small (after f))
+    unfolding returned
+    agrees f e =
+        let g : f ≡ q .freed = sym e ∙ climb-is .freed in
+        let chunk : c ≡ loanIn s t k .chunk = sym (says .chunk) in
+        let by : (h : ℕ → ℕ) (x : ℕ) → with h c (cond f 0 (h c)) x ≡ with h (loanIn s t k .chunk) (cond (q .freed) 0 (h (loanIn s t k .chunk))) x = λ h x.
+        ap (λ (z : Bool). with h c (cond z 0 (h c)) x) g ∙ ap (λ (y : ℕ). with h y (cond (q .freed) 0 (h y)) x) chunk in
+        record {
+          count = refl;
+          levels = λ i h.
+              let m : i < levelsMost = omega (arith, sound .levels-most) in
+              part-by s t c (r .tree) loans′ index′ lengths past f i m ∙ climb-is .levels i m;
+          loans = λ j h. loan-left f j (still j h .0);
+          live = live-left f;
+          high = λ x. high-by s t c (r .tree) loans′ index′ lengths past f x ∙ by (highIn s t) x;
+          top = λ x. top-by s t c (r .tree) loans′ index′ lengths past f x ∙ by (topIn s t) x;
+        }
+
+    abbrev trees : ℕ → Tree
+    trees x = remove k (treeIn t (sound .standing .trees) x)
+
+    -- so it is sound
+    store-sound : (f : Bool) → r .freed ≡ f → Stores.Sound (s .minimal) (levelOps (s .pairs) small) (storeOf s small (after f)) trees
+    store-sound f e =
+        let u = s .minimal in
+        let O = levelOps (s .pairs) small in
+        let o = minimal-pos s fit in
+        agree-sound u O o (returned u O (storeOf s small t) k) (storeOf s small (after f)) trees
+        (returned-sound u O o (storeOf s small t) (treeIn t (sound .standing .trees)) (sound-store s small t fit lengths sound) k live)
+        (agrees f e)
+
+    sizes : (f : Bool) → Sizes s (after f)
+    sizes f = record {
+      chunks = λ x h.
+          let z = still-held s t c (r .tree) loans′ index′ lengths past f x h in
+          let y = sound .standing .sized x (z .0) in
+          (z .1 ∙ y .0 ∙ ap (bytes (s .minimal)) (sym (z .2)), rw (z .2) (y .1), rw (z .2) (y .2));
+      loans = λ j h.
+          let z = still-live f j h in
+          cell-left f sizeAt j (omega arith) (z .0) ∙ sound .standing .loans-sized j (z .1) ∙ ap (λ (d : Nodes.Loan). bytes (s .minimal) (d .lev)) (sym (loan-left f j (z .0)));
+    }
+
+    after-sound : (f : Bool) → r .freed ≡ f → Sound s (after f)
+    after-sound f e =
+        let T = store-trees s small (after f) trees fit (after-lengths f) (store-sound f e) (sizes f) (sound .levels-most) in
+        let memory = memory-by s t c (r .tree) loans′ index′ lengths past f in
+        let was : (x : ℕ) → heldIn (after f) x ≡ true → heldIn t x ≡ true = λ x h. still-held s t c (r .tree) loans′ index′ lengths past f x h .0 in
+        record {
+          marked = sound .marked;
+          levels-least = sound .levels-least;
+          levels-most = sound .levels-most;
+          loans-parted = after-parted;
+          chained = after-chained;
+          chunks-parted = parted-by s t c (r .tree) loans′ index′ lengths past f (place .0) (place .1) (sound .chunks-parted);
+          memories-differ = λ x y h g m. sound .memories-differ x y (was x h) (was y g) (sym (memory x) ∙ m ∙ memory y);
+          good = T .1;
+          standing = T .0;
+          loans-units = λ j h.
+              let z = still-live f j h in
+              let u = sound .loans-units j (z .1) in
+              let unit : ℕ → ℕ = λ d. d % (s .store .atom + 1) in
+              (ap unit (cell-left f 2 j (omega arith) (z .0)) ∙ u .0, ap unit (cell-left f sizeAt j (omega arith) (z .0)) ∙ u .1);
+        }
+
+    pub given-store : Agree (s .minimal) (levelOps (s .pairs) small) (returned (s .minimal) (levelOps (s .pairs) small) (storeOf s small t) (getD (t .index) (wordFor s b t) 0))
+        (storeOf s small (givenTables s b (wordFor s b t) t))
+    unfolding givenTables
+    given-store = agrees (r .freed) refl
+
+  few-pairs : s .pairs ≤ 2 ^ 32
+  few-pairs = omega (arith, fit .pairs-most)
+
+  pub given-lengths : Lengths s (givenTables s b (wordFor s b t) t)
+  unfolding givenTables
+  given-lengths = after-lengths few-pairs (r .freed)
+
+  pub given-sound : Sound s (givenTables s b (wordFor s b t) t)
+  unfolding givenTables
+  given-sound = after-sound few-pairs (r .freed) refl

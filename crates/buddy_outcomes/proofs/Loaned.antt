@@ -1,0 +1,78 @@
+-- Test 7 in the paper's words: it holds exactly when a loan has the block's serial, chunk, offset and size. Assumes nothing.
+use mathlib.Core.Path.{_≡_, refl, ap, subst, _∙_}
+use mathlib.Core.Bool.{true, false, not, _&&_}
+use Prim.Native.Nat.{ℕ, _<_}
+use native.Mathlib.Omega.{arith}
+use lib.Dec.{eqb, ltb}
+use lib.ListN.{getD}
+use borrow.Author.Tests.{eqb-true, eqb-false, eq-eqb, ne-eqb, lt-ltb, ltb-true}
+use Rattle.lists.proofs.Bools.{and-left, and-right, and-both, not-yes}
+use Rattle.words.specs.Rows.{row}
+use Rattle.words.proofs.Records.{cell-row}
+use Rattle.counter.specs.InTable.{BuddyIn}
+use Rattle.counter.specs.declared.answers.Block.{Block}
+use Rattle.counter.specs.declared.settings.BuddySettings.{BuddySettings}
+use Rattle.slab.specs.Slab.{nowhere}
+use Rattle.store_rules.specs.Loans.{loanWords, serialAt, sizeAt, loanRow, loan}
+use Rattle.store_rules.specs.declared.Loan.{Loan}
+use Rattle.book.specs.Book.{indexWords, serialOf, wordTo}
+use Rattle.book.proofs.Keeps.{freeIn, found}
+use Rattle.book.proofs.Uses.{leads-used}
+use Rattle.buddy_stores.specs.Tables.{Tables, Lengths, givenIn, placesIn, loanCell, liveIn}
+use Rattle.buddy_stores.specs.Sound.{Sound}
+use Rattle.buddy_outcomes.specs.Return.{wordFor, sameLoan, onLoanOk}
+
+-- a loan that is told to be the block's is the block
+loan-is : (b : Block) (l : Loan) → sameLoan b l ≡ true → l ≡ loan (b .serial) (b .chunk) (b .offset) (b .size)
+loan-is b l e =
+    let p = eqb (l .serial) (b .serial) in
+    let q = eqb (l .chunk) (b .chunk) in
+    let r = eqb (l .offset) (b .offset) in
+    let z = eqb (l .size) (b .size) in
+    let f : (q && (r && z)) ≡ true = and-right p (q && (r && z)) e in
+    let g : (r && z) ≡ true = and-right q (r && z) f in
+    let ep = eqb-true (l .serial) (b .serial) (and-left p (q && (r && z)) e) in
+    let eq = eqb-true (l .chunk) (b .chunk) (and-left q (r && z) f) in
+    let er = eqb-true (l .offset) (b .offset) (and-left r z g) in
+    let ez = eqb-true (l .size) (b .size) (and-right r z g) in
+    (λ i. record { serial = ep i; chunk = eq i; offset = er i; size = ez i })
+
+same-self : (b : Block) → sameLoan b (loan (b .serial) (b .chunk) (b .offset) (b .size)) ≡ true
+same-self b = and-both _ _ (eq-eqb (b .serial) (b .serial) refl) (and-both _ _ (eq-eqb (b .chunk) (b .chunk) refl) (and-both _ _ (eq-eqb (b .offset) (b .offset) refl) (eq-eqb (b .size) (b .size) refl)))
+
+-- a place of a live loan is one in use, in the book's words, and back
+pub live-used : (t : Tables) (k : ℕ) → liveIn t k ≡ true → (k < placesIn t) × (freeIn (t .loans) k ≡ false)
+live-used t k h =
+    let a = ltb k (placesIn t) in
+    let z = eqb (loanCell t sizeAt k) 0 in
+    (ltb-true k (placesIn t) (and-left a (not z) h), not-yes z (and-right a (not z) h))
+
+pub used-live : (t : Tables) (k : ℕ) → k < placesIn t → freeIn (t .loans) k ≡ false → liveIn t k ≡ true
+used-live t k h u = and-both _ _ (lt-ltb k (placesIn t) h) (ap not u)
+
+module _ (s : BuddySettings) (t : Tables) (fit : BuddyIn s) (lengths : Lengths s t) (sound : Sound s t) (b : Block) where
+  pub on-loan-is : onLoanOk s b t ≡ true
+      → (liveIn t (getD (t .index) (wordFor s b t) 0) ≡ true)
+      × (row loanRow (getD (t .index) (wordFor s b t) 0) (t .loans) ≡ loan (b .serial) (b .chunk) (b .offset) (b .size))
+  unfolding onLoanOk
+  on-loan-is e =
+      let w = wordFor s b t in
+      let k = getD (t .index) w 0 in
+      let l = row loanRow k (t .loans) in
+      let there = eqb-false w nowhere (not-yes (eqb w nowhere) (and-left (not (eqb w nowhere)) (sameLoan b l) e)) in
+      let u = leads-used (t .loans) (t .index) (s .store .loans) (placesIn t) (givenIn t) (b .serial) (fit .store .loans-some) (omega (arith, sound .loans-parted .limit, fit .store .loans-most)) (sound .chained) there in
+      (used-live t k (u .0) (u .1), loan-is b l (and-right (not (eqb w nowhere)) (sameLoan b l) e))
+
+  pub is-on-loan : (k : ℕ) → liveIn t k ≡ true → row loanRow k (t .loans) ≡ loan (b .serial) (b .chunk) (b .offset) (b .size) → onLoanOk s b t ≡ true
+  unfolding onLoanOk
+  is-on-loan k h r =
+      let n = s .store .loans in
+      let u = live-used t k h in
+      let serial : serialOf (t .loans) k ≡ b .serial = cell-row (t .loans) serialAt loanWords k ∙ ap (λ (d : Loan). d .serial) r in
+      let f = found (t .loans) (t .index) n (placesIn t) (givenIn t) (fit .store .loans-some) (sound .loans-parted .limit) (omega (arith, fit .store .loans-most)) (sound .chained) k (u .0) (u .1) in
+      let g : (wordFor s b t < indexWords n) × (getD (t .index) (wordFor s b t) 0 ≡ k) =
+      subst (λ (x : ℕ). (wordTo (t .loans) (t .index) n (placesIn t) x < indexWords n) × (getD (t .index) (wordTo (t .loans) (t .index) n (placesIn t) x) 0 ≡ k)) serial f in
+      let there : not (eqb (wordFor s b t) nowhere) ≡ true = ap not (ne-eqb (wordFor s b t) nowhere (λ e. omega (arith, g .0, fit .store .loans-most))) in
+      let same : sameLoan b (row loanRow (getD (t .index) (wordFor s b t) 0) (t .loans)) ≡ true =
+      ap (λ (p : ℕ). sameLoan b (row loanRow p (t .loans))) (g .1) ∙ ap (sameLoan b) r ∙ same-self b in
+      and-both _ _ there same

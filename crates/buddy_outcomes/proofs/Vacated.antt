@@ -1,0 +1,162 @@
+-- What the words of chunks and tree say when a chunk's place has been vacated, or has not. Assumes nothing.
+use mathlib.Core.Path.{_≡_, refl, sym, ap, subst, _∙_}
+use mathlib.Core.Bool.{Bool, true, false, cond, not, _&&_, and-false}
+use mathlib.Core.Logic.{_⊎_, inl, inr, ⊎-elim}
+use mathlib.Core.List.{List}
+use Prim.Native.Nat.{ℕ, _+_, _*_, _-_, _≤_, _<_}
+use native.Mathlib.Nat.{mul-suc}
+use native.Mathlib.Omega.{arith}
+use lib.Dec.{eqb, ltb}
+use lib.ListN.{length, length-set, getD, set, take, drop}
+use lib.Seq.{getD-set-same, getD-set-other, drop-set-add, take-set-le}
+use borrow.Author.Tests.{eq-eqb, ne-eqb}
+use Rattle.lists.proofs.Bools.{same?, true-false}
+use Rattle.words.specs.Words.{cellOf}
+use Rattle.rounding.specs.Raising.{levelOf}
+use Rattle.counter.specs.Limits.{levelsMost}
+use Rattle.counter.specs.declared.settings.BuddySettings.{BuddySettings}
+use Rattle.slab.specs.Slab.{linkAt, removed, removedLinks, Parted, changed}
+use Rattle.slab.proofs.Places.{parted-same, removed-parted, vacant-set}
+use Rattle.buddy_rules.specs.Stores.{with}
+use Rattle.buddy_levels.specs.Level.{levelWords, part}
+use Rattle.buddy_stores.specs.Tables.{Tables, tables, Lengths, chunkWords, memoryAt, chunkSizeAt, chunkPlacesIn, memoryIn, chunkSizeIn, chunksFrom, placeAt, topAt, afterAt, placeWords, heldIn, highIn, topIn, vacantChunk, chunkAfter, chunkSlab}
+use Rattle.buddy_stores.proofs.Abstract.{levels-in}
+use Rattle.buddy_outcomes.specs.Return.{vacatedTree}
+
+-- a word past a level is none of its
+part-past : (pairs i j v : ℕ) (t : List ℕ) → levelWords pairs * (i + 1) ≤ j → part pairs i (set t j v) ≡ part pairs i t
+part-past pairs i j v t h =
+    let m = levelWords pairs in
+    let e : j ≡ m * i + (j - m * i) = omega (arith, mul-suc m i) in
+    let k : m ≤ j - m * i = omega (arith, mul-suc m i) in
+    ap (λ (x : ℕ). part pairs i (set t x v)) e ∙ ap (take m) (drop-set-add (m * i) t (j - m * i) v) ∙ take-set-le m (drop (m * i) t) (j - m * i) v k
+
+-- tree is t's but for the levels, and c is a chunk place
+pub record Past (s : BuddySettings) (t : Tables) (c : ℕ) (tree : List ℕ) : Type 0 where
+  pub same : (i : ℕ) → chunksFrom s ≤ i → getD tree i 0 ≡ getD (t .tree) i 0
+  pub long : length tree ≡ length (t .tree)
+  pub inside : c < s .store .chunks
+
+module _ (s : BuddySettings) (t : Tables) (c : ℕ) (tree loans index : List ℕ) where
+  -- the tables with this tree, these loans and this index, and the place c vacated, or not
+  abbrev pub tablesBy : Bool → Tables
+  tablesBy f = tables (t .head) loans (cond f (set (t .chunks) (cellOf chunkSizeAt chunkWords c) 0) (t .chunks)) index (cond f (vacatedTree s c tree) tree)
+
+  abbrev after : ℕ
+  after = cellOf (placeAt s afterAt) placeWords c
+
+  abbrev linked : List ℕ
+  linked = set tree after (getD tree (chunksFrom s) 0)
+
+  module _ (lengths : Lengths s t) (p : Past s t c tree) where
+    -- ---- the tree
+
+    pub part-by : (f : Bool) (i : ℕ) → i < levelsMost → part (s .pairs) i (tablesBy f .tree) ≡ part (s .pairs) i tree
+    unfolding vacatedTree
+    part-by true i h =
+        let k : levelWords (s .pairs) * (i + 1) ≤ chunksFrom s = levels-in s i h in
+        part-past (s .pairs) i (chunksFrom s) c linked k ∙ part-past (s .pairs) i after (getD tree (chunksFrom s) 0) tree (omega arith)
+    part-by false i h = refl
+
+    pub word-by : (f : Bool) (j : ℕ) → chunksFrom s < j → (j ≡ cellOf (placeAt s afterAt) placeWords c → ⊥) → getD (tablesBy f .tree) j 0 ≡ getD (t .tree) j 0
+    unfolding vacatedTree
+    word-by true j h n =
+        getD-set-other linked (chunksFrom s) j c 0 (λ e. omega arith)
+        ∙ getD-set-other tree after j (getD tree (chunksFrom s) 0) 0 n
+        ∙ p .same j (omega arith)
+    word-by false j h n = p .same j (omega arith)
+
+    pub tree-by : (f : Bool) → length (tablesBy f .tree) ≡ length (t .tree)
+    unfolding vacatedTree
+    tree-by true = length-set linked (chunksFrom s) c ∙ length-set tree after (getD tree (chunksFrom s) 0) ∙ p .long
+    tree-by false = p .long
+
+    -- ---- the chunks
+
+    cell-in : cellOf chunkSizeAt chunkWords c < length (t .chunks)
+    cell-in = omega (arith, lengths .chunks, p .inside)
+
+    pub chunks-by : (f : Bool) → length (tablesBy f .chunks) ≡ length (t .chunks)
+    chunks-by true = length-set (t .chunks) (cellOf chunkSizeAt chunkWords c) 0
+    chunks-by false = refl
+
+    pub memory-by : (f : Bool) (x : ℕ) → memoryIn (tablesBy f) x ≡ memoryIn t x
+    memory-by true x = getD-set-other (t .chunks) (cellOf chunkSizeAt chunkWords c) (cellOf memoryAt chunkWords x) 0 0 (λ e. omega arith)
+    memory-by false x = refl
+
+    -- a place stays as it was, or is the one that is vacated
+    abbrev Stays : Bool → ℕ → Type 0
+    Stays f x = (chunkSizeIn (tablesBy f) x ≡ chunkSizeIn t x) × ((x ≡ c) → f ≡ false)
+
+    abbrev Leaves : Bool → ℕ → Type 0
+    Leaves f x = (heldIn (tablesBy f) x ≡ false) × (x ≡ c) × (f ≡ true)
+
+    chunk-cases : (f : Bool) (x : ℕ) → Stays f x ⊎ Leaves f x
+    chunk-cases true x = by (same? x c)
+      where
+        by : (x ≡ c) ⊎ (x ≡ c → ⊥) → Stays true x ⊎ Leaves true x
+        by (inl e) =
+            let z : chunkSizeIn (tablesBy true) x ≡ 0 = ap (chunkSizeIn (tablesBy true)) e ∙ getD-set-same (t .chunks) (cellOf chunkSizeAt chunkWords c) 0 0 cell-in in
+            inr (ap (λ (v : ℕ). ltb x (chunkPlacesIn t) && not (eqb v 0)) z ∙ and-false (ltb x (chunkPlacesIn t)), e, refl)
+        by (inr n) = inl (getD-set-other (t .chunks) (cellOf chunkSizeAt chunkWords c) (cellOf chunkSizeAt chunkWords x) 0 0 (λ e. n (omega arith)), λ e. absurd (n e))
+    chunk-cases false x = inl (refl, λ e. refl)
+
+    held-stays : (f : Bool) (x : ℕ) → Stays f x → heldIn (tablesBy f) x ≡ heldIn t x
+    held-stays f x z = ap (λ (v : ℕ). ltb x (chunkPlacesIn t) && not (eqb v 0)) (z .0)
+
+    high-stays : (f : Bool) (x : ℕ) → Stays f x → highIn s (tablesBy f) x ≡ highIn s t x
+    high-stays f x z = ap (λ (v : ℕ). cond (ltb x (chunkPlacesIn t) && not (eqb v 0)) (levelOf v (s .minimal)) 0) (z .0)
+
+    top-stays : (f : Bool) (x : ℕ) → Stays f x → topIn s (tablesBy f) x ≡ topIn s t x
+    top-stays f x z =
+        ap (λ (h : Bool). cond h (getD (tablesBy f .tree) (cellOf (placeAt s topAt) placeWords x) 0) 0) (held-stays f x z)
+        ∙ ap (λ (v : ℕ). cond (heldIn t x) v 0) (word-by f (cellOf (placeAt s topAt) placeWords x) (omega arith) (λ e. omega arith))
+
+    -- what is held still was so, and is as it was
+    pub still-held : (f : Bool) (x : ℕ) → heldIn (tablesBy f) x ≡ true → (heldIn t x ≡ true) × (chunkSizeIn (tablesBy f) x ≡ chunkSizeIn t x) × (highIn s (tablesBy f) x ≡ highIn s t x)
+    still-held f x h = ⊎-elim (λ z. (sym (held-stays f x z) ∙ h, z .0, high-stays f x z)) (λ z. absurd (true-false _ h (z .0))) (chunk-cases f x)
+
+    -- what is told of each chunk is 0 at the vacated place
+    with-stays : (f : Bool) (g : ℕ → ℕ) (x : ℕ) → ((x ≡ c) → f ≡ false) → g x ≡ with g c (cond f 0 (g c)) x
+    with-stays f g x z = ⊎-elim (λ e. rw (eq-eqb x c e, z e) (ap g e)) (λ n. rw (ne-eqb x c n) refl) (same? x c)
+
+    with-leaves : (f : Bool) (g : ℕ → ℕ) (x : ℕ) → x ≡ c → f ≡ true → 0 ≡ with g c (cond f 0 (g c)) x
+    with-leaves f g x e z = rw (eq-eqb x c e, z)
+
+    pub high-by : (f : Bool) (x : ℕ) → highIn s (tablesBy f) x ≡ with (highIn s t) c (cond f 0 (highIn s t c)) x
+    high-by f x = ⊎-elim
+        (λ z. high-stays f x z ∙ with-stays f (highIn s t) x (z .1))
+        (λ z. ap (λ (h : Bool). cond h (levelOf (chunkSizeIn (tablesBy f) x) (s .minimal)) 0) (z .0) ∙ with-leaves f (highIn s t) x (z .1) (z .2))
+        (chunk-cases f x)
+
+    pub top-by : (f : Bool) (x : ℕ) → topIn s (tablesBy f) x ≡ with (topIn s t) c (cond f 0 (topIn s t c)) x
+    top-by f x = ⊎-elim
+        (λ z. top-stays f x z ∙ with-stays f (topIn s t) x (z .1))
+        (λ z. ap (λ (h : Bool). cond h (getD (tablesBy f .tree) (cellOf (placeAt s topAt) placeWords x) 0) 0) (z .0) ∙ with-leaves f (topIn s t) x (z .1) (z .2))
+        (chunk-cases f x)
+
+    -- ---- their places
+
+    pub parted-by : (f : Bool) → c < chunkPlacesIn t → vacantChunk t c ≡ false → Parted (vacantChunk t) (chunkAfter s t) (chunkSlab s t) (s .store .chunks)
+        → Parted (vacantChunk (tablesBy f)) (chunkAfter s (tablesBy f)) (chunkSlab s (tablesBy f)) (s .store .chunks)
+    unfolding vacatedTree removed removedLinks
+    parted-by true h u P =
+        let m = s .store .chunks in
+        let at = placeAt s afterAt in
+        let free = vacantChunk t in
+        let t′ = tablesBy true in
+        let v = getD (t .tree) (chunksFrom s) 0 in
+        let Q = parted-same free free (chunkAfter s t) (linkAt tree at placeWords) (chunkSlab s t) m (λ x i. refl) (λ x i. p .same (cellOf at placeWords x) (omega arith)) P in
+        let R = removed-parted free tree at placeWords (chunkSlab s t) m c Q h u (omega (arith, p .long, p .inside, lengths .tree)) (omega arith) in
+        let link : (x : ℕ) → chunkAfter s t′ x ≡ linkAt (set tree after v) at placeWords x = λ x.
+        getD-set-other linked (chunksFrom s) (cellOf at placeWords x) c 0 (λ e. omega arith)
+        ∙ ap (λ (y : ℕ). linkAt (set tree after y) at placeWords x) (p .same (chunksFrom s) (omega arith)) in
+        let first : getD (t′ .tree) (chunksFrom s) 0 ≡ c = getD-set-same linked (chunksFrom s) c 0 (omega (arith, length-set tree after (getD tree (chunksFrom s) 0), p .long, lengths .tree)) in
+        subst (λ (y : ℕ). Parted (vacantChunk t′) (chunkAfter s t′) (record { places = chunkPlacesIn t; vacant = y }) m) (sym first)
+        (parted-same (changed free c true) (vacantChunk t′) (linkAt (set tree after v) at placeWords) (chunkAfter s t′) (record { places = chunkPlacesIn t; vacant = c }) m
+        (λ x i. vacant-set (t .chunks) chunkSizeAt chunkWords c 0 x (omega arith) cell-in) (λ x i. link x) R)
+    parted-by false h u P =
+        let m = s .store .chunks in
+        let at = placeAt s afterAt in
+        subst (λ (y : ℕ). Parted (vacantChunk t) (linkAt tree at placeWords) (record { places = chunkPlacesIn t; vacant = y }) m) (sym (p .same (chunksFrom s) (omega arith)))
+        (parted-same (vacantChunk t) (vacantChunk t) (chunkAfter s t) (linkAt tree at placeWords) (chunkSlab s t) m (λ x i. refl) (λ x i. p .same (cellOf at placeWords x) (omega arith)) P)

@@ -1,0 +1,57 @@
+-- The words of a loan that was written at a place of the book, and those of the others. Assumes nothing.
+use mathlib.Core.Path.{_≡_, ap, _∙_}
+use mathlib.Core.List.{List}
+use Prim.Native.Nat.{ℕ, _*_, _<_}
+use native.Mathlib.Omega.{arith}
+use lib.ListN.{length, getD, set, length-set}
+use lib.Seq.{getD-set-same, getD-set-other}
+use Rattle.words.specs.Words.{cellOf}
+use Rattle.words.specs.Rows.{written}
+use Rattle.store_rules.specs.Loans.{loanRow, loanWords}
+use Rattle.store_rules.specs.declared.Loan.{Loan}
+use Rattle.book.proofs.Changed.{by-words}
+
+module _ (loans : List ℕ) (n p : ℕ) (l : Loan) (long : length loans ≡ loanWords * n) (room : p < n) where
+  abbrev one : List ℕ
+  one = set loans (cellOf 0 loanWords p) (l .serial)
+
+  abbrev two : List ℕ
+  two = set one (cellOf 1 loanWords p) (l .chunk)
+
+  abbrev three : List ℕ
+  three = set two (cellOf 2 loanWords p) (l .offset)
+
+  one-long : length one ≡ loanWords * n
+  one-long = length-set loans (cellOf 0 loanWords p) (l .serial) ∙ long
+
+  two-long : length two ≡ loanWords * n
+  two-long = length-set one (cellOf 1 loanWords p) (l .chunk) ∙ one-long
+
+  three-long : length three ≡ loanWords * n
+  three-long = length-set two (cellOf 2 loanWords p) (l .offset) ∙ two-long
+
+  pub chunk-here : getD (written loanRow p l loans) (cellOf 1 loanWords p) 0 ≡ l .chunk
+  chunk-here =
+      ap (λ (t : List ℕ). getD t (cellOf 1 loanWords p) 0) (by-words loans n p l long room)
+      ∙ getD-set-other three (cellOf 3 loanWords p) (cellOf 1 loanWords p) (l .size) 0 (λ e. omega arith)
+      ∙ getD-set-other two (cellOf 2 loanWords p) (cellOf 1 loanWords p) (l .offset) 0 (λ e. omega arith)
+      ∙ getD-set-same one (cellOf 1 loanWords p) (l .chunk) 0 (omega (arith, one-long))
+
+  pub offset-here : getD (written loanRow p l loans) (cellOf 2 loanWords p) 0 ≡ l .offset
+  offset-here =
+      ap (λ (t : List ℕ). getD t (cellOf 2 loanWords p) 0) (by-words loans n p l long room)
+      ∙ getD-set-other three (cellOf 3 loanWords p) (cellOf 2 loanWords p) (l .size) 0 (λ e. omega arith)
+      ∙ getD-set-same two (cellOf 2 loanWords p) (l .offset) 0 (omega (arith, two-long))
+
+  pub size-here : getD (written loanRow p l loans) (cellOf 3 loanWords p) 0 ≡ l .size
+  size-here =
+      ap (λ (t : List ℕ). getD t (cellOf 3 loanWords p) 0) (by-words loans n p l long room)
+      ∙ getD-set-same three (cellOf 3 loanWords p) (l .size) 0 (omega (arith, three-long))
+
+  pub cell-other : (f x : ℕ) → f < loanWords → (x ≡ p → ⊥) → getD (written loanRow p l loans) (cellOf f loanWords x) 0 ≡ getD loans (cellOf f loanWords x) 0
+  cell-other f x h o =
+      ap (λ (t : List ℕ). getD t (cellOf f loanWords x) 0) (by-words loans n p l long room)
+      ∙ getD-set-other three (cellOf 3 loanWords p) (cellOf f loanWords x) (l .size) 0 (λ e. o (omega arith))
+      ∙ getD-set-other two (cellOf 2 loanWords p) (cellOf f loanWords x) (l .offset) 0 (λ e. o (omega arith))
+      ∙ getD-set-other one (cellOf 1 loanWords p) (cellOf f loanWords x) (l .chunk) 0 (λ e. o (omega arith))
+      ∙ getD-set-other loans (cellOf 0 loanWords p) (cellOf f loanWords x) (l .serial) 0 (λ e. o (omega arith))

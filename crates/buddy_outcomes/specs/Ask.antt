@@ -1,0 +1,189 @@
+-- What an ask of a buddy store says and leaves. 01, "buddy.rs", and the tests 5, 6, 8, 10 and 9. Assumes nothing: these are
+-- definitions.
+use mathlib.Core.Bool.{Bool, true, false, cond, _&&_, _||_, not}
+use mathlib.Core.List.{List, [], _∷_}
+use Prim.Native.Nat.{ℕ, zero, suc, _+_, _-_, _^_, max}
+use lib.Dec.{eqb, leb, ltb}
+use lib.ListN.{set}
+use Rattle.rounding.specs.Raising.{upTo, powerUp, levelOf}
+use Rattle.counter.specs.Account.{heapAt}
+use Rattle.counter.specs.Gate.{Verdict, pass, refuse, Row, first}
+use Rattle.counter.specs.Limits.{levelsMost}
+use Rattle.counter.specs.Paper.{Said}
+use Rattle.counter.specs.Paper as Paper
+use Rattle.counter.specs.Table.{alignmentOk}
+use Rattle.counter.specs.declared.account.Account.{Account}
+use Rattle.counter.specs.declared.account.Heap.{Heap}
+use Rattle.counter.specs.declared.account.OpenOrder.the-variants.{Kept}
+use Rattle.counter.specs.declared.settings.BuddySettings.{BuddySettings}
+use Rattle.heap.specs.Heap.{bearsOk}
+use Rattle.slab.specs.Slab.{inserted}
+use Rattle.slab.specs.Slab as Slab
+use Rattle.slab.specs.declared.Taken.{Taken}
+use Rattle.store_rules.specs.Loans.{loan}
+use Rattle.store_rules.specs.Orders.{Plan, deny, take, buy, orderFrom, keptFrom}
+use Rattle.store_rules.specs.Outcomes.{Out, out, withOrder}
+use Rattle.store_rules.specs.declared.Loan.{Loan}
+use Rattle.book.specs.Book.{takenOf, entered, enteredIndex}
+use Rattle.buddy_trees.specs.Trees.{bytes}
+use Rattle.buddy_rules.specs.Nodes.{Ent}
+use Rattle.buddy_rules.specs.Levels.{baseOf}
+use Rattle.buddy_levels.specs.Level.{entOf, ringHead, spotIn, acquired, freshLevel}
+use Rattle.buddy_stores.specs.Tables.{Tables, tables, givenAt, levelsAt, placesAt, givenIn, levelsIn, placesIn, levelFrom, placeAt, afterAt, placeWords, nodesFrom, chunkSlab}
+use Rattle.buddy_stores.specs.Moves.{Cut, splitDown, readyNode}
+use Rattle.buddy_outcomes.specs.Gate.{gateOf}
+
+-- the last number that a count can have given
+abbrev pub spent : ℕ
+spent = 2 ^ 64 - 1
+
+-- ---- what is looked for
+
+-- "With a = mask OR atom mask OR (minimal - 1)": of masks the greatest holds the others
+abbrev pub maskFor : BuddySettings → ℕ → ℕ
+maskFor s mask = max mask (max (s .store .atom) (s .minimal - 1))
+
+-- "the size is raised to a multiple of a + 1, then to a power of two"
+unfoldable pub sizeFor : BuddySettings → ℕ → ℕ → ℕ
+sizeFor s size mask = powerUp (upTo size (maskFor s mask))
+
+-- "Level = its trailing zeros less those of minimal"
+unfoldable pub levelFor : BuddySettings → ℕ → ℕ → ℕ
+levelFor s size mask = levelOf (sizeFor s size mask) (s .minimal)
+
+-- "Levels grow to hold it"
+abbrev pub grownFor : BuddySettings → ℕ → ℕ → Tables → ℕ
+grownFor s size mask t = max (levelsIn t) (levelFor s size mask + 1)
+
+-- "Search upward; the first level with a ready side ends the search": of the levels from l on, n of them
+pub data Found : Type 0 where
+  nowhere : Found
+  at : ℕ → Found
+
+unfoldable pub searchFrom : BuddySettings → List ℕ → ℕ → ℕ → Found
+searchFrom s t l zero = nowhere
+searchFrom s t l (suc n) = cond (eqb (ringHead (levelFrom s l) t) Slab.nowhere) (searchFrom s t (suc l) n) (at l)
+
+unfoldable pub foundFor : BuddySettings → ℕ → ℕ → Tables → Found
+foundFor s size mask t = searchFrom s (t .tree) (levelFor s size mask) (levelsIn t - levelFor s size mask)
+
+abbrev pub needs : Found → Bool
+needs nowhere = true
+needs (at i) = false
+
+-- the level from which the node is split down: the one found, or that above the top
+abbrev pub fromFor : BuddySettings → ℕ → ℕ → Tables → Found → ℕ
+fromFor s size mask t nowhere = grownFor s size mask t
+fromFor s size mask t (at i) = i
+
+-- "If none up to the top level t, order minimal x 2^(t+1)"
+abbrev pub orderFor : BuddySettings → ℕ → ℕ → Tables → ℕ
+orderFor s size mask t = bytes (s .minimal) (grownFor s size mask t)
+
+-- ---- the tests
+
+-- 6: "size 0; buddy: rounding overflows or the level would be 32 or more"
+unfoldable pub sizeOk : BuddySettings → ℕ → ℕ → Bool
+sizeOk s size mask = ltb 0 size && ltb (sizeFor s size mask) (bytes (s .minimal) levelsMost)
+
+-- a level has a vacant pair place, or is not there yet
+abbrev pub pairRoom : BuddySettings → Tables → ℕ → Bool
+pairRoom s t l = leb (levelsIn t) l || ltb (spotIn (levelFrom s l) (t .tree) .place) (s .pairs)
+
+-- of the levels from l on, n of them
+unfoldable pub pairsRoom : BuddySettings → Tables → ℕ → ℕ → Bool
+pairsRoom s t l zero = true
+pairsRoom s t l (suc n) = pairRoom s t l && pairsRoom s t (suc l) n
+
+-- the chunk place that is taken next
+abbrev pub chunkSpot : BuddySettings → Tables → Taken
+chunkSpot s t = inserted (chunkSlab s t) (t .tree) (placeAt s afterAt) placeWords
+
+-- 8: "no loan place; or a chunk is needed and no chunk place is vacant; or a level that needs a new pair has none"
+unfoldable pub roomOk : BuddySettings → ℕ → ℕ → Tables → Found → Bool
+roomOk s size mask t f =
+    ltb (takenOf (placesIn t) (t .index) .place) (s .store .loans)
+    && ((not (needs f) || ltb (chunkSpot s t .place) (s .store .chunks))
+    && pairsRoom s t (levelFor s size mask) (fromFor s size mask t f - levelFor s size mask))
+
+-- 10: "serials are spent; or a chunk is needed and heap used would pass 2^62, the 128-bit allocated total would overflow"
+unfoldable pub countOk : BuddySettings → Heap → ℕ → ℕ → Tables → Found → Bool
+countOk s h size mask t f = ltb (givenIn t) spent && (not (needs f) || bearsOk h (orderFor s size mask t))
+
+-- 9: "a chunk is needed and no device object remains"
+unfoldable pub objectsOk : ℕ → Found → Bool
+objectsOk objects f = not (needs f) || ltb 0 objects
+
+abbrev pub askRow : BuddySettings → Heap → ℕ → ℕ → ℕ → Tables → Found → Row
+askRow s h objects size mask t f =
+    (alignmentOk mask, 5) ∷ (sizeOk s size mask, 6) ∷ (roomOk s size mask t f, 8) ∷ (countOk s h size mask t f, 10) ∷ (objectsOk objects f, 9) ∷ []
+
+abbrev pub planned : BuddySettings → ℕ → ℕ → Tables → Found → Verdict → Plan ℕ
+planned s size mask t f (refuse n) = deny n
+planned s size mask t (at i) pass = take i
+planned s size mask t nowhere pass = buy (orderFor s size mask t)
+
+unfoldable pub decideAsk : BuddySettings → Heap → ℕ → ℕ → ℕ → Tables → Plan ℕ
+decideAsk s h objects size mask t =
+    planned s size mask t (foundFor s size mask t) (first (askRow s h objects size mask t (foundFor s size mask t)))
+
+-- ---- what is left
+
+-- levels from l on, n of them, are there and empty
+unfoldable pub freshLevels : BuddySettings → ℕ → ℕ → List ℕ → List ℕ
+freshLevels s l zero t = t
+freshLevels s l (suc n) t = freshLevels s (suc l) n (freshLevel (levelFrom s l) t)
+
+unfoldable pub grownTables : BuddySettings → ℕ → Tables → Tables
+grownTables s n t =
+    tables (set (t .head) levelsAt n) (t .loans) (t .chunks) (t .index) (freshLevels s (levelsIn t) (n - levelsIn t) (t .tree))
+
+-- a loan of this chunk, offset and size is entered in the book, and its node beside the tree, which is then `tree`
+unfoldable pub bookedTables : BuddySettings → ℕ → ℕ → ℕ → Cut → Tables → Tables
+bookedTables s c o size cut t =
+    tables
+    (set (set (t .head) givenAt (givenIn t + 1)) placesAt (takenOf (placesIn t) (t .index) .slab .places))
+    (entered (placesIn t) (t .index) (loan (givenIn t + 1) c o size) (t .loans))
+    (t .chunks)
+    (enteredIndex (s .store .loans) (placesIn t) (givenIn t + 1) (t .index))
+    (set (cut .tree) (nodesFrom s + takenOf (placesIn t) (t .index) .place) (cut .node))
+
+-- the head pair's entry of level i, whose ready side serves
+abbrev pub headEnt : BuddySettings → Tables → ℕ → Ent
+headEnt s t i = entOf (levelFrom s i) (t .tree) (ringHead (levelFrom s i) (t .tree))
+
+abbrev pub loanFrom : BuddySettings → ℕ → ℕ → Tables → ℕ → Loan
+loanFrom s size mask t i = loan (givenIn t + 1) (headEnt s t i .chunk) (baseOf (s .minimal) (headEnt s t i) i) (sizeFor s size mask)
+
+-- "The taken node is split down to the level, always keeping the left"
+unfoldable pub takenTables : BuddySettings → ℕ → ℕ → Tables → ℕ → Tables
+takenTables s size mask t i =
+    bookedTables s (loanFrom s size mask t i .chunk) (loanFrom s size mask t i .offset) (sizeFor s size mask)
+    (splitDown (s .pairs) (levelFor s size mask) (loanFrom s size mask t i .chunk) (loanFrom s size mask t i .offset)
+    (takenOf (placesIn t) (t .index) .place) (readyNode (s .pairs) i (t .tree)) (i - levelFor s size mask) (acquired (levelFrom s i) 0 (t .tree)))
+    t
+
+abbrev pub blockSaid : Loan → Said
+blockSaid l = Paper.block (l .serial) (l .chunk) (l .offset) (l .size)
+
+-- "9 in a buddy store leaves the levels grown as the ask needs"
+unfoldable pub deniedTables : BuddySettings → ℕ → ℕ → ℕ → Tables → Tables
+deniedTables s size mask n t = cond (eqb n 9) (grownTables s (grownFor s size mask t) t) t
+
+unfoldable pub carryAsk : BuddySettings → Account → ℕ → ℕ → Tables → Plan ℕ → Out Tables
+carryAsk s a size mask t (deny n) = out (Paper.refusal n []) a (deniedTables s size mask n t)
+carryAsk s a size mask t (take i) = out (blockSaid (loanFrom s size mask t i)) a (takenTables s size mask t i)
+carryAsk s a size mask t (buy z) =
+    out (Paper.orderOf (orderFrom (s .store) z)) (withOrder a (Kept (keptFrom (s .store) size mask z))) (grownTables s (grownFor s size mask t) t)
+
+-- ---- the call
+
+abbrev pub gated : Verdict → Plan ℕ → Plan ℕ
+gated (refuse n) p = deny n
+gated pass p = p
+
+unfoldable pub planAsk : BuddySettings → Account → ℕ → ℕ → Tables → Plan ℕ
+planAsk s a size mask t = gated (gateOf s a t true) (decideAsk s (heapAt a (s .store .heap)) (a .objects) size mask t)
+
+unfoldable pub askOf : BuddySettings → Account → ℕ → ℕ → Tables → Out Tables
+askOf s a size mask t = carryAsk s a size mask t (planAsk s a size mask t)

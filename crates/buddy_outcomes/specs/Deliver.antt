@@ -1,0 +1,104 @@
+-- What a delivery to a buddy store says and leaves. 01, "buddy.rs", and the tests 13, 11 and 12. Assumes nothing: these are
+-- definitions.
+use mathlib.Core.Bool.{Bool, false, cond, _&&_}
+use mathlib.Core.List.{List, [], _∷_, _++_}
+use Prim.Native.Nat.{ℕ, zero, suc, _+_, _-_, _*_}
+use lib.ListN.{set}
+use Rattle.words.specs.Words.{cellOf}
+use Rattle.counter.specs.Account.{heapAt}
+use Rattle.counter.specs.Gate.{Verdict, pass, refuse, first}
+use Rattle.counter.specs.Paper as Paper
+use Rattle.counter.specs.declared.account.Account.{Account}
+use Rattle.counter.specs.declared.account.KeptOrder.{KeptOrder}
+use Rattle.counter.specs.declared.account.OpenOrder.{OpenOrder}
+use Rattle.counter.specs.declared.account.OpenOrder.the-variants.{Nothing, Kept}
+use Rattle.counter.specs.declared.answers.Outcome.{Outcome}
+use Rattle.counter.specs.declared.settings.BuddySettings.{BuddySettings}
+use Rattle.slab.specs.Slab.{nowhere}
+use Rattle.store_rules.specs.Delivery.{Fate, kept, lost, buddy, fateOf, deliveryOk}
+use Rattle.store_rules.specs.Loans.{loan}
+use Rattle.store_rules.specs.Orders.{leadsTo}
+use Rattle.store_rules.specs.Outcomes.{Out, out, chargedAccount, lostAccount}
+use Rattle.store_rules.specs.Tests.{orderFor, gateRow}
+use Rattle.store_rules.specs.declared.Loan.{Loan}
+use Rattle.book.specs.Book.{takenOf}
+use Rattle.buddy_levels.specs.Level.{spotIn}
+use Rattle.buddy_stores.specs.Tables.{Tables, tables, chunkPlacesAt, chunkWords, memoryAt, chunkSizeAt, givenIn, levelsIn, placesIn, chunkPlacesIn, memoryIn, heldIn, levelFrom, chunksFrom, placeAt, topAt, placeWords}
+use Rattle.buddy_stores.specs.Moves.{splitDown}
+use Rattle.buddy_stores.specs.Test.{soundOk}
+use Rattle.buddy_outcomes.specs.Gate.{lentOk, accountOk}
+use Rattle.buddy_outcomes.specs.Ask.{sizeFor, levelFor, grownFor, chunkSpot, grownTables, bookedTables, decideAsk, blockSaid}
+
+-- 3 on a delivery: the kept ask still leads to the order that was told
+abbrev pub stillOk : BuddySettings → Account → Tables → OpenOrder → Bool
+stillOk s a t Nothing = false
+stillOk s a t (Kept k) =
+    leadsTo (s .store) (k .order) (decideAsk s (heapAt a (s .store .heap)) (a .objects) (k .ask .size) (k .ask .mask) t)
+
+unfoldable pub deliverGateOf : BuddySettings → Account → Tables → Verdict
+deliverGateOf s a t =
+    first (gateRow (lentOk s a t) (orderFor (s .store .number) (a .order)) (soundOk s t && stillOk s a t (a .order)) (accountOk s a t))
+
+-- the memory numbers of the chunks at the first n places
+unfoldable pub memories : Tables → ℕ → List ℕ
+memories t zero = []
+memories t (suc n) = memories t n ++ cond (heldIn t n) (memoryIn t n ∷ []) []
+
+-- ---- a chunk of z bytes at the place that is taken next; its top node is split into the pair that the top level takes next
+
+unfoldable pub chunkTables : BuddySettings → ℕ → ℕ → Tables → Tables
+chunkTables s memory z t =
+    tables
+    (set (t .head) chunkPlacesAt (chunkSpot s t .slab .places))
+    (t .loans)
+    (set (set (t .chunks) (cellOf memoryAt chunkWords (chunkSpot s t .place)) memory) (cellOf chunkSizeAt chunkWords (chunkSpot s t .place)) z)
+    (t .index)
+    (set (set (t .tree) (chunksFrom s) (chunkSpot s t .slab .vacant)) (cellOf (placeAt s topAt) placeWords (chunkSpot s t .place))
+    (2 * spotIn (levelFrom s (levelsIn t - 1)) (t .tree) .place + 2))
+
+abbrev pub loanIn : BuddySettings → ℕ → ℕ → Tables → Loan
+loanIn s size mask t = loan (givenIn t + 1) (chunkSpot s t .place) 0 (sizeFor s size mask)
+
+-- its left end is lent: of tables whose levels have grown
+unfoldable pub servedTables : BuddySettings → ℕ → ℕ → ℕ → ℕ → Tables → Tables
+servedTables s size mask memory z t =
+    bookedTables s (chunkSpot s t .place) 0 (sizeFor s size mask)
+    (splitDown (s .pairs) (levelFor s size mask) (chunkSpot s t .place) 0 (takenOf (placesIn t) (t .index) .place) nowhere (levelsIn t - levelFor s size mask)
+    (chunkTables s memory z t .tree))
+    (chunkTables s memory z t)
+
+-- the levels as the order raised them
+abbrev pub asOrdered : BuddySettings → KeptOrder → Tables → Tables
+asOrdered s k t = grownTables s (grownFor s (k .ask .size) (k .ask .mask) t) t
+
+unfoldable pub carryFate : BuddySettings → Account → KeptOrder → Tables → Fate → Out Tables
+carryFate s a k t (kept memory) =
+    out
+    (blockSaid (loanIn s (k .ask .size) (k .ask .mask) (asOrdered s k t)))
+    (chargedAccount (s .store) a (k .order .size))
+    (servedTables s (k .ask .size) (k .ask .mask) memory (k .order .size) (asOrdered s k t))
+carryFate s a k t (lost n charged back) =
+    out (Paper.refusal n back) (lostAccount (s .store) a (k .order .size) charged back) (asOrdered s k t)
+
+pub data Plan : Type 0 where
+  deny : ℕ → Plan
+  go : KeptOrder → Fate → Plan
+
+-- 13
+abbrev pub decideDeliver : Outcome → List ℕ → OpenOrder → Plan
+decideDeliver o held Nothing = deny 2
+decideDeliver o held (Kept k) = cond (deliveryOk (k .order .map) held o) (go k (fateOf buddy o)) (deny 13)
+
+abbrev pub gated : Verdict → Plan → Plan
+gated (refuse n) p = deny n
+gated pass p = p
+
+unfoldable pub planDeliver : BuddySettings → Account → Outcome → Tables → Plan
+planDeliver s a o t = gated (deliverGateOf s a t) (decideDeliver o (memories t (chunkPlacesIn t)) (a .order))
+
+unfoldable pub carryDeliver : BuddySettings → Account → Tables → Plan → Out Tables
+carryDeliver s a t (deny n) = out (Paper.refusal n []) a t
+carryDeliver s a t (go k f) = carryFate s a k t f
+
+unfoldable pub deliverOf : BuddySettings → Account → Outcome → Tables → Out Tables
+deliverOf s a o t = carryDeliver s a t (planDeliver s a o t)

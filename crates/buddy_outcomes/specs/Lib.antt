@@ -1,0 +1,5 @@
+pub mod Gate
+pub mod Ask
+pub mod Deliver
+pub mod Return
+pub mod SetUp

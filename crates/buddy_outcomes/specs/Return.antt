@@ -1,0 +1,83 @@
+-- What a return to a buddy store says and leaves. 01, "buddy.rs", and test 7. Assumes nothing: these are definitions.
+use mathlib.Core.Bool.{Bool, cond, _&&_, not}
+use mathlib.Core.List.{List, [], _∷_}
+use Prim.Native.Nat.{ℕ, _+_, _-_}
+use lib.Dec.{eqb}
+use lib.ListN.{getD, set}
+use lib.Seq.{sets}
+use Rattle.words.specs.Words.{cellOf}
+use Rattle.words.specs.Rows.{row}
+use Rattle.rounding.specs.Raising.{levelOf}
+use Rattle.counter.specs.Gate.{Verdict, pass, refuse}
+use Rattle.counter.specs.Paper as Paper
+use Rattle.counter.specs.declared.account.Account.{Account}
+use Rattle.counter.specs.declared.answers.Block.{Block}
+use Rattle.counter.specs.declared.settings.BuddySettings.{BuddySettings}
+use Rattle.slab.specs.Slab.{nowhere}
+use Rattle.store_rules.specs.Loans.{loanRow}
+use Rattle.store_rules.specs.Outcomes.{Listed, listed, listOk, releasedAccount}
+use Rattle.store_rules.specs.declared.Loan.{Loan}
+use Rattle.book.specs.Book.{wordTo, struck, struckIndex}
+use Rattle.buddy_stores.specs.Tables.{Tables, tables, chunkWords, chunkSizeAt, levelsIn, placesIn, memoryIn, chunkSizeIn, chunksFrom, placeAt, afterAt, placeWords, nodesFrom}
+use Rattle.buddy_stores.specs.Moves.{Climbed, climbed}
+use Rattle.buddy_outcomes.specs.Gate.{gateOf}
+
+-- the word of the index that leads to the loan with the block's serial, and the loan's place
+abbrev pub wordFor : BuddySettings → Block → Tables → ℕ
+wordFor s b t = wordTo (t .loans) (t .index) (s .store .loans) (placesIn t) (b .serial)
+
+abbrev pub sameLoan : Block → Loan → Bool
+sameLoan b l = eqb (l .serial) (b .serial) && (eqb (l .chunk) (b .chunk) && (eqb (l .offset) (b .offset) && eqb (l .size) (b .size)))
+
+-- 7: "no loan has this serial, chunk, offset and size"
+unfoldable pub onLoanOk : BuddySettings → Block → Tables → Bool
+onLoanOk s b t =
+    not (eqb (wordFor s b t) nowhere) && sameLoan b (row loanRow (getD (t .index) (wordFor s b t) 0) (t .loans))
+
+-- the climb from the node of the loan that the word w leads to
+abbrev pub climbFor : BuddySettings → Block → ℕ → Tables → Climbed
+climbFor s b w t =
+    climbed (s .pairs) (levelsIn t - levelOf (b .size) (s .minimal)) (levelOf (b .size) (s .minimal)) (getD (t .tree) (nodesFrom s + getD (t .index) w 0) 0) (t .tree)
+
+-- "above the top the chunk is released": its place is vacant, and the next to be taken
+unfoldable pub vacatedTree : BuddySettings → ℕ → List ℕ → List ℕ
+vacatedTree s c t = set (set t (cellOf (placeAt s afterAt) placeWords c) (getD t (chunksFrom s) 0)) (chunksFrom s) c
+
+unfoldable pub givenTables : BuddySettings → Block → ℕ → Tables → Tables
+givenTables s b w t =
+    tables
+    (t .head)
+    (struck w (t .index) (t .loans))
+    (cond (climbFor s b w t .freed) (set (t .chunks) (cellOf chunkSizeAt chunkWords (b .chunk)) 0) (t .chunks))
+    (struckIndex w (t .index))
+    (cond (climbFor s b w t .freed) (vacatedTree s (b .chunk) (climbFor s b w t .tree)) (climbFor s b w t .tree))
+
+-- ---- the call
+
+pub data Plan : Type 0 where
+  deny : ℕ → Plan
+  back : ℕ → Plan
+
+unfoldable pub decideReturn : BuddySettings → Block → Tables → Plan
+decideReturn s b t = cond (onLoanOk s b t) (back (wordFor s b t)) (deny 7)
+
+abbrev pub gated : Verdict → Plan → Plan
+gated (refuse n) p = deny n
+gated pass p = p
+
+unfoldable pub planReturn : BuddySettings → Account → Block → Tables → Bool → Plan
+planReturn s a b t list = gated (gateOf s a t list) (decideReturn s b t)
+
+-- how many chunks go, and what they have: the block's or none
+unfoldable pub releasedBy : BuddySettings → Account → Block → ℕ → Tables → List ℕ → Listed Tables
+releasedBy s a b w t list =
+    cond (climbFor s b w t .freed)
+    (listed (Paper.released 1) (releasedAccount (s .store) a 1 (chunkSizeIn t (b .chunk))) (givenTables s b w t) (sets list 0 (memoryIn t (b .chunk) ∷ [])))
+    (listed (Paper.released 0) (releasedAccount (s .store) a 0 0) (givenTables s b w t) list)
+
+unfoldable pub carryReturn : BuddySettings → Account → Block → Tables → List ℕ → Plan → Listed Tables
+carryReturn s a b t list (deny n) = listed (Paper.refusal n []) a t list
+carryReturn s a b t list (back w) = releasedBy s a b w t list
+
+unfoldable pub returnOf : BuddySettings → Account → Block → Tables → List ℕ → Listed Tables
+returnOf s a b t list = carryReturn s a b t list (planReturn s a b t (listOk (s .store) list))

@@ -1,0 +1,38 @@
+-- What set-up of a buddy store says and leaves. Assumes nothing: these are definitions.
+use mathlib.Core.Bool.{Bool, cond, _&&_}
+use mathlib.Core.List.{List, [], _∷_}
+use Prim.Native.Nat.{ℕ}
+use lib.ListN.{set, replicate}
+use Rattle.counter.specs.Paper.{Said}
+use Rattle.counter.specs.Paper as Paper
+use Rattle.counter.specs.Table.{buddyOk}
+use Rattle.counter.specs.declared.settings.BuddySettings.{BuddySettings}
+use Rattle.slab.specs.Slab.{nowhere}
+use Rattle.book.specs.Book.{indexWords}
+use Rattle.buddy_stores.specs.Tables.{Tables, tables, mark, lengthsOk, chunksFrom, initialLevels}
+use Rattle.buddy_outcomes.specs.Ask.{freshLevels}
+
+pub record SetUp : Type 0 where
+  pub said : Said
+  pub tables : Tables
+
+abbrev pub setUp : Said → Tables → SetUp
+setUp s t = record { said = s; tables = t }
+
+-- the mark; nothing given, and "Initial levels"; no place used
+abbrev pub freshHead : BuddySettings → List ℕ
+freshHead s = mark ∷ 0 ∷ initialLevels s ∷ 0 ∷ 0 ∷ []
+
+-- the initial levels are there and empty, no chunk place is vacated, no chain leads anywhere
+unfoldable pub freshTables : BuddySettings → Tables → Tables
+freshTables s t =
+    tables (freshHead s) (t .loans) (t .chunks) (replicate (indexWords (s .store .loans)) nowhere)
+    (set (freshLevels s 0 (initialLevels s) (t .tree)) (chunksFrom s) nowhere)
+
+-- 1, but for the account, which set-up does not take
+unfoldable pub fitOk : BuddySettings → Tables → Bool
+fitOk s t = buddyOk s && lengthsOk s t
+
+-- "Set-up and ranking test only 1"
+unfoldable pub setUpOf : BuddySettings → Tables → SetUp
+setUpOf s t = cond (fitOk s t) (setUp Paper.ready (freshTables s t)) (setUp (Paper.refusal 1 []) t)

@@ -1,0 +1,5 @@
+pub mod Nodes
+pub mod Levels
+pub mod Returns
+pub mod Lends
+pub mod Stores

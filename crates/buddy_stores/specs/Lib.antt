@@ -1,0 +1,4 @@
+pub mod Tables
+pub mod Sound
+pub mod Test
+pub mod Moves

@@ -1,0 +1,82 @@
+// Places linked into a ring in a lent table. The head stands in the word `head`, NOWHERE where the ring is empty; a place's
+// links stand `next_at` and `prev_at` words into the table, and `step` words on for each place before it.
+ghost use mathlib.Core.Path.{_≡_};
+ghost use Prim.Native.Nat.{_≤_, _<_};
+ghost use lib.ListN.{set};
+ghost use Rattle.words.specs.Words.{widest};
+ghost use Rattle.ring.specs.Ring.{unlinked, linked};
+ghost use Rattle.ring.specs.Test.{ringLength};
+use slab::NOWHERE;
+
+// The place p is taken out; the head is p's next from now on, whichever place it was.
+pub fn unlink(t: &mut [u64], head: u64, next_at: u64, prev_at: u64, step: u64, p: u64)
+    requires { ⌜ (0 < step) × (step ≤ widest) ⌝ }
+    ensures { λ _. ⌜ now (t .exit) ≡ unlinked head «next_at» «prev_at» step p (now (t .entry)) ⌝ }
+{
+    let n = words::cell(t, next_at as usize, step as usize, p as usize);
+    let q = words::cell(t, prev_at as usize, step as usize, p as usize);
+    if q == p {
+        words::put(t, head as usize, NOWHERE);
+    } else {
+        words::put_cell(t, next_at as usize, step as usize, q as usize, n);
+        words::put_cell(t, prev_at as usize, step as usize, n as usize, q);
+        move_head(t, head, n);
+    }
+}
+
+// The head moves on to n, whichever place it was.
+fn move_head(t: &mut [u64], head: u64, n: u64)
+    ensures { λ _. ⌜ now (t .exit) ≡ set (now (t .entry)) head n ⌝ }
+{
+    words::put(t, head as usize, n);
+}
+
+// The place p joins before the head, or as the head of a ring that was empty.
+pub fn link(t: &mut [u64], head: u64, next_at: u64, prev_at: u64, step: u64, p: u64)
+    requires { ⌜ (0 < step) × (step ≤ widest) ⌝ }
+    ensures { λ _. ⌜ now (t .exit) ≡ linked head «next_at» «prev_at» step p (now (t .entry)) ⌝ }
+{
+    let h = words::word(t, head as usize);
+    if h == NOWHERE {
+        words::put_cell(t, next_at as usize, step as usize, p as usize, p);
+        words::put_cell(t, prev_at as usize, step as usize, p as usize, p);
+        words::put(t, head as usize, p);
+    } else {
+        let q = words::cell(t, prev_at as usize, step as usize, h as usize);
+        words::put_cell(t, prev_at as usize, step as usize, h as usize, p);
+        words::put_cell(t, next_at as usize, step as usize, q as usize, p);
+        words::put_cell(t, next_at as usize, step as usize, p as usize, h);
+        words::put_cell(t, prev_at as usize, step as usize, p as usize, q);
+    }
+}
+
+// How many places stand in the ring, all of them below `places`: NOWHERE where it is torn. Linear in the places.
+pub fn ring_length(t: &[u64], head: u64, next_at: u64, prev_at: u64, step: u64, places: u64) -> u64
+    requires { ⌜ (0 < step) × (step ≤ widest) ⌝ }
+    ensures { λ r. ⌜ r ≡ ringLength head «next_at» «prev_at» step places (now (t .entry)) ⌝ }
+{
+    let h = words::word(t, head as usize);
+    if h == NOWHERE {
+        return 0;
+    }
+    if places <= h {
+        return NOWHERE;
+    }
+    let mut p = h;
+    let mut left = places;
+    while 0 < left {
+        let n = words::cell(t, next_at as usize, step as usize, p as usize);
+        if places <= n {
+            return NOWHERE;
+        }
+        if words::cell(t, prev_at as usize, step as usize, n as usize) != p {
+            return NOWHERE;
+        }
+        left -= 1;
+        if n == h {
+            return places - left;
+        }
+        p = n;
+    }
+    NOWHERE
+}
