@@ -39,6 +39,18 @@ pub enum Fault {
     FullAfterOrder,
 }
 
+/// Each fault, in words.
+pub const FAULTS: [(Fault, &str); 8] = [
+    (Fault::HeadOnlyWhenRemoved, "head moved only when the head was removed"),
+    (Fault::ReleasesByNumber, "releases listed by chunk number"),
+    (Fault::NineKeepsLevels, "refusal 9 not growing the levels"),
+    (Fault::NineBeforeEight, "9 tested before 8"),
+    (Fault::StaleByPlace, "a stale slip taken after its room was lent again"),
+    (Fault::FailedSpendsSerial, "a failed delivery spending a serial"),
+    (Fault::ChunkSizeNotKept, "chunk size not kept after 11 or 12"),
+    (Fault::FullAfterOrder, "FULL tested after the order"),
+];
+
 /// The answers to a tape: a line for each record, then the totals and the end.
 pub fn answers(tape: &[u8], fault: Fault) -> String {
     let Some((settings, records)) = Settings::read(tape) else {

@@ -1,6 +1,7 @@
 //! The recorded tapes. Each day is written out with the answers that document 01 leads to, and
 //! recording it runs the crate, so a day on which the crate says otherwise can't be recorded.
 
+mod damage;
 mod day;
 mod deliveries;
 mod placement;
@@ -34,6 +35,7 @@ pub fn all() -> Vec<Recorded> {
     all.extend(refused_asks::days());
     all.extend(deliveries::days());
     all.extend(returns::days());
+    all.extend(damage::days());
     all.extend(setups::tapes());
     all.extend(stops::tapes());
     let spent = generator::spent_heap(false);

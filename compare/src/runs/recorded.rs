@@ -4,7 +4,7 @@
 use {
     crate::{
         difference::Difference,
-        plain::{self, Fault},
+        plain::{self, Fault, FAULTS},
         recorded::{self, Recorded},
         runs::{verdict, Verdict},
     },
@@ -18,17 +18,6 @@ use {
 /// Where the recorded set lies: tapes of one store, and below them those of several.
 const FOLDER: &str = "recorded";
 const SHELVES: &str = "recorded/stores";
-
-const FAULTS: [(Fault, &str); 8] = [
-    (Fault::HeadOnlyWhenRemoved, "head moved only when the head was removed"),
-    (Fault::ReleasesByNumber, "releases listed by chunk number"),
-    (Fault::NineKeepsLevels, "refusal 9 not growing the levels"),
-    (Fault::NineBeforeEight, "9 tested before 8"),
-    (Fault::StaleByPlace, "a stale slip taken after its room was lent again"),
-    (Fault::FailedSpendsSerial, "a failed delivery spending a serial"),
-    (Fault::ChunkSizeNotKept, "chunk size not kept after 11 or 12"),
-    (Fault::FullAfterOrder, "FULL tested after the order"),
-];
 
 /// Writes the set.
 pub fn record() -> io::Result<()> {

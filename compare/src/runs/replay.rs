@@ -4,7 +4,9 @@ use {
     crate::{
         counter,
         difference::Difference,
-        generator, recorded,
+        generator,
+        plain::{self, FAULTS},
+        recorded,
         runs::{verdict, with_smallest, Verdict},
     },
     std::{
@@ -18,48 +20,31 @@ use {
 
 const TAPE: &str = "target/replay.tape";
 
-/// What the program says of a buddy store's tape while it has no such engine.
-const NOT_BUILT: &str = "engine not built\n";
-
-const REFUSED: &str = "setup refused 1\n";
-
-/// Whether a tape is for a buddy store.
-fn is_buddy(tape: &[u8]) -> bool {
-    tape.starts_with(&1u64.to_le_bytes())
-}
-
-/// The crate's answers; of a buddy store that set-up takes, that there is no engine.
-fn expected(tape: &[u8]) -> String {
-    let answers = counter::answers(tape);
-    if is_buddy(tape) && answers != REFUSED {
-        return NOT_BUILT.into();
-    }
-    answers
-}
-
-/// Replays the recorded tapes and up to `count` random free-list ones, within about `limit`.
+/// Replays the recorded tapes and up to `count` random ones for each engine, within about `limit`.
 pub fn run(program: &Path, seed: u64, count: u64, limit: Duration) -> Verdict {
     if !program.exists() {
         println!("skipped: there is no {}", program.display());
         return Ok(());
     }
     let began = Instant::now();
-    let recorded = recorded::all().into_iter().map(|one| (one.name, one.tape));
-    let random = (0..)
-        .map(|number| (format!("random-{seed}-{number}"), generator::tape(seed, number)))
-        .filter(|(_, tape)| !is_buddy(tape))
-        .take(count as usize);
     let hold = |name: &str, tape: &[u8]| {
         let found = replay(program, tape).unwrap_or_else(|error| error.to_string());
-        Difference::between(name, tape, expected(tape), found)
+        Difference::between(name, tape, counter::answers(tape), found)
     };
-    let mut tapes = 0;
     let mut differences = Vec::new();
-    for (name, tape) in recorded.chain(random).take_while(|_| began.elapsed() < limit) {
-        differences.extend(hold(&format!("replay-{name}"), &tape));
-        tapes += 1;
+    for one in recorded::all() {
+        differences.extend(hold(&format!("replay-{}", one.name), &one.tape));
     }
-    println!("{tapes} tapes replayed, {} differences", differences.len());
+    let mut tapes = Vec::new();
+    for number in (0..2 * count).take_while(|_| began.elapsed() < limit) {
+        let tape = generator::tape(seed, number);
+        differences.extend(hold(&format!("replay-random-{seed}-{number}"), &tape));
+        tapes.push(tape);
+    }
+    let (recorded, random) = (recorded::all().len(), tapes.len());
+    println!("{recorded} recorded and {random} random tapes replayed");
+    println!("{} differences", differences.len());
+    print_faults(&tapes);
     verdict(&with_smallest(differences, hold))
 }
 
@@ -68,4 +53,14 @@ fn replay(program: &Path, tape: &[u8]) -> io::Result<String> {
     fs::write(TAPE, tape)?;
     let output = Command::new(program).stdin(File::open(TAPE)?).output()?;
     Ok(String::from_utf8_lossy(&output.stdout).into())
+}
+
+/// How many of the tapes would notice each fault, had the program it.
+fn print_faults(tapes: &[Vec<u8>]) {
+    println!("{:<52}{:>8}", "fault that random tapes would notice", "tapes");
+    for (fault, what) in FAULTS {
+        let noticed =
+            tapes.iter().filter(|tape| counter::answers(tape) != plain::answers(tape, fault));
+        println!("{what:<52}{:>8}", noticed.count());
+    }
 }

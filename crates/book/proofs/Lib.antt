@@ -12,3 +12,5 @@ pub mod Changed
 pub mod Cutting
 pub mod Keeps
 pub mod Uses
+pub mod Keeping
+pub mod Filling

@@ -1,7 +1,11 @@
 // The book of a store's loans: their records in a slab, and an index by which a loan is found by its serial.
 mod chains;
+mod clearing;
+mod kept;
 
 pub use chains::is_chained;
+pub use clearing::clear;
+pub use kept::is_kept;
 ghost use mathlib.Core.Path.{_≡_};
 ghost use Prim.Native.Nat.{_≤_, _<_};
 ghost use lib.ListN.{set};

@@ -16,3 +16,4 @@ pub mod Fresh
 pub mod Decides
 pub mod Steps
 pub mod Turns
+pub mod Reading

@@ -1,8 +1,12 @@
 // A level of a buddy store's pairs in words, which begin at `base` of a lent table: its ring of ready pairs and its vacant
 // places. What is done to it is defined for all words, so none that the table holds can make any of these fail.
 mod good;
+mod pairs;
 
 pub use good::is_good;
+pub use pairs::Pair;
+pub use pairs::pair_at;
+pub use pairs::pair_in;
 ghost use mathlib.Core.Path.{_≡_};
 ghost use Prim.Native.Nat.{_+_, _≤_, _<_};
 ghost use lib.ListN.{getD, set};

@@ -5,7 +5,6 @@ use mathlib.Core.Logic.{_⊎_, ⊎-elim}
 use mathlib.Core.List.{List}
 use Prim.Native.Nat.{ℕ, zero, suc, _+_, _-_, _*_, _/_, _%_, _≤_, _<_}
 use native.Mathlib.Omega.{arith}
-use native.Mathlib.Nat.{mul-le-mul-left}
 use lib.Dec.{eqb, ltb}
 use lib.ListN.{getD, set}
 use borrow.Author.Tests.{eqb-false, eq-eqb, ne-eqb, ltb-true, ltb-false}
@@ -18,11 +17,6 @@ use Rattle.buddy_stores.specs.Tables.{levelAfter}
 use Rattle.buddy_stores.specs.Moves.{sideIn, climbed, worded, splitDown}
 use Rattle.buddy_trees.specs.Trees.{up}
 use Rattle.buddy_moves.specs.Roomy.{Roomy, halved}
-
--- ---- where a level begins
-
-pub level-low : (pairs l : ℕ) → pairs ≤ pairsMost → l ≤ levelsMost → levelAfter pairs l ≤ baseMost
-level-low pairs l p h = omega (arith, mul-le-mul-left (levelWords pairs) h)
 
 -- ---- the two nodes of a pair
 

@@ -8,21 +8,11 @@ ghost use Rattle.buddy_levels.specs.Level.{baseMost, entOf, pairCell, sideAt};
 ghost use Rattle.buddy_stores.specs.Tables.{levelAfter};
 ghost use Rattle.buddy_stores.specs.Moves.{sideIn, climbed, worded, splitDown};
 ghost use Rattle.buddy_moves.specs.Roomy.{Roomy};
-use buddy_levels::HEADER_WORDS;
 use buddy_levels::LEFT_AT;
-use buddy_levels::PAIR_WORDS;
 use buddy_levels::RIGHT_AT;
 use buddy_levels::UP_AT;
+use buddy_shape::level_from;
 use slab::NOWHERE;
-
-// Where level l begins.
-fn level_from(pairs: usize, l: usize) -> usize
-    requires { ⌜ (pairs ≤ pairsMost) × (l ≤ levelsMost) ⌝ }
-    ensures { λ r. ⌜ r ≡ levelAfter pairs l ⌝ }
-    ensures { λ r. ⌜ r ≤ baseMost ⌝ }
-{
-    (HEADER_WORDS + PAIR_WORDS * pairs) * l
-}
 
 // The word of node n's twin.
 fn twin_word(tree: &[u64], base: usize, n: u64) -> u64

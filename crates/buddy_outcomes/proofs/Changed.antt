@@ -257,6 +257,10 @@ module _ (s : BuddySettings) (t : Tables) (fit : BuddyIn s) (lengths : Lengths s
       unfolding grownTables
       grown-places = places n more most
 
+      pub grown-given : givenIn (grownTables s n t) ≡ givenIn t
+      unfolding grownTables
+      grown-given = word n more most givenAt (λ e. omega arith)
+
       pub grown-slab : chunkSlab s (grownTables s n t) ≡ chunkSlab s t
       unfolding grownTables
       grown-slab = sym (slab n more most)

@@ -9,7 +9,7 @@ use lib.Dec.{eqb, ltb}
 use borrow.Author.Tests.{eqb-false, ltb-true}
 use Rattle.lists.proofs.Bools.{told, true-false, and-left, and-right, not-yes, same?}
 use Rattle.counter.specs.Account.{heapAt}
-use Rattle.counter.specs.Gate.{Verdict, refuse, pass, first}
+use Rattle.counter.specs.Gate.{Verdict, refuse, pass}
 use Rattle.counter.specs.InTable.{BuddyIn}
 use Rattle.counter.specs.Limits.{levelsMost}
 use Rattle.counter.specs.declared.account.Account.{Account}
@@ -27,90 +27,58 @@ use Rattle.counter.proofs.Gates.{passed}
 use Rattle.slab.specs.Slab.{inserted}
 use Rattle.slab.specs.declared.Slab.{Slab}
 use Rattle.store_rules.specs.Delivery.{buddy, holds, suits, deliveryOk, mapped, fateOf}
-use Rattle.store_rules.specs.Orders.{Plan, deny, take, buy}
 use Rattle.store_rules.specs.Tests.{orderFor, gateRow}
 use Rattle.store_rules.proofs.Refused.{leads-buy}
 use Rattle.book.specs.Book.{takenOf}
 use Rattle.buddy_trees.specs.Trees.{bytes}
 use Rattle.buddy_levels.specs.Level.{spotIn, ringHead}
-use Rattle.buddy_stores.specs.Tables.{Tables, Lengths, levelsIn, placesIn, chunkPlacesIn, heldIn, memoryIn, levelFrom, placeAt, afterAt, placeWords}
+use Rattle.buddy_stores.specs.Tables.{Tables, Lengths, levelsIn, placesIn, chunkPlacesIn, heldIn, memoryIn, levelFrom, placeAt, afterAt, placeWords, memories}
 use Rattle.buddy_stores.specs.Sound.{Sound}
 use Rattle.buddy_stores.specs.Test.{soundOk}
 use Rattle.slab.specs.Slab as Slab
 use Rattle.buddy_outcomes.specs.Gate.{lentOk, accountOk}
 use Rattle.buddy_outcomes.specs.Ask as Ask
-use Rattle.buddy_outcomes.specs.Ask.{Found, at, levelFor, grownFor, foundFor, sizeOk, roomOk, chunkSpot, askRow, planned, decideAsk, grownTables}
+use Rattle.buddy_outcomes.specs.Ask.{levelFor, grownFor, foundFor, chunkSpot, decideAsk, grownTables}
 use Rattle.buddy_outcomes.specs.Deliver as Deliver
-use Rattle.buddy_outcomes.specs.Deliver.{stillOk, deliverGateOf, memories, servedTables, carryFate, decideDeliver, planDeliver, carryDeliver, deliverOf}
+use Rattle.buddy_outcomes.specs.Deliver.{stillOk, deliverGateOf, servedTables, carryFate, decideDeliver, planDeliver, carryDeliver, deliverOf}
 use Rattle.buddy_outcomes.proofs.Passing.{Lent, lent-in}
+use Rattle.buddy_outcomes.proofs.Plans.{Buys, buys}
 use Rattle.buddy_outcomes.proofs.Rounds.{level-low}
 use Rattle.buddy_outcomes.proofs.Changed.{grown-lengths, grown-tables-sound, grown-count, grown-held, grown-places, grown-slab, grown-head, grown-spot}
 use Rattle.buddy_outcomes.proofs.Searches.{search-none, room-place, room-chunk, room-pair}
 use Rattle.buddy_outcomes.proofs.Served.{served-sound}
 
--- ---- what the kept ask still leads to
+-- ---- the chunk arrives
 
 -- which place is taken next hangs on the slab alone
 spot-same : (z : Slab) (x y : List ℕ) (f w : ℕ) → inserted z x f w .place ≡ inserted z y f w .place
 unfolding inserted
 spot-same z x y f w = ⊎-elim (λ e. rw e refl) (λ e. rw e refl) (told (ltb (z .vacant) (z .places)))
 
-abbrev isBuy : Plan ℕ → Bool
-isBuy (deny n) = false
-isBuy (take i) = false
-isBuy (buy z) = true
-
-abbrev bought : Plan ℕ → ℕ
-bought (deny n) = 0
-bought (take i) = 0
-bought (buy z) = z
-
--- what such an ask has shown
-record Buys (s : BuddySettings) (size mask : ℕ) (t : Tables) (z : ℕ) : Type 0 where
-  pub found : foundFor s size mask t ≡ Ask.nowhere
-  pub sized : sizeOk s size mask ≡ true
-  pub room : roomOk s size mask t Ask.nowhere ≡ true
-  pub order : bytes (s .minimal) (grownFor s size mask t) ≡ z
-
-module _ (s : BuddySettings) (a : Account) (size mask : ℕ) (t : Tables) (z : ℕ) where
-  by-found : (f : Found) → foundFor s size mask t ≡ f → (v : Verdict) → first (askRow s (heapAt a (s .store .heap)) (a .objects) size mask t f) ≡ v
-      → planned s size mask t f v ≡ buy z → Buys s size mask t z
-  by-found f e (refuse n) w p = absurd (true-false true refl (sym (ap isBuy p)))
-  by-found (at i) e pass w p = absurd (true-false true refl (sym (ap isBuy p)))
-  by-found Ask.nowhere e pass w p =
-      let h = passed (askRow s (heapAt a (s .store .heap)) (a .objects) size mask t Ask.nowhere) w in
-      record { found = e; sized = h .1 .0; room = h .1 .1 .0; order = ap bought p }
-
-  buys : decideAsk s (heapAt a (s .store .heap)) (a .objects) size mask t ≡ buy z → Buys s size mask t z
-  unfolding decideAsk
-  buys p = by-found (foundFor s size mask t) refl _ refl p
-
--- ---- the chunk arrives
-
 module _ (s : BuddySettings) (t : Tables) (fit : BuddyIn s) (lengths : Lengths s t) (sound : Sound s t) (size mask z : ℕ) (b : Buys s size mask t z) where
   abbrev n : ℕ
   n = grownFor s size mask t
 
-  more : levelsIn t ≤ n
+  pub more : levelsIn t ≤ n
   more = omega arith
 
-  most : n ≤ levelsMost
+  pub most : n ≤ levelsMost
   most = omega (arith, level-low s fit size mask (b .sized), sound .levels-most)
 
-  grown-sound : Sound s (grownTables s n t)
+  pub grown-sound : Sound s (grownTables s n t)
   grown-sound = grown-tables-sound s t fit lengths sound n more most
 
-  count : levelsIn (grownTables s n t) ≡ n
+  pub count : levelsIn (grownTables s n t) ≡ n
   count = grown-count s t fit lengths sound n more most
 
   place-before : takenOf (placesIn t) (grownTables s n t .index) .place < s .store .loans
   unfolding grownTables
   place-before = room-place s t size mask Ask.nowhere (b .room)
 
-  place : takenOf (placesIn (grownTables s n t)) (grownTables s n t .index) .place < s .store .loans
+  pub place : takenOf (placesIn (grownTables s n t)) (grownTables s n t .index) .place < s .store .loans
   place = subst (λ (p : ℕ). takenOf p (grownTables s n t .index) .place < s .store .loans) (sym (grown-places s t fit lengths sound n more most)) place-before
 
-  spot : chunkSpot s (grownTables s n t) .place < s .store .chunks
+  pub spot : chunkSpot s (grownTables s n t) .place < s .store .chunks
   spot =
       let e : chunkSpot s (grownTables s n t) .place ≡ chunkSpot s t .place =
       ap (λ (z : Slab). inserted z (grownTables s n t .tree) (placeAt s afterAt) placeWords .place) (grown-slab s t fit lengths sound n more most)
@@ -123,7 +91,7 @@ module _ (s : BuddySettings) (t : Tables) (fit : BuddyIn s) (lengths : Lengths s
       grown-head s t fit lengths sound n more most j (omega (arith, count))
       (λ k. search-none s (t .tree) (levelFor s size mask) (levelsIn t - levelFor s size mask) (b .found) j h (omega arith))
 
-  pair : (j : ℕ) → levelFor s size mask ≤ j → j < levelsIn (grownTables s n t) → spotIn (levelFrom s j) (grownTables s n t .tree) .place < s .pairs
+  pub pair : (j : ℕ) → levelFor s size mask ≤ j → j < levelsIn (grownTables s n t) → spotIn (levelFrom s j) (grownTables s n t .tree) .place < s .pairs
   pair j h g =
       grown-spot s t fit lengths sound n more most j (omega (arith, count)) (λ k. room-pair s t size mask Ask.nowhere (b .room) j h (omega (arith, count)) k)
 
@@ -208,7 +176,7 @@ module _ (s : BuddySettings) (a : Account) (o : Outcome) (t : Tables) (sound : S
       let l = leads-buy (s .store) (k .order) (decideAsk s (heapAt a (s .store .heap)) (a .objects) (k .ask .size) (k .ask .mask) t) still in
       record {
         lent = lent-in s a t (r .0);
-        buys-it = subst (λ (z : ℕ). Buys s (k .ask .size) (k .ask .mask) t z) (sym (ap (λ (x : Order). x .size) (l .2))) (buys s a (k .ask .size) (k .ask .mask) t (l .0) (l .1));
+        buys-it = subst (λ (z : ℕ). Buys s (k .ask .size) (k .ask .mask) t z) (sym (ap (λ (x : Order). x .size) (l .2))) (buys s (heapAt a (s .store .heap)) (a .objects) (k .ask .size) (k .ask .mask) t (l .0) (l .1));
       }
 
   after : (v : Verdict) → deliverGateOf s a t ≡ v → (ord : OpenOrder) → a .order ≡ ord → Sound s (carryDeliver s a t (Deliver.gated v (decideDeliver o held ord)) .tables)

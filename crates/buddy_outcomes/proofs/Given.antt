@@ -64,22 +64,22 @@ module _ (s : BuddySettings) (t : Tables) (fit : BuddyIn s) (lengths : Lengths s
 
   -- ---- the loan that comes back
 
-  live : liveIn t k ≡ true
+  pub live : liveIn t k ≡ true
   live = on-loan-is s t fit lengths sound b on .0
 
   used : (k < placesIn t) × (freeIn (t .loans) k ≡ false)
   used = live-used t k live
 
-  room : k < n
+  pub room : k < n
   room = omega (arith, used .0, limit)
 
   -- its words are the block's
-  record Says : Type 0 where
-    serial : serialOf (t .loans) k ≡ b .serial
-    chunk : loanCell t 1 k ≡ b .chunk
-    size : loanCell t sizeAt k ≡ b .size
+  pub record Says : Type 0 where
+    pub serial : serialOf (t .loans) k ≡ b .serial
+    pub chunk : loanCell t 1 k ≡ b .chunk
+    pub size : loanCell t sizeAt k ≡ b .size
 
-  says : Says
+  pub says : Says
   says =
       let r = on-loan-is s t fit lengths sound b on .1 in
       record {
@@ -89,10 +89,10 @@ module _ (s : BuddySettings) (t : Tables) (fit : BuddyIn s) (lengths : Lengths s
       }
 
   -- its chunk is held
-  held : heldIn t c ≡ true
+  pub held : heldIn t (b .chunk) ≡ true
   held = ap (heldIn t) (sym (says .chunk)) ∙ sound .standing .has k live .0
 
-  place : (c < chunkPlacesIn t) × (vacantChunk t c ≡ false)
+  pub place : (c < chunkPlacesIn t) × (vacantChunk t c ≡ false)
   place =
       let a = ltb c (chunkPlacesIn t) in
       let z = eqb (chunkSizeIn t c) 0 in

@@ -13,6 +13,8 @@ pub mod Taken
 pub mod Chunked
 pub mod Served
 pub mod Passing
+pub mod Plans
 pub mod Returned
 pub mod Sounds
 pub mod Delivered
+pub mod Told

@@ -7,7 +7,7 @@ use Prim.Native.Nat.{ℕ, zero, suc, _+_, _-_, _*_, _^_, _/_, _%_, _≤_, _<_}
 use native.Mathlib.Nat.{two-pow-succ, mod-eq-of-lt}
 use native.Mathlib.Omega.{arith}
 use lib.Dec.{ltb}
-use lib.Pow.{pow-add}
+use lib.Pow.{pow-add, pow-lt, pow-mono}
 use borrow.Author.Tests.{ltb-true}
 use Rattle.lists.proofs.Bools.{and-left, and-right, lt-or-le}
 use Rattle.rounding.specs.Masks.{Power}
@@ -24,7 +24,7 @@ use Rattle.buddy_stores.specs.Tables.{initialLevels}
 use Rattle.buddy_outcomes.specs.Ask.{maskFor, sizeFor, levelFor, sizeOk}
 
 -- fewer digits than there is room for are all its digits
-bits-few : (w x : ℕ) → bits w x < w → x < 2 ^ bits w x
+pub bits-few : (w x : ℕ) → bits w x < w → x < 2 ^ bits w x
 bits-few zero x h = absurd (omega arith)
 bits-few (suc w) zero h = rw (bits-zero (suc w)) (omega arith)
 bits-few (suc w) (suc x) h =
@@ -43,6 +43,13 @@ module _ (s : BuddySettings) (fit : BuddyIn s) where
   -- minimal x 2^l as a power
   minimal-up : (l : ℕ) → s .minimal * 2 ^ l ≡ 2 ^ (fit .minimal .log + l)
   minimal-up l = ap (λ (n : ℕ). n * 2 ^ l) (fit .minimal .is) ∙ sym (pow-add 2 (fit .minimal .log) l)
+
+  -- a node's length, and so every offset, is far below what a word holds
+  pub bytes-low : (l : ℕ) → l ≤ levelsMost → bytes (s .minimal) l ≤ 2 ^ 48
+  unfolding bytes
+  bytes-low l h =
+      let k : fit .minimal .log + l ≤ 48 = omega (arith, fit .minimal .small) in
+      rw (minimal-up l) (pow-mono {j = 48} k)
 
   pub initial-few : initialLevels s ≤ levelsMost
   initial-few =
@@ -81,6 +88,12 @@ module _ (s : BuddySettings) (fit : BuddyIn s) where
 
     abbrev size-power : Power 63 (sizeFor s size mask)
     size-power = record { log = log; small = omega (arith, log-below, fit .minimal .small); is = log-is }
+
+    -- a word holds it
+    pub size-low : sizeFor s size mask < 2 ^ 48
+    size-low =
+        let h : log < 48 = omega (arith, log-below, fit .minimal .small) in
+        rw log-is (pow-lt {j = 48} h)
 
     pub size-level : sizeFor s size mask ≡ bytes (s .minimal) (levelFor s size mask)
     unfolding levelFor bytes

@@ -40,7 +40,7 @@ set-up-sound s t e =
 -- ---- an ask
 
 -- none of the gate's numbers is 9
-gate-number : (a b c d : Bool) (n : ℕ) → first (gateRow a b c d) ≡ refuse n → eqb n 9 ≡ false
+pub gate-number : (a b c d : Bool) (n : ℕ) → first (gateRow a b c d) ≡ refuse n → eqb n 9 ≡ false
 gate-number false b c d n e = ne-eqb n 9 (λ z. omega (arith, same-number 1 n e))
 gate-number true false c d n e = ne-eqb n 9 (λ z. omega (arith, same-number 2 n e))
 gate-number true true false d n e = ne-eqb n 9 (λ z. omega (arith, same-number 3 n e))

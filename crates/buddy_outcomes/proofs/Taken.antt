@@ -173,11 +173,11 @@ module _ (s : BuddySettings) (t : Tables) (fit : BuddyIn s) (lengths : Lengths s
   abbrev lev : ℕ
   lev = levelFor s size mask
 
-  first : (lev ≤ i) × (i < levelsIn t) × (ringHead (levelFrom s i) (t .tree) ≡ nowhere → ⊥) × ((j : ℕ) → lev ≤ j → j < i → ringHead (levelFrom s j) (t .tree) ≡ nowhere)
+  pub first : (lev ≤ i) × (i < levelsIn t) × (ringHead (levelFrom s i) (t .tree) ≡ nowhere → ⊥) × ((j : ℕ) → lev ≤ j → j < i → ringHead (levelFrom s j) (t .tree) ≡ nowhere)
   unfolding foundFor
   first = let r = search-at s (t .tree) lev (levelsIn t - lev) i found in (r .0, omega (arith, r .0, r .1), r .2, r .3)
 
-  height : up (i - lev) lev ≡ i
+  pub height : up (i - lev) lev ≡ i
   height = omega (arith, up-add (i - lev) lev, first .0)
 
   -- the tables, of any level x and any number of steps down
@@ -195,12 +195,8 @@ module _ (s : BuddySettings) (t : Tables) (fit : BuddyIn s) (lengths : Lengths s
   none : (j : ℕ) → lev ≤ j → j < up (i - lev) lev → ringHead (levelFrom s j) (t .tree) ≡ nowhere
   none j h g = first .3 j h (omega (arith, height))
 
-  pair : (j : ℕ) → lev ≤ j → j < up (i - lev) lev → spotIn (levelFrom s j) (t .tree) .place < s .pairs
+  pub pair : (j : ℕ) → lev ≤ j → j < up (i - lev) lev → spotIn (levelFrom s j) (t .tree) .place < s .pairs
   pair j h g = room-pair s t size mask (at i) room j h (omega (arith, height)) (omega (arith, below))
-
-  pub taken-lengths : Lengths s (takenTables s size mask t i)
-  unfolding takenTables
-  taken-lengths = subst (λ (x : ℕ). Lengths s (tablesAt x (i - lev))) height (lent-lengths s t fit lengths sound (sizeFor s size mask) lev (i - lev) below some none pair)
 
   pub taken-sound : Sound s (takenTables s size mask t i)
   unfolding takenTables levelFor
@@ -208,3 +204,7 @@ module _ (s : BuddySettings) (t : Tables) (fit : BuddyIn s) (lengths : Lengths s
       subst (λ (x : ℕ). Sound s (tablesAt x (i - lev))) height
       (lent-tables-sound s t fit lengths sound (sizeFor s size mask) lev (i - lev) below some none pair (room-place s t size mask (at i) room) refl
       (size-level s fit size mask sized) (size-units s fit size mask sized))
+
+  pub taken-lengths : Lengths s (takenTables s size mask t i)
+  unfolding takenTables
+  taken-lengths = subst (λ (x : ℕ). Lengths s (tablesAt x (i - lev))) height (lent-lengths s t fit lengths sound (sizeFor s size mask) lev (i - lev) below some none pair)

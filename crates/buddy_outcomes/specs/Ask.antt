@@ -22,7 +22,7 @@ use Rattle.slab.specs.Slab as Slab
 use Rattle.slab.specs.declared.Taken.{Taken}
 use Rattle.store_rules.specs.Loans.{loan}
 use Rattle.store_rules.specs.Orders.{Plan, deny, take, buy, orderFrom, keptFrom}
-use Rattle.store_rules.specs.Outcomes.{Out, out, withOrder}
+use Rattle.store_rules.specs.Outcomes.{Out, out, withOrder, blockSaid}
 use Rattle.store_rules.specs.declared.Loan.{Loan}
 use Rattle.book.specs.Book.{takenOf, entered, enteredIndex}
 use Rattle.buddy_trees.specs.Trees.{bytes}
@@ -52,8 +52,11 @@ unfoldable pub levelFor : BuddySettings → ℕ → ℕ → ℕ
 levelFor s size mask = levelOf (sizeFor s size mask) (s .minimal)
 
 -- "Levels grow to hold it"
+abbrev pub grownAt : ℕ → Tables → ℕ
+grownAt l t = max (levelsIn t) (l + 1)
+
 abbrev pub grownFor : BuddySettings → ℕ → ℕ → Tables → ℕ
-grownFor s size mask t = max (levelsIn t) (levelFor s size mask + 1)
+grownFor s size mask t = grownAt (levelFor s size mask) t
 
 -- "Search upward; the first level with a ready side ends the search": of the levels from l on, n of them
 pub data Found : Type 0 where
@@ -64,27 +67,39 @@ unfoldable pub searchFrom : BuddySettings → List ℕ → ℕ → ℕ → Found
 searchFrom s t l zero = nowhere
 searchFrom s t l (suc n) = cond (eqb (ringHead (levelFrom s l) t) Slab.nowhere) (searchFrom s t (suc l) n) (at l)
 
+abbrev pub foundAt : BuddySettings → ℕ → Tables → Found
+foundAt s l t = searchFrom s (t .tree) l (levelsIn t - l)
+
 unfoldable pub foundFor : BuddySettings → ℕ → ℕ → Tables → Found
-foundFor s size mask t = searchFrom s (t .tree) (levelFor s size mask) (levelsIn t - levelFor s size mask)
+foundFor s size mask t = foundAt s (levelFor s size mask) t
 
 abbrev pub needs : Found → Bool
 needs nowhere = true
 needs (at i) = false
 
 -- the level from which the node is split down: the one found, or that above the top
+abbrev pub fromAt : ℕ → Tables → Found → ℕ
+fromAt l t nowhere = grownAt l t
+fromAt l t (at i) = i
+
 abbrev pub fromFor : BuddySettings → ℕ → ℕ → Tables → Found → ℕ
-fromFor s size mask t nowhere = grownFor s size mask t
-fromFor s size mask t (at i) = i
+fromFor s size mask t f = fromAt (levelFor s size mask) t f
 
 -- "If none up to the top level t, order minimal x 2^(t+1)"
+abbrev pub orderAt : BuddySettings → ℕ → Tables → ℕ
+orderAt s l t = bytes (s .minimal) (grownAt l t)
+
 abbrev pub orderFor : BuddySettings → ℕ → ℕ → Tables → ℕ
-orderFor s size mask t = bytes (s .minimal) (grownFor s size mask t)
+orderFor s size mask t = orderAt s (levelFor s size mask) t
 
 -- ---- the tests
 
--- 6: "size 0; buddy: rounding overflows or the level would be 32 or more"
+-- 6: "size 0; buddy: rounding overflows or the level would be 32 or more": the level is below a cap
+abbrev pub fitsAt : ℕ → BuddySettings → ℕ → Bool
+fitsAt cap s z = ltb z (bytes (s .minimal) cap)
+
 unfoldable pub sizeOk : BuddySettings → ℕ → ℕ → Bool
-sizeOk s size mask = ltb 0 size && ltb (sizeFor s size mask) (bytes (s .minimal) levelsMost)
+sizeOk s size mask = ltb 0 size && fitsAt levelsMost s (sizeFor s size mask)
 
 -- a level has a vacant pair place, or is not there yet
 abbrev pub pairRoom : BuddySettings → Tables → ℕ → Bool
@@ -100,15 +115,20 @@ abbrev pub chunkSpot : BuddySettings → Tables → Taken
 chunkSpot s t = inserted (chunkSlab s t) (t .tree) (placeAt s afterAt) placeWords
 
 -- 8: "no loan place; or a chunk is needed and no chunk place is vacant; or a level that needs a new pair has none"
-unfoldable pub roomOk : BuddySettings → ℕ → ℕ → Tables → Found → Bool
-roomOk s size mask t f =
+abbrev pub roomAt : BuddySettings → ℕ → Tables → Found → Bool
+roomAt s l t f =
     ltb (takenOf (placesIn t) (t .index) .place) (s .store .loans)
-    && ((not (needs f) || ltb (chunkSpot s t .place) (s .store .chunks))
-    && pairsRoom s t (levelFor s size mask) (fromFor s size mask t f - levelFor s size mask))
+    && ((not (needs f) || ltb (chunkSpot s t .place) (s .store .chunks)) && pairsRoom s t l (fromAt l t f - l))
+
+unfoldable pub roomOk : BuddySettings → ℕ → ℕ → Tables → Found → Bool
+roomOk s size mask t f = roomAt s (levelFor s size mask) t f
 
 -- 10: "serials are spent; or a chunk is needed and heap used would pass 2^62, the 128-bit allocated total would overflow"
+abbrev pub countAt : BuddySettings → Heap → ℕ → Tables → Found → Bool
+countAt s h l t f = ltb (givenIn t) spent && (not (needs f) || bearsOk h (orderAt s l t))
+
 unfoldable pub countOk : BuddySettings → Heap → ℕ → ℕ → Tables → Found → Bool
-countOk s h size mask t f = ltb (givenIn t) spent && (not (needs f) || bearsOk h (orderFor s size mask t))
+countOk s h size mask t f = countAt s h (levelFor s size mask) t f
 
 -- 9: "a chunk is needed and no device object remains"
 unfoldable pub objectsOk : ℕ → Found → Bool
@@ -118,10 +138,17 @@ abbrev pub askRow : BuddySettings → Heap → ℕ → ℕ → ℕ → Tables �
 askRow s h objects size mask t f =
     (alignmentOk mask, 5) ∷ (sizeOk s size mask, 6) ∷ (roomOk s size mask t f, 8) ∷ (countOk s h size mask t f, 10) ∷ (objectsOk objects f, 9) ∷ []
 
+-- from 8 on
+abbrev pub lateAt : BuddySettings → Heap → ℕ → ℕ → Tables → Found → Row
+lateAt s h objects l t f = (roomAt s l t f, 8) ∷ (countAt s h l t f, 10) ∷ (objectsOk objects f, 9) ∷ []
+
+abbrev pub plannedAt : BuddySettings → ℕ → Tables → Found → Verdict → Plan ℕ
+plannedAt s l t f (refuse n) = deny n
+plannedAt s l t (at i) pass = take i
+plannedAt s l t nowhere pass = buy (orderAt s l t)
+
 abbrev pub planned : BuddySettings → ℕ → ℕ → Tables → Found → Verdict → Plan ℕ
-planned s size mask t f (refuse n) = deny n
-planned s size mask t (at i) pass = take i
-planned s size mask t nowhere pass = buy (orderFor s size mask t)
+planned s size mask t f v = plannedAt s (levelFor s size mask) t f v
 
 unfoldable pub decideAsk : BuddySettings → Heap → ℕ → ℕ → ℕ → Tables → Plan ℕ
 decideAsk s h objects size mask t =
@@ -152,19 +179,23 @@ bookedTables s c o size cut t =
 abbrev pub headEnt : BuddySettings → Tables → ℕ → Ent
 headEnt s t i = entOf (levelFrom s i) (t .tree) (ringHead (levelFrom s i) (t .tree))
 
-abbrev pub loanFrom : BuddySettings → ℕ → ℕ → Tables → ℕ → Loan
-loanFrom s size mask t i = loan (givenIn t + 1) (headEnt s t i .chunk) (baseOf (s .minimal) (headEnt s t i) i) (sizeFor s size mask)
+-- the loan of z bytes that it gives
+abbrev pub loanAt : BuddySettings → ℕ → Tables → ℕ → Loan
+loanAt s z t i = loan (givenIn t + 1) (headEnt s t i .chunk) (baseOf (s .minimal) (headEnt s t i) i) z
 
--- "The taken node is split down to the level, always keeping the left"
-unfoldable pub takenTables : BuddySettings → ℕ → ℕ → Tables → ℕ → Tables
-takenTables s size mask t i =
-    bookedTables s (loanFrom s size mask t i .chunk) (loanFrom s size mask t i .offset) (sizeFor s size mask)
-    (splitDown (s .pairs) (levelFor s size mask) (loanFrom s size mask t i .chunk) (loanFrom s size mask t i .offset)
-    (takenOf (placesIn t) (t .index) .place) (readyNode (s .pairs) i (t .tree)) (i - levelFor s size mask) (acquired (levelFrom s i) 0 (t .tree)))
+abbrev pub loanFrom : BuddySettings → ℕ → ℕ → Tables → ℕ → Loan
+loanFrom s size mask t i = loanAt s (sizeFor s size mask) t i
+
+-- "The taken node is split down to the level, always keeping the left": to level l, for a loan of z bytes
+abbrev pub takenAt : BuddySettings → ℕ → ℕ → Tables → ℕ → Tables
+takenAt s z l t i =
+    bookedTables s (loanAt s z t i .chunk) (loanAt s z t i .offset) z
+    (splitDown (s .pairs) l (loanAt s z t i .chunk) (loanAt s z t i .offset) (takenOf (placesIn t) (t .index) .place) (readyNode (s .pairs) i (t .tree)) (i - l)
+    (acquired (levelFrom s i) 0 (t .tree)))
     t
 
-abbrev pub blockSaid : Loan → Said
-blockSaid l = Paper.block (l .serial) (l .chunk) (l .offset) (l .size)
+unfoldable pub takenTables : BuddySettings → ℕ → ℕ → Tables → ℕ → Tables
+takenTables s size mask t i = takenAt s (sizeFor s size mask) (levelFor s size mask) t i
 
 -- "9 in a buddy store leaves the levels grown as the ask needs"
 unfoldable pub deniedTables : BuddySettings → ℕ → ℕ → ℕ → Tables → Tables

@@ -1,12 +1,12 @@
 -- What a delivery to a buddy store says and leaves. 01, "buddy.rs", and the tests 13, 11 and 12. Assumes nothing: these are
 -- definitions.
 use mathlib.Core.Bool.{Bool, false, cond, _&&_}
-use mathlib.Core.List.{List, [], _∷_, _++_}
-use Prim.Native.Nat.{ℕ, zero, suc, _+_, _-_, _*_}
+use mathlib.Core.List.{List, [], _∷_}
+use Prim.Native.Nat.{ℕ, _+_, _-_, _*_}
 use lib.ListN.{set}
 use Rattle.words.specs.Words.{cellOf}
 use Rattle.counter.specs.Account.{heapAt}
-use Rattle.counter.specs.Gate.{Verdict, pass, refuse, first}
+use Rattle.counter.specs.Gate.{Verdict, first}
 use Rattle.counter.specs.Paper as Paper
 use Rattle.counter.specs.declared.account.Account.{Account}
 use Rattle.counter.specs.declared.account.KeptOrder.{KeptOrder}
@@ -15,19 +15,20 @@ use Rattle.counter.specs.declared.account.OpenOrder.the-variants.{Nothing, Kept
 use Rattle.counter.specs.declared.answers.Outcome.{Outcome}
 use Rattle.counter.specs.declared.settings.BuddySettings.{BuddySettings}
 use Rattle.slab.specs.Slab.{nowhere}
-use Rattle.store_rules.specs.Delivery.{Fate, kept, lost, buddy, fateOf, deliveryOk}
+pub use Rattle.store_rules.specs.Arrivals.{Arrival, deny, go, arrivalOf, gated}
+use Rattle.store_rules.specs.Delivery.{Fate, kept, lost, buddy}
 use Rattle.store_rules.specs.Loans.{loan}
 use Rattle.store_rules.specs.Orders.{leadsTo}
-use Rattle.store_rules.specs.Outcomes.{Out, out, chargedAccount, lostAccount}
+use Rattle.store_rules.specs.Outcomes.{Out, out, chargedAccount, lostAccount, blockSaid}
 use Rattle.store_rules.specs.Tests.{orderFor, gateRow}
 use Rattle.store_rules.specs.declared.Loan.{Loan}
 use Rattle.book.specs.Book.{takenOf}
 use Rattle.buddy_levels.specs.Level.{spotIn}
-use Rattle.buddy_stores.specs.Tables.{Tables, tables, chunkPlacesAt, chunkWords, memoryAt, chunkSizeAt, givenIn, levelsIn, placesIn, chunkPlacesIn, memoryIn, heldIn, levelFrom, chunksFrom, placeAt, topAt, placeWords}
+use Rattle.buddy_stores.specs.Tables.{Tables, tables, chunkPlacesAt, chunkWords, memoryAt, chunkSizeAt, givenIn, levelsIn, placesIn, chunkPlacesIn, memories, levelFrom, chunksFrom, placeAt, topAt, placeWords}
 use Rattle.buddy_stores.specs.Moves.{splitDown}
 use Rattle.buddy_stores.specs.Test.{soundOk}
 use Rattle.buddy_outcomes.specs.Gate.{lentOk, accountOk}
-use Rattle.buddy_outcomes.specs.Ask.{sizeFor, levelFor, grownFor, chunkSpot, grownTables, bookedTables, decideAsk, blockSaid}
+use Rattle.buddy_outcomes.specs.Ask.{sizeFor, levelFor, grownFor, chunkSpot, grownTables, bookedTables, decideAsk}
 
 -- 3 on a delivery: the kept ask still leads to the order that was told
 abbrev pub stillOk : BuddySettings → Account → Tables → OpenOrder → Bool
@@ -38,11 +39,6 @@ stillOk s a t (Kept k) =
 unfoldable pub deliverGateOf : BuddySettings → Account → Tables → Verdict
 deliverGateOf s a t =
     first (gateRow (lentOk s a t) (orderFor (s .store .number) (a .order)) (soundOk s t && stillOk s a t (a .order)) (accountOk s a t))
-
--- the memory numbers of the chunks at the first n places
-unfoldable pub memories : Tables → ℕ → List ℕ
-memories t zero = []
-memories t (suc n) = memories t n ++ cond (heldIn t n) (memoryIn t n ∷ []) []
 
 -- ---- a chunk of z bytes at the place that is taken next; its top node is split into the pair that the top level takes next
 
@@ -59,13 +55,16 @@ chunkTables s memory z t =
 abbrev pub loanIn : BuddySettings → ℕ → ℕ → Tables → Loan
 loanIn s size mask t = loan (givenIn t + 1) (chunkSpot s t .place) 0 (sizeFor s size mask)
 
--- its left end is lent: of tables whose levels have grown
+-- its left end is lent, z bytes of level l: of tables whose levels have grown
+abbrev pub servedAt : BuddySettings → ℕ → ℕ → ℕ → ℕ → Tables → Tables
+servedAt s z l memory bytes t =
+    bookedTables s (chunkSpot s t .place) 0 z
+    (splitDown (s .pairs) l (chunkSpot s t .place) 0 (takenOf (placesIn t) (t .index) .place) nowhere (levelsIn t - l)
+    (chunkTables s memory bytes t .tree))
+    (chunkTables s memory bytes t)
+
 unfoldable pub servedTables : BuddySettings → ℕ → ℕ → ℕ → ℕ → Tables → Tables
-servedTables s size mask memory z t =
-    bookedTables s (chunkSpot s t .place) 0 (sizeFor s size mask)
-    (splitDown (s .pairs) (levelFor s size mask) (chunkSpot s t .place) 0 (takenOf (placesIn t) (t .index) .place) nowhere (levelsIn t - levelFor s size mask)
-    (chunkTables s memory z t .tree))
-    (chunkTables s memory z t)
+servedTables s size mask memory z t = servedAt s (sizeFor s size mask) (levelFor s size mask) memory z t
 
 -- the levels as the order raised them
 abbrev pub asOrdered : BuddySettings → KeptOrder → Tables → Tables
@@ -80,23 +79,14 @@ carryFate s a k t (kept memory) =
 carryFate s a k t (lost n charged back) =
     out (Paper.refusal n back) (lostAccount (s .store) a (k .order .size) charged back) (asOrdered s k t)
 
-pub data Plan : Type 0 where
-  deny : ℕ → Plan
-  go : KeptOrder → Fate → Plan
-
 -- 13
-abbrev pub decideDeliver : Outcome → List ℕ → OpenOrder → Plan
-decideDeliver o held Nothing = deny 2
-decideDeliver o held (Kept k) = cond (deliveryOk (k .order .map) held o) (go k (fateOf buddy o)) (deny 13)
+abbrev pub decideDeliver : Outcome → List ℕ → OpenOrder → Arrival
+decideDeliver = arrivalOf buddy
 
-abbrev pub gated : Verdict → Plan → Plan
-gated (refuse n) p = deny n
-gated pass p = p
-
-unfoldable pub planDeliver : BuddySettings → Account → Outcome → Tables → Plan
+unfoldable pub planDeliver : BuddySettings → Account → Outcome → Tables → Arrival
 planDeliver s a o t = gated (deliverGateOf s a t) (decideDeliver o (memories t (chunkPlacesIn t)) (a .order))
 
-unfoldable pub carryDeliver : BuddySettings → Account → Tables → Plan → Out Tables
+unfoldable pub carryDeliver : BuddySettings → Account → Tables → Arrival → Out Tables
 carryDeliver s a t (deny n) = out (Paper.refusal n []) a t
 carryDeliver s a t (go k f) = carryFate s a k t f
 

@@ -34,7 +34,7 @@ few-of free next places vacant most e = leb-true places most (and-left (leb plac
 module _ (s : BuddySettings) (t : Tables) where
   -- ---- memory numbers
 
-  Differ : Type 0
+  abbrev pub Differ : Type 0
   Differ = (c d : ℕ) → heldIn t c ≡ true → heldIn t d ≡ true → memoryIn t c ≡ memoryIn t d → c ≡ d
 
   held-below : (c : ℕ) → heldIn t c ≡ true → c < chunkPlacesIn t
@@ -60,15 +60,15 @@ module _ (s : BuddySettings) (t : Tables) where
       (λ q. or-left (not (heldIn t c && heldIn t d)) (not (eqb (memoryIn t c) (memoryIn t d))) (ap not q))
       (told (heldIn t c && heldIn t d))
 
-  memories-yes : memoriesOk s t ≡ true → Differ
-  unfolding memoriesOk Differ
+  pub memories-yes : memoriesOk s t ≡ true → Differ
+  unfolding memoriesOk
   memories-yes e c d h k m =
       let below : (a b : ℕ) → heldIn t a ≡ true → heldIn t b ≡ true → memoryIn t a ≡ memoryIn t b → b < a → ⊥ =
       λ a b x y z q. pair-yes a b (every-yes (pairTest a) a b (every-yes (λ (i : ℕ). every (pairTest i) i) (chunkPlacesIn t) a e (held-below a x)) q) x y z in
       ⊎-elim (λ q. absurd (below d c k h (sym m) q)) (λ q. ⊎-elim (λ z. absurd (below c d h k m z)) (λ z. omega arith) (lt-or-le d c)) (lt-or-le c d)
 
-  memories-all : Differ → memoriesOk s t ≡ true
-  unfolding memoriesOk Differ
+  pub memories-all : Differ → memoriesOk s t ≡ true
+  unfolding memoriesOk
   memories-all f =
       every-all (λ (i : ℕ). every (pairTest i) i) (chunkPlacesIn t)
       (λ c h. every-all (pairTest c) c (λ d q. pair-all c d (λ x y m. omega (arith, f c d x y m))))
@@ -115,7 +115,7 @@ module _ (s : BuddySettings) (t : Tables) where
         none q = rw q refl
 
     pub tables-yes : soundOk s t ≡ true → Sound s t
-    unfolding soundOk Differ Units
+    unfolding soundOk Units
     tables-yes e =
         let at = all-each (soundRow s t) e in
         let levels : levelsIn t ≤ levelsMost = leb-true (levelsIn t) levelsMost (at .1 .1 .0) in
@@ -139,7 +139,7 @@ module _ (s : BuddySettings) (t : Tables) where
         }
 
     pub tables-all : Sound s t → soundOk s t ≡ true
-    unfolding soundOk Differ Units
+    unfolding soundOk Units
     tables-all S =
         let low : placesIn t < nowhere = omega (arith, S .loans-parted .limit, fit .store .loans-most) in
         each-all (soundRow s t) (

@@ -144,7 +144,7 @@ module _ (s : BuddySettings) (small : s .pairs ≤ 2 ^ 32) (lev c o k : ℕ) whe
       (λ i j b. g i j (omega arith)) (λ i j b. room i j (omega arith)))
 
 module _ (s : BuddySettings) (small : s .pairs ≤ 2 ^ 32) where
-  tree-short : (t : List ℕ) → BuddyIn s → length t ≡ treeWords s → Short s t
+  pub tree-short : (t : List ℕ) → BuddyIn s → length t ≡ treeWords s → Short s t
   tree-short t fit e = omega (arith, fit .store .loans-most, fit .store .chunks-most)
 
   -- ---- a new chunk
@@ -190,10 +190,10 @@ module _ (s : BuddySettings) (small : s .pairs ≤ 2 ^ 32) where
     head-some : ringHead (levelFrom s i) (t .tree) ≡ nowhere → ⊥
     head-some e = some (sym (part-head (s .pairs) i (t .tree)) ∙ e)
 
-    head-used : ringHead (levelFrom s i) (t .tree) < getD (t .tree) (levelFrom s i + usedAt) 0
+    pub head-used : ringHead (levelFrom s i) (t .tree) < getD (t .tree) (levelFrom s i + usedAt) 0
     head-used = S .good i h .below _ (head-mem (levelFrom s i) (s .pairs) (t .tree) (S .good i h) head-some)
 
-    head-low : ringHead (levelFrom s i) (t .tree) < s .pairs
+    pub head-low : ringHead (levelFrom s i) (t .tree) < s .pairs
     head-low = used-below (levelFrom s i) (s .pairs) (t .tree) (S .good i h) _ head-used
 
     -- its pair says the same in the table and in its level
@@ -206,7 +206,7 @@ module _ (s : BuddySettings) (small : s .pairs ≤ 2 ^ 32) where
     pub ready-is : readyNode (s .pairs) i (t .tree) ≡ headNode (s .minimal) (levelOps (s .pairs) small) (storeOf s small t .levels) i
     ready-is = ap₂ nodeOf (part-head (s .pairs) i (t .tree)) (ap (λ (e : Ent). sideOf (e .tag)) head-is)
 
-    acquire-in : Within (s .pairs) i (t .tree) (acquired (levelFrom s i) 0 (t .tree)) (acquired 0 0 (part (s .pairs) i (t .tree)))
+    pub acquire-in : Within (s .pairs) i (t .tree) (acquired (levelFrom s i) 0 (t .tree)) (acquired 0 0 (part (s .pairs) i (t .tree)))
     acquire-in = part-acquired (s .pairs) i (t .tree) (S .good i h) 0 head-some
 
     -- the side taken gets its word

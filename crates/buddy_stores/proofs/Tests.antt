@@ -27,6 +27,18 @@ pub every-all : (f : ℕ → Bool) (n : ℕ) → ((i : ℕ) → i < n → f i �
 every-all f zero g = refl
 every-all f (suc n) g = and-both (every f n) (f n) (every-all f n (λ i h. g i (omega arith))) (g n (omega arith))
 
+-- in turn: one that fails, and one more that holds
+pub every-stop : (f : ℕ → Bool) (n i : ℕ) → i < n → f i ≡ false → every f n ≡ false
+every-stop f n i h e = ⊎-elim (λ z. absurd (true-false (f i) (every-yes f n i z h) e)) (λ z. z) (told (every f n))
+
+pub every-next : (f : ℕ → Bool) (i : ℕ) → every f i ≡ true → f i ≡ true → every f (i + 1) ≡ true
+every-next f i e g = let h : i + 1 ≡ suc i = omega arith in rw h (and-both (every f i) (f i) e g)
+
+-- the same of tests that are the same below n
+pub every-same : (f g : ℕ → Bool) (n : ℕ) → ((i : ℕ) → i < n → f i ≡ g i) → every f n ≡ every g n
+every-same f g zero h = refl
+every-same f g (suc n) h = λ j. every-same f g n (λ i k. h i (omega arith)) j && h n (omega arith) j
+
 -- a node's number is that of its pair and its side
 node-is : (n : ℕ) → n ≡ nodeOf (n / 2) (sideBy (eqb (n % 2) 0))
 node-is n = go (same? (n % 2) 0)

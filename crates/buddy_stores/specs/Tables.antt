@@ -2,8 +2,8 @@
 -- from them. Assumes nothing: these are definitions.
 use mathlib.Core.Path.{_≡_}
 use mathlib.Core.Bool.{Bool, cond, _&&_, not}
-use mathlib.Core.List.{List, [], _∷_}
-use Prim.Native.Nat.{ℕ, _+_, _*_}
+use mathlib.Core.List.{List, [], _∷_, _++_}
+use Prim.Native.Nat.{ℕ, zero, suc, _+_, _*_}
 use lib.Dec.{eqb, ltb}
 use lib.ListN.{length, getD}
 use Rattle.lists.specs.Tests.{all}
@@ -163,6 +163,11 @@ highIn s t c = cond (heldIn t c) (levelOf (chunkSizeIn t c) (s .minimal)) 0
 
 abbrev pub topIn : BuddySettings → Tables → ℕ → ℕ
 topIn s t c = cond (heldIn t c) (getD (t .tree) (cellOf (placeAt s topAt) placeWords c) 0) 0
+
+-- the memory numbers of the chunks at the first n places
+unfoldable pub memories : Tables → ℕ → List ℕ
+memories t zero = []
+memories t (suc n) = memories t n ++ cond (heldIn t n) (memoryIn t n ∷ []) []
 
 -- the slab of chunk places
 abbrev pub vacantChunk : Tables → ℕ → Bool

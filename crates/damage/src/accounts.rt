@@ -64,25 +64,6 @@ pub fn is_same_account(a: Account, b: Account) -> bool {
     same
 }
 
-fn empty(size: u64) -> Heap {
-    let none = Total { hi: 0, lo: 0 };
-    Heap {
-        size: size,
-        used: 0,
-        allocated: none,
-        deallocated: none,
-    }
-}
-
-pub fn fresh() -> Account {
-    let none = empty(4096);
-    Account {
-        heaps: [none; HEAPS],
-        objects: 9,
-        order: OpenOrder::Nothing,
-    }
-}
-
 // The order closed, and nothing else changed: what 11 leaves where the device allocated nothing.
 pub fn closed(s: StoreSettings, a: Account) -> Account {
     a.settled(s.heap, a.heap(s.heap), a.objects, OpenOrder::Nothing)

@@ -1,40 +1,26 @@
 // One call, made on the tables that a row of words holds.
-use crate::image::CHUNKS;
 use crate::image::CHUNKS_AT;
-use crate::image::CHUNKS_ROOM;
+use crate::image::HEAD_AT;
 use crate::image::INDEX_AT;
-use crate::image::INDEX_ROOM;
 use crate::image::LIST_AT;
 use crate::image::LOANS_AT;
-use crate::image::LOANS_ROOM;
-use crate::image::REGIONS_AT;
-use crate::image::REGIONS_ROOM;
-use crate::image::chunks_words;
-use crate::image::index_words;
+use crate::image::OWN_AT;
+use crate::image::OWN_ROOM;
+use crate::image::ROOM;
 use crate::image::keep;
+use crate::image::lent_words;
 use crate::image::load;
-use crate::image::loans_words;
-use crate::image::regions_words;
+use crate::image::table_from;
 use counter::Account;
-use counter::Ask;
 use counter::AskAnswer;
-use counter::Block;
 use counter::DeliverAnswer;
-use counter::FreeListSettings;
-use counter::Outcome;
 use counter::Refused;
 use counter::ReleaseAnswer;
 use counter::SetUpAnswer;
-use freelist_rules::HEAD_WORDS;
-
-pub enum Call {
-    Nothing,
-    SetUp,
-    Ask(Ask),
-    Deliver(Outcome),
-    Return(Block),
-    CleanUp,
-}
+use reel::Answer;
+use reel::Settings;
+use reel::Taken;
+use tape::Record;
 
 // The account after a call, and the refusal's number, 0 where there is none.
 pub struct Done {
@@ -45,13 +31,6 @@ pub struct Done {
 fn number(r: Refused) -> u32 {
     let refusal = r.refusal;
     refusal.number()
-}
-
-fn set_up_refusal(answer: SetUpAnswer) -> u32 {
-    match answer {
-        SetUpAnswer::Refused(r) => number(r),
-        _ => 0,
-    }
 }
 
 fn ask_refusal(answer: AskAnswer) -> u32 {
@@ -75,196 +54,102 @@ fn release_refusal(answer: ReleaseAnswer) -> u32 {
     }
 }
 
-fn set_up(
-    s: FreeListSettings,
-    a: Account,
-    head: &mut [u64],
-    loans: &[u64],
-    chunks: &[u64],
-    regions: &mut [u64],
-    index: &mut [u64],
-) -> Done {
-    let answer = freelist::set_up(s, head, loans, chunks, regions, index);
-    Done {
-        account: a,
-        refusal: set_up_refusal(answer),
+fn refusal(answer: Answer) -> u32 {
+    match answer {
+        Answer::Asked(asked) => ask_refusal(asked),
+        Answer::Delivered(delivered) => deliver_refusal(delivered),
+        Answer::Released(released) => release_refusal(released),
+        Answer::Nothing => 0,
     }
 }
 
-fn ask(
-    s: FreeListSettings,
-    a: Account,
-    ask: Ask,
-    head: &mut [u64],
-    loans: &mut [u64],
-    chunks: &[u64],
-    regions: &mut [u64],
-    index: &mut [u64],
-) -> Done {
-    let r = freelist::ask(
-        s,
-        a,
-        ask.size,
-        ask.mask,
-        head,
-        loans,
-        chunks,
-        regions,
-        index,
-    );
-    let after = r.account;
-    let answer = r.answer;
+fn told(taken: Taken) -> Done {
+    let after = taken.account;
+    let answer = taken.answer;
     Done {
         account: after,
-        refusal: ask_refusal(answer),
-    }
-}
-
-fn deliver(
-    s: FreeListSettings,
-    a: Account,
-    o: Outcome,
-    head: &mut [u64],
-    loans: &mut [u64],
-    chunks: &mut [u64],
-    regions: &mut [u64],
-    index: &mut [u64],
-) -> Done {
-    let r = freelist::deliver(s, a, o, head, loans, chunks, regions, index);
-    let after = r.account;
-    let answer = r.answer;
-    Done {
-        account: after,
-        refusal: deliver_refusal(answer),
-    }
-}
-
-fn return_block(
-    s: FreeListSettings,
-    a: Account,
-    b: Block,
-    head: &mut [u64],
-    loans: &mut [u64],
-    chunks: &mut [u64],
-    regions: &mut [u64],
-    index: &mut [u64],
-    list: &mut [u64],
-) -> Done {
-    let r = freelist::return_block(s, a, b, head, loans, chunks, regions, index, list);
-    let after = r.account;
-    let answer = r.answer;
-    Done {
-        account: after,
-        refusal: release_refusal(answer),
-    }
-}
-
-fn clean_up(
-    s: FreeListSettings,
-    a: Account,
-    head: &mut [u64],
-    loans: &[u64],
-    chunks: &mut [u64],
-    regions: &mut [u64],
-    index: &[u64],
-    list: &mut [u64],
-) -> Done {
-    let r = freelist::clean_up(s, a, head, loans, chunks, regions, index, list);
-    let after = r.account;
-    let answer = r.answer;
-    Done {
-        account: after,
-        refusal: release_refusal(answer),
-    }
-}
-
-fn make(
-    s: FreeListSettings,
-    a: Account,
-    call: Call,
-    head: &mut [u64],
-    loans: &mut [u64],
-    chunks: &mut [u64],
-    regions: &mut [u64],
-    index: &mut [u64],
-    list: &mut [u64],
-) -> Done {
-    match call {
-        Call::Nothing => Done {
-            account: a,
-            refusal: 0,
-        },
-        Call::SetUp => set_up(s, a, head, loans, chunks, regions, index),
-        Call::Ask(asked) => ask(s, a, asked, head, loans, chunks, regions, index),
-        Call::Deliver(o) => deliver(s, a, o, head, loans, chunks, regions, index),
-        Call::Return(b) => return_block(s, a, b, head, loans, chunks, regions, index, list),
-        Call::CleanUp => clean_up(s, a, head, loans, chunks, regions, index, list),
+        refusal: refusal(answer),
     }
 }
 
 fn keep_all(
     image: &mut [u64],
-    head: &[u64],
-    loans: &[u64],
-    chunks: &[u64],
-    regions: &[u64],
-    index: &[u64],
-    list: &[u64],
+    head: &[u64; ROOM],
+    loans: &[u64; ROOM],
+    chunks: &[u64; ROOM],
+    index: &[u64; ROOM],
+    list: &[u64; ROOM],
+    own: &[u64; OWN_ROOM],
+    own_words: usize,
 ) {
-    keep(image, 0, head);
-    keep(image, LOANS_AT, loans);
-    keep(image, CHUNKS_AT, chunks);
-    keep(image, REGIONS_AT, regions);
-    keep(image, INDEX_AT, index);
-    keep(image, LIST_AT, list);
+    keep(image, HEAD_AT, head, ROOM);
+    keep(image, LOANS_AT, loans, ROOM);
+    keep(image, CHUNKS_AT, chunks, ROOM);
+    keep(image, INDEX_AT, index, ROOM);
+    keep(image, LIST_AT, list, ROOM);
+    keep(image, OWN_AT, own, own_words);
 }
 
-// The tables are lent at their own lengths: filled from the row, and put back into it after the call.
-fn run_on(
-    s: FreeListSettings,
-    a: Account,
-    call: Call,
-    image: &mut [u64],
-    head: &mut [u64],
-    loans: &mut [u64],
-    chunks: &mut [u64],
-    regions: &mut [u64],
-    index: &mut [u64],
-    list: &mut [u64],
-) -> Done {
-    load(head, image, 0);
-    load(loans, image, LOANS_AT);
-    load(chunks, image, CHUNKS_AT);
-    load(regions, image, REGIONS_AT);
-    load(index, image, INDEX_AT);
-    load(list, image, LIST_AT);
-    let done = make(s, a, call, head, loans, chunks, regions, index, list);
-    keep_all(image, head, loans, chunks, regions, index, list);
-    done
-}
-
-pub fn run(s: FreeListSettings, a: Account, call: Call, image: &mut [u64]) -> Done {
-    let own = s.store;
-    let loans_end = loans_words(own);
-    let chunks_end = chunks_words(own);
-    let regions_end = regions_words(own);
-    let index_end = index_words(own);
-    let mut head = [0u64; HEAD_WORDS];
-    let mut loans = [0u64; LOANS_ROOM];
-    let mut chunks = [0u64; CHUNKS_ROOM];
-    let mut regions = [0u64; REGIONS_ROOM];
-    let mut index = [0u64; INDEX_ROOM];
-    let mut list = [0u64; CHUNKS];
-    run_on(
+// A record's call. The tables are taken out of the row, lent at their own lengths, and put back after it.
+pub fn run(s: Settings, a: Account, call: Record, image: &mut [u64]) -> Done {
+    let lengths = lent_words(s);
+    let head_end = lengths.head;
+    let loans_end = lengths.loans;
+    let chunks_end = lengths.chunks;
+    let index_end = lengths.index;
+    let own_end = lengths.own;
+    let mut head = table_from(image, HEAD_AT);
+    let mut loans = table_from(image, LOANS_AT);
+    let mut chunks = table_from(image, CHUNKS_AT);
+    let mut index = table_from(image, INDEX_AT);
+    let mut list = table_from(image, LIST_AT);
+    let mut own = [0u64; OWN_ROOM];
+    load(&mut own, image, OWN_AT, own_end);
+    let taken = reel::take(
         s,
         a,
         call,
-        image,
-        &mut head,
+        &mut head[..head_end],
         &mut loans[..loans_end],
         &mut chunks[..chunks_end],
-        &mut regions[..regions_end],
         &mut index[..index_end],
+        &mut own[..own_end],
         &mut list,
-    )
+    );
+    keep_all(image, &head, &loans, &chunks, &index, &list, &own, own_end);
+    told(taken)
+}
+
+fn is_ready(answer: SetUpAnswer) -> bool {
+    match answer {
+        SetUpAnswer::Ready => true,
+        SetUpAnswer::Refused(_) => false,
+    }
+}
+
+// The store set up in the row, whatever it holds; or else refused.
+pub fn set_up(s: Settings, image: &mut [u64]) -> bool {
+    let lengths = lent_words(s);
+    let head_end = lengths.head;
+    let loans_end = lengths.loans;
+    let chunks_end = lengths.chunks;
+    let index_end = lengths.index;
+    let own_end = lengths.own;
+    let mut head = table_from(image, HEAD_AT);
+    let loans = table_from(image, LOANS_AT);
+    let chunks = table_from(image, CHUNKS_AT);
+    let mut index = table_from(image, INDEX_AT);
+    let list = table_from(image, LIST_AT);
+    let mut own = [0u64; OWN_ROOM];
+    load(&mut own, image, OWN_AT, own_end);
+    let answer = reel::set_up(
+        s,
+        &mut head[..head_end],
+        &loans[..loans_end],
+        &chunks[..chunks_end],
+        &mut index[..index_end],
+        &mut own[..own_end],
+    );
+    keep_all(image, &head, &loans, &chunks, &index, &list, &own, own_end);
+    is_ready(answer)
 }

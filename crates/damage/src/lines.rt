@@ -1,4 +1,4 @@
-// The lines that are printed: the verdict, or the first place where it fails.
+// The lines that are printed: the verdict, or the first place where it fails. Stores are numbered as the program's arguments.
 use libc::STDOUT_FILENO;
 
 fn word(text: &[u8]) {
@@ -7,6 +7,11 @@ fn word(text: &[u8]) {
 
 fn number(n: u64) {
     io::print_decimal(STDOUT_FILENO, n);
+}
+
+fn store_number(store: u64) {
+    word(b"store ");
+    number(store);
 }
 
 fn print_damage(table: u64, at: u64, value: u64) {
@@ -20,8 +25,7 @@ fn print_damage(table: u64, at: u64, value: u64) {
 
 // Tables, values and calls are numbered as trials.rt lists them.
 pub fn print_changed(store: u64, table: u64, at: u64, value: u64, call: u64, refusal: u32) {
-    word(b"store ");
-    number(store);
+    store_number(store);
     print_damage(table, at, value);
     word(b", call ");
     number(call);
@@ -30,15 +34,30 @@ pub fn print_changed(store: u64, table: u64, at: u64, value: u64, call: u64, ref
     word(b" changed something\n");
 }
 
-pub fn print_not_built(store: u64) {
-    word(b"store ");
-    number(store);
-    word(b" refused a call while it was built\n");
+pub fn print_too_large(store: u64) {
+    store_number(store);
+    word(b" has larger tables than are tried here\n");
+}
+
+pub fn print_no_set_up(store: u64) {
+    store_number(store);
+    word(b" was refused at set-up in damaged tables\n");
+}
+
+pub fn print_not_set_up(store: u64) {
+    store_number(store);
+    word(b" was refused at set-up\n");
+}
+
+pub fn print_not_reached(store: u64, records: u64) {
+    store_number(store);
+    word(b" is not reached: after ");
+    number(records);
+    word(b" records one is refused or torn\n");
 }
 
 pub fn print_unsound(store: u64) {
-    word(b"store ");
-    number(store);
+    store_number(store);
     word(b" is not sound\n");
 }
 
@@ -49,5 +68,5 @@ pub fn print_verdict(stores: u64, words: u64, calls: u64) {
     number(words);
     word(b", calls ");
     number(calls);
-    word(b": every refusal left everything as it was\n");
+    word(b": every refusal left everything as 01 says\n");
 }

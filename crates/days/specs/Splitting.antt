@@ -26,12 +26,12 @@ use Rattle.buddy_trees.specs.Trees.{bytes}
 use Rattle.buddy_levels.specs.Level.{dropped, backed, acquired, added, freshLevel}
 use Rattle.buddy_levels.specs.Level as Level
 use Rattle.buddy_levels.specs.Test.{along, goodOk}
-use Rattle.buddy_stores.specs.Tables.{Tables, tables, lengthsOk, treeWords}
+use Rattle.buddy_stores.specs.Tables.{Tables, tables, lengthsOk, treeWords, memories}
 use Rattle.buddy_stores.specs.Test.{leafOk, entryOk, nodeOk, chunkOk, leadsOk, pairOk, loanOk, treesOk, memoriesOk, unitsOk, soundOk}
 use Rattle.buddy_stores.specs.Moves.{climbed, worded, splitDown}
 use Rattle.buddy_outcomes.specs.Gate.{lentOk, heldCount, heldBytes, accountOk, gateOf}
 use Rattle.buddy_outcomes.specs.Ask.{sizeFor, levelFor, searchFrom, foundFor, sizeOk, pairsRoom, roomOk, countOk, objectsOk, decideAsk, freshLevels, grownTables, bookedTables, takenTables, deniedTables, carryAsk, planAsk, askOf}
-use Rattle.buddy_outcomes.specs.Deliver.{deliverGateOf, memories, chunkTables, servedTables, carryFate, planDeliver, carryDeliver, deliverOf}
+use Rattle.buddy_outcomes.specs.Deliver.{deliverGateOf, chunkTables, servedTables, carryFate, planDeliver, carryDeliver, deliverOf}
 use Rattle.buddy_outcomes.specs.Return.{onLoanOk, vacatedTree, givenTables, decideReturn, planReturn, releasedBy, carryReturn, returnOf}
 use Rattle.buddy_outcomes.specs.SetUp.{freshTables, fitOk, setUpOf}
 use Rattle.days.specs.Facts.{Fact, row, heard, Day, day, account, openFor, made}

@@ -48,8 +48,11 @@ paste-all a b c m p q =
 
 -- ---- the front of a table of m words that are all z. The laws are stated of any m, so that no proof writes a table out
 
+pub new-room : (n m z : ℕ) → n ≤ m → n ≤ length (replicate m z)
+new-room n m z h = rw (length-replicate m z) h
+
 pub new-front : (n m z : ℕ) → n ≤ m → length (take n (replicate m z)) ≡ n
-new-front n m z h = length-take-le n (replicate m z) (rw (length-replicate m z) h)
+new-front n m z h = length-take-le n (replicate m z) (new-room n m z h)
 
 pub new-fits : (n m z : ℕ) → n ≤ m → length (take n (replicate m z)) ≤ length (replicate m z)
 new-fits n m z h = rw (new-front n m z h, length-replicate m z) h

@@ -7,7 +7,7 @@ ghost use mathlib.Core.Bool.{true};
 ghost use Prim.Native.Nat.{_≤_, _<_};
 ghost use lib.ListN.{length};
 ghost use Rattle.lists.specs.Members.{Distinct};
-ghost use Rattle.words.specs.Words.{widest};
+ghost use Rattle.words.specs.Words.{widest, atMost};
 ghost use Rattle.counter.specs.Limits.{loansMost};
 ghost use Rattle.distinct.specs.Column.{column};
 ghost use Rattle.distinct.specs.Order.{climbing};
@@ -16,7 +16,7 @@ use words::cell;
 
 // Whether the words at `at` of the first n records, of w words each, all differ.
 pub fn is_distinct(t: &[u64], at: usize, w: usize, n: usize) -> bool
-    requires { ⌜ (0 < w) × (w ≤ widest) × (n ≤ loansMost) ⌝ }
+    requires { ⌜ (0 < w) × (w ≤ widest) × (n ≤ loansMost) × (at ≤ atMost) ⌝ }
     ensures { λ r. ⌜ ((r ≡ true → Distinct (column (now (t .entry)) at w n)) × (Distinct (column (now (t .entry)) at w n) → r ≡ true)) ⌝ }
 {
     let mut found = [0u64; LOANS_MOST];
@@ -26,7 +26,7 @@ pub fn is_distinct(t: &[u64], at: usize, w: usize, n: usize) -> bool
 
 // The same of as many records as `found` has words, which end in order there.
 fn all_differ(t: &[u64], at: usize, w: usize, found: &mut [u64], spare: &mut [u64]) -> bool
-    requires { ⌜ (0 < w) × (w ≤ widest) × (length (now found) ≤ length (now spare)) ⌝ }
+    requires { ⌜ (0 < w) × (w ≤ widest) × (length (now found) ≤ length (now spare)) × (at ≤ atMost) ⌝ }
     ensures { λ r. ⌜ ((r ≡ true → Distinct (column (now (t .entry)) at w (length (now (found .entry))))) × (Distinct (column (now (t .entry)) at w (length (now (found .entry)))) → r ≡ true)) ⌝ }
 {
     gather(t, at, w, found);
@@ -36,7 +36,7 @@ fn all_differ(t: &[u64], at: usize, w: usize, found: &mut [u64], spare: &mut [u6
 
 // The word at `at` of each record, as many as `found` has room for.
 fn gather(t: &[u64], at: usize, w: usize, found: &mut [u64])
-    requires { ⌜ (0 < w) × (w ≤ widest) ⌝ }
+    requires { ⌜ (0 < w) × (w ≤ widest) × (at ≤ atMost) ⌝ }
     ensures { λ _. ⌜ now (found .exit) ≡ column (now (t .entry)) at w (length (now (found .entry))) ⌝ }
 {
     let mut i = 0;

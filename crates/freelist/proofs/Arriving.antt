@@ -24,14 +24,14 @@ use Rattle.counter.specs.declared.settings.StoreSettings.{StoreSettings}
 use Rattle.store_rules.specs.Delivery.{Fate, kept, lost, freeList, deliveryOk, fateOf}
 use Rattle.store_rules.specs.Orders as Orders
 use Rattle.store_rules.specs.Orders.{leadsTo}
-use Rattle.store_rules.specs.Outcomes.{Out, out, chargedAccount, lostAccount}
+use Rattle.store_rules.specs.Outcomes.{Out, out, chargedAccount, lostAccount, blockSaid}
 use Rattle.store_rules.specs.Tests.{orderFor, gateRow}
 use Rattle.store_rules.specs.declared.Loan.{Loan}
 use Rattle.freelist_rules.specs.Tables.{Tables, tables, countAt, storeOf, soundOk}
 use Rattle.freelist_rules.specs.Walk.{memories}
 use Rattle.freelist_rules.proofs.Tested.{tables-yes}
-use Rattle.freelist_outcomes.specs.Ask.{decideAsk, loanFrom, takenTables, blockSaid}
-use Rattle.freelist_outcomes.specs.Deliver.{Plan, deny, go, stillOk, deliverGateOf, deliveredTables, carryFate, decideDeliver, gated, planDeliver, carryDeliver, deliverOf}
+use Rattle.freelist_outcomes.specs.Ask.{decideAsk, loanFrom, takenTables}
+use Rattle.freelist_outcomes.specs.Deliver.{Arrival, deny, go, stillOk, deliverGateOf, deliveredTables, carryFate, decideDeliver, gated, planDeliver, carryDeliver, deliverOf}
 use Rattle.freelist_outcomes.specs.Gate.{lentOk, accountOk}
 use Rattle.freelist_place.specs.Ready.{Adds, Lends}
 use Rattle.freelist_ready.proofs.Adding.{adds-ready, delivered-ready}
@@ -46,7 +46,7 @@ deny-go n k f e = let z : _≡_ {A = ℕ} 0 1 = cc in absurd (omega arith)
 same-go : (j k : KeptOrder) (e f : Fate) → go j e ≡ go k f → j ≡ k
 same-go j k e f p = cc
 
-gated-go : (v : Verdict) (p : Plan) (k : KeptOrder) (f : Fate) → gated v p ≡ go k f → (v ≡ pass) × (p ≡ go k f)
+gated-go : (v : Verdict) (p : Arrival) (k : KeptOrder) (f : Fate) → gated v p ≡ go k f → (v ≡ pass) × (p ≡ go k f)
 gated-go pass p k f e = (refl, e)
 gated-go (refuse n) p k f e = deny-go n k f e
 
@@ -164,15 +164,15 @@ module _ (s : FreeListSettings) (a : Account) (k : KeptOrder) (memory : ℕ) (he
 -- ---- the call
 
 module _ (s : FreeListSettings) (a : Account) (o : Outcome) (t : Tables) where
-  pub refused-done : (p : Plan) (n : ℕ) (account : Account) (said : Said) → p ≡ deny n → p ≡ planDeliver s a o t → account ≡ a → said ≡ Paper.refusal n [] → out said account t ≡ deliverOf s a o t
+  pub refused-done : (p : Arrival) (n : ℕ) (account : Account) (said : Said) → p ≡ deny n → p ≡ planDeliver s a o t → account ≡ a → said ≡ Paper.refusal n [] → out said account t ≡ deliverOf s a o t
   unfolding deliverOf carryDeliver
   refused-done p n account said e f g h = (λ j. out (h j) (g j) t) ∙ ap (carryDeliver s a t) (sym e ∙ f)
 
-  pub lost-done : (p : Plan) (k : KeptOrder) (n : ℕ) (charged : Bool) (back : List ℕ) (account : Account) (said : Said) → p ≡ go k (lost n charged back) → p ≡ planDeliver s a o t
+  pub lost-done : (p : Arrival) (k : KeptOrder) (n : ℕ) (charged : Bool) (back : List ℕ) (account : Account) (said : Said) → p ≡ go k (lost n charged back) → p ≡ planDeliver s a o t
       → account ≡ lostAccount (s .store) a (k .order .size) charged back → said ≡ Paper.refusal n back → out said account t ≡ deliverOf s a o t
   unfolding deliverOf carryDeliver carryFate
   lost-done p k n charged back account said e f g h = (λ j. out (h j) (g j) t) ∙ ap (carryDeliver s a t) (sym e ∙ f)
 
-  pub went-done : (p : Plan) (k : KeptOrder) (memory : ℕ) (x : Out Tables) → p ≡ go k (kept memory) → p ≡ planDeliver s a o t → x ≡ carryFate s a k t (kept memory) → x ≡ deliverOf s a o t
+  pub went-done : (p : Arrival) (k : KeptOrder) (memory : ℕ) (x : Out Tables) → p ≡ go k (kept memory) → p ≡ planDeliver s a o t → x ≡ carryFate s a k t (kept memory) → x ≡ deliverOf s a o t
   unfolding deliverOf carryDeliver
   went-done p k memory x e f g = g ∙ ap (carryDeliver s a t) (sym e ∙ f)

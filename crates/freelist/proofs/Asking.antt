@@ -9,10 +9,10 @@ use Rattle.counter.specs.declared.account.Account.{Account}
 use Rattle.counter.specs.declared.account.OpenOrder.the-variants.{Kept}
 use Rattle.counter.specs.declared.settings.FreeListSettings.{FreeListSettings}
 use Rattle.store_rules.specs.Orders.{Plan, deny, take, buy, orderFrom, keptFrom}
-use Rattle.store_rules.specs.Outcomes.{Out, out, withOrder}
+use Rattle.store_rules.specs.Outcomes.{Out, out, withOrder, blockSaid}
 use Rattle.store_rules.specs.declared.Loan.{Loan}
 use Rattle.freelist_rules.specs.Tables.{Tables, tables, chunkSizeAt, storeOf}
-use Rattle.freelist_outcomes.specs.Ask.{loanFrom, takenTables, orderedTables, blockSaid, carryAsk, planAsk, askOf}
+use Rattle.freelist_outcomes.specs.Ask.{loanFrom, takenTables, orderedTables, carryAsk, planAsk, askOf}
 use Rattle.freelist_place.specs.Ready.{Lends}
 use Rattle.freelist_ready.proofs.Lending.{lends-ready}
 use Rattle.freelist_outcomes.proofs.Plans.{plan-take}

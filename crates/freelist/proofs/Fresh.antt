@@ -20,22 +20,6 @@ use Rattle.freelist_rules.specs.Tables.{Tables, tables, mark, markAt, givenAt, 
 use Rattle.freelist_outcomes.specs.SetUp.{SetUp, setUp, freshHead, freshTables, fitOk, setUpOf}
 use Rattle.freelist_rules.proofs.Fits.{lengths-are}
 
--- ---- one word after the other
-
-pub fill-first : {A : Type 0} (v : A) (t : List A) → t ≡ replicate 0 v ++ drop 0 t
-fill-first v t = refl
-
-pub fill-next : {A : Type 0} (v : A) (i : ℕ) (t u : List A) → i < length t → u ≡ replicate i v ++ drop i t → set u i v ≡ replicate (i + 1) v ++ drop (i + 1) t
-fill-next v i t u h e = ap (λ (l : List _). set l i v) e ∙ go i t h
-  where
-    go : (i : ℕ) (t : List _) → i < length t → set (replicate i v ++ drop i t) i v ≡ replicate (i + 1) v ++ drop (i + 1) t
-    go i [] h = absurd (omega arith)
-    go zero (x ∷ t) h = refl
-    go (suc i) (x ∷ t) h = rw (suc-add) (ap (λ (l : List _). v ∷ l) (go i t (omega arith)))
-
-pub fill-done : {A : Type 0} (v : A) (i : ℕ) (t u : List A) → i ≡ length t → u ≡ replicate i v ++ drop i t → u ≡ replicate (length t) v
-fill-done v i t u h e = e ∙ rw (h, drop-length t) (append-nil (replicate (length t) v))
-
 -- ---- the head
 
 pub head-fresh : (s : FreeListSettings) (t u v : List ℕ) → length t ≡ headWords → u ≡ set (set (set t markAt mark) givenAt 0) madeAt 0

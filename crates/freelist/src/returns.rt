@@ -2,11 +2,8 @@
 ghost use mathlib.Core.Path.{_≡_};
 ghost use mathlib.Core.Bool.{true, false};
 ghost use mathlib.Core.List.{[]};
-ghost use Prim.Native.Nat.{_+_, _≤_};
-ghost use Rattle.counter.specs.Limits.{objectsMost};
-ghost use Rattle.counter.specs.Paper as Paper;
-ghost use Rattle.counter.specs.Paper.{numberOf, releaseSaid};
-ghost use Rattle.store_rules.specs.Outcomes.{listed, releasedAccount};
+ghost use Rattle.counter.specs.Paper.{releaseSaid};
+ghost use Rattle.store_rules.specs.Outcomes.{listed};
 ghost use Rattle.freelist_rules.specs.Tables.{tables};
 ghost use Rattle.freelist_outcomes.specs.Return.{givenTables, releaseOf, returnOf, cleanUpOf};
 ghost use Rattle.freelist_place.specs.Ready.{Backs};
@@ -15,39 +12,9 @@ use counter::Account;
 use counter::Block;
 use counter::FreeListSettings;
 use counter::Gate;
-use counter::Refusal;
-use counter::Refused;
-use counter::ReleaseAnswer;
 use counter::Released;
-use counter::StoreSettings;
-use counter::ToFree;
 use freelist_gate::Back;
 use freelist_rules::CHUNKS_AT;
-
-fn refused(a: Account, refusal: Refusal) -> Released
-    ensures { λ r. ⌜ r .account ≡ a ⌝ }
-    ensures { λ r. ⌜ releaseSaid (r .answer) ≡ Paper.refusal (numberOf refusal) [] ⌝ }
-{
-    Released {
-        account: a,
-        answer: ReleaseAnswer::Refused(Refused {
-            refusal: refusal,
-            free: ToFree::Nothing,
-        }),
-    }
-}
-
-// So many chunks, of so many bytes in all, are gone: the account allows one object more for each.
-fn settle(s: StoreSettings, a: Account, count: u64, bytes: u64) -> Released
-    requires { ⌜ a .objects + count ≤ objectsMost ⌝ }
-    ensures { λ r. ⌜ r .account ≡ releasedAccount s a count bytes ⌝ }
-    ensures { λ r. ⌜ releaseSaid (r .answer) ≡ Paper.released count ⌝ }
-{
-    Released {
-        account: store::released(s, a, count as u32, bytes),
-        answer: ReleaseAnswer::Released(count),
-    }
-}
 
 // Wholly free chunks go; `spare` keeps that of the last region.
 fn let_go(
@@ -68,7 +35,7 @@ fn let_go(
     let gone = freelist_release::release(chunks, k, regions, n, spare, list);
     words::put(head, CHUNKS_AT, gone.chunks as u64);
     words::put(regions, at, gone.regions as u64);
-    settle(s.store, a, gone.count, gone.bytes)
+    store::settle(s.store, a, gone.count, gone.bytes)
 }
 
 // The loan that the word at `at` of the index leads to.
@@ -109,7 +76,7 @@ pub fn return_block(
     let long = own.chunks <= list.len();
     let plan = freelist_gate::plan_return(s, a, b, long, head, loans, chunks, regions, index);
     match plan {
-        Back::Refuse(refusal) => refused(a, refusal),
+        Back::Refuse(refusal) => store::refuse_return(a, refusal),
         Back::From(at) => carry_return(s, a, b, at, head, loans, chunks, regions, index, list),
     }
 }
@@ -131,7 +98,7 @@ pub fn clean_up(
     let long = own.chunks <= list.len();
     let verdict = freelist_gate::gate(s, a, long, head, loans, chunks, regions, index);
     match verdict {
-        Gate::Shut(refusal) => refused(a, refusal),
+        Gate::Shut(refusal) => store::refuse_return(a, refusal),
         Gate::Go => let_go(s, a, false, head, chunks, regions, list),
     }
 }

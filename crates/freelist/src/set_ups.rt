@@ -1,9 +1,8 @@
 // Set-up: a store with nothing in it.
 ghost use mathlib.Core.Path.{_≡_};
-ghost use lib.ListN.{length, set, replicate};
+ghost use lib.ListN.{length, set};
 ghost use Rattle.counter.specs.InTable.{FreeListIn};
 ghost use Rattle.counter.specs.Paper.{setUpSaid};
-ghost use Rattle.slab.specs.Slab.{nowhere};
 ghost use Rattle.freelist_rules.specs.Tables.{tables, mark, markAt, givenAt, madeAt, chunkSizeAt, placesAt, chunksAt, headWords, countAt};
 ghost use Rattle.freelist_outcomes.specs.SetUp.{setUp, freshHead, fitOk, setUpOf};
 use counter::FreeListSettings;
@@ -18,7 +17,6 @@ use freelist_rules::MADE_AT;
 use freelist_rules::MARK;
 use freelist_rules::MARK_AT;
 use freelist_rules::PLACES_AT;
-use slab::NOWHERE;
 
 // The mark, and nothing given.
 fn put_mark(head: &mut [u64])
@@ -44,17 +42,6 @@ fn fresh_head(s: FreeListSettings, head: &mut [u64])
 {
     put_mark(head);
     put_none(head, s.start);
-}
-
-// Every word leads nowhere.
-fn fill_nowhere(t: &mut [u64])
-    ensures { λ _. ⌜ now (t .exit) ≡ replicate (length (now (t .entry))) nowhere ⌝ }
-{
-    let mut i = 0;
-    while i < t.len() {
-        t[i] = NOWHERE;
-        i += 1;
-    }
 }
 
 fn is_fit(
@@ -88,7 +75,7 @@ pub fn set_up(
         let at = freelist_regions::count_at(s);
         fresh_head(s, head);
         words::put(regions, at, 0);
-        fill_nowhere(index);
+        book::clear(index);
         SetUpAnswer::Ready
     } else {
         SetUpAnswer::Refused(Refused {

@@ -6,7 +6,7 @@ use mathlib.Core.List.{List, [], _∷_, _++_, append-nil}
 use Prim.Native.Nat.{ℕ, suc, _+_, _≤_, _<_}
 use native.Mathlib.Omega.{arith}
 use lib.Dec.{leb, ltb}
-use lib.ListN.{length, take, drop, getD, set, replicate, length-set, length-replicate}
+use lib.ListN.{length, take, drop, getD, set, replicate, length-set}
 use lib.Seq.{drop-cons, drop-length}
 use borrow.Author.Tests.{eq-eqb, ne-eqb, leb-true, leb-false, lt-ltb, le-ltb}
 use Rattle.counter.specs.Limits.{chunkSizeMost}
@@ -160,9 +160,6 @@ module _ (cs : List Chunk) (places : ℕ) (t found : List ℕ) (r : Gathered) (w
     keys-are = all .2
 
 -- ---- room for as many keys as there can be. Stated of any m, so that no proof writes a table out
-
-pub new-room : (n m z : ℕ) → n ≤ m → n ≤ length (replicate m z)
-new-room n m z h = rw (length-replicate m z) h
 
 pub new-same : (m z : ℕ) → length (replicate m z) ≤ length (replicate m z)
 new-same m z = omega arith

@@ -23,8 +23,7 @@ use Rattle.counter.specs.declared.settings.FreeListSettings.{FreeListSettings}
 use Rattle.store_rules.specs.Delivery.{Fate, freeList, holds, deliveryOk, fateOf}
 use Rattle.store_rules.specs.Orders.{Plan, deny, take, buy, orderFrom, sameOrder, leadsTo}
 use Rattle.store_rules.specs.Tests.{orderFor}
-use Rattle.store.specs.Fates.{deliverable}
-use Rattle.store.proofs.Deliveries.{deliverable-is}
+use Rattle.store.specs.Comings.{knownIn}
 use Rattle.freelist_rules.specs.Records.{chunkWords, chunkRow}
 use Rattle.freelist_rules.specs.Tables.{Tables, tables, chunksAt, chunksIn, storeOf, soundOk}
 use Rattle.freelist_rules.specs.Walk.{memories}
@@ -33,7 +32,7 @@ use Rattle.freelist_outcomes.specs.Ask.{decideAsk}
 use Rattle.freelist_outcomes.specs.Deliver as Deliver
 use Rattle.freelist_outcomes.specs.Deliver.{stillOk, deliverGateOf, decideDeliver, planDeliver}
 use Rattle.freelist_outcomes.specs.Gate.{lentOk, accountOk}
-use Rattle.freelist_gate.specs.Comings.{keptGate, knownIn}
+use Rattle.freelist_gate.specs.Comings.{keptGate}
 use Rattle.freelist_gate.proofs.Gates.{covered}
 use Rattle.freelist_gate.proofs.Planned.{ask-few}
 
@@ -113,32 +112,6 @@ held-next m i v b t e c =
 pub known-made : (k : ℕ) (r : Bool) (head t : List ℕ) (o : Outcome) (d : Memory) → o ≡ O.Made d → k ≡ getD head chunksAt 0 → r ≡ holds (d .number) (memories (rows chunkRow k t)) → r ≡ knownIn (memories (rows chunkRow (getD head chunksAt 0) t)) o
 known-made k r head t o d e f g = g ∙ ap (λ (n : ℕ). holds (d .number) (memories (rows chunkRow n t))) f ∙ ap (knownIn (memories (rows chunkRow (getD head chunksAt 0) t))) (sym e)
 
--- ---- test 13
-
-known-is : (map : Bool) (ms : List ℕ) (o : Outcome) → deliverable map (knownIn ms o) o ≡ deliveryOk map ms o
-known-is map ms (O.Made m) = deliverable-is map (knownIn ms (O.Made m)) ms (O.Made m) (λ n e. ap (knownIn ms) (sym e))
-known-is map ms O.OutOfDevice = deliverable-is map false ms O.OutOfDevice (λ n e. ap (knownIn ms) (sym e))
-known-is map ms O.OutOfHost = deliverable-is map false ms O.OutOfHost (λ n e. ap (knownIn ms) (sym e))
-
-module _ (o : Outcome) (ms : List ℕ) (order : OpenOrder) where
-  pub decide-none : order ≡ Nothing → Deliver.deny 2 ≡ decideDeliver o ms order
-  decide-none e = ap (decideDeliver o ms) (sym e)
-
-  pub decide-kept : (k : KeptOrder) (held : Bool) (p : Deliver.Plan) → order ≡ Kept k → held ≡ knownIn ms o → p ≡ cond (deliverable (k .order .map) held o) (Deliver.go k (fateOf freeList o)) (Deliver.deny 13) → p ≡ decideDeliver o ms order
-  decide-kept k held p e f g =
-      let d : deliverable (k .order .map) held o ≡ deliveryOk (k .order .map) ms o = ap (λ (b : Bool). deliverable (k .order .map) b o) f ∙ known-is (k .order .map) ms o in
-      g ∙ ap (λ (b : Bool). cond b (Deliver.go k (fateOf freeList o)) (Deliver.deny 13)) d ∙ ap (decideDeliver o ms) (sym e)
-
-module _ (k : KeptOrder) (o : Outcome) (held : Bool) where
-  abbrev pub Arrived : Deliver.Plan
-  Arrived = cond (deliverable (k .order .map) held o) (Deliver.go k (fateOf freeList o)) (Deliver.deny 13)
-
-  pub arrive-not : deliverable (k .order .map) held o ≡ false → Deliver.deny 13 ≡ Arrived
-  arrive-not e = rw e refl
-
-  pub arrive-go : (f : Fate) → deliverable (k .order .map) held o ≡ true → f ≡ fateOf freeList o → Deliver.go k f ≡ Arrived
-  arrive-go f e g = ap (Deliver.go k) g ∙ ap (λ (b : Bool). cond b (Deliver.go k (fateOf freeList o)) (Deliver.deny 13)) (sym e)
-
 -- ---- the whole of it
 
 module _ (s : FreeListSettings) (a : Account) (o : Outcome) (t : Tables) where
@@ -146,6 +119,6 @@ module _ (s : FreeListSettings) (a : Account) (o : Outcome) (t : Tables) where
   unfolding planDeliver
   plan-shut v n e f = rw (sym f ∙ e) refl
 
-  pub plan-go : (v : Verdict) (p : Deliver.Plan) → v ≡ pass → v ≡ deliverGateOf s a t → p ≡ decideDeliver o (memories (rows chunkRow (chunksIn t) (t .chunks))) (a .order) → p ≡ planDeliver s a o t
+  pub plan-go : (v : Verdict) (p : Deliver.Arrival) → v ≡ pass → v ≡ deliverGateOf s a t → p ≡ decideDeliver o (memories (rows chunkRow (chunksIn t) (t .chunks))) (a .order) → p ≡ planDeliver s a o t
   unfolding planDeliver storeOf
   plan-go v p e f g = g ∙ rw (sym f ∙ e) refl

@@ -1,21 +1,20 @@
 // What a delivery comes to: the gate, which tests the kept ask again, and test 13.
 ghost use mathlib.Core.Path.{_≡_};
-ghost use mathlib.Core.Bool.{true, cond};
+ghost use mathlib.Core.Bool.{true};
 ghost use mathlib.Core.List.{[]};
 ghost use lib.ListN.{getD};
 ghost use Rattle.words.specs.Rows.{rows};
 ghost use Rattle.counter.specs.Gate.{verdictOf};
 ghost use Rattle.counter.specs.InTable.{FreeListIn};
-ghost use Rattle.store_rules.specs.Delivery.{freeList, holds, fateOf};
+ghost use Rattle.store_rules.specs.Delivery.{holds};
 ghost use Rattle.store_rules.specs.Orders.{leadsTo};
-ghost use Rattle.store.specs.Fates.{deliverable};
+ghost use Rattle.store.specs.Comings.{comingOf, knownIn};
 ghost use Rattle.freelist_rules.specs.Records.{chunkRow};
 ghost use Rattle.freelist_rules.specs.Tables.{tables, chunksAt, lengthsOk};
 ghost use Rattle.freelist_rules.specs.Walk.{memories};
 ghost use Rattle.freelist_outcomes.specs.Ask.{decideAsk};
-ghost use Rattle.freelist_outcomes.specs.Deliver as Deliver;
 ghost use Rattle.freelist_outcomes.specs.Deliver.{deliverGateOf, decideDeliver, planDeliver};
-ghost use Rattle.freelist_gate.specs.Comings.{comingOf, keptGate, knownIn};
+ghost use Rattle.freelist_gate.specs.Comings.{keptGate};
 use crate::deciding::Plan;
 use counter::Account;
 use counter::FreeListSettings;
@@ -28,26 +27,8 @@ use counter::Refusal;
 use freelist_rules::CHUNK_MEMORY_AT;
 use freelist_rules::CHUNK_WORDS;
 use freelist_rules::CHUNKS_AT;
+use store::Coming;
 use store::Engine;
-use store::Fate;
-use store::Loss;
-
-// The memory is kept as a chunk, and serves the ask of this order.
-pub struct Keeping {
-    pub kept: KeptOrder,
-    pub memory: u64,
-}
-
-pub struct Losing {
-    pub kept: KeptOrder,
-    pub loss: Loss,
-}
-
-pub enum Coming {
-    Refuse(Refusal),
-    Keep(Keeping),
-    Lose(Losing),
-}
 
 // Whether the kept ask still leads to the order that was told.
 fn is_still(
@@ -151,29 +132,11 @@ fn is_known(o: Outcome, head: &[u64], chunks: &[u64]) -> bool
     }
 }
 
-// Test 13, and what the outcome leads to.
-fn arrive(k: KeptOrder, o: Outcome, held: bool) -> Coming
-    ensures { λ r. ⌜ comingOf r ≡ cond (deliverable (k .order .map) held o) (Deliver.go k (fateOf freeList o)) (Deliver.deny 13) ⌝ }
-{
-    let order = k.order;
-    if !store::is_deliverable(order.map, held, o) {
-        return Coming::Refuse(Refusal::Delivery);
-    }
-    let fate = store::lead(Engine::FreeList, o);
-    match fate {
-        Fate::Kept(m) => Coming::Keep(Keeping { kept: k, memory: m }),
-        Fate::Lost(l) => Coming::Lose(Losing { kept: k, loss: l }),
-    }
-}
-
 // What a delivery comes to, once the gate is passed.
 fn decide_delivery(order: OpenOrder, o: Outcome, head: &[u64], chunks: &[u64]) -> Coming
     ensures { λ r. ⌜ comingOf r ≡ decideDeliver o (memories (rows chunkRow (getD (now (head .entry)) chunksAt 0) (now (chunks .entry)))) order ⌝ }
 {
-    match order {
-        OpenOrder::Nothing => Coming::Refuse(Refusal::Order),
-        OpenOrder::Kept(k) => arrive(k, o, is_known(o, head, chunks)),
-    }
+    store::come(Engine::FreeList, order, o, is_known(o, head, chunks))
 }
 
 pub fn plan_deliver(

@@ -30,7 +30,7 @@ use Rattle.freelist_outcomes.specs.Return.{returnOf}
 use Rattle.freelist_outcomes.proofs.Accounts.{account-is, covers-yes}
 use Rattle.freelist_outcomes.proofs.Again.{return-again}
 use Rattle.freelist_outcomes.proofs.Passing.{Passed, gate-passed}
-use Rattle.freelist_history.specs.Calls.{returns, State, storeAt, Visit, visit, done, step, run, saids}
+use Rattle.freelist_history.specs.Calls.{returns, ofList, State, storeAt, Visit, visit, done, step, run, saids}
 use Rattle.freelist_outcomes.specs.Told.{toFree}
 use Rattle.freelist_history.specs.Handing.{Slip, blocksOf, handing, toldIn}
 use Rattle.freelist_history.proofs.Books.{typed-stays}
@@ -97,7 +97,7 @@ module _ (i : ℕ) (s : FreeListSettings) where
     next-ready =
         record {
           here = omega (arith, stores-stay w v, r .here);
-          typed = typed-stays s (w .account) (storeAt w i) (returns (p .0) (p .1)) (r .typed);
+          typed = typed-stays (w .account) (storeAt w i) (ofList s (returns (p .0) (p .1))) (r .typed);
           passes = subst (λ (t : Tables). gateOf s (step w v .account) t true ≡ pass) (sym now) (return-again s (w .account) (storeAt w i) (r .typed) (r .passes) (p .0) (p .1));
         }
 

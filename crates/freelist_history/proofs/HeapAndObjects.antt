@@ -1,4 +1,4 @@
--- Any history of calls, of any number of stores over one account: each heap holds what was charged less what was released
+-- Any history of calls of both engines, of any number of stores over one account: each heap holds what was charged less what was released
 -- and given back, and the device objects fall and rise with the memory numbers. Assumes nothing.
 use mathlib.Core.Path.{_≡_, refl, sym, ap, subst, _∙_}
 use mathlib.Core.Bool.{Bool, true, false, cond}
@@ -13,35 +13,35 @@ use Rattle.heap.specs.Heap.{Within}
 use Rattle.heap.specs.History.{Entry, newHeap, after, AllFitting}
 use Rattle.heap.proofs.History.{Adds, adds, FromNothing, from-nothing, after-append, fitting-append, fitting-within}
 use Rattle.freelist_history.specs.Calls.{State, storeAt, Visit, done, step, run}
-use Rattle.freelist_history.specs.Booked.{books, booksAt, acceptedIn, freedIn}
+use Rattle.freelist_history.specs.Booked.{heapOf, books, booksAt, acceptedIn, freedIn}
 use Rattle.freelist_history.proofs.Books.{other-heaps, own-heap, typed-stays, own-fitting, own-objects}
 
 -- ---- one step, seen from heap j
 
 module _ (j : ℕ) (w : State) (v : Visit) where
   abbrev here : List Entry
-  here = books (v .settings) (w .account) (storeAt w (v .at)) (v .call) (done w v)
+  here = books (w .account) (storeAt w (v .at)) (v .call) (done w v)
 
   abbrev booksHere : List Entry
-  booksHere = cond (eqb (v .settings .store .heap) j) here []
+  booksHere = cond (eqb (heapOf (v .call)) j) here []
 
   step-heap : Typed (w .account) → heapAt (step w v .account) j ≡ after (heapAt (w .account) j) booksHere
-  step-heap typed = go (eqb (v .settings .store .heap) j) refl
+  step-heap typed = go (eqb (heapOf (v .call)) j) refl
     where
-      go : (b : Bool) → eqb (v .settings .store .heap) j ≡ b → heapAt (step w v .account) j ≡ after (heapAt (w .account) j) (cond b here [])
+      go : (b : Bool) → eqb (heapOf (v .call)) j ≡ b → heapAt (step w v .account) j ≡ after (heapAt (w .account) j) (cond b here [])
       go true e =
-          subst (λ (i : ℕ). heapAt (step w v .account) i ≡ after (heapAt (w .account) i) here) (eqb-true (v .settings .store .heap) j e)
-          (own-heap (v .settings) (w .account) (storeAt w (v .at)) (v .call) typed)
-      go false e = other-heaps (v .settings) (w .account) (storeAt w (v .at)) (v .call) j (λ q. eqb-false (v .settings .store .heap) j e (sym q))
+          subst (λ (i : ℕ). heapAt (step w v .account) i ≡ after (heapAt (w .account) i) here) (eqb-true (heapOf (v .call)) j e)
+          (own-heap (w .account) (storeAt w (v .at)) (v .call) typed)
+      go false e = other-heaps (w .account) (storeAt w (v .at)) (v .call) j (λ q. eqb-false (heapOf (v .call)) j e (sym q))
 
   step-fits : Within (heapAt (w .account) j) → AllFitting (heapAt (w .account) j) booksHere
-  step-fits within = go (eqb (v .settings .store .heap) j) refl
+  step-fits within = go (eqb (heapOf (v .call)) j) refl
     where
-      go : (b : Bool) → eqb (v .settings .store .heap) j ≡ b → AllFitting (heapAt (w .account) j) (cond b here [])
+      go : (b : Bool) → eqb (heapOf (v .call)) j ≡ b → AllFitting (heapAt (w .account) j) (cond b here [])
       go true e =
-          let q = eqb-true (v .settings .store .heap) j e in
+          let q = eqb-true (heapOf (v .call)) j e in
           subst (λ (i : ℕ). AllFitting (heapAt (w .account) i) here) q
-          (own-fitting (v .settings) (w .account) (storeAt w (v .at)) (v .call) (subst (λ (i : ℕ). Within (heapAt (w .account) i)) (sym q) within))
+          (own-fitting (w .account) (storeAt w (v .at)) (v .call) (subst (λ (i : ℕ). Within (heapAt (w .account) i)) (sym q) within))
       go false e = tt
 
 -- ---- a history
@@ -49,7 +49,7 @@ module _ (j : ℕ) (w : State) (v : Visit) where
 history-heap : (w : State) (vs : List Visit) (j : ℕ) → Typed (w .account) → heapAt (run w vs .account) j ≡ after (heapAt (w .account) j) (booksAt j w vs)
 history-heap w [] j typed = refl
 history-heap w (v ∷ vs) j typed =
-    history-heap (step w v) vs j (typed-stays (v .settings) (w .account) (storeAt w (v .at)) (v .call) typed)
+    history-heap (step w v) vs j (typed-stays (w .account) (storeAt w (v .at)) (v .call) typed)
     ∙ ap (λ (h : Heap). after h (booksAt j (step w v) vs)) (step-heap j w v typed)
     ∙ sym (after-append (heapAt (w .account) j) (booksHere j w v) (booksAt j (step w v) vs))
 
@@ -61,7 +61,7 @@ history-fits w (v ∷ vs) j typed within =
     let f = step-fits j w v within in
     fitting-append h (booksHere j w v) (booksAt j (step w v) vs) f
     (subst (λ (g : Heap). AllFitting g (booksAt j (step w v) vs)) e
-    (history-fits (step w v) vs j (typed-stays (v .settings) (w .account) (storeAt w (v .at)) (v .call) typed)
+    (history-fits (step w v) vs j (typed-stays (w .account) (storeAt w (v .at)) (v .call) typed)
     (subst Within (sym e) (fitting-within h (booksHere j w v) f within))))
 
 -- from any account that code can lend: what the history adds
@@ -83,4 +83,4 @@ heap-history w vs j size typed new =
 pub objects-history : (w : State) (vs : List Visit) → run w vs .account .objects + acceptedIn w vs ≡ w .account .objects + freedIn w vs
 objects-history w [] = refl
 objects-history w (v ∷ vs) =
-    omega (arith, objects-history (step w v) vs, own-objects (v .settings) (w .account) (storeAt w (v .at)) (v .call))
+    omega (arith, objects-history (step w v) vs, own-objects (w .account) (storeAt w (v .at)) (v .call))

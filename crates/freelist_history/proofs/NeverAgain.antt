@@ -1,4 +1,5 @@
--- A block that was returned is never taken again, whatever calls come between, but set-up of its tables. Assumes nothing.
+-- A block that was returned is never taken again, whatever calls of either engine come between, but set-up of its tables.
+-- Assumes nothing.
 use mathlib.Core.Path.{_≡_, refl, sym, ap, subst, _∙_}
 use mathlib.Core.Bool.{true}
 use mathlib.Core.Logic.{_⊎_, inl, inr, ⊎-elim}
@@ -32,13 +33,15 @@ use Rattle.freelist_outcomes.proofs.Comes.{ReturnComes, takes, return-comes}
 use Rattle.freelist_outcomes.proofs.Given.{on-loan-is}
 use Rattle.freelist_outcomes.proofs.Passing.{Passed}
 use Rattle.freelist_outcomes.proofs.Refused.{return-leaves, return-refused}
-use Rattle.freelist_history.specs.Calls.{Call, setsUp, returns, does, State, storeAt, Visit, visit, done, step, run}
-use Rattle.freelist_history.specs.Serials.{NoSetUp, givenOf}
-use Rattle.freelist_history.proofs.Steps.{call-steps, back-store}
+use Rattle.freelist_history.specs.Calls.{returns, Done, Call, ofList, ofBuddy, does, State, storeAt, Visit, visit, done, step, run}
+use Rattle.freelist_history.specs.Serials.{SetsUp, NoSetUp, Marked, givenOf}
+use Rattle.freelist_history.proofs.OtherEngine.{other-leaves, not-buddy}
+use Rattle.freelist_history.proofs.Steps.{Stepped, call-steps, back-store, back-marked}
 use Rattle.freelist_history.proofs.Visits.{stores-stay, store-here, store-other}
 
--- serial k was given, and no loan of these tables has it
+-- serial k was given by a free list, and no loan of these tables has it
 pub record Gone (k : ℕ) (t : Tables) : Type 0 where
+  pub marked : Marked t
   pub old : k ≤ givenOf t
   pub away : All (λ (l : Loan). l .serial ≡ k → ⊥) (loansOf (placesIn t) (t .loans))
 
@@ -48,16 +51,21 @@ module _ (s : FreeListSettings) (k : ℕ) (t : Tables) where
   unfolding storeOf
   gone-there g = record { old = g .old; away = λ l m. g .away l (ordered-out l (loansOf (placesIn t) (t .loans)) m) }
 
-  gone-here : Rules.Gone k (storeOf s t) → Gone k t
+  gone-here : Marked t → Rules.Gone k (storeOf s t) → Gone k t
   unfolding storeOf
-  gone-here g = record { old = g .old; away = λ l m. g .away l (ordered-in l (loansOf (placesIn t) (t .loans)) m) }
+  gone-here has g = record { marked = has; old = g .old; away = λ l m. g .away l (ordered-in l (loansOf (placesIn t) (t .loans)) m) }
 
 -- ---- it stays so
 
--- over one call, with any settings, any account and any arguments
-pub gone-stays : (k : ℕ) (s : FreeListSettings) (a : Account) (t : Tables) (c : Call) → (c ≡ setsUp → ⊥) → Gone k t → Gone k (does s a t c .tables)
-gone-stays k s a t c f g =
-    ⊎-elim (λ e. subst (Gone k) (sym e) g) (λ cs. gone-here s k (does s a t c .tables) (Rules.gone-calls s k (gone-there s k t g) cs)) (call-steps s a t c f .steps)
+gone-steps : (k : ℕ) (s : FreeListSettings) (t : Tables) (d : Done) → Stepped s t (d .tables) (d .said) → Gone k t → Gone k (d .tables)
+gone-steps k s t d S g =
+    ⊎-elim (λ e. subst (Gone k) (sym e) g) (λ cs. gone-here s k (d .tables) (S .marks (g .marked)) (Rules.gone-calls s k (gone-there s k t g) cs)) (S .steps)
+
+-- over one call of either engine, with any settings, any account and any arguments
+pub gone-stays : (k : ℕ) (a : Account) (t : Tables) (c : Call) → (SetsUp c → ⊥) → Gone k t → Gone k (does a t c .tables)
+gone-stays k a t (ofList s c) f g = gone-steps k s t (does a t (ofList s c)) (call-steps s a t c f) g
+gone-stays k a t (ofBuddy s c) f g =
+    subst (Gone k) (sym (ap (λ (d : Done). d .tables) (other-leaves s a t c f (not-buddy t (g .marked)) .1))) g
 
 -- and over any history
 pub gone-run : (k i : ℕ) (w : State) (vs : List Visit) → NoSetUp i vs → i < length (w .stores) → Gone k (storeAt w i) → Gone k (storeAt (run w vs) i)
@@ -67,7 +75,7 @@ gone-run k i w (v ∷ vs) f h g = gone-run k i (step w v) vs (λ u m. f u (List�
     own : v .at ≡ i → Gone k (storeAt (step w v) i)
     own e =
         let g′ : Gone k (storeAt w (v .at)) = subst (λ (j : ℕ). Gone k (storeAt w j)) (sym e) g in
-        let d = gone-stays k (v .settings) (w .account) (storeAt w (v .at)) (v .call) (f v (List·Memᴰ·head refl) e) g′ in
+        let d = gone-stays k (w .account) (storeAt w (v .at)) (v .call) (f v (List·Memᴰ·head refl) e) g′ in
         subst (λ (j : ℕ). Gone k (storeAt (step w v) j)) e (subst (Gone k) (sym (store-here w v (omega arith))) d)
 
     other : (v .at ≡ i → ⊥) → Gone k (storeAt (step w v) i)
@@ -88,7 +96,7 @@ module _ (s : FreeListSettings) (a : Account) (b : Block) (t : Tables) (list : L
         old = p .sound .store .serials-given (loanOf b) m .1;
         away = λ l k q. true-false (eqb (l .serial) (b .serial)) (eq-eqb (l .serial) (b .serial) q) (not-yes (eqb (l .serial) (b .serial)) (those-yes _ l (v .loans) k));
       } in
-      gone-here s (b .serial) (releasedTables s true (givenTables s b (wordFor s b t) t)) (subst (Rules.Gone (b .serial)) (sym e) g)
+      gone-here s (b .serial) (releasedTables s true (givenTables s b (wordFor s b t) t)) (back-marked s a b t (listOk (s .store) list) p on) (subst (Rules.Gone (b .serial)) (sym e) g)
 
   return-gone : (r : Listed Tables) → ReturnComes s a b t list r → kindOf (r .said) ≡ 3 → Gone (b .serial) (r .tables)
   unfolding releaseOf
@@ -109,9 +117,9 @@ module _ (s : FreeListSettings) (a : Account) (b : Block) (t : Tables) (list : L
       let c = given-then (cleanUpReasons s a t list) (reason (Stale s b t) 7 none) (r .0) (return-refused s a b t list (r .0) .0 (r .1)) in
       (r .0, return-leaves s a b t list (r .0) [] (r .1), ⊎-elim (λ e. inr e) (λ e. ⊎-elim (λ z. inl (z .1)) (λ z. absurd (z .1)) e) c)
 
--- a block was returned at store i, and then any calls were made, at any stores, with any settings, arguments and answers,
--- but no set-up of store i: its next return, with any settings and list, is refused and changes nothing: as 7, or as one
--- of the earlier rows 1 to 4
+-- a block was returned at store i, a free list, and then any calls of either engine were made, at any stores, with any
+-- settings, arguments and answers, but no set-up of store i: its next return, with any settings and list, is refused and
+-- changes nothing: as 7, or as one of the earlier rows 1 to 4
 pub never-again : (w : State) (i : ℕ) → i < length (w .stores) → (s : FreeListSettings) (b : Block) (list : List ℕ) (n : ℕ) → done w (visit i s (returns b list)) .said ≡ Paper.released n
     → (vs : List Visit) → NoSetUp i vs → (s′ : FreeListSettings) (list′ : List ℕ)
     → let u = run (step w (visit i s (returns b list))) vs in

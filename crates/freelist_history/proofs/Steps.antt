@@ -1,4 +1,5 @@
--- Each call but set-up leaves the tables as they were or makes steps that the rules know. Assumes nothing.
+-- Each call of a free list but set-up leaves the tables as they were or makes steps that the rules know, and leaves them
+-- their mark. Assumes nothing.
 use mathlib.Core.Path.{_≡_, refl, sym, ap, subst, _∙_}
 use mathlib.Core.Bool.{Bool, true, false}
 use mathlib.Core.Logic.{_⊎_, inl, inr}
@@ -26,13 +27,13 @@ use Rattle.freelist_outcomes.specs.Ask.{raisedFor, takenTables, orderedTables, 
 use Rattle.freelist_outcomes.specs.Deliver.{carryFate, deliverOf}
 use Rattle.freelist_outcomes.specs.Return.{wordFor, onLoanOk, givenTables, releasedTables, releaseOf, returnOf, cleanUpOf}
 use Rattle.freelist_outcomes.proofs.Passing.{Passed}
-use Rattle.freelist_outcomes.proofs.Taken.{taken-store}
+use Rattle.freelist_outcomes.proofs.Taken.{taken-store, taken-sound}
 use Rattle.freelist_outcomes.proofs.Given.{on-loan-is, given-lengths, given-store, given-sound}
-use Rattle.freelist_outcomes.proofs.Changed.{ordered-store, released-store}
-use Rattle.freelist_outcomes.proofs.Arrives.{arrived-store, lent-store}
+use Rattle.freelist_outcomes.proofs.Changed.{ordered-store, ordered-sound, released-store, released-tables-sound}
+use Rattle.freelist_outcomes.proofs.Arrives.{arrived-store, lent-store, lent-tables-sound}
 use Rattle.freelist_outcomes.proofs.Comes.{AskComes, lends, orders, ask-comes, DeliverComes, keeps, loses, deliver-comes, ReturnComes, takes, return-comes, CleanUpComes, cleans, clean-up-comes}
-use Rattle.freelist_history.specs.Calls.{Call, setsUp, asks, delivers, returns, cleansUp, does}
-use Rattle.freelist_history.specs.Serials.{serialSaid, givenOf, upFrom}
+use Rattle.freelist_history.specs.Calls.{ListCall, setsUp, asks, delivers, returns, cleansUp, listDoes}
+use Rattle.freelist_history.specs.Serials.{Marked, serialSaid, givenOf, upFrom}
 
 -- the store after a block has been taken back and its chunks released
 pub back-store : (s : FreeListSettings) (a : Account) (b : Block) (t : Tables) (listed : Bool) → Passed s a t listed → onLoanOk s b t ≡ true → storeOf s (releasedTables s true (givenTables s b (wordFor s b t) t)) ≡ returned b (storeOf s t)
@@ -43,6 +44,14 @@ back-store s a b t listed p on =
     ∙ ap (released true) (given-store s t fit lengths (p .sound) b on)
     ∙ sym (returned-is s fit b (storeOf s t) (p .sound .store) (on-loan-is s t fit (p .sound) b on))
 
+-- and its tables have the mark
+pub back-marked : (s : FreeListSettings) (a : Account) (b : Block) (t : Tables) (listed : Bool) → Passed s a t listed → onLoanOk s b t ≡ true → Marked (releasedTables s true (givenTables s b (wordFor s b t) t))
+back-marked s a b t listed p on =
+    let fit = p .settings in
+    let lengths = lengths-are s t (p .lengths) in
+    released-tables-sound s (givenTables s b (wordFor s b t) t) fit (given-lengths s t fit lengths (p .sound) b on) (given-sound s t fit lengths (p .sound) b on) true
+    .marked
+
 -- a return gives no serial
 taken-back-given : (t : Store) (f : Found) → takenBack t f .given ≡ t .given
 taken-back-given t nowhere = refl
@@ -52,15 +61,16 @@ returned-given : (b : Block) (t : Store) → returned b t .given ≡ t .given
 returned-given b t = taken-back-given t (seek b (t .loans))
 
 -- what a call leaves: the tables as they were, or those of a store that steps lead to; and it gives as many serials as it
--- lends blocks, the next ones
+-- lends blocks, the next ones; the mark stays
 pub record Stepped (s : FreeListSettings) (t t′ : Tables) (said : Said) : Type 0 where
   pub steps : (t′ ≡ t) ⊎ Calls s (storeOf s t) (storeOf s t′)
   pub gives : givenOf t′ ≡ givenOf t + length (serialSaid said)
   pub nexts : serialSaid said ≡ upFrom (givenOf t) (length (serialSaid said))
+  pub marks : Marked t → Marked t′
 
 module _ (s : FreeListSettings) (t : Tables) where
   stayed : (n : ℕ) (back : List ℕ) → Stepped s t t (Paper.refusal n back)
-  stayed n back = record { steps = inl refl; gives = omega arith; nexts = refl }
+  stayed n back = record { steps = inl refl; gives = omega arith; nexts = refl; marks = λ m. m }
 
   -- one step that gives no serial
   module _ (t′ : Tables) (v : Store) (e : storeOf s t′ ≡ v) where
@@ -80,11 +90,17 @@ module _ (s : FreeListSettings) (t : Tables) where
         steps = inr (stepped (takenTables s size mask t i) (lent (maskFor s mask) (sizeFor s size) i (storeOf s t)) e (Rules.asks (maskFor s mask) (sizeFor s size) i));
         gives = ap (λ (x : Store). x .given) e;
         nexts = refl;
+        marks = λ _. taken-sound s t (p .settings) (lengths-are s t (p .lengths)) (p .sound) size mask i (v .aligned) (v .some) (v .place) (v .found) .marked;
       }
   ask-stepped a size mask _ (orders p v) =
       let e = ordered-store s t (p .settings) (lengths-are s t (p .lengths)) (p .sound) (raisedFor s size t) in
       let f = ap (λ (x : Store). x .given) e in
-      record { steps = inr (stepped (orderedTables (raisedFor s size t) t) (raised (raisedFor s size t) (storeOf s t)) e (Rules.orders (raisedFor s size t))); gives = omega (arith, f); nexts = refl }
+      record {
+        steps = inr (stepped (orderedTables (raisedFor s size t) t) (raised (raisedFor s size t) (storeOf s t)) e (Rules.orders (raisedFor s size t)));
+        gives = omega (arith, f);
+        nexts = refl;
+        marks = λ _. ordered-sound s t (p .settings) (lengths-are s t (p .lengths)) (p .sound) size .marked;
+      }
 
   deliver-stepped : (a : Account) (o : Outcome) (r : Out Tables) → DeliverComes s a o t r → Stepped s t (r .tables) (r .said)
   unfolding carryFate storeOf
@@ -99,6 +115,7 @@ module _ (s : FreeListSettings) (t : Tables) where
         steps = inr (subst (Calls s (storeOf s t)) (sym f) (then d (then c stop)));
         gives = ap (λ (x : Store). x .given) f;
         nexts = ap (λ (x : Store). (x .given + 1) ∷ []) g;
+        marks = λ _. lent-tables-sound s a t k w (m .number) new .marked;
       }
 
   return-stepped : (a : Account) (b : Block) (list : List ℕ) (r : Listed Tables) → ReturnComes s a b t list r → Stepped s t (r .tables) (r .said)
@@ -106,16 +123,26 @@ module _ (s : FreeListSettings) (t : Tables) where
   return-stepped a b list _ (ReturnComes.denied n) = stayed n []
   return-stepped a b list _ (takes p on) =
       let e = back-store s a b t (listOk (s .store) list) p on in
-      record { steps = inr (stepped _ _ e (Rules.returns b)); gives = omega (arith, same-given _ _ e (returned-given b (storeOf s t))); nexts = refl }
+      record {
+        steps = inr (stepped _ _ e (Rules.returns b));
+        gives = omega (arith, same-given _ _ e (returned-given b (storeOf s t)));
+        nexts = refl;
+        marks = λ _. back-marked s a b t (listOk (s .store) list) p on;
+      }
 
   clean-up-stepped : (a : Account) (list : List ℕ) (r : Listed Tables) → CleanUpComes s a t list r → Stepped s t (r .tables) (r .said)
   unfolding releaseOf
   clean-up-stepped a list _ (CleanUpComes.denied n) = stayed n []
   clean-up-stepped a list _ (cleans p) =
       let e = released-store s t (p .settings) (lengths-are s t (p .lengths)) (p .sound) false in
-      record { steps = inr (stepped _ _ e Rules.cleansUp); gives = omega (arith, same-given _ _ e refl); nexts = refl }
+      record {
+        steps = inr (stepped _ _ e Rules.cleansUp);
+        gives = omega (arith, same-given _ _ e refl);
+        nexts = refl;
+        marks = λ _. released-tables-sound s t (p .settings) (lengths-are s t (p .lengths)) (p .sound) false .marked;
+      }
 
-pub call-steps : (s : FreeListSettings) (a : Account) (t : Tables) (c : Call) → (c ≡ setsUp → ⊥) → Stepped s t (does s a t c .tables) (does s a t c .said)
+pub call-steps : (s : FreeListSettings) (a : Account) (t : Tables) (c : ListCall) → (c ≡ setsUp → ⊥) → Stepped s t (listDoes s a t c .tables) (listDoes s a t c .said)
 call-steps s a t setsUp f = absurd (f refl)
 call-steps s a t (asks size mask) f = ask-stepped s t a size mask (askOf s a size mask t) (ask-comes s a size mask t)
 call-steps s a t (delivers o) f = deliver-stepped s t a o (deliverOf s a o t) (deliver-comes s a o t)

@@ -1,3 +1,4 @@
+pub mod BuddyCalls
 pub mod Calls
 pub mod Serials
 pub mod Booked

@@ -9,12 +9,22 @@ use lib.ListN.{getD}
 use Rattle.counter.specs.Paper.{Said}
 use Rattle.counter.specs.Paper as Paper
 use Rattle.freelist_rules.specs.Pieces.{All}
-use Rattle.freelist_rules.specs.Tables.{Tables, givenAt}
-use Rattle.freelist_history.specs.Calls.{setsUp, State, Visit, done, step}
+use Rattle.freelist_rules.specs.Tables.{Tables, mark, markAt, givenAt}
+use Rattle.freelist_history.specs.BuddyCalls as Buddy
+use Rattle.freelist_history.specs.Calls.{setsUp, Call, ofList, ofBuddy, State, Visit, done, step}
+
+-- a call that sets its store up anew, with either engine
+abbrev pub SetsUp : Call → Type 0
+SetsUp (ofList s c) = c ≡ setsUp
+SetsUp (ofBuddy s c) = c ≡ Buddy.setsUp
 
 -- none of the calls sets store i up anew
 abbrev pub NoSetUp : ℕ → List Visit → Type 0
-NoSetUp i vs = All (λ (v : Visit). v .at ≡ i → v .call ≡ setsUp → ⊥) vs
+NoSetUp i vs = All (λ (v : Visit). v .at ≡ i → SetsUp (v .call) → ⊥) vs
+
+-- tables that were set up as a free list's have its mark
+abbrev pub Marked : Tables → Type 0
+Marked t = getD (t .head) markAt 0 ≡ mark
 
 -- the serial of a block that is lent
 abbrev pub serialSaid : Said → List ℕ

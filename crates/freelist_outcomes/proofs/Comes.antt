@@ -33,7 +33,7 @@ use Rattle.heap.specs.Heap.{bearsOk}
 use Rattle.store_rules.specs.Delivery.{kept, lost, freeList, holds, suits, deliveryOk, fateOf, backOf}
 use Rattle.store_rules.specs.Orders as Orders
 use Rattle.store_rules.specs.Orders.{orderFrom, keptFrom, sameOrder, leadsTo}
-use Rattle.store_rules.specs.Outcomes.{Out, out, Listed, listed, listOk, withOrder}
+use Rattle.store_rules.specs.Outcomes.{Out, out, Listed, listed, listOk, withOrder, blockSaid}
 use Rattle.store_rules.specs.Tests.{orderFor, gateRow}
 use Rattle.book.specs.Book.{takenOf}
 use Rattle.freelist_rules.specs.Place.{nowhere, at}
@@ -45,7 +45,7 @@ use Rattle.freelist_rules.proofs.Fits.{lengths-are}
 use Rattle.freelist_rules.proofs.Tested.{tables-yes}
 use Rattle.freelist_outcomes.specs.Gate.{lentOk, accountOk, gateOf}
 use Rattle.freelist_outcomes.specs.Ask as Ask
-use Rattle.freelist_outcomes.specs.Ask.{foundFor, raisedFor, roomOk, countOk, objectsOk, decideAsk, loanFrom, takenTables, blockSaid, orderedTables, carryAsk, planAsk, askOf}
+use Rattle.freelist_outcomes.specs.Ask.{foundFor, raisedFor, roomOk, countOk, objectsOk, decideAsk, loanFrom, takenTables, orderedTables, carryAsk, planAsk, askOf}
 use Rattle.freelist_outcomes.specs.Deliver as Deliver
 use Rattle.freelist_outcomes.specs.Deliver.{stillOk, deliverGateOf, carryFate, decideDeliver, planDeliver, carryDeliver, deliverOf}
 use Rattle.freelist_outcomes.specs.Return as Return

@@ -15,6 +15,7 @@ use Rattle.counter.specs.declared.account.Order.{Order}
 use Rattle.counter.specs.declared.settings.FreeListSettings.{FreeListSettings}
 use Rattle.store_rules.specs.Orders.{Plan, deny, take, buy, orderFrom}
 use Rattle.store_rules.specs.declared.Loan.{Loan}
+use Rattle.store_rules.specs.Outcomes.{blockSaid}
 use Rattle.freelist_rules.specs.Place.{sizeFor, maskFor, fitsIn}
 use Rattle.freelist_rules.specs.Steps.{noRegion}
 use Rattle.freelist_rules.specs.Tables.{Tables, storeOf}
@@ -22,7 +23,7 @@ use Rattle.freelist_rules.specs.declared.Region.{Region}
 use Rattle.freelist_rules.proofs.Lends.{fits-is, cut-low}
 use Rattle.freelist_rules.proofs.Orders.{fits-all}
 use Rattle.freelist_rules.proofs.Search.{find-fits, find-last}
-use Rattle.freelist_outcomes.specs.Ask.{loanFrom, blockSaid, carryAsk, decideAsk, planAsk, askOf}
+use Rattle.freelist_outcomes.specs.Ask.{loanFrom, carryAsk, decideAsk, planAsk, askOf}
 use Rattle.freelist_outcomes.specs.Refusals.{Needed}
 use Rattle.freelist_outcomes.proofs.Passing.{Passed}
 use Rattle.freelist_outcomes.proofs.Plans.{take-is, plan-take, plan-buy}

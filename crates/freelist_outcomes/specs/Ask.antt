@@ -16,7 +16,7 @@ use Rattle.counter.specs.declared.account.OpenOrder.the-variants.{Kept}
 use Rattle.counter.specs.declared.settings.FreeListSettings.{FreeListSettings}
 use Rattle.heap.specs.Heap.{bearsOk}
 use Rattle.store_rules.specs.Orders.{Plan, deny, take, buy, orderFrom, keptFrom}
-use Rattle.store_rules.specs.Outcomes.{Out, out, withOrder}
+use Rattle.store_rules.specs.Outcomes.{Out, out, withOrder, blockSaid}
 use Rattle.store_rules.specs.declared.Loan.{Loan}
 use Rattle.book.specs.Book.{takenOf, entered, enteredIndex}
 use Rattle.freelist_rules.specs.Place.{sizeFor, maskFor, Found, nowhere, at, find, cutOff, lentLoan}
@@ -97,9 +97,6 @@ takenTables s size mask t i =
     (t .chunks)
     (laidRegions s (cutOff (blockAt s size mask t i .start) i (storeOf s t .regions)) (t .regions))
     (enteredIndex (s .store .loans) (placesIn t) (storeOf s t .given + 1) (t .index))
-
-abbrev pub blockSaid : Loan → Said
-blockSaid l = Paper.block (l .serial) (l .chunk) (l .offset) (l .size)
 
 -- an order raises the chunk size and is kept in the account
 unfoldable pub orderedTables : ℕ → Tables → Tables

@@ -7,7 +7,7 @@ use lib.ListN.{length, set}
 use Rattle.rounding.specs.Growth.{doubled}
 use Rattle.words.specs.Rows.{laid}
 use Rattle.counter.specs.Account.{heapAt}
-use Rattle.counter.specs.Gate.{Verdict, pass, refuse, first}
+use Rattle.counter.specs.Gate.{Verdict, first}
 use Rattle.counter.specs.Paper as Paper
 use Rattle.counter.specs.declared.account.Account.{Account}
 use Rattle.counter.specs.declared.account.KeptOrder.{KeptOrder}
@@ -15,15 +15,16 @@ use Rattle.counter.specs.declared.account.OpenOrder.{OpenOrder}
 use Rattle.counter.specs.declared.account.OpenOrder.the-variants.{Nothing, Kept}
 use Rattle.counter.specs.declared.answers.Outcome.{Outcome}
 use Rattle.counter.specs.declared.settings.FreeListSettings.{FreeListSettings}
-use Rattle.store_rules.specs.Delivery.{Fate, kept, lost, freeList, fateOf, deliveryOk}
+pub use Rattle.store_rules.specs.Arrivals.{Arrival, deny, go, arrivalOf, gated}
+use Rattle.store_rules.specs.Delivery.{Fate, kept, lost, freeList}
 use Rattle.store_rules.specs.Orders.{leadsTo}
-use Rattle.store_rules.specs.Outcomes.{Out, out, chargedAccount, lostAccount}
+use Rattle.store_rules.specs.Outcomes.{Out, out, chargedAccount, lostAccount, blockSaid}
 use Rattle.store_rules.specs.Tests.{orderFor, gateRow}
 use Rattle.freelist_rules.specs.Records.{region, chunk, chunkRow}
 use Rattle.freelist_rules.specs.Tables.{Tables, tables, madeAt, chunkSizeAt, chunksAt, chunksIn, storeOf, soundOk, laidRegions}
 use Rattle.freelist_rules.specs.Walk.{memories}
 use Rattle.freelist_outcomes.specs.Gate.{lentOk, accountOk}
-use Rattle.freelist_outcomes.specs.Ask.{decideAsk, loanFrom, takenTables, blockSaid}
+use Rattle.freelist_outcomes.specs.Ask.{decideAsk, loanFrom, takenTables}
 
 -- 3 on a delivery: the kept ask still leads to the order that was told
 abbrev pub stillOk : FreeListSettings → Account → Tables → OpenOrder → Bool
@@ -56,24 +57,14 @@ carryFate s a k t (kept memory) =
     (takenTables s (k .ask .size) (k .ask .mask) (deliveredTables s memory (k .order .size) t) (length (storeOf s t .regions)))
 carryFate s a k t (lost n charged back) = out (Paper.refusal n back) (lostAccount (s .store) a (k .order .size) charged back) t
 
--- what a delivery comes to: a refusal, or what becomes of the kept order
-pub data Plan : Type 0 where
-  deny : ℕ → Plan
-  go : KeptOrder → Fate → Plan
-
 -- 13
-abbrev pub decideDeliver : Outcome → List ℕ → OpenOrder → Plan
-decideDeliver o held Nothing = deny 2
-decideDeliver o held (Kept k) = cond (deliveryOk (k .order .map) held o) (go k (fateOf freeList o)) (deny 13)
+abbrev pub decideDeliver : Outcome → List ℕ → OpenOrder → Arrival
+decideDeliver = arrivalOf freeList
 
-abbrev pub gated : Verdict → Plan → Plan
-gated (refuse n) p = deny n
-gated pass p = p
-
-unfoldable pub planDeliver : FreeListSettings → Account → Outcome → Tables → Plan
+unfoldable pub planDeliver : FreeListSettings → Account → Outcome → Tables → Arrival
 planDeliver s a o t = gated (deliverGateOf s a t) (decideDeliver o (memories (storeOf s t .chunks)) (a .order))
 
-unfoldable pub carryDeliver : FreeListSettings → Account → Tables → Plan → Out Tables
+unfoldable pub carryDeliver : FreeListSettings → Account → Tables → Arrival → Out Tables
 carryDeliver s a t (deny n) = out (Paper.refusal n []) a t
 carryDeliver s a t (go k f) = carryFate s a k t f
 

@@ -1,22 +1,35 @@
 // The records of a tape, in turn.
-use crate::calls::take;
-use crate::input::Window;
-use crate::input::past;
-use crate::input::refill;
 use counter::Account;
 use counter::CHUNKS_MOST;
-use counter::FreeListSettings;
-use tape::Record;
+use reel::Answer;
+use reel::Settings;
+use reel::Taken;
+use reel::Window;
 
-fn print_totals(s: FreeListSettings, a: Account) {
-    let store = s.store;
+fn print_totals(s: Settings, a: Account) {
+    let store = reel::store_of(s);
     text::print_totals(a.heap(store.heap));
 }
 
-fn is_torn(record: Record) -> bool {
-    match record {
-        Record::Torn => true,
-        _ => false,
+fn print_answer(s: Settings, taken: Taken, list: &[u64]) {
+    let store = reel::store_of(s);
+    let a = taken.account;
+    let answer = taken.answer;
+    let h = a.heap(store.heap);
+    match answer {
+        Answer::Asked(asked) => text::print_asked(asked, h.used, a.objects),
+        Answer::Delivered(delivered) => text::print_delivered(delivered, h.used, a.objects),
+        Answer::Released(released) => text::print_released(released, list, h.used, a.objects),
+        Answer::Nothing => {}
+    }
+}
+
+// How the tape ended, after so many whole records: it stopped at a position, or was read to its end.
+fn print_last(torn: bool, position: u64, records: u64) {
+    if torn {
+        text::print_stopped(position);
+    } else {
+        text::print_end(records);
     }
 }
 
@@ -24,39 +37,36 @@ fn is_torn(record: Record) -> bool {
 // Nor does a position pass 64 bits.
 pub fn run(
     fd: i32,
-    s: FreeListSettings,
+    s: Settings,
     fresh: Account,
     head: &mut [u64],
     loans: &mut [u64],
     chunks: &mut [u64],
-    regions: &mut [u64],
     index: &mut [u64],
+    own: &mut [u64],
 ) {
+    let buddy = reel::is_buddy(s);
     let mut list = [0u64; CHUNKS_MOST];
     let mut buffer = io::large_buffer();
     let mut w = Window { from: 0, to: 0 };
     let mut a = fresh;
+    let mut torn = false;
     let mut position = 0u64;
     let mut records = 0u64;
     while records < u64::MAX {
-        w = refill(fd, &mut buffer, w);
-        let from = w.from;
-        let to = w.to;
-        if from == to {
+        let turn = reel::next(fd, &mut buffer, w, buddy);
+        torn = turn.torn;
+        if torn | turn.ended {
             break;
         }
-        let record = tape::read_record(&buffer[from..to], false);
-        if is_torn(record) {
-            print_totals(s, a);
-            text::print_stopped(position);
-            return;
-        }
-        a = take(s, a, record, head, loans, chunks, regions, index, &mut list);
-        let n = tape::record_length(buffer[from]);
-        w = past(w, n);
-        position = std::num::wrapping_add_u64(position, n as u64);
+        let record = turn.record;
+        let taken = reel::take(s, a, record, head, loans, chunks, index, own, &mut list);
+        print_answer(s, taken, &list);
+        a = taken.account;
+        w = turn.window;
+        position = std::num::wrapping_add_u64(position, turn.length as u64);
         records += 1;
     }
     print_totals(s, a);
-    text::print_end(records);
+    print_last(torn, position, records);
 }

@@ -1,108 +1,79 @@
-// A fresh account and a fresh store's tables.
-ghost use Prim.Native.Nat.{_≤_};
+// A fresh store's tables, lent at the lengths that its settings ask for.
 use crate::run::run;
-use counter::Account;
+use buddy_levels::HEADER_WORDS;
+use buddy_levels::PAIR_WORDS;
 use counter::CHUNKS_MOST;
-use counter::HEAPS;
-use counter::Heap;
+use counter::LEVELS_MOST;
 use counter::LOANS_MOST;
-use counter::OpenOrder;
+use counter::PAIRS_MOST;
 use counter::SetUpAnswer;
-use counter::Total;
+use freelist_rules::CHUNK_WORDS;
 use freelist_rules::HEAD_WORDS;
-use tape::FreeListStart;
+use freelist_rules::REGION_WORDS;
+use reel::Limits;
+use reel::Settings;
 
-// each table at the greatest limits, in words
+// each table at the greatest limits, in words, for either engine: a free list's head and chunks are the longer
 const LOANS_WORDS: usize = store_rules::LOAN_WORDS * LOANS_MOST;
 
-const CHUNKS_WORDS: usize = freelist_rules::CHUNK_WORDS * CHUNKS_MOST;
-
-const REGIONS_WORDS: usize = freelist_rules::REGION_WORDS * (LOANS_MOST + CHUNKS_MOST) + 1;
+const CHUNKS_WORDS: usize = CHUNK_WORDS * CHUNKS_MOST;
 
 const INDEX_WORDS: usize = 1 + book::ENTRY_WORDS * LOANS_MOST;
 
-fn empty(size: u64) -> Heap {
-    let none = Total { hi: 0, lo: 0 };
-    Heap {
-        size: size,
-        used: 0,
-        allocated: none,
-        deallocated: none,
-    }
-}
+// a buddy store's levels; and regions, which are more than the rest of a tree
+const REGIONS_WORDS: usize = REGION_WORDS * (LOANS_MOST + CHUNKS_MOST) + 1;
 
-fn account(start: FreeListStart) -> Account {
-    let settings = start.settings;
-    let store = settings.store;
-    let none = empty(0);
-    let heaps = [none; HEAPS];
-    let bare = Account {
-        heaps: heaps,
-        objects: start.objects,
-        order: OpenOrder::Nothing,
+const OWN_WORDS: usize = (HEADER_WORDS + PAIR_WORDS * PAIRS_MOST) * (LEVELS_MOST as usize)
+    + REGIONS_WORDS;
+
+pub fn begin(fd: i32, s: Settings, heap_size: u64, objects: u32) {
+    let most = Limits {
+        loans: LOANS_MOST,
+        chunks: CHUNKS_MOST,
+        pairs: PAIRS_MOST,
     };
-    bare.settled(
-        store.heap,
-        empty(start.heap_size),
-        start.objects,
-        OpenOrder::Nothing,
-    )
-}
-
-fn least(a: usize, b: usize) -> usize
-    ensures { λ r. ⌜ r ≤ b ⌝ }
-{
-    if a < b { a } else { b }
-}
-
-// The tables are lent at the lengths that the settings ask for; settings past the limits are refused by set-up.
-pub fn replay_free_list(fd: i32, start: FreeListStart) {
-    let settings = start.settings;
-    let store = settings.store;
-    let loans_most = least(store.loans, LOANS_MOST);
-    let chunks_most = least(store.chunks, CHUNKS_MOST);
-    let loans_end = store_rules::LOAN_WORDS * loans_most;
-    let chunks_end = freelist_rules::CHUNK_WORDS * chunks_most;
-    let regions_end = freelist_rules::REGION_WORDS * (loans_most + chunks_most) + 1;
-    let index_end = 1 + book::ENTRY_WORDS * loans_most;
+    let lengths = reel::table_lengths(s, most);
+    let head_end = lengths.head;
+    let loans_end = lengths.loans;
+    let chunks_end = lengths.chunks;
+    let index_end = lengths.index;
+    let own_end = lengths.own;
     let mut head = [0u64; HEAD_WORDS];
     let mut loans = [0u64; LOANS_WORDS];
     let mut chunks = [0u64; CHUNKS_WORDS];
-    let mut regions = [0u64; REGIONS_WORDS];
     let mut index = [0u64; INDEX_WORDS];
-    begin(
+    let mut own = [0u64; OWN_WORDS];
+    replay(
         fd,
-        start,
-        &mut head,
+        s,
+        heap_size,
+        objects,
+        &mut head[..head_end],
         &mut loans[..loans_end],
         &mut chunks[..chunks_end],
-        &mut regions[..regions_end],
         &mut index[..index_end],
+        &mut own[..own_end],
     );
 }
 
-fn begin(
+fn replay(
     fd: i32,
-    start: FreeListStart,
+    s: Settings,
+    heap_size: u64,
+    objects: u32,
     head: &mut [u64],
     loans: &mut [u64],
     chunks: &mut [u64],
-    regions: &mut [u64],
     index: &mut [u64],
+    own: &mut [u64],
 ) {
-    let settings = start.settings;
-    let answer = freelist::set_up(settings, head, loans, chunks, regions, index);
+    let answer = reel::set_up(s, head, loans, chunks, index, own);
     match answer {
-        SetUpAnswer::Ready => run(
-            fd,
-            settings,
-            account(start),
-            head,
-            loans,
-            chunks,
-            regions,
-            index,
-        ),
+        SetUpAnswer::Ready => {
+            let store = reel::store_of(s);
+            let fresh = reel::fresh_account(store.heap, heap_size, objects);
+            run(fd, s, fresh, head, loans, chunks, index, own);
+        }
         SetUpAnswer::Refused(_) => text::print_set_up_refused(),
     }
 }

@@ -3,14 +3,14 @@
 ghost use mathlib.Core.Path.{_≡_};
 ghost use Prim.Native.Nat.{_≤_, _<_};
 ghost use lib.ListN.{set};
-ghost use Rattle.words.specs.Words.{widest};
+ghost use Rattle.words.specs.Words.{widest, atMost};
 ghost use Rattle.ring.specs.Ring.{unlinked, linked};
 ghost use Rattle.ring.specs.Test.{ringLength};
 use slab::NOWHERE;
 
 // The place p is taken out; the head is p's next from now on, whichever place it was.
 pub fn unlink(t: &mut [u64], head: u64, next_at: u64, prev_at: u64, step: u64, p: u64)
-    requires { ⌜ (0 < step) × (step ≤ widest) ⌝ }
+    requires { ⌜ (0 < step) × (step ≤ widest) × («next_at» ≤ atMost) × («prev_at» ≤ atMost) ⌝ }
     ensures { λ _. ⌜ now (t .exit) ≡ unlinked head «next_at» «prev_at» step p (now (t .entry)) ⌝ }
 {
     let n = words::cell(t, next_at as usize, step as usize, p as usize);
@@ -33,7 +33,7 @@ fn move_head(t: &mut [u64], head: u64, n: u64)
 
 // The place p joins before the head, or as the head of a ring that was empty.
 pub fn link(t: &mut [u64], head: u64, next_at: u64, prev_at: u64, step: u64, p: u64)
-    requires { ⌜ (0 < step) × (step ≤ widest) ⌝ }
+    requires { ⌜ (0 < step) × (step ≤ widest) × («next_at» ≤ atMost) × («prev_at» ≤ atMost) ⌝ }
     ensures { λ _. ⌜ now (t .exit) ≡ linked head «next_at» «prev_at» step p (now (t .entry)) ⌝ }
 {
     let h = words::word(t, head as usize);
@@ -52,7 +52,7 @@ pub fn link(t: &mut [u64], head: u64, next_at: u64, prev_at: u64, step: u64, p: 
 
 // How many places stand in the ring, all of them below `places`: NOWHERE where it is torn. Linear in the places.
 pub fn ring_length(t: &[u64], head: u64, next_at: u64, prev_at: u64, step: u64, places: u64) -> u64
-    requires { ⌜ (0 < step) × (step ≤ widest) ⌝ }
+    requires { ⌜ (0 < step) × (step ≤ widest) × («next_at» ≤ atMost) × («prev_at» ≤ atMost) ⌝ }
     ensures { λ r. ⌜ r ≡ ringLength head «next_at» «prev_at» step places (now (t .entry)) ⌝ }
 {
     let h = words::word(t, head as usize);

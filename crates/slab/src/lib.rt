@@ -2,7 +2,7 @@
 // the links of the vacant places in another (or in other words of the same), each at a width of its own.
 ghost use mathlib.Core.Path.{_≡_};
 ghost use Prim.Native.Nat.{_≤_, _<_};
-ghost use Rattle.words.specs.Words.{widest};
+ghost use Rattle.words.specs.Words.{widest, atMost};
 ghost use Rattle.slab.specs.Slab.{inserted, removed, removedLinks, vacantAt, linkAt};
 ghost use Rattle.slab.specs.Test.{vacancies, leads, partedOk};
 
@@ -33,7 +33,7 @@ impl Slab {
 
     // The place vacated last, or the next new one. `at` and `step` say where the links stand.
     pub fn insert(self, links: &[u64], at: usize, step: usize) -> Taken
-        requires { ⌜ (0 < step) × (step ≤ widest) ⌝ }
+        requires { ⌜ (0 < step) × (step ≤ widest) × (at ≤ atMost) ⌝ }
         ensures { λ r. ⌜ r ≡ inserted self (now (links .entry)) at step ⌝ }
     {
         let last = self.vacant;
@@ -60,7 +60,7 @@ impl Slab {
 
     // The place p is vacant from now on, and the next to be taken.
     pub fn remove(self, links: &mut [u64], at: usize, step: usize, p: u64) -> Slab
-        requires { ⌜ (0 < step) × (step ≤ widest) ⌝ }
+        requires { ⌜ (0 < step) × (step ≤ widest) × (at ≤ atMost) ⌝ }
         ensures { λ r. ⌜ r ≡ removed self p ⌝ }
         ensures { λ _. ⌜ now (links .exit) ≡ removedLinks self (now (links .entry)) at step p ⌝ }
     {
@@ -74,7 +74,7 @@ impl Slab {
 
 // How many of the first n places are vacant, by the marking word of each record.
 pub fn count_vacant(records: &[u64], mark: usize, width: usize, n: u64) -> u64
-    requires { ⌜ (0 < width) × (width ≤ widest) ⌝ }
+    requires { ⌜ (0 < width) × (width ≤ widest) × (mark ≤ atMost) ⌝ }
     ensures { λ r. ⌜ r ≡ vacancies (vacantAt (now (records .entry)) mark width) n ⌝ }
 {
     let mut count = 0;
@@ -100,7 +100,7 @@ fn chain_leads(
     h: u64,
     k: u64,
 ) -> bool
-    requires { ⌜ (0 < width) × (width ≤ widest) × (0 < step) × (step ≤ widest) ⌝ }
+    requires { ⌜ (0 < width) × (width ≤ widest) × (0 < step) × (step ≤ widest) × (mark ≤ atMost) × (at ≤ atMost) ⌝ }
     ensures { λ r. ⌜ r ≡ leads (vacantAt (now (records .entry)) mark width) (linkAt (now (links .entry)) at step) n h k ⌝ }
 {
     let mut cur = h;
@@ -129,7 +129,7 @@ pub fn is_parted(
     at: usize,
     step: usize,
 ) -> bool
-    requires { ⌜ (0 < width) × (width ≤ widest) × (0 < step) × (step ≤ widest) ⌝ }
+    requires { ⌜ (0 < width) × (width ≤ widest) × (0 < step) × (step ≤ widest) × (mark ≤ atMost) × (at ≤ atMost) ⌝ }
     ensures { λ r. ⌜ r ≡ partedOk (vacantAt (now (records .entry)) mark width) (linkAt (now (links .entry)) at step) s most ⌝ }
 {
     if s.places <= most {

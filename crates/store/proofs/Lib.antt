@@ -3,3 +3,4 @@ pub mod Settling
 pub mod Ordering
 pub mod Leading
 pub mod Deliveries
+pub mod Coming

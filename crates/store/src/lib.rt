@@ -1,5 +1,7 @@
 // What the calls of both engines do alike: the order, the account, and what a delivered outcome leads to.
 mod accounts;
+mod answers;
+mod comings;
 mod fates;
 mod orders;
 
@@ -8,6 +10,18 @@ pub use accounts::covers;
 pub use accounts::lost;
 pub use accounts::released;
 pub use accounts::with_order;
+pub use answers::answer_block;
+pub use answers::answer_order;
+pub use answers::deliver_block;
+pub use answers::lose_order;
+pub use answers::refuse_ask;
+pub use answers::refuse_delivery;
+pub use answers::refuse_return;
+pub use answers::settle;
+pub use comings::Coming;
+pub use comings::Keeping;
+pub use comings::Losing;
+pub use comings::come;
 pub use fates::Engine;
 pub use fates::Fate;
 pub use fates::Loss;

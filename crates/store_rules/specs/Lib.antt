@@ -4,3 +4,4 @@ pub mod Delivery
 pub mod Outcomes
 pub mod Loans
 pub mod Refusals
+pub mod Arrivals

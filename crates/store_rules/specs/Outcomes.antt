@@ -7,11 +7,17 @@ use lib.Dec.{leb}
 use lib.ListN.{length}
 use Rattle.counter.specs.Account.{heapAt, settledOf}
 use Rattle.counter.specs.Paper.{Said}
+use Rattle.counter.specs.Paper as Paper
 use Rattle.counter.specs.declared.account.Account.{Account}
 use Rattle.counter.specs.declared.account.OpenOrder.{OpenOrder}
 use Rattle.counter.specs.declared.account.OpenOrder.the-variants.{Nothing}
 use Rattle.counter.specs.declared.settings.StoreSettings.{StoreSettings}
 use Rattle.heap.specs.Heap.{chargedOf, releasedOf}
+use Rattle.store_rules.specs.declared.Loan.{Loan}
+
+-- a block as it is told
+abbrev pub blockSaid : Loan → Said
+blockSaid l = Paper.block (l .serial) (l .chunk) (l .offset) (l .size)
 
 pub record Out (T : Type 0) : Type 0 where
   pub said : Said

@@ -13,7 +13,6 @@ use line::spaced;
 pub use stores::print_asked;
 pub use stores::print_delivered;
 pub use stores::print_end;
-pub use stores::print_not_built;
 pub use stores::print_released;
 pub use stores::print_set_up_refused;
 pub use stores::print_stopped;

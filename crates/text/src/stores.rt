@@ -119,7 +119,3 @@ pub fn print_stopped(position: u64) {
 pub fn print_set_up_refused() {
     word(b"setup refused 1\n");
 }
-
-pub fn print_not_built() {
-    word(b"engine not built\n");
-}

@@ -2,7 +2,7 @@
 -- Assumes nothing: these are definitions.
 use mathlib.Core.Bool.{Bool, cond, _&&_}
 use mathlib.Core.List.{List}
-use Prim.Native.Nat.{ℕ, _+_, _*_, _-_}
+use Prim.Native.Nat.{ℕ, _+_, _*_, _-_, _^_}
 use lib.Dec.{leb}
 use lib.ListN.{length, drop}
 use lib.Seq.{paste}
@@ -10,6 +10,10 @@ use lib.Seq.{paste}
 -- the widest record, in words
 abbrev pub widest : ℕ
 widest = 8
+
+-- where the first record begins at most, for the code: no table has that many words, and a place past it still fits a word
+abbrev pub atMost : ℕ
+atMost = 2 ^ 61
 
 -- where a record's word stands: `at` words into the record at i, records being w words wide
 abbrev pub cellOf : ℕ → ℕ → ℕ → ℕ

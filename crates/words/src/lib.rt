@@ -9,7 +9,7 @@ pub use rows::open_row;
 ghost use mathlib.Core.Path.{_≡_};
 ghost use Prim.Native.Nat.{_≤_, _<_};
 ghost use lib.ListN.{getD, set};
-ghost use Rattle.words.specs.Words.{widest, cellOf};
+ghost use Rattle.words.specs.Words.{widest, atMost, cellOf};
 
 // The word at a place, 0 past the end.
 pub fn word(t: &[u64], i: usize) -> u64
@@ -29,25 +29,21 @@ pub fn put(t: &mut [u64], i: usize, v: u64)
 
 // The word `at` words into the record at i, of records of w words; 0 past the end.
 pub fn cell(t: &[u64], at: usize, w: usize, i: usize) -> u64
-    requires { ⌜ (0 < w) × (w ≤ widest) ⌝ }
+    requires { ⌜ (0 < w) × (w ≤ widest) × (at ≤ atMost) ⌝ }
     ensures { λ r. ⌜ r ≡ getD (now (t .entry)) (cellOf at w i) 0 ⌝ }
 {
-    if at < t.len() {
-        if i < t.len() {
-            return word(t, at + w * i);
-        }
+    if i < t.len() {
+        return word(t, at + w * i);
     }
     0
 }
 
 // The same place written, nowhere past the end.
 pub fn put_cell(t: &mut [u64], at: usize, w: usize, i: usize, v: u64)
-    requires { ⌜ (0 < w) × (w ≤ widest) ⌝ }
+    requires { ⌜ (0 < w) × (w ≤ widest) × (at ≤ atMost) ⌝ }
     ensures { λ _. ⌜ now (t .exit) ≡ set (now (t .entry)) (cellOf at w i) v ⌝ }
 {
-    if at < t.len() {
-        if i < t.len() {
-            put(t, at + w * i, v);
-        }
+    if i < t.len() {
+        put(t, at + w * i, v);
     }
 }

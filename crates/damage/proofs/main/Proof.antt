@@ -4,19 +4,25 @@ use Rattle.damage.proofs.main.Statement.{statement}
 use Rattle.damage.proofs.main.Tie as tie
 
 abbrev Inv-loop : tie.InvT-loop
-Inv-loop t₀ store₀ t store = Unit {0}
+Inv-loop t₀ n i₀ t i = Unit {0}
 
 abbrev μ-loop : tie.MeasureT-loop
-μ-loop t₀ store₀ t store = 6 - store
+μ-loop t₀ n i₀ t i = n - i
+
+arg-count-requires : tie.Need-arg-count-requires Inv-loop μ-loop
+arg-count-requires c κs = search needs
+
+try-tape-requires : tie.Need-try-tape-requires Inv-loop μ-loop
+try-tape-requires c κs = search needs
 
 loop-holds : tie.Need-loop-holds Inv-loop μ-loop
 loop-holds c = search needs
 
-try-store-requires : tie.Need-try-store-requires Inv-loop μ-loop
-try-store-requires c κs = search needs
+try-named-requires : tie.Need-try-named-requires Inv-loop μ-loop
+try-named-requires c κs = search needs
 
-add-store : tie.Need-add-store Inv-loop μ-loop
-add-store c = search needs
+add-i : tie.Need-add-i Inv-loop μ-loop
+add-i c = search needs
 
 loop-less : tie.Need-loop-less Inv-loop μ-loop
 loop-less c = search needs
@@ -39,9 +45,11 @@ main-spec =
     (tie.spec
     Inv-loop
     μ-loop
+    arg-count-requires
+    try-tape-requires
     loop-holds
-    try-store-requires
-    add-store
+    try-named-requires
+    add-i
     loop-less
     loop-again
     print-verdict-requires

@@ -24,7 +24,7 @@ slice-aggregate-all-differ-2 c = search needs
 all-differ-requires : tie.Need-all-differ-requires
 all-differ-requires c κs =
     let at-start = c .before .before .before in
-    (at-start .pre .0, at-start .pre .1, new-fits (at-start .args .n) loansMost 0 (at-start .pre .2))
+    (at-start .pre .0, at-start .pre .1, new-fits (at-start .args .n) loansMost 0 (at-start .pre .2), at-start .pre .3)
 
 returns : tie.Need-returns
 returns c =

@@ -1,6 +1,7 @@
 use borrow.Author.Needs.{needs}
 use Rattle.counter.specs.Limits.{loansMost}
-use Rattle.freelist_fills.proofs.Gathers.{new-room, new-same}
+use Rattle.distinct.proofs.Filling.{new-room}
+use Rattle.freelist_fills.proofs.Gathers.{new-same}
 use Rattle.freelist_fills.proofs.fills.Statement.{statement}
 use Rattle.freelist_fills.proofs.fills.Tie as tie
 

@@ -5,50 +5,71 @@ use lib.Seq.{length-take-le}
 use Rattle.damage.proofs.calls.run.Statement.{statement}
 use Rattle.damage.proofs.calls.run.Tie as tie
 
-loans-words-requires : tie.Need-loans-words-requires
-loans-words-requires c κs = search needs
+lent-words-requires : tie.Need-lent-words-requires
+lent-words-requires c κs = search needs
 
-chunks-words-requires : tie.Need-chunks-words-requires
-chunks-words-requires c κs = search needs
+table-from-requires : tie.Need-table-from-requires
+table-from-requires c κs = search needs
 
-regions-words-requires : tie.Need-regions-words-requires
-regions-words-requires c κs = search needs
+table-from-requires-2 : tie.Need-table-from-requires-2
+table-from-requires-2 c κs = search needs
 
-index-words-requires : tie.Need-index-words-requires
-index-words-requires c κs = search needs
+table-from-requires-3 : tie.Need-table-from-requires-3
+table-from-requires-3 c κs = search needs
 
-slice-aggregate-run-on : tie.Need-slice-aggregate-run-on
-slice-aggregate-run-on c = search needs
+table-from-requires-4 : tie.Need-table-from-requires-4
+table-from-requires-4 c κs = search needs
+
+table-from-requires-5 : tie.Need-table-from-requires-5
+table-from-requires-5 c κs = search needs
+
+slice-aggregate-load : tie.Need-slice-aggregate-load
+slice-aggregate-load c = search needs
+
+load-requires : tie.Need-load-requires
+load-requires c κs = search needs
+
+array-borrow-prefix-head : tie.Need-array-borrow-prefix-head
+array-borrow-prefix-head c = search needs
+
+slice-aggregate-take : tie.Need-slice-aggregate-take
+slice-aggregate-take c = sym (length-take-le _ _ (omega (arith, c .before .before .before .before .before .before .before .before .before .before .before .before .before .table-from .ensures, c .before .before .before .before .before .before .before .before .before .before .before .before .before .before .before .lent-words .ensures)))
 
 array-borrow-prefix-loans : tie.Need-array-borrow-prefix-loans
 array-borrow-prefix-loans c = search needs
 
-slice-aggregate-run-on-2 : tie.Need-slice-aggregate-run-on-2
-slice-aggregate-run-on-2 c = sym (length-take-le _ _ (omega arith))
+slice-aggregate-take-2 : tie.Need-slice-aggregate-take-2
+slice-aggregate-take-2 c = sym (length-take-le _ _ (omega (arith, c .before .before .before .before .before .before .before .before .before .before .before .before .table-from2 .ensures, c .before .before .before .before .before .before .before .before .before .before .before .before .before .before .before .before .lent-words .ensures)))
 
 array-borrow-prefix-chunks : tie.Need-array-borrow-prefix-chunks
 array-borrow-prefix-chunks c = search needs
 
-slice-aggregate-run-on-3 : tie.Need-slice-aggregate-run-on-3
-slice-aggregate-run-on-3 c = sym (length-take-le _ _ (omega arith))
-
-array-borrow-prefix-regions : tie.Need-array-borrow-prefix-regions
-array-borrow-prefix-regions c = search needs
-
-slice-aggregate-run-on-4 : tie.Need-slice-aggregate-run-on-4
-slice-aggregate-run-on-4 c = sym (length-take-le _ _ (omega arith))
+slice-aggregate-take-3 : tie.Need-slice-aggregate-take-3
+slice-aggregate-take-3 c = sym (length-take-le _ _ (omega (arith, c .before .before .before .before .before .before .before .before .before .before .before .table-from3 .ensures, c .before .before .before .before .before .before .before .before .before .before .before .before .before .before .before .before .before .lent-words .ensures)))
 
 array-borrow-prefix-index : tie.Need-array-borrow-prefix-index
 array-borrow-prefix-index c = search needs
 
-slice-aggregate-run-on-5 : tie.Need-slice-aggregate-run-on-5
-slice-aggregate-run-on-5 c = sym (length-take-le _ _ (omega arith))
+slice-aggregate-take-4 : tie.Need-slice-aggregate-take-4
+slice-aggregate-take-4 c = sym (length-take-le _ _ (omega (arith, c .before .before .before .before .before .before .before .before .before .before .table-from4 .ensures, c .before .before .before .before .before .before .before .before .before .before .before .before .before .before .before .before .before .before .lent-words .ensures)))
 
-slice-aggregate-run-on-6 : tie.Need-slice-aggregate-run-on-6
-slice-aggregate-run-on-6 c = search needs
+array-borrow-prefix-own : tie.Need-array-borrow-prefix-own
+array-borrow-prefix-own c = search needs
 
-run-on-requires : tie.Need-run-on-requires
-run-on-requires c κs = search needs
+slice-aggregate-take-5 : tie.Need-slice-aggregate-take-5
+slice-aggregate-take-5 c = sym (length-take-le _ _ (omega (arith, c .before .before .before .before .before .own2 .given, c .before .before .before .before .before .before .before .before .before .before .before .before .before .before .before .before .before .before .before .lent-words .ensures)))
+
+slice-aggregate-take-6 : tie.Need-slice-aggregate-take-6
+slice-aggregate-take-6 c = search needs
+
+take-requires : tie.Need-take-requires
+take-requires c κs = search needs
+
+keep-all-requires : tie.Need-keep-all-requires
+keep-all-requires c κs = search needs
+
+told-requires : tie.Need-told-requires
+told-requires c κs = search needs
 
 same-length : tie.Need-same-length
 same-length c = search needs
@@ -60,20 +81,27 @@ pub run-spec : {M : Type 1} → statement M
 run-spec =
     tie.close
     (tie.spec
-    loans-words-requires
-    chunks-words-requires
-    regions-words-requires
-    index-words-requires
-    slice-aggregate-run-on
+    lent-words-requires
+    table-from-requires
+    table-from-requires-2
+    table-from-requires-3
+    table-from-requires-4
+    table-from-requires-5
+    slice-aggregate-load
+    load-requires
+    array-borrow-prefix-head
+    slice-aggregate-take
     array-borrow-prefix-loans
-    slice-aggregate-run-on-2
+    slice-aggregate-take-2
     array-borrow-prefix-chunks
-    slice-aggregate-run-on-3
-    array-borrow-prefix-regions
-    slice-aggregate-run-on-4
+    slice-aggregate-take-3
     array-borrow-prefix-index
-    slice-aggregate-run-on-5
-    slice-aggregate-run-on-6
-    run-on-requires
+    slice-aggregate-take-4
+    array-borrow-prefix-own
+    slice-aggregate-take-5
+    slice-aggregate-take-6
+    take-requires
+    keep-all-requires
+    told-requires
     same-length
     returns)

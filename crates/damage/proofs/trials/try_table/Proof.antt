@@ -4,16 +4,19 @@ use Rattle.damage.proofs.trials.try_table.Statement.{statement}
 use Rattle.damage.proofs.trials.try_table.Tie as tie
 
 abbrev Inv-loop : tie.InvT-loop
-Inv-loop c image table n t₀ word₀ t word = Unit {0}
+Inv-loop c image table s n t₀ word₀ t word = Unit {0}
 
 abbrev μ-loop : tie.MeasureT-loop
-μ-loop c image table n t₀ word₀ t word = n - word
+μ-loop c image table s n t₀ word₀ t word = n - word
 
 table-words-requires : tie.Need-table-words-requires Inv-loop μ-loop
 table-words-requires c κs = search needs
 
 loop-holds : tie.Need-loop-holds Inv-loop μ-loop
 loop-holds c = search needs
+
+is-tried-requires : tie.Need-is-tried-requires Inv-loop μ-loop
+is-tried-requires c κs = search needs
 
 try-word-requires : tie.Need-try-word-requires Inv-loop μ-loop
 try-word-requires c κs = search needs
@@ -38,6 +41,7 @@ try-table-spec =
     μ-loop
     table-words-requires
     loop-holds
+    is-tried-requires
     try-word-requires
     add-word
     loop-less

@@ -9,6 +9,9 @@ Inv-loop c image t₀ table₀ t table = Unit {0}
 abbrev μ-loop : tie.MeasureT-loop
 μ-loop c image t₀ table₀ t table = 5 - table
 
+wrapping-add-u64-requires : tie.Need-wrapping-add-u64-requires Inv-loop μ-loop
+wrapping-add-u64-requires c κs = search needs
+
 loop-holds : tie.Need-loop-holds Inv-loop μ-loop
 loop-holds c = search needs
 
@@ -30,4 +33,4 @@ returns c = search needs
 pub try-tables-spec : {M : Type 1} → statement M
 try-tables-spec =
     tie.close
-    (tie.spec Inv-loop μ-loop loop-holds try-table-requires add-table loop-less loop-again returns)
+    (tie.spec Inv-loop μ-loop wrapping-add-u64-requires loop-holds try-table-requires add-table loop-less loop-again returns)

@@ -11,8 +11,8 @@ plan-ask-requires c κs = search needs
 enum-known-plan : tie.Need-enum-known-plan
 enum-known-plan c = search needs
 
-refuse-requires : tie.Need-refuse-requires
-refuse-requires c κs = search needs
+refuse-ask-requires : tie.Need-refuse-ask-requires
+refuse-ask-requires c κs = search needs
 
 enum-known-plan-2 : tie.Need-enum-known-plan-2
 enum-known-plan-2 c = search needs
@@ -23,8 +23,8 @@ lend-requires c κs =
     let a = p .before .before .before .before .before .before .before .before .before .before .args in
     ask-lends (a .s) (a .a) (a .size) (a .mask) (a .head .now) (a .loans .now) (a .chunks .now) (a .regions .now) (a .index .now) _ (sym (ap planOf (c .before .before .before .before .before .plan2 .given .1)) ∙ p .plan-ask .ensures)
 
-lent-requires : tie.Need-lent-requires
-lent-requires c κs = search needs
+answer-block-requires : tie.Need-answer-block-requires
+answer-block-requires c κs = search needs
 
 enum-known-plan-3 : tie.Need-enum-known-plan-3
 enum-known-plan-3 c = search needs
@@ -32,8 +32,8 @@ enum-known-plan-3 c = search needs
 put-requires : tie.Need-put-requires
 put-requires c κs = search needs
 
-ordered-requires : tie.Need-ordered-requires
-ordered-requires c κs = search needs
+answer-order-requires : tie.Need-answer-order-requires
+answer-order-requires c κs = search needs
 
 same-length : tie.Need-same-length
 same-length c = search needs
@@ -51,7 +51,7 @@ returns : tie.Need-returns
 returns c =
     let p = c .before .before .before .before in
     let a = p .before .before .before .before .before .before .before .before .before .before .args in
-    ask-refused (a .s) (a .a) (a .size) (a .mask) (a .head .now) (a .loans .now) (a .chunks .now) (a .regions .now) (a .index .now) _ _ _ (sym (ap planOf (c .before .before .plan .given .1)) ∙ p .plan-ask .ensures) (c .refuse .ensures .0) (c .refuse .ensures .1)
+    ask-refused (a .s) (a .a) (a .size) (a .mask) (a .head .now) (a .loans .now) (a .chunks .now) (a .regions .now) (a .index .now) _ _ _ (sym (ap planOf (c .before .before .plan .given .1)) ∙ p .plan-ask .ensures) (c .refuse-ask .ensures .0) (c .refuse-ask .ensures .1)
 
 same-length-5 : tie.Need-same-length-5
 same-length-5 c = search needs
@@ -70,7 +70,7 @@ returns-2 c =
     let l = c .before .before .before .before .before .before .before .before .before in
     let p = l .before .before .before .before .before .before .before .before in
     let a = p .before .before .before .before .before .before .before .before .before .before .args in
-    ask-taken (a .s) (a .a) (a .size) (a .mask) (a .head .now) (a .loans .now) (a .chunks .now) (a .regions .now) (a .index .now) _ _ _ _ _ _ _ _ (sym (ap planOf (l .before .before .before .before .before .before .plan2 .given .1)) ∙ p .plan-ask .ensures) (l .lend .ensures .0) (l .lend .ensures .1) (c .lent .ensures .0) (c .lent .ensures .1)
+    ask-taken (a .s) (a .a) (a .size) (a .mask) (a .head .now) (a .loans .now) (a .chunks .now) (a .regions .now) (a .index .now) _ _ _ _ _ _ _ _ (sym (ap planOf (l .before .before .before .before .before .before .plan2 .given .1)) ∙ p .plan-ask .ensures) (l .lend .ensures .0) (l .lend .ensures .1) (c .answer-block .ensures .0) (c .answer-block .ensures .1)
 
 same-length-9 : tie.Need-same-length-9
 same-length-9 c = search needs
@@ -89,7 +89,7 @@ returns-3 c =
     let h = c .before .before .before in
     let p = h .before .before .before .before .before in
     let a = p .before .before .before .before .before .before .before .before .before .before .args in
-    ask-ordered (a .s) (a .a) (a .size) (a .mask) (a .head .now) (a .loans .now) (a .chunks .now) (a .regions .now) (a .index .now) _ _ _ _ (sym (ap planOf (h .before .before .before .plan3 .given .1)) ∙ p .plan-ask .ensures) (h .put .ensures) (c .ordered .ensures .0) (c .ordered .ensures .1)
+    ask-ordered (a .s) (a .a) (a .size) (a .mask) (a .head .now) (a .loans .now) (a .chunks .now) (a .regions .now) (a .index .now) _ _ _ _ (sym (ap planOf (h .before .before .before .plan3 .given .1)) ∙ p .plan-ask .ensures) (h .put .ensures) (c .answer-order .ensures .0) (c .answer-order .ensures .1)
 
 pub ask-spec : {M : Type 1} → statement M
 ask-spec =
@@ -97,13 +97,13 @@ ask-spec =
     (tie.spec
     plan-ask-requires
     enum-known-plan
-    refuse-requires
+    refuse-ask-requires
     enum-known-plan-2
     lend-requires
-    lent-requires
+    answer-block-requires
     enum-known-plan-3
     put-requires
-    ordered-requires
+    answer-order-requires
     same-length
     same-length-2
     same-length-3

@@ -1,7 +1,7 @@
 use borrow.Author.Needs.{needs}
 use mathlib.Core.Path.{sym, ap, _∙_}
 use Rattle.freelist_rules.specs.Tables.{tables}
-use Rattle.freelist_gate.specs.Comings.{comingOf}
+use Rattle.store.specs.Comings.{comingOf}
 use Rattle.freelist.proofs.Arriving.{arrived-ready, refused-done, went-done, lost-done}
 use Rattle.freelist.proofs.deliveries.deliver.Statement.{statement}
 use Rattle.freelist.proofs.deliveries.deliver.Tie as tie
@@ -12,8 +12,8 @@ plan-deliver-requires c κs = search needs
 enum-known-coming : tie.Need-enum-known-coming
 enum-known-coming c = search needs
 
-refuse-requires : tie.Need-refuse-requires
-refuse-requires c κs = search needs
+refuse-delivery-requires : tie.Need-refuse-delivery-requires
+refuse-delivery-requires c κs = search needs
 
 enum-known-coming-2 : tie.Need-enum-known-coming-2
 enum-known-coming-2 c = search needs
@@ -27,8 +27,8 @@ keep-chunk-requires c κs =
 enum-known-coming-3 : tie.Need-enum-known-coming-3
 enum-known-coming-3 c = search needs
 
-lose-requires : tie.Need-lose-requires
-lose-requires c κs = search needs
+lose-order-requires : tie.Need-lose-order-requires
+lose-order-requires c κs = search needs
 
 same-length : tie.Need-same-length
 same-length c = search needs
@@ -49,7 +49,7 @@ returns : tie.Need-returns
 returns c =
     let p = c .before .before .before .before in
     let a = p .before .before .before .before .before .before .before .before .before .before .before .args in
-    refused-done (a .s) (a .a) (a .o) (tables (a .head .now) (a .loans .now) (a .chunks .now) (a .regions .now) (a .index .now)) (comingOf (p .plan-deliver .result)) _ _ _ (ap comingOf (c .before .before .coming .given .1)) (p .plan-deliver .ensures) (c .refuse .ensures .0) (c .refuse .ensures .1)
+    refused-done (a .s) (a .a) (a .o) (tables (a .head .now) (a .loans .now) (a .chunks .now) (a .regions .now) (a .index .now)) (comingOf (p .plan-deliver .result)) _ _ _ (ap comingOf (c .before .before .coming .given .1)) (p .plan-deliver .ensures) (c .refuse-delivery .ensures .0) (c .refuse-delivery .ensures .1)
 
 same-length-6 : tie.Need-same-length-6
 same-length-6 c = search needs
@@ -94,7 +94,7 @@ returns-3 c =
     let m = c .before .before .before .before in
     let p = m .before .before in
     let a = p .before .before .before .before .before .before .before .before .before .before .before .args in
-    lost-done (a .s) (a .a) (a .o) (tables (a .head .now) (a .loans .now) (a .chunks .now) (a .regions .now) (a .index .now)) (comingOf (p .plan-deliver .result)) _ _ _ _ _ _ (ap comingOf (m .coming3 .given .1)) (p .plan-deliver .ensures) (c .lose .ensures .0) (c .lose .ensures .1)
+    lost-done (a .s) (a .a) (a .o) (tables (a .head .now) (a .loans .now) (a .chunks .now) (a .regions .now) (a .index .now)) (comingOf (p .plan-deliver .result)) _ _ _ _ _ _ (ap comingOf (m .coming3 .given .1)) (p .plan-deliver .ensures) (c .lose-order .ensures .0) (c .lose-order .ensures .1)
 
 pub deliver-spec : {M : Type 1} → statement M
 deliver-spec =
@@ -102,11 +102,11 @@ deliver-spec =
     (tie.spec
     plan-deliver-requires
     enum-known-coming
-    refuse-requires
+    refuse-delivery-requires
     enum-known-coming-2
     keep-chunk-requires
     enum-known-coming-3
-    lose-requires
+    lose-order-requires
     same-length
     same-length-2
     same-length-3

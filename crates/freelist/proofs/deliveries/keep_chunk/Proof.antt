@@ -20,8 +20,8 @@ lend-requires c κs =
     let a = b .args in
     lends-now (a .s) (a .a) (a .k) (a .memory) (a .head .now) (a .loans .now) (a .chunks .now) (a .regions .now) (a .index .now) _ _ _ _ (n .region-count .ensures) (d .add-chunk .ensures) (b .pre .1)
 
-delivered-requires : tie.Need-delivered-requires
-delivered-requires c κs = search needs
+deliver-block-requires : tie.Need-deliver-block-requires
+deliver-block-requires c κs = search needs
 
 same-length : tie.Need-same-length
 same-length c = search needs
@@ -45,7 +45,7 @@ returns c =
     let g = d .before .before .before .before in
     let n = g .before in
     let a = n .before .before .before .before .before .before .before .before .before .before .args in
-    kept-done (a .s) (a .a) (a .k) (a .memory) (a .head .now) (a .loans .now) (a .chunks .now) (a .regions .now) (a .index .now) _ _ _ _ _ _ _ _ _ _ _ _ (n .region-count .ensures) (g .charged .ensures) (d .add-chunk .ensures) (l .lend .ensures .0) (l .lend .ensures .1) (c .delivered .ensures .0) (c .delivered .ensures .1)
+    kept-done (a .s) (a .a) (a .k) (a .memory) (a .head .now) (a .loans .now) (a .chunks .now) (a .regions .now) (a .index .now) _ _ _ _ _ _ _ _ _ _ _ _ (n .region-count .ensures) (g .charged .ensures) (d .add-chunk .ensures) (l .lend .ensures .0) (l .lend .ensures .1) (c .deliver-block .ensures .0) (c .deliver-block .ensures .1)
 
 pub keep-chunk-spec : {M : Type 1} → statement M
 keep-chunk-spec =
@@ -55,7 +55,7 @@ keep-chunk-spec =
     charged-requires
     add-chunk-requires
     lend-requires
-    delivered-requires
+    deliver-block-requires
     same-length
     same-length-2
     same-length-3

@@ -17,8 +17,8 @@ gate-requires c κs = search needs
 enum-known-verdict : tie.Need-enum-known-verdict
 enum-known-verdict c = search needs
 
-refused-requires : tie.Need-refused-requires
-refused-requires c κs = search needs
+refuse-return-requires : tie.Need-refuse-return-requires
+refuse-return-requires c κs = search needs
 
 enum-told : tie.Need-enum-told
 enum-told c = search needs
@@ -46,7 +46,7 @@ returns c =
     let v = c .before .before in
     let g = v .before .before in
     let a = g .before .before .before .before .before .before .before .before .before .before .before .before .args in
-    clean-refused (a .s) (a .a) (tables (a .head .now) (a .loans .now) (a .chunks .now) (a .regions .now) (a .index .now)) (a .list .now) _ _ _ (c .refused .ensures .0) (c .refused .ensures .1) (sym (ap verdictOf (v .verdict .given .1)) ∙ g .gate .ensures)
+    clean-refused (a .s) (a .a) (tables (a .head .now) (a .loans .now) (a .chunks .now) (a .regions .now) (a .index .now)) (a .list .now) _ _ _ (c .refuse-return .ensures .0) (c .refuse-return .ensures .1) (sym (ap verdictOf (v .verdict .given .1)) ∙ g .gate .ensures)
 
 same-length-4 : tie.Need-same-length-4
 same-length-4 c = search needs
@@ -75,7 +75,7 @@ clean-up-spec =
     (tie.spec
     gate-requires
     enum-known-verdict
-    refused-requires
+    refuse-return-requires
     enum-told
     let-go-requires
     same-length

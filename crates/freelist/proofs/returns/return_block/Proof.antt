@@ -15,8 +15,8 @@ plan-return-requires c κs = search needs
 enum-known-plan : tie.Need-enum-known-plan
 enum-known-plan c = search needs
 
-refused-requires : tie.Need-refused-requires
-refused-requires c κs = search needs
+refuse-return-requires : tie.Need-refuse-return-requires
+refuse-return-requires c κs = search needs
 
 enum-known-plan-2 : tie.Need-enum-known-plan-2
 enum-known-plan-2 c = search needs
@@ -53,7 +53,7 @@ returns c =
     let r = c .before .before in
     let p = r .before .before in
     let a = p .before .before .before .before .before .before .before .before .before .before .before .before .before .before .args in
-    return-refused (a .s) (a .a) (tables (a .head .now) (a .loans .now) (a .chunks .now) (a .regions .now) (a .index .now)) (a .list .now) _ _ _ (c .refused .ensures .0) (c .refused .ensures .1) (a .b) (sym (ap backOf (r .plan .given .1)) ∙ p .plan-return .ensures)
+    return-refused (a .s) (a .a) (tables (a .head .now) (a .loans .now) (a .chunks .now) (a .regions .now) (a .index .now)) (a .list .now) _ _ _ (c .refuse-return .ensures .0) (c .refuse-return .ensures .1) (a .b) (sym (ap backOf (r .plan .given .1)) ∙ p .plan-return .ensures)
 
 same-length-6 : tie.Need-same-length-6
 same-length-6 c = search needs
@@ -87,7 +87,7 @@ return-block-spec =
     (tie.spec
     plan-return-requires
     enum-known-plan
-    refused-requires
+    refuse-return-requires
     enum-known-plan-2
     carry-return-requires
     same-length

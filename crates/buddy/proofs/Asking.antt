@@ -1,0 +1,61 @@
+-- An ask carried out is the ask as it is defined. Assumes nothing.
+use mathlib.Core.Path.{_≡_, refl, ap, _∙_}
+use mathlib.Core.Logic.{⊎-elim}
+use mathlib.Core.List.{List, []}
+use Prim.Native.Nat.{ℕ}
+use lib.Dec.{eqb}
+use Rattle.lists.proofs.Bools.{told}
+use Rattle.counter.specs.Paper.{Said}
+use Rattle.counter.specs.Paper as Paper
+use Rattle.counter.specs.declared.account.Account.{Account}
+use Rattle.counter.specs.declared.account.OpenOrder.the-variants.{Kept}
+use Rattle.counter.specs.declared.settings.BuddySettings.{BuddySettings}
+use Rattle.store_rules.specs.Orders.{Plan, deny, take, buy, orderFrom, keptFrom}
+use Rattle.store_rules.specs.Outcomes.{Out, out, withOrder, blockSaid}
+use Rattle.store_rules.specs.declared.Loan.{Loan}
+use Rattle.buddy_stores.specs.Tables.{Tables, tables}
+use Rattle.buddy_outcomes.specs.Ask.{sizeFor, levelFor, grownFor, grownTables, bookedTables, loanAt, takenAt, takenTables, deniedTables, carryAsk, planAsk, askOf}
+
+module _ (s : BuddySettings) (a : Account) (size mask : ℕ) (head loans chunks index tree : List ℕ) where
+  abbrev now : Tables
+  now = tables head loans chunks index tree
+
+  carried : (p : Plan ℕ) → p ≡ planAsk s a size mask now → carryAsk s a size mask now p ≡ askOf s a size mask now
+  unfolding askOf
+  carried p e = ap (carryAsk s a size mask now) e
+
+  -- growing looks at head and tree alone
+  pub grown-rest : (n : ℕ) (h′ r′ : List ℕ) → tables h′ [] [] [] r′ ≡ grownTables s n (tables head [] [] [] tree) → tables h′ loans chunks index r′ ≡ grownTables s n now
+  unfolding grownTables
+  grown-rest n h′ r′ e = ap (λ (t : Tables). tables (t .head) loans chunks index (t .tree)) e
+
+  -- and so does a refusal
+  denied-rest : (n : ℕ) → tables (deniedTables s size mask n (tables head [] [] [] tree) .head) loans chunks index (deniedTables s size mask n (tables head [] [] [] tree) .tree) ≡ deniedTables s size mask n now
+  unfolding deniedTables grownTables
+  denied-rest n = ⊎-elim (λ e. rw e refl) (λ e. rw e refl) (told (eqb n 9))
+
+  pub ask-refused : (n : ℕ) (w : Said) (b : Account) (h′ r′ : List ℕ) → deny n ≡ planAsk s a size mask now
+      → out w b (tables h′ [] [] [] r′) ≡ out (Paper.refusal n []) a (deniedTables s size mask n (tables head [] [] [] tree))
+      → out w b (tables h′ loans chunks index r′) ≡ askOf s a size mask now
+  unfolding carryAsk
+  ask-refused n w b h′ r′ e f =
+      ap (λ (o : Out Tables). out (o .said) (o .account) (tables (o .tables .head) loans chunks index (o .tables .tree))) f
+      ∙ ap (out (Paper.refusal n []) a) (denied-rest n)
+      ∙ carried (deny n) e
+
+  pub ask-taken : (i z lev : ℕ) (l : Loan) (b : Account) (w : Said) (h′ l′ i′ r′ : List ℕ) → take i ≡ planAsk s a size mask now → z ≡ sizeFor s size mask → lev ≡ levelFor s size mask
+      → l ≡ loanAt s z (tables head [] [] [] tree) i → tables h′ l′ [] i′ r′ ≡ takenAt s z lev (tables head loans [] index tree) i
+      → b ≡ a → w ≡ blockSaid l → out w b (tables h′ l′ chunks i′ r′) ≡ askOf s a size mask now
+  unfolding carryAsk takenTables bookedTables
+  ask-taken i z lev l b w h′ l′ i′ r′ e p q f t g k =
+      (λ j. out (k j) (g j) (tables (t j .head) (t j .loans) chunks (t j .index) (t j .tree)))
+      ∙ (λ j. out (blockSaid (f j)) a (takenAt s (p j) (q j) now i))
+      ∙ (λ j. out (blockSaid (loanAt s (p j) now i)) a (takenTables s size mask now i))
+      ∙ carried (take i) e
+
+  pub ask-ordered : (z : ℕ) (b : Account) (w : Said) (h′ r′ : List ℕ) → buy z ≡ planAsk s a size mask now
+      → tables h′ [] [] [] r′ ≡ grownTables s (grownFor s size mask (tables head [] [] [] [])) (tables head [] [] [] tree)
+      → b ≡ withOrder a (Kept (keptFrom (s .store) size mask z)) → w ≡ Paper.orderOf (orderFrom (s .store) z) → out w b (tables h′ loans chunks index r′) ≡ askOf s a size mask now
+  unfolding carryAsk
+  ask-ordered z b w h′ r′ e t g k =
+      let r = grown-rest (grownFor s size mask (tables head [] [] [] [])) h′ r′ t in (λ j. out (k j) (g j) (r j)) ∙ carried (buy z) e

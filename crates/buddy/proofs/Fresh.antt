@@ -1,0 +1,63 @@
+-- Set-up leaves the tables of a store with nothing in it. Assumes nothing.
+use mathlib.Core.Path.{_≡_, refl, sym, ap, _∙_}
+use mathlib.Core.Bool.{Bool, true, false, _&&_}
+use mathlib.Core.List.{List, [], _∷_}
+use Prim.Native.Nat.{ℕ}
+use native.Mathlib.Omega.{arith}
+use lib.ListN.{length, set, replicate}
+use Rattle.lists.proofs.Bools.{and-left, and-right}
+use Rattle.counter.specs.InTable.{BuddyIn}
+use Rattle.counter.specs.Paper as Paper
+use Rattle.counter.specs.Paper.{Said}
+use Rattle.counter.specs.Table.{buddyOk}
+use Rattle.counter.specs.declared.settings.BuddySettings.{BuddySettings}
+use Rattle.counter.proofs.Tables.{buddy-yes}
+use Rattle.slab.specs.Slab.{nowhere}
+use Rattle.book.specs.Book.{indexWords}
+use Rattle.buddy_stores.specs.Tables.{Tables, tables, mark, markAt, givenAt, levelsAt, placesAt, chunkPlacesAt, headWords, chunksFrom, initialLevels, lengthsOk}
+use Rattle.buddy_outcomes.specs.Ask.{freshLevels}
+use Rattle.buddy_outcomes.specs.SetUp.{SetUp, setUp, freshHead, freshTables, fitOk, setUpOf}
+use Rattle.buddy_outcomes.proofs.Passing.{lengths-are}
+
+pub head-fresh : (s : BuddySettings) (t : List ℕ) (n : ℕ) → length t ≡ headWords → n ≡ initialLevels s
+    → set (set (set (set (set t markAt mark) givenAt 0) levelsAt n) placesAt 0) chunkPlacesAt 0 ≡ freshHead s
+head-fresh s [] n l e = absurd (omega arith)
+head-fresh s (a ∷ []) n l e = absurd (omega arith)
+head-fresh s (a ∷ b ∷ []) n l e = absurd (omega arith)
+head-fresh s (a ∷ b ∷ c ∷ []) n l e = absurd (omega arith)
+head-fresh s (a ∷ b ∷ c ∷ d ∷ []) n l e = absurd (omega arith)
+head-fresh s (a ∷ b ∷ c ∷ d ∷ f ∷ []) n l e = λ j. mark ∷ 0 ∷ e j ∷ 0 ∷ 0 ∷ []
+head-fresh s (a ∷ b ∷ c ∷ d ∷ f ∷ g ∷ t) n l e = absurd (omega arith)
+
+-- ---- whether the tables fit
+
+pub fit-in : (s : BuddySettings) (t : Tables) (m r : Bool) → m ≡ true → m ≡ buddyOk s → r ≡ lengthsOk s t → r ≡ fitOk s t
+unfolding fitOk
+fit-in s t m r h e f = f ∙ ap (λ (b : Bool). b && lengthsOk s t) (sym h ∙ e)
+
+pub fit-out : (s : BuddySettings) (t : Tables) (m : Bool) → m ≡ false → m ≡ buddyOk s → false ≡ fitOk s t
+unfolding fitOk
+fit-out s t m h e = ap (λ (b : Bool). b && lengthsOk s t) (sym h ∙ e)
+
+-- ---- what it says and leaves
+
+module _ (s : BuddySettings) (t : Tables) where
+  pub fit-head : fitOk s t ≡ true → length (t .head) ≡ headWords
+  unfolding fitOk
+  fit-head e = lengths-are s t (and-right (buddyOk s) (lengthsOk s t) e) .head
+
+  pub fit-settings : fitOk s t ≡ true → BuddyIn s
+  unfolding fitOk
+  fit-settings e = buddy-yes s (and-left (buddyOk s) (lengthsOk s t) e)
+
+  pub set-up-ready : (h′ i′ r′ : List ℕ) → fitOk s t ≡ true → h′ ≡ freshHead s → r′ ≡ set (freshLevels s 0 (initialLevels s) (t .tree)) (chunksFrom s) nowhere
+      → i′ ≡ replicate (length (t .index)) nowhere → setUp Paper.ready (tables h′ (t .loans) (t .chunks) i′ r′) ≡ setUpOf s t
+  unfolding setUpOf freshTables fitOk
+  set-up-ready h′ i′ r′ e h r i =
+      let n : length (t .index) ≡ indexWords (s .store .loans) = lengths-are s t (and-right (buddyOk s) (lengthsOk s t) e) .index in
+      let i″ = i ∙ ap (λ (x : ℕ). replicate x nowhere) n in
+      (λ j. setUp Paper.ready (tables (h j) (t .loans) (t .chunks) (i″ j) (r j))) ∙ sym (rw e refl)
+
+  pub set-up-unfit : fitOk s t ≡ false → setUp (Paper.refusal 1 []) t ≡ setUpOf s t
+  unfolding setUpOf
+  set-up-unfit e = sym (rw e refl)

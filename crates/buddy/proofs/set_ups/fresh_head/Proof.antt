@@ -1,0 +1,58 @@
+use borrow.Author.Needs.{needs}
+use mathlib.Core.Path.{ap, _∙_}
+use mathlib.Core.List.{List}
+use Prim.Native.Nat.{ℕ}
+use lib.ListN.{set}
+use Rattle.buddy_stores.specs.Tables.{givenAt, levelsAt, placesAt, chunkPlacesAt}
+use Rattle.buddy.proofs.Fresh.{head-fresh}
+use Rattle.buddy.proofs.set_ups.fresh_head.Statement.{statement}
+use Rattle.buddy.proofs.set_ups.fresh_head.Tie as tie
+
+level-requires : tie.Need-level-requires
+level-requires c κs = search needs
+
+cast-levels : tie.Need-cast-levels
+cast-levels c = search needs
+
+put-requires : tie.Need-put-requires
+put-requires c κs = search needs
+
+put-requires-2 : tie.Need-put-requires-2
+put-requires-2 c κs = search needs
+
+put-requires-3 : tie.Need-put-requires-3
+put-requires-3 c κs = search needs
+
+put-requires-4 : tie.Need-put-requires-4
+put-requires-4 c κs = search needs
+
+put-requires-5 : tie.Need-put-requires-5
+put-requires-5 c κs = search needs
+
+same-length : tie.Need-same-length
+same-length c = search needs
+
+returns : tie.Need-returns
+returns c =
+    let l = c .before .before .before .before .before .before .before .before .before .before .before .before .before .before .before .before .before .before .before .before in
+    let o = l .before .before in
+    c .before .before .put5 .ensures
+    ∙ ap (λ (t : List ℕ). set t chunkPlacesAt 0) (c .before .before .before .before .before .before .put4 .ensures)
+    ∙ ap (λ (t : List ℕ). set (set t placesAt 0) chunkPlacesAt 0) (c .before .before .before .before .before .before .before .before .before .before .put3 .ensures)
+    ∙ ap (λ (t : List ℕ). set (set (set t levelsAt (l .level .result)) placesAt 0) chunkPlacesAt 0) (c .before .before .before .before .before .before .before .before .before .before .before .before .before .before .put2 .ensures)
+    ∙ ap (λ (t : List ℕ). set (set (set (set t givenAt 0) levelsAt (l .level .result)) placesAt 0) chunkPlacesAt 0) (c .before .before .before .before .before .before .before .before .before .before .before .before .before .before .before .before .before .before .put .ensures)
+    ∙ head-fresh (o .args .s) (o .args .head .now) (l .level .result) (o .pre) (l .level .ensures)
+
+pub fresh-head-spec : {M : Type 1} → statement M
+fresh-head-spec =
+    tie.close
+    (tie.spec
+    level-requires
+    cast-levels
+    put-requires
+    put-requires-2
+    put-requires-3
+    put-requires-4
+    put-requires-5
+    same-length
+    returns)

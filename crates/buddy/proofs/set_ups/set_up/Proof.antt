@@ -1,0 +1,71 @@
+use borrow.Author.Needs.{needs}
+use mathlib.Core.Path.{sym, _∙_}
+use Rattle.buddy_stores.specs.Tables.{tables}
+use Rattle.buddy.proofs.Fresh.{fit-head, fit-settings, set-up-ready, set-up-unfit}
+use Rattle.buddy.proofs.set_ups.set_up.Statement.{statement}
+use Rattle.buddy.proofs.set_ups.set_up.Tie as tie
+
+is-fit-requires : tie.Need-is-fit-requires
+is-fit-requires c κs = search needs
+
+fresh-head-requires : tie.Need-fresh-head-requires
+fresh-head-requires c κs =
+    let i = c .before in
+    let a = i .before .before .before .before .before .before .before .before .before .before .args in
+    fit-head (a .s) (tables (a .head .now) (a .loans .now) (a .chunks .now) (a .index .now) (a .tree .now)) (sym (i .before .is-fit .ensures) ∙ i .if1 .taken)
+
+fresh-tree-requires : tie.Need-fresh-tree-requires
+fresh-tree-requires c κs =
+    let i = c .before .before .before .before .before in
+    let a = i .before .before .before .before .before .before .before .before .before .before .args in
+    fit-settings (a .s) (tables (a .head .now) (a .loans .now) (a .chunks .now) (a .index .now) (a .tree .now)) (sym (i .before .is-fit .ensures) ∙ i .if1 .taken)
+
+clear-requires : tie.Need-clear-requires
+clear-requires c κs = search needs
+
+same-length : tie.Need-same-length
+same-length c = search needs
+
+same-length-2 : tie.Need-same-length-2
+same-length-2 c = search needs
+
+same-length-3 : tie.Need-same-length-3
+same-length-3 c = search needs
+
+returns : tie.Need-returns
+returns c =
+    let n = c .before .before in
+    let r = n .before .before .before .before in
+    let h = r .before .before .before .before in
+    let i = h .before .before in
+    let a = i .before .before .before .before .before .before .before .before .before .before .args in
+    set-up-ready (a .s) (tables (a .head .now) (a .loans .now) (a .chunks .now) (a .index .now) (a .tree .now)) _ _ _ (sym (i .before .is-fit .ensures) ∙ i .if1 .taken) (h .fresh-head .ensures) (r .fresh-tree .ensures) (n .clear .ensures)
+
+same-length-4 : tie.Need-same-length-4
+same-length-4 c = search needs
+
+same-length-5 : tie.Need-same-length-5
+same-length-5 c = search needs
+
+same-length-6 : tie.Need-same-length-6
+same-length-6 c = search needs
+
+returns-2 : tie.Need-returns-2
+returns-2 c = let a = c .before .before .before .before .before .before .before .before .before .before .args in set-up-unfit (a .s) (tables (a .head .now) (a .loans .now) (a .chunks .now) (a .index .now) (a .tree .now)) (sym (c .before .is-fit .ensures) ∙ c .if1 .left)
+
+pub set-up-spec : {M : Type 1} → statement M
+set-up-spec =
+    tie.close
+    (tie.spec
+    is-fit-requires
+    fresh-head-requires
+    fresh-tree-requires
+    clear-requires
+    same-length
+    same-length-2
+    same-length-3
+    returns
+    same-length-4
+    same-length-5
+    same-length-6
+    returns-2)

@@ -1,0 +1,203 @@
+-- An ask's tests in the code's order come to the plan that is defined. Assumes nothing.
+use mathlib.Core.Path.{_≡_, refl, sym, ap, _∙_, subst}
+use mathlib.Core.Bool.{Bool, true, false, _&&_}
+use mathlib.Core.List.{List, [], _∷_}
+use Prim.Native.Nat.{ℕ, _+_, _-_, _^_, max, _≤_, _<_}
+use native.Mathlib.Omega.{arith}
+use lib.Dec.{ltb}
+use lib.ListN.{getD}
+use borrow.Author.Tests.{lt-ltb, le-ltb}
+use Rattle.lists.proofs.Bools.{and-both}
+use Rattle.rounding.specs.Raising.{levelOf, raised}
+use Rattle.rounding.specs.declared.Raised.{Raised}
+use Rattle.rounding.specs.declared.Raised.the-variants.{To, Overflow}
+use Rattle.rounding.proofs.Masks.{power-top}
+use Rattle.rounding.proofs.Raising.{raised-is, raised-not}
+use Rattle.counter.specs.Gate.{first}
+use Rattle.counter.specs.InTable.{BuddyIn}
+use Rattle.counter.specs.Limits.{levelsMost, minimalBits}
+use Rattle.counter.specs.Table.{alignmentOk}
+use Rattle.counter.specs.declared.account.Heap.{Heap}
+use Rattle.counter.specs.declared.settings.BuddySettings.{BuddySettings}
+use Rattle.heap.specs.Heap.{bearsOk}
+use Rattle.slab.specs.declared.Taken.{Taken}
+use Rattle.store_rules.specs.Orders.{Plan, deny, take, buy}
+use Rattle.book.specs.Book.{takenOf}
+use Rattle.buddy_trees.specs.Trees.{bytes}
+use Rattle.buddy_shape.specs.Seen.{read, looked}
+use Rattle.buddy_shape.proofs.Shape.{node-bytes-most}
+use Rattle.buddy_stores.specs.Tables.{Tables, tables, givenAt, levelsAt, placesAt, chunkPlacesAt}
+use Rattle.buddy_outcomes.specs.Ask.{Found, at, nowhere, spent, sizeFor, levelFor, searchFrom, foundAt, foundFor, fitsAt, sizeOk, pairsRoom, chunkSpot, roomAt, roomOk, countAt, countOk, objectsOk, orderAt, lateAt, plannedAt, decideAsk}
+use Rattle.buddy_outcomes.proofs.Rounds.{level-low}
+use Rattle.buddy_outcomes.proofs.Searches.{search-at}
+use Rattle.buddy_decide.specs.Plans.{Sized, NoTake}
+use Rattle.buddy_decide.specs.declared.deciding.Plan as Decided
+use Rattle.buddy_decide.specs.declared.deciding.Plan.the-variants.{Refuse, Take, Buy}
+use Rattle.buddy_decide.proofs.Reading.{pairs-read}
+
+-- the size is below that of level 32
+module _ (s : BuddySettings) (size b : ℕ) (e : b ≡ bytes (s .minimal) levelsMost) where
+  pub fits-yes : size < b → fitsAt levelsMost s size ≡ true
+  fits-yes l = lt-ltb size (bytes (s .minimal) levelsMost) (omega (arith, e, l))
+
+  fits-no : b ≤ size → fitsAt levelsMost s size ≡ false
+  fits-no l = le-ltb size (bytes (s .minimal) levelsMost) (omega (arith, e, l))
+
+module _ (s : BuddySettings) (level : ℕ) (head index tree : List ℕ) where
+  abbrev now : Tables
+  now = tables head [] [] index tree
+
+  -- a loan place is left
+  abbrev pub left : Bool
+  left = ltb (takenOf (getD head placesAt 0) index .place) (s .store .loans)
+
+  pub pairs-are : (n levels : ℕ) (r : Bool) → levels ≡ getD head levelsAt 0 → r ≡ pairsRoom (read 0 (s .pairs) 0) (looked levels 0 [] tree) level n → r ≡ pairsRoom s now level n
+  pairs-are n levels r d e = e ∙ ap (λ (x : ℕ). pairsRoom (read 0 (s .pairs) 0) (looked x 0 [] tree) level n) d ∙ pairs-read s now level n
+
+  -- ---- the head pair of level i serves
+
+  module _ (i : ℕ) where
+    abbrev pub Taking : Plan ℕ
+    Taking = plannedAt s level now (at i) (first ((roomAt s level now (at i), 8) ∷ (ltb (getD head givenAt 0) spent, 10) ∷ []))
+
+    pub take-full : left ≡ false → deny 8 ≡ Taking
+    take-full e = rw e refl
+
+    pub take-none : left ≡ true → pairsRoom s now level (i - level) ≡ false → deny 8 ≡ Taking
+    take-none e p = rw (e, p) refl
+
+    pub take-spent : (w : ℕ) → left ≡ true → pairsRoom s now level (i - level) ≡ true → w ≡ getD head givenAt 0 → w ≡ spent → deny 10 ≡ Taking
+    take-spent w e p g h = rw (e, p, le-ltb (getD head givenAt 0) spent (omega (arith, g, h))) refl
+
+    pub take-go : (w : ℕ) → left ≡ true → pairsRoom s now level (i - level) ≡ true → w ≡ getD head givenAt 0 → w < spent → take i ≡ Taking
+    take-go w e p g h = rw (e, p, lt-ltb (getD head givenAt 0) spent (omega (arith, g, h))) refl
+
+  -- ---- a chunk is needed
+
+  pub room-is : (levels top places : ℕ) (spot : Taken) (pairs has : Bool)
+      → levels ≡ getD head levelsAt 0 → top ≡ max levels (level + 1) → places ≡ getD head chunkPlacesAt 0
+      → spot ≡ chunkSpot (read 0 (s .pairs) 0) (looked 0 places [] tree) → pairs ≡ pairsRoom (read 0 (s .pairs) 0) (looked levels 0 [] tree) level (top - level)
+      → has ≡ left → (has && (ltb (spot .place) (s .store .chunks) && pairs)) ≡ roomAt s level now nowhere
+  room-is levels top places spot pairs has a b c d e f =
+      let g : spot ≡ chunkSpot s now = d ∙ ap (λ (x : ℕ). chunkSpot (read 0 (s .pairs) 0) (looked 0 x [] tree)) c in
+      let k : top ≡ max (getD head levelsAt 0) (level + 1) = b ∙ ap (λ (x : ℕ). max x (level + 1)) a in
+      let p : pairs ≡ pairsRoom s now level (max (getD head levelsAt 0) (level + 1) - level) = pairs-are (top - level) levels pairs a e ∙ ap (λ (x : ℕ). pairsRoom s now level (x - level)) k in
+      λ j. f j && (ltb (g j .place) (s .store .chunks) && p j)
+
+  module _ (h : Heap) (objects : ℕ) where
+    abbrev pub Buying : Plan ℕ
+    Buying = plannedAt s level now nowhere (first (lateAt s h objects level now nowhere))
+
+    -- what the code read says the same
+    pub counts-are : (order w : ℕ) (bears v : Bool) → order ≡ orderAt s level (tables head [] [] [] []) → w ≡ getD head givenAt 0 → bears ≡ bearsOk h order
+        → (ltb w spent && bears) ≡ v → countAt s h level now nowhere ≡ v
+    counts-are order w bears v o g e r =
+        let f : bears ≡ bearsOk h (orderAt s level now) = e ∙ ap (bearsOk h) o in
+        (λ j. ltb (sym g j) spent && sym f j) ∙ r
+
+    module _ (r : Bool) (d : r ≡ roomAt s level now nowhere) where
+      pub buy-full : r ≡ false → deny 8 ≡ Buying
+      buy-full e = rw (sym d ∙ e) refl
+
+      pub buy-spent : r ≡ true → countAt s h level now nowhere ≡ false → deny 10 ≡ Buying
+      buy-spent e c = rw (sym d ∙ e, c) refl
+
+      pub buy-none : r ≡ true → countAt s h level now nowhere ≡ true → objects ≡ 0 → deny 9 ≡ Buying
+      unfolding objectsOk
+      buy-none e c z = rw (sym d ∙ e, c, le-ltb 0 objects (omega arith)) refl
+
+      pub buy-go : (order : ℕ) → order ≡ orderAt s level (tables head [] [] [] []) → r ≡ true → countAt s h level now nowhere ≡ true → 0 < objects → buy order ≡ Buying
+      unfolding objectsOk
+      buy-go order o e c z = ap buy o ∙ rw (sym d ∙ e, c, lt-ltb 0 objects z) refl
+
+    -- ---- the size is found
+
+    module _ (size : ℕ) where
+      abbrev pub Sizing : Found → Plan ℕ
+      Sizing f = plannedAt s level now f (first ((fitsAt levelsMost s size, 6) ∷ lateAt s h objects level now f))
+
+      pub sized-not : (f : Found) (b : ℕ) → b ≡ bytes (s .minimal) levelsMost → b ≤ size → deny 6 ≡ Sizing f
+      sized-not f b e l = rw (fits-no s size b e l) refl
+
+      -- of a level that serves, two tests are left
+      fewer : (i : ℕ) (r g : Bool) → plannedAt s level now (at i) (first ((r, 8) ∷ (g, 10) ∷ [])) ≡ plannedAt s level now (at i) (first ((r, 8) ∷ (g && true, 10) ∷ (true, 9) ∷ []))
+      fewer i true true = refl
+      fewer i true false = refl
+      fewer i false g = refl
+
+      pub sized-at : (i : ℕ) (f : Found) (p : Plan ℕ) → fitsAt levelsMost s size ≡ true → f ≡ at i → p ≡ Taking i → p ≡ Sizing f
+      unfolding objectsOk
+      sized-at i f p e g t = t ∙ fewer i (roomAt s level now (at i)) (ltb (getD head givenAt 0) spent) ∙ rw (e, g) refl
+
+      pub sized-nowhere : (f : Found) (p : Plan ℕ) → fitsAt levelsMost s size ≡ true → f ≡ nowhere → p ≡ Buying → p ≡ Sizing f
+      sized-nowhere f p e g t = t ∙ rw (e, g) refl
+
+-- ---- where the search ended
+
+-- the level found is there
+pub found-low : (s : BuddySettings) (tree : List ℕ) (level levels i : ℕ) → levels ≤ levelsMost → level < levelsMost → searchFrom s tree level (levels - level) ≡ at i → (level ≤ i) × (i ≤ levelsMost)
+found-low s tree level levels i a b e = let r = search-at s tree level (levels - level) i e in (r .0, omega (arith, r .0, r .1))
+
+-- what orders a chunk takes no block
+pub none-sized : (p : Decided.Plan) (z l : ℕ) → NoTake p → Sized z l p
+none-sized (Refuse r) z l n = tt
+none-sized (Take t) z l n = absurd n
+none-sized (Buy b) z l n = tt
+
+-- ---- the whole of it
+
+-- of the size looked for, z bytes where a word holds it
+module _ (s : BuddySettings) (size mask : ℕ) where
+  zero-size : size ≡ 0 → sizeOk s size mask ≡ false
+  unfolding sizeOk
+  zero-size z = rw (le-ltb 0 size (omega arith)) refl
+
+  -- what no word holds is longer than any level's
+  over-size : BuddyIn s → 0 < size → 2 ^ 64 ≤ sizeFor s size mask → sizeOk s size mask ≡ false
+  unfolding sizeOk
+  over-size fit some past =
+      let b : bytes (s .minimal) levelsMost ≤ 2 ^ (minimalBits + levelsMost) = node-bytes-most (s .minimal) levelsMost (power-top (fit .minimal)) (omega arith) in
+      rw (lt-ltb 0 size some, le-ltb (sizeFor s size mask) (bytes (s .minimal) levelsMost) (omega arith)) refl
+
+  pub size-is : (r : Raised) → r ≡ raised (sizeFor s size mask) → (z : ℕ) → r ≡ To z → z ≡ sizeFor s size mask
+  size-is r d z f = sym (raised-is (sym d ∙ f) .0)
+
+  module _ (z : ℕ) (d : z ≡ sizeFor s size mask) where
+    pub level-below : BuddyIn s → 0 < size → fitsAt levelsMost s z ≡ true → levelOf z (s .minimal) < levelsMost
+    unfolding sizeOk levelFor
+    level-below fit some f =
+        let g : fitsAt levelsMost s (sizeFor s size mask) ≡ true = ap (fitsAt levelsMost s) (sym d) ∙ f in
+        let k = level-low s fit size mask (and-both (ltb 0 size) (fitsAt levelsMost s (sizeFor s size mask)) (lt-ltb 0 size some) g) in
+        subst (λ (x : ℕ). levelOf x (s .minimal) < levelsMost) (sym d) k
+
+    pub sized-for : (p : Decided.Plan) → Sized z (levelOf z (s .minimal)) p → Sized (sizeFor s size mask) (levelFor s size mask) p
+    unfolding levelFor
+    sized-for p q = subst (λ (x : ℕ). Sized x (levelOf x (s .minimal)) p) d q
+
+module _ (s : BuddySettings) (h : Heap) (objects size mask : ℕ) (head index tree : List ℕ) where
+  abbrev all : Tables
+  all = tables head [] [] index tree
+
+  pub decide-mask : alignmentOk mask ≡ false → deny 5 ≡ decideAsk s h objects size mask all
+  unfolding decideAsk
+  decide-mask e = rw e refl
+
+  unsized : alignmentOk mask ≡ true → sizeOk s size mask ≡ false → deny 6 ≡ decideAsk s h objects size mask all
+  unfolding decideAsk
+  unsized e f = rw (e, f) refl
+
+  pub decide-zero : alignmentOk mask ≡ true → size ≡ 0 → deny 6 ≡ decideAsk s h objects size mask all
+  decide-zero e z = unsized e (zero-size s size mask z)
+
+  pub decide-over : (r : Raised) → r ≡ raised (sizeFor s size mask) → BuddyIn s → alignmentOk mask ≡ true → 0 < size → r ≡ Overflow → deny 6 ≡ decideAsk s h objects size mask all
+  decide-over r d fit e some f = unsized e (over-size s size mask fit some (raised-not (sym d ∙ f)))
+
+  abbrev Then : ℕ → Plan ℕ
+  Then z = Sizing s (levelOf z (s .minimal)) head index tree h objects z (foundAt s (levelOf z (s .minimal)) all)
+
+  sized : alignmentOk mask ≡ true → 0 < size → Then (sizeFor s size mask) ≡ decideAsk s h objects size mask all
+  unfolding decideAsk sizeOk roomOk countOk levelFor foundFor
+  sized e some = rw (e, lt-ltb 0 size some) refl
+
+  pub decide-sized : (z : ℕ) (p : Plan ℕ) → z ≡ sizeFor s size mask → alignmentOk mask ≡ true → 0 < size → p ≡ Then z → p ≡ decideAsk s h objects size mask all
+  decide-sized z p d e some t = t ∙ ap Then d ∙ sized e some

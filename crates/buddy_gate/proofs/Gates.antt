@@ -1,0 +1,113 @@
+-- The gate's tests in the code's words. Assumes nothing.
+use mathlib.Core.Path.{_≡_, refl, sym, _∙_}
+use mathlib.Core.Bool.{Bool, true, false, _&&_}
+use mathlib.Core.Logic.{⊎-elim}
+use mathlib.Core.List.{[]}
+use Prim.Native.Nat.{ℕ, _+_, _*_, _^_, _≤_, _<_}
+use native.Mathlib.Omega.{arith}
+use lib.Dec.{eqb}
+use lib.ListN.{length}
+use borrow.Author.Tests.{lt-ltb, ne-eqb}
+use Rattle.lists.proofs.Bools.{and-both, same?}
+use Rattle.rounding.proofs.Masks.{power-top}
+use Rattle.counter.specs.Account.{heapAt}
+use Rattle.counter.specs.Gate.{Verdict, pass, refuse}
+use Rattle.counter.specs.InTable.{BuddyIn}
+use Rattle.counter.specs.Limits.{chunksMost}
+use Rattle.counter.specs.Table.{buddyOk, heapsOk}
+use Rattle.counter.specs.declared.account.Account.{Account}
+use Rattle.counter.specs.declared.account.Heap.{Heap}
+use Rattle.counter.specs.declared.settings.BuddySettings.{BuddySettings}
+use Rattle.store_rules.specs.Loans.{loanWords}
+use Rattle.store_rules.specs.Tests.{noOrder, coversOk}
+use Rattle.book.specs.Book.{indexWords}
+use Rattle.buddy_shape.proofs.Shape.{node-bytes-most}
+use Rattle.buddy_stores.specs.Tables.{Tables, tables, headWords, chunkWords, chunkPlacesIn, chunkSizeIn, heldIn, highIn, nodesFrom, lengthsOk}
+use Rattle.buddy_stores.specs.Sound.{Sound}
+use Rattle.buddy_stores.specs.Test.{soundOk}
+use Rattle.buddy_outcomes.specs.Gate.{lentOk, heldCount, heldBytes, accountOk, gateOf}
+use Rattle.buddy_gate.specs.Gates.{storeGate}
+use Rattle.buddy_gate.proofs.Held.{count-same, bytes-same, sizeMost}
+
+-- the row is taken from the left
+joined : (a b c d e : Bool) → (a && (b && (c && (d && e)))) ≡ ((((a && b) && c) && d) && e)
+joined false b c d e = refl
+joined true false c d e = refl
+joined true true false d e = refl
+joined true true true false e = refl
+joined true true true true e = refl
+
+module _ (s : BuddySettings) (t : Tables) where
+  pub lengths-is : (nodes : ℕ) → nodes ≡ nodesFrom s
+      → (eqb (length (t .head)) headWords && (eqb (length (t .loans)) (loanWords * s .store .loans) && (eqb (length (t .chunks)) (chunkWords * s .store .chunks) && (eqb (length (t .index)) (indexWords (s .store .loans)) && eqb (length (t .tree)) (nodes + s .store .loans))))) ≡ lengthsOk s t
+  unfolding lengthsOk
+  lengths-is nodes e =
+      joined (eqb (length (t .head)) headWords) (eqb (length (t .loans)) (loanWords * s .store .loans)) (eqb (length (t .chunks)) (chunkWords * s .store .chunks)) (eqb (length (t .index)) (indexWords (s .store .loans))) (eqb (length (t .tree)) (nodes + s .store .loans))
+      ∙ rw e refl
+
+  pub lent-yes : (a : Account) (h f : Bool) → buddyOk s ≡ true → h ≡ heapsOk (a .heaps) → f ≡ lengthsOk s t → (h && f) ≡ lentOk s a t
+  unfolding lentOk
+  lent-yes a h f e p q = rw (e, p, q) refl
+
+  pub lent-no : (a : Account) → buddyOk s ≡ false → false ≡ lentOk s a t
+  unfolding lentOk
+  lent-no a e = rw e refl
+
+-- ---- what a sound store's chunks come to
+
+module _ (s : BuddySettings) (t : Tables) (fit : BuddyIn s) (sound : Sound s t) where
+  pub places-few : chunkPlacesIn t ≤ chunksMost
+  places-few = omega (arith, sound .chunks-parted .limit, fit .store .chunks-most)
+
+  pub sizes-low : (c : ℕ) → c < chunkPlacesIn t → chunkSizeIn t c ≤ sizeMost
+  sizes-low c h =
+      ⊎-elim (λ z. omega (arith, z))
+      (λ z.
+      let held : heldIn t c ≡ true = and-both _ _ (lt-ltb c (chunkPlacesIn t) h) (rw (ne-eqb (chunkSizeIn t c) 0 z) refl) in
+      let k = sound .standing .sized c held in
+      omega (arith, k .0, node-bytes-most (s .minimal) (highIn s t c) small (omega (arith, k .3, sound .levels-most))))
+      (same? (chunkSizeIn t c) 0)
+    where
+      small : s .minimal ≤ 2 ^ 16
+      small = power-top (fit .minimal)
+
+-- ---- the gate
+
+module _ (s : BuddySettings) (h : Heap) (objects : ℕ) (t : Tables) where
+  -- as the code counts, by head and chunks alone
+  abbrev few : Tables
+  few = tables (t .head) [] (t .chunks) [] []
+
+  abbrev pub covered : Bool
+  covered = coversOk h objects (heldCount few (chunkPlacesIn t)) (heldBytes few (chunkPlacesIn t))
+
+  pub covered-same : covered ≡ coversOk h objects (heldCount t (chunkPlacesIn t)) (heldBytes t (chunkPlacesIn t))
+  covered-same j = coversOk h objects (count-same few t refl refl (chunkPlacesIn t) j) (bytes-same few t refl refl (chunkPlacesIn t) j)
+
+  pub store-torn : soundOk s t ≡ false → refuse 3 ≡ storeGate s h objects t
+  unfolding storeGate
+  store-torn e = rw e refl
+
+  pub store-short : soundOk s t ≡ true → covered ≡ false → refuse 4 ≡ storeGate s h objects t
+  unfolding storeGate
+  store-short e f = rw (e, sym covered-same ∙ f) refl
+
+  pub store-go : soundOk s t ≡ true → covered ≡ true → pass ≡ storeGate s h objects t
+  unfolding storeGate
+  store-go e f = rw (e, sym covered-same ∙ f) refl
+
+pub covered-is : (h : Heap) (objects k n b m : ℕ) (r : Bool) → k ≡ n → b ≡ m → r ≡ coversOk h objects k b → r ≡ coversOk h objects n m
+covered-is h objects k n b m r e f g = g ∙ (λ j. coversOk h objects (e j) (f j))
+
+module _ (s : BuddySettings) (a : Account) (t : Tables) (list : Bool) where
+  pub gate-lent : (lentOk s a t && list) ≡ false → refuse 1 ≡ gateOf s a t list
+  unfolding gateOf
+  gate-lent e = rw e refl
+
+  pub gate-order : (lentOk s a t && list) ≡ true → noOrder (a .order) ≡ false → refuse 2 ≡ gateOf s a t list
+  unfolding gateOf
+  gate-order e f = rw (e, f) refl
+
+  pub gate-rest : (v : Verdict) → (lentOk s a t && list) ≡ true → noOrder (a .order) ≡ true → v ≡ storeGate s (heapAt a (s .store .heap)) (a .objects) t → v ≡ gateOf s a t list
+  unfolding gateOf storeGate accountOk
+  gate-rest v e f g = g ∙ rw (e, f) refl

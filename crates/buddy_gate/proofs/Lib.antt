@@ -1,0 +1,5 @@
+pub mod Arrivals
+pub mod Gates
+pub mod Held
+pub mod Planned
+pub mod Stale

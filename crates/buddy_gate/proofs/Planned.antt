@@ -1,0 +1,57 @@
+-- An ask's plan is what follows the gate. Assumes nothing.
+use mathlib.Core.Path.{_≡_, refl, sym, ap, _∙_}
+use mathlib.Core.Bool.{Bool, true, _&&_}
+use mathlib.Core.List.{List, [], _∷_}
+use Prim.Native.Nat.{ℕ, _-_}
+use lib.Dec.{ltb}
+use Rattle.counter.specs.Account.{heapAt}
+use Rattle.counter.specs.Gate.{Verdict, pass, refuse, first}
+use Rattle.counter.specs.Table.{alignmentOk}
+use Rattle.counter.specs.declared.account.Account.{Account}
+use Rattle.counter.specs.declared.account.Heap.{Heap}
+use Rattle.counter.specs.declared.settings.BuddySettings.{BuddySettings}
+use Rattle.store_rules.specs.Orders.{Plan, deny}
+use Rattle.book.specs.Book.{takenOf}
+use Rattle.buddy_stores.specs.Tables.{Tables, tables, placesIn}
+use Rattle.buddy_outcomes.specs.Gate.{gateOf}
+use Rattle.buddy_decide.proofs.Reading.{pairs-read}
+use Rattle.buddy_outcomes.specs.Ask.{Found, nowhere, at, levelFor, fromFor, foundFor, sizeOk, pairsRoom, chunkSpot, roomOk, countOk, objectsOk, planned, decideAsk, planAsk}
+
+module _ (s : BuddySettings) (a : Account) (t : Tables) where
+  pub ask-shut : (size mask n : ℕ) → refuse n ≡ gateOf s a t true → deny n ≡ planAsk s a size mask t
+  unfolding planAsk
+  ask-shut size mask n e = rw (sym e) refl
+
+-- ---- an ask is decided by head, index and tree alone
+
+module _ (s : BuddySettings) (h : Heap) (objects size mask : ℕ) (t : Tables) where
+  abbrev few : Tables
+  few = tables (t .head) [] [] (t .index) (t .tree)
+
+  pairs-same : (l n : ℕ) → pairsRoom s few l n ≡ pairsRoom s t l n
+  pairs-same l n = sym (pairs-read s few l n) ∙ pairs-read s t l n
+
+  room-same : (f : Found) → roomOk s size mask few f ≡ roomOk s size mask t f
+  unfolding roomOk
+  room-same nowhere = ap (λ (b : Bool). ltb (takenOf (placesIn t) (t .index) .place) (s .store .loans) && (ltb (chunkSpot s t .place) (s .store .chunks) && b)) (pairs-same (levelFor s size mask) (fromFor s size mask t nowhere - levelFor s size mask))
+  room-same (at i) = ap (λ (b : Bool). ltb (takenOf (placesIn t) (t .index) .place) (s .store .loans) && b) (pairs-same (levelFor s size mask) (i - levelFor s size mask))
+
+  same : (f : Found) (v : Verdict) → planned s size mask few f v ≡ planned s size mask t f v
+  same f (refuse n) = refl
+  same (at i) pass = refl
+  same nowhere pass = refl
+
+  pub ask-few : decideAsk s h objects size mask few ≡ decideAsk s h objects size mask t
+  unfolding decideAsk foundFor countOk objectsOk
+  ask-few =
+      let f = foundFor s size mask t in
+      ap (λ (b : Bool). planned s size mask few f (first ((alignmentOk mask, 5) ∷ (sizeOk s size mask, 6) ∷ (b, 8) ∷ (countOk s h size mask t f, 10) ∷ (objectsOk objects f, 9) ∷ []))) (room-same f)
+      ∙ same f (first ((alignmentOk mask, 5) ∷ (sizeOk s size mask, 6) ∷ (roomOk s size mask t f, 8) ∷ (countOk s h size mask t f, 10) ∷ (objectsOk objects f, 9) ∷ []))
+
+pub ask-go : (s : BuddySettings) (a : Account) (size mask : ℕ) (head loans chunks index tree : List ℕ) (h : Heap) (p : Plan ℕ)
+    → pass ≡ gateOf s a (tables head loans chunks index tree) true → h ≡ heapAt a (s .store .heap)
+    → p ≡ decideAsk s h (a .objects) size mask (tables head [] [] index tree) → p ≡ planAsk s a size mask (tables head loans chunks index tree)
+unfolding planAsk
+ask-go s a size mask head loans chunks index tree h p g k e =
+    e ∙ ap (λ (x : Heap). decideAsk s x (a .objects) size mask (tables head [] [] index tree)) k
+    ∙ ask-few s (heapAt a (s .store .heap)) (a .objects) size mask (tables head loans chunks index tree) ∙ rw (sym g) refl

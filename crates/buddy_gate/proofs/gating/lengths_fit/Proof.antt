@@ -1,0 +1,41 @@
+use borrow.Author.Needs.{needs}
+use Rattle.buddy_stores.specs.Tables.{tables}
+use Rattle.buddy_gate.proofs.Gates.{lengths-is}
+use Rattle.buddy_gate.proofs.gating.lengths_fit.Statement.{statement}
+use Rattle.buddy_gate.proofs.gating.lengths_fit.Tie as tie
+
+nodes-from-requires : tie.Need-nodes-from-requires
+nodes-from-requires c κs = search needs
+
+mul-result : tie.Need-mul-result
+mul-result c = search needs
+
+mul-result-2 : tie.Need-mul-result-2
+mul-result-2 c = search needs
+
+mul-result-3 : tie.Need-mul-result-3
+mul-result-3 c = search needs
+
+add-result : tie.Need-add-result
+add-result c = search needs
+
+add-result-2 : tie.Need-add-result-2
+add-result-2 c = search needs
+
+returns : tie.Need-returns
+returns c =
+    let k = c .before .before .before .before in
+    let a = k .before .before .before .before .before .before .before .args in
+    lengths-is (a .s) (tables (a .head .now) (a .loans .now) (a .chunks .now) (a .index .now) (a .tree .now)) _ (k .nodes-from .ensures .0)
+
+pub lengths-fit-spec : {M : Type 1} → statement M
+lengths-fit-spec =
+    tie.close
+    (tie.spec
+    nodes-from-requires
+    mul-result
+    mul-result-2
+    mul-result-3
+    add-result
+    add-result-2
+    returns)

@@ -1,0 +1,153 @@
+// The gate of every call: the tests 1 to 4, in that order.
+ghost use mathlib.Core.Path.{_≡_};
+ghost use mathlib.Core.List.{[]};
+ghost use Prim.Native.Nat.{_+_, _*_, _^_, _≤_, _<_};
+ghost use lib.ListN.{getD};
+ghost use Rattle.words.specs.Words.{cellOf};
+ghost use Rattle.counter.specs.Gate.{verdictOf};
+ghost use Rattle.counter.specs.InTable.{BuddyIn};
+ghost use Rattle.counter.specs.Limits.{chunksMost, minimalBits, levelsMost};
+ghost use Rattle.store_rules.specs.Tests.{coversOk};
+ghost use Rattle.buddy_shape.specs.Seen.{looked};
+ghost use Rattle.buddy_stores.specs.Tables.{tables, lengthsOk, chunkPlacesAt, chunkWords, chunkSizeAt};
+ghost use Rattle.buddy_outcomes.specs.Gate.{lentOk, heldCount, heldBytes, gateOf};
+ghost use Rattle.buddy_gate.specs.Gates.{storeGate};
+use book::ENTRY_WORDS;
+use buddy_stores::CHUNK_PLACES_AT;
+use buddy_stores::CHUNK_SIZE_AT;
+use buddy_stores::CHUNK_WORDS;
+use buddy_stores::HEAD_WORDS;
+use counter::Account;
+use counter::BuddySettings;
+use counter::Gate;
+use counter::Heap;
+use counter::Refusal;
+use store_rules::LOAN_WORDS;
+
+pub fn lengths_fit(
+    s: BuddySettings,
+    head: &[u64],
+    loans: &[u64],
+    chunks: &[u64],
+    index: &[u64],
+    tree: &[u64],
+) -> bool
+    requires { ⌜ BuddyIn s ⌝ }
+    ensures { λ r. ⌜ r ≡ lengthsOk s (tables (now (head .entry)) (now (loans .entry)) (now (chunks .entry)) (now (index .entry)) (now (tree .entry))) ⌝ }
+{
+    let own = s.store;
+    let nodes = buddy_shape::nodes_from(s.pairs, own.chunks);
+    (head.len() == HEAD_WORDS)
+        & ((loans.len() == LOAN_WORDS * own.loans)
+            & ((chunks.len() == CHUNK_WORDS * own.chunks)
+                & ((index.len() == 1 + ENTRY_WORDS * own.loans)
+                    & (tree.len() == nodes + own.loans))))
+}
+
+// Test 1: every value, and every table's length.
+pub fn is_lent(
+    s: BuddySettings,
+    a: Account,
+    head: &[u64],
+    loans: &[u64],
+    chunks: &[u64],
+    index: &[u64],
+    tree: &[u64],
+) -> bool
+    ensures { λ r. ⌜ r ≡ lentOk s a (tables (now (head .entry)) (now (loans .entry)) (now (chunks .entry)) (now (index .entry)) (now (tree .entry))) ⌝ }
+{
+    if s.in_table() {
+        let heaps = a.heaps;
+        let fit = lengths_fit(s, head, loans, chunks, index, tree);
+        counter::heaps_in_table(heaps) & fit
+    } else {
+        false
+    }
+}
+
+// How many chunks stand at the first n places.
+fn held_count(chunks: &[u64], n: u64) -> u64
+    ensures { λ r. ⌜ r ≡ heldCount (looked 0 n (now (chunks .entry)) []) n ⌝ }
+{
+    let mut count = 0;
+    let mut c = 0;
+    while c < n {
+        if words::cell(chunks, CHUNK_SIZE_AT, CHUNK_WORDS, c as usize) != 0 {
+            count += 1;
+        }
+        c += 1;
+    }
+    count
+}
+
+// And how many bytes they have.
+fn held_bytes(chunks: &[u64], n: u64) -> u64
+    requires { ⌜ (n ≤ chunksMost) × ((c : _) → c < n → getD (now chunks) (cellOf chunkSizeAt chunkWords c) 0 ≤ 2 ^ (minimalBits + levelsMost)) ⌝ }
+    ensures { λ r. ⌜ r ≡ heldBytes (looked 0 n (now (chunks .entry)) []) n ⌝ }
+{
+    let mut sum = 0;
+    let mut c = 0;
+    while c < n {
+        sum += words::cell(chunks, CHUNK_SIZE_AT, CHUNK_WORDS, c as usize);
+        c += 1;
+    }
+    sum
+}
+
+// Test 4, of the store's own heap.
+pub fn is_covered(h: Heap, objects: u32, head: &[u64], chunks: &[u64]) -> bool
+    requires { ⌜ (getD (now head) chunkPlacesAt 0 ≤ chunksMost) × ((c : _) → c < getD (now head) chunkPlacesAt 0 → getD (now chunks) (cellOf chunkSizeAt chunkWords c) 0 ≤ 2 ^ (minimalBits + levelsMost)) ⌝ }
+    ensures { λ r. ⌜ r ≡ coversOk h objects (heldCount (tables (now (head .entry)) [] (now (chunks .entry)) [] []) (getD (now (head .entry)) chunkPlacesAt 0)) (heldBytes (tables (now (head .entry)) [] (now (chunks .entry)) [] []) (getD (now (head .entry)) chunkPlacesAt 0)) ⌝ }
+{
+    let n = words::word(head, CHUNK_PLACES_AT);
+    store::covers(h, objects, held_count(chunks, n), held_bytes(chunks, n))
+}
+
+// Tests 3 and 4: the store is sound, and the account covers it.
+fn gate_store(
+    s: BuddySettings,
+    h: Heap,
+    objects: u32,
+    head: &[u64],
+    loans: &[u64],
+    chunks: &[u64],
+    index: &[u64],
+    tree: &[u64],
+) -> Gate
+    requires { ⌜ BuddyIn s ⌝ }
+    ensures { λ r. ⌜ verdictOf r ≡ storeGate s h objects (tables (now (head .entry)) (now (loans .entry)) (now (chunks .entry)) (now (index .entry)) (now (tree .entry))) ⌝ }
+{
+    if !buddy_test::is_sound(s, head, loans, chunks, index, tree) {
+        return Gate::Shut(Refusal::Torn);
+    }
+    if !is_covered(h, objects, head, chunks) {
+        return Gate::Shut(Refusal::Account);
+    }
+    Gate::Go
+}
+
+// The gate of an ask and a return. `list` says whether a release list is long enough.
+pub fn gate(
+    s: BuddySettings,
+    a: Account,
+    list: bool,
+    head: &[u64],
+    loans: &[u64],
+    chunks: &[u64],
+    index: &[u64],
+    tree: &[u64],
+) -> Gate
+    ensures { λ r. ⌜ verdictOf r ≡ gateOf s a (tables (now (head .entry)) (now (loans .entry)) (now (chunks .entry)) (now (index .entry)) (now (tree .entry))) list ⌝ }
+{
+    let lent = is_lent(s, a, head, loans, chunks, index, tree);
+    if !(lent & list) {
+        return Gate::Shut(Refusal::Setup);
+    }
+    let order = a.order;
+    if !store::no_order(order) {
+        return Gate::Shut(Refusal::Order);
+    }
+    let own = s.store;
+    let h = a.heap(own.heap);
+    gate_store(s, h, a.objects, head, loans, chunks, index, tree)
+}

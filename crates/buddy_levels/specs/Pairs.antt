@@ -1,0 +1,14 @@
+-- A pair's entry as the code reads it. Assumes nothing: these are definitions.
+use Rattle.buddy_rules.specs.Nodes.{Ent}
+use Rattle.buddy_levels.specs.declared.pairs.Pair.{Pair}
+
+abbrev pub entFrom : Pair → Ent
+entFrom p =
+    record {
+      tag = p .tag;
+      chunk = p .chunk;
+      off = p .off;
+      left = p .left;
+      right = p .right;
+      up = p .up;
+    }

@@ -1,0 +1,5 @@
+pub mod Grown
+pub mod Booked
+pub mod Lent
+pub mod Served
+pub mod Returned

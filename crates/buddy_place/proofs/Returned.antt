@@ -1,0 +1,61 @@
+-- A block taken back leaves the tables as they are defined. Assumes nothing.
+use mathlib.Core.Path.{_≡_, sym, ap, _∙_}
+use mathlib.Core.Bool.{Bool, true, false, cond}
+use mathlib.Core.List.{List, []}
+use Prim.Native.Nat.{ℕ, _+_, _-_, _*_}
+use lib.ListN.{getD, set}
+use Rattle.words.specs.Words.{cellOf}
+use Rattle.rounding.specs.Raising.{levelOf}
+use Rattle.counter.specs.Limits.{levelsMost}
+use Rattle.counter.specs.declared.answers.Block.{Block}
+use Rattle.counter.specs.declared.settings.BuddySettings.{BuddySettings}
+use Rattle.book.specs.Book.{struck, struckIndex}
+use Rattle.buddy_levels.specs.Level.{levelWords}
+use Rattle.buddy_stores.specs.Tables.{Tables, tables, levelsAt, chunkWords, chunkSizeAt, afterAt, placeWords, nodesFrom}
+use Rattle.buddy_stores.specs.Moves.{Climbed, climbed}
+use Rattle.buddy_outcomes.specs.Return.{climbFor, vacatedTree, givenTables}
+
+-- a chunk's place vacated
+pub vacated-done : (s : BuddySettings) (c at last : ℕ) (tree t₁ t′ : List ℕ) → at ≡ levelWords (s .pairs) * levelsMost → last ≡ getD tree at 0
+    → t₁ ≡ set tree (cellOf (at + (1 + afterAt)) placeWords c) last → t′ ≡ set t₁ at c → t′ ≡ vacatedTree s c tree
+unfolding vacatedTree
+vacated-done s c at last tree t₁ t′ e f g h =
+    h
+    ∙ ap (λ (t : List ℕ). set t at c) g
+    ∙ (λ j. set (set tree (cellOf (at + (1 + afterAt)) placeWords c) (f j)) at c)
+    ∙ (λ j. set (set tree (cellOf (e j + (1 + afterAt)) placeWords c) (getD tree (e j) 0)) (e j) c)
+
+module _ (s : BuddySettings) (b : Block) (w : ℕ) (head index tree : List ℕ) (levels level nodes k node : ℕ) (top : levels ≡ getD head levelsAt 0) (low : level ≡ levelOf (b .size) (s .minimal)) (beside : nodes ≡ levelWords (s .pairs) * levelsMost + (1 + placeWords * s .store .chunks)) (leads : k ≡ getD index w 0) (reads : node ≡ getD tree (nodes + k) 0) where
+  -- the climb from the node that was read
+  pub climb-is : climbed (s .pairs) (levels - level) level node tree ≡ climbFor s b w (tables head [] [] index tree)
+  climb-is =
+      let e : node ≡ getD tree (nodesFrom s + getD index w 0) 0 = reads ∙ (λ j. getD tree (beside j + leads j) 0) in
+      (λ j. climbed (s .pairs) (top j - low j) (low j) (e j) tree)
+
+  module _ (loans chunks t₁ : List ℕ) (freed : Bool) (out : freed ≡ climbed (s .pairs) (levels - level) level node tree .freed) (up : t₁ ≡ climbed (s .pairs) (levels - level) level node tree .tree) where
+    pub freed-is : freed ≡ climbFor s b w (tables head [] [] index tree) .freed
+    freed-is = out ∙ ap (λ (x : Climbed). x .freed) climb-is
+
+    abbrev after : Climbed → Tables
+    after x =
+        tables head (struck w index loans)
+        (cond (x .freed) (set chunks (cellOf chunkSizeAt chunkWords (b .chunk)) 0) chunks)
+        (struckIndex w index)
+        (cond (x .freed) (vacatedTree s (b .chunk) (x .tree)) (x .tree))
+
+    -- the block's chunk gone or not, as a climb so says
+    by : (f : Bool) → freed ≡ f → (l′ c′ i′ t′ : List ℕ)
+        → c′ ≡ cond f (set chunks (cellOf chunkSizeAt chunkWords (b .chunk)) 0) chunks → t′ ≡ cond f (vacatedTree s (b .chunk) t₁) t₁
+        → l′ ≡ struck w index loans → i′ ≡ struckIndex w index → tables head l′ c′ i′ t′ ≡ givenTables s b w (tables head loans chunks index tree)
+    unfolding givenTables
+    by f e l′ c′ i′ t′ c t l i =
+        let o : f ≡ climbed (s .pairs) (levels - level) level node tree .freed = sym e ∙ out in
+        (λ j. tables head (l j) (c j) (i j) (t j)) ∙ (λ j. after (record { freed = o j; tree = up j })) ∙ (λ j. after (climb-is j))
+
+    pub given-freed : freed ≡ true → (l′ c′ i′ t′ : List ℕ) → c′ ≡ set chunks (cellOf chunkSizeAt chunkWords (b .chunk)) 0 → t′ ≡ vacatedTree s (b .chunk) t₁
+        → l′ ≡ struck w index loans → i′ ≡ struckIndex w index → tables head l′ c′ i′ t′ ≡ givenTables s b w (tables head loans chunks index tree)
+    given-freed e = by true e
+
+    pub given-kept : freed ≡ false → (l′ c′ i′ t′ : List ℕ) → c′ ≡ chunks → t′ ≡ t₁
+        → l′ ≡ struck w index loans → i′ ≡ struckIndex w index → tables head l′ c′ i′ t′ ≡ givenTables s b w (tables head loans chunks index tree)
+    given-kept e = by false e

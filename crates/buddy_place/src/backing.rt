@@ -1,0 +1,57 @@
+// A block taken back: its node climbs, a chunk that is wholly free goes, and the loan is struck out of the book.
+ghost use mathlib.Core.Path.{_≡_};
+ghost use mathlib.Core.List.{[]};
+ghost use lib.ListN.{set};
+ghost use Rattle.counter.specs.InTable.{BuddyIn};
+ghost use Rattle.words.specs.Words.{cellOf};
+ghost use Rattle.buddy_stores.specs.Tables.{tables, chunkWords, chunkSizeAt};
+ghost use Rattle.buddy_outcomes.specs.Return.{climbFor, vacatedTree, givenTables};
+ghost use Rattle.buddy_ready.specs.Ready.{Backs};
+use buddy_stores::AFTER_AT;
+use buddy_stores::CHUNK_SIZE_AT;
+use buddy_stores::CHUNK_WORDS;
+use buddy_stores::LEVELS_AT;
+use buddy_stores::PLACE_WORDS;
+use counter::Block;
+use counter::BuddySettings;
+
+// The chunk at c is gone, and its place the one vacated last.
+fn vacate(s: BuddySettings, c: u64, chunks: &mut [u64], tree: &mut [u64])
+    requires { ⌜ BuddyIn s ⌝ }
+    ensures { λ _. ⌜ now (chunks .exit) ≡ set (now (chunks .entry)) (cellOf chunkSizeAt chunkWords c) 0 ⌝ }
+    ensures { λ _. ⌜ now (tree .exit) ≡ vacatedTree s c (now (tree .entry)) ⌝ }
+{
+    let at = buddy_shape::chunks_from(s.pairs);
+    let last = words::word(tree, at);
+    words::put_cell(chunks, CHUNK_SIZE_AT, CHUNK_WORDS, c as usize, 0);
+    words::put_cell(tree, at + (1 + AFTER_AT), PLACE_WORDS, c as usize, last);
+    words::put(tree, at, c);
+}
+
+// The block that the word at `at` of the index leads to, at this loan place. Answers whether its chunk went with it.
+pub fn take_back(
+    s: BuddySettings,
+    b: Block,
+    at: usize,
+    head: &[u64],
+    loans: &mut [u64],
+    chunks: &mut [u64],
+    index: &mut [u64],
+    tree: &mut [u64],
+) -> bool
+    requires { ⌜ Backs s b at (tables (now head) [] [] (now index) []) ⌝ }
+    ensures { λ r. ⌜ r ≡ climbFor s b at (tables (now (head .entry)) [] [] (now (index .entry)) (now (tree .entry))) .freed ⌝ }
+    ensures { λ _. ⌜ tables (now (head .entry)) (now (loans .exit)) (now (chunks .exit)) (now (index .exit)) (now (tree .exit)) ≡ givenTables s b at (tables (now (head .entry)) (now (loans .entry)) (now (chunks .entry)) (now (index .entry)) (now (tree .entry))) ⌝ }
+{
+    let own = s.store;
+    let levels = words::word(head, LEVELS_AT) as usize;
+    let level = rounding::level(b.size, s.minimal) as usize;
+    let nodes = buddy_shape::nodes_from(s.pairs, own.chunks);
+    let node = words::word(tree, nodes + words::word(index, at) as usize);
+    let freed = buddy_moves::climb(tree, s.pairs, level, levels - level, node);
+    if freed {
+        vacate(s, b.chunk, chunks, tree);
+    }
+    book::strike(loans, index, at);
+    freed
+}

@@ -1,0 +1,33 @@
+// Levels there and empty.
+ghost use mathlib.Core.Path.{_≡_};
+ghost use mathlib.Core.List.{[]};
+ghost use Prim.Native.Nat.{_+_, _≤_};
+ghost use lib.ListN.{getD};
+ghost use Rattle.counter.specs.InTable.{BuddyIn};
+ghost use Rattle.counter.specs.Limits.{levelsMost};
+ghost use Rattle.buddy_stores.specs.Tables.{tables, levelsAt};
+ghost use Rattle.buddy_outcomes.specs.Ask.{freshLevels, grownTables};
+use buddy_stores::LEVELS_AT;
+use counter::BuddySettings;
+
+// Those from a level on, n of them.
+pub fn fresh_levels(s: BuddySettings, level: usize, n: usize, tree: &mut [u64])
+    requires { ⌜ BuddyIn s × (level + n ≤ levelsMost) ⌝ }
+    ensures { λ _. ⌜ now (tree .exit) ≡ freshLevels s level n (now (tree .entry)) ⌝ }
+{
+    let mut i = 0;
+    while i < n {
+        buddy_levels::fresh_level(tree, buddy_shape::level_from(s.pairs, level + i));
+        i += 1;
+    }
+}
+
+// The store has n levels from now on, which are no fewer than it had.
+pub fn grow(s: BuddySettings, n: u64, head: &mut [u64], tree: &mut [u64])
+    requires { ⌜ BuddyIn s × (n ≤ levelsMost) × (getD (now head) levelsAt 0 ≤ n) ⌝ }
+    ensures { λ _. ⌜ tables (now (head .exit)) [] [] [] (now (tree .exit)) ≡ grownTables s n (tables (now (head .entry)) [] [] [] (now (tree .entry))) ⌝ }
+{
+    let levels = words::word(head, LEVELS_AT);
+    fresh_levels(s, levels as usize, (n - levels) as usize, tree);
+    words::put(head, LEVELS_AT, n);
+}

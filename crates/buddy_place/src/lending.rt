@@ -1,0 +1,70 @@
+// A block lent from the ready side of a level's head pair.
+ghost use mathlib.Core.Path.{_≡_};
+ghost use mathlib.Core.List.{[]};
+ghost use Prim.Native.Nat.{_≤_, _^_};
+ghost use Rattle.counter.specs.InTable.{BuddyIn};
+ghost use Rattle.counter.specs.Limits.{levelsMost};
+ghost use Rattle.buddy_rules.specs.Levels.{baseOf};
+ghost use Rattle.buddy_levels.specs.Pairs.{entFrom};
+ghost use Rattle.buddy_stores.specs.Tables.{tables};
+ghost use Rattle.buddy_outcomes.specs.Ask.{loanAt, takenAt};
+ghost use Rattle.buddy_ready.specs.Ready.{Lends};
+use buddy_levels::Pair;
+use buddy_levels::RING_AT;
+use buddy_stores::GIVEN_AT;
+use buddy_stores::PLACES_AT;
+use counter::BuddySettings;
+use store_rules::Loan;
+
+// Where the ready side of a pair begins.
+fn side_from(s: BuddySettings, e: Pair, level: u64) -> u64
+    requires { ⌜ BuddyIn s × (level ≤ levelsMost) × (e .off ≤ 2 ^ 62) ⌝ }
+    ensures { λ r. ⌜ r ≡ baseOf (s .minimal) (entFrom e) level ⌝ }
+{
+    if e.tag == 2 {
+        return e.off;
+    }
+    e.off + buddy_shape::node_bytes(s.minimal, level)
+}
+
+// A block of this size and level, from the level `from`, where the head pair is ready.
+pub fn lend(
+    s: BuddySettings,
+    size: u64,
+    level: usize,
+    from: usize,
+    head: &mut [u64],
+    loans: &mut [u64],
+    index: &mut [u64],
+    tree: &mut [u64],
+) -> Loan
+    requires { ⌜ Lends s size level from (tables (now head) [] [] (now index) (now tree)) ⌝ }
+    ensures { λ r. ⌜ r ≡ loanAt s size (tables (now (head .entry)) [] [] [] (now (tree .entry))) from ⌝ }
+    ensures { λ _. ⌜ tables (now (head .exit)) (now (loans .exit)) [] (now (index .exit)) (now (tree .exit)) ≡ takenAt s size level (tables (now (head .entry)) (now (loans .entry)) [] (now (index .entry)) (now (tree .entry))) from ⌝ }
+{
+    let base = buddy_shape::level_from(s.pairs, from);
+    let h = words::word(tree, base + RING_AT);
+    let e = buddy_levels::pair_at(tree, base, h);
+    let offset = side_from(s, e, from as u64);
+    let node = if e.tag == 2 { 2 * h } else { 2 * h + 1 };
+    let taken = book::next_place(words::word(head, PLACES_AT), index);
+    let l = Loan {
+        serial: words::word(head, GIVEN_AT) + 1,
+        chunk: e.chunk,
+        offset: offset,
+        size: size,
+    };
+    buddy_levels::acquire(tree, base, 0);
+    let n = buddy_moves::split_down(
+        tree,
+        s.pairs,
+        level,
+        from - level,
+        l.chunk,
+        l.offset,
+        taken.place,
+        node,
+    );
+    crate::booking::book_loan(s, l, n, head, loans, index, tree);
+    l
+}

@@ -1,0 +1,5 @@
+pub mod Sizing
+pub mod Backing
+pub mod Rooming
+pub mod Lending
+pub mod Serving

@@ -1,0 +1,2 @@
+-- Where a level begins, and how long a node is.
+pub mod Shape

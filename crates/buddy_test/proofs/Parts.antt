@@ -1,0 +1,67 @@
+-- Head, chunk places, levels and units: what the code has read of them is what the tests are of. Assumes nothing.
+use mathlib.Core.Path.{_≡_, refl, sym, ap, _∙_}
+use mathlib.Core.Bool.{Bool, true, false, _&&_, _||_, not}
+use mathlib.Core.List.{List, []}
+use Prim.Native.Nat.{ℕ, _+_, _*_, _%_, _<_}
+use lib.Bits.{bitAnd}
+use lib.Dec.{eqb, leb}
+use lib.ListN.{getD}
+use borrow.Author.Tests.{lt-ltb}
+use Rattle.words.specs.Words.{cellOf}
+use Rattle.words.specs.Rows.{row}
+use Rattle.words.proofs.Records.{cell-row}
+use Rattle.rounding.proofs.Masks.{masked}
+use Rattle.counter.specs.InTable.{BuddyIn}
+use Rattle.counter.specs.Limits.{levelsMost}
+use Rattle.counter.specs.declared.settings.BuddySettings.{BuddySettings}
+use Rattle.slab.specs.Slab.{vacantAt, linkAt}
+use Rattle.slab.specs.Test.{partedOk}
+use Rattle.store_rules.specs.Loans.{loanWords, sizeAt, loanRow}
+use Rattle.store_rules.specs.declared.Loan.{Loan}
+use Rattle.buddy_levels.specs.Level.{levelWords}
+use Rattle.buddy_levels.specs.Test.{goodOk}
+use Rattle.buddy_shape.specs.Seen.{seen, looked}
+use Rattle.buddy_stores.specs.Tables.{mark, markAt, levelsAt, initialLevels, levelAfter, chunkWords, chunkSizeAt, placeWords, afterAt, vacantChunk, chunkAfter, chunkSlab}
+use Rattle.buddy_stores.specs.Test.{unitsOk}
+
+module _ (s : BuddySettings) where
+  pub head-told : (head : List ℕ) (m l f : ℕ) → m ≡ getD head markAt 0 → l ≡ getD head levelsAt 0 → f ≡ initialLevels s
+      → (eqb m mark && (leb f l && leb l levelsMost)) ≡ (eqb (getD head markAt 0) mark && (leb (initialLevels s) (getD head levelsAt 0) && leb (getD head levelsAt 0) levelsMost))
+  head-told head m l f e g h = λ j. eqb (e j) mark && (leb (h j) (g j) && leb (g j) levelsMost)
+
+  pub places-told : (n at v : ℕ) (chunks tree : List ℕ) (r : Bool) → at ≡ levelWords (s .pairs) * levelsMost → v ≡ getD tree at 0
+      → r ≡ partedOk (vacantAt chunks chunkSizeAt chunkWords) (linkAt tree (at + (1 + afterAt)) placeWords) (record { places = n; vacant = v }) (s .store .chunks)
+      → r ≡ partedOk (vacantChunk (looked 0 n chunks tree)) (chunkAfter s (looked 0 n chunks tree)) (chunkSlab s (looked 0 n chunks tree)) (s .store .chunks)
+  places-told n at v chunks tree r e f g =
+      g
+      ∙ (λ j. partedOk (vacantAt chunks chunkSizeAt chunkWords) (linkAt tree (at + (1 + afterAt)) placeWords) (record { places = n; vacant = f j }) (s .store .chunks))
+      ∙ (λ j. partedOk (vacantAt chunks chunkSizeAt chunkWords) (linkAt tree (e j + (1 + afterAt)) placeWords) (record { places = n; vacant = getD tree (e j) 0 }) (s .store .chunks))
+
+pub good-told : (pairs l base : ℕ) (tree : List ℕ) (r : Bool) → base ≡ levelAfter pairs l → r ≡ goodOk base pairs tree → r ≡ goodOk (levelAfter pairs l) pairs tree
+good-told pairs l base tree r e f = f ∙ ap (λ (b : ℕ). goodOk b pairs tree) e
+
+-- ---- a loan's units
+
+-- those of a loan that has a size
+abbrev units : BuddySettings → Loan → Bool
+units s l = eqb (l .offset % (s .store .atom + 1)) 0 && eqb (l .size % (s .store .atom + 1)) 0
+
+-- the code takes them by the atom's mask
+pub masked-told : (s : BuddySettings) → BuddyIn s → (l : Loan)
+    → (eqb (l .size) 0 || (eqb (bitAnd (l .offset) (s .store .atom)) 0 && eqb (bitAnd (l .size) (s .store .atom)) 0)) ≡ (eqb (l .size) 0 || units s l)
+masked-told s fit l = rw (masked (l .offset) (fit .store .atom), masked (l .size) (fit .store .atom))
+
+twice : (a b : Bool) → (a || b) ≡ (not (not a) || b)
+twice true b = refl
+twice false b = refl
+
+module _ (s : BuddySettings) (n k : ℕ) (loans : List ℕ) (l : Loan) (is : l ≡ row loanRow k loans) (used : k < n) where
+  size-is : l .size ≡ getD loans (cellOf sizeAt loanWords k) 0
+  size-is = ap (λ (x : Loan). x .size) is ∙ sym (cell-row loans sizeAt loanWords k)
+
+  offset-is : l .offset ≡ getD loans (cellOf 2 loanWords k) 0
+  offset-is = ap (λ (x : Loan). x .offset) is ∙ sym (cell-row loans 2 loanWords k)
+
+  pub units-told : (r : Bool) → r ≡ (eqb (l .size) 0 || units s l) → r ≡ unitsOk s (seen 0 n 0 loans [] []) k
+  unfolding unitsOk
+  units-told r e = e ∙ rw (lt-ltb k n used, sym size-is, sym offset-is) (twice (eqb (l .size) 0) (units s l))

@@ -1,0 +1,66 @@
+-- The test of the trees is that of the chunks, of the pairs and of the loans, each of what its code is given. Assumes nothing.
+use mathlib.Core.Path.{_≡_, sym, _∙_}
+use mathlib.Core.Bool.{Bool, true, false, _&&_, not}
+use mathlib.Core.List.{List}
+use Prim.Native.Nat.{ℕ, _+_}
+use lib.ListN.{getD}
+use Rattle.lists.proofs.Bools.{not-yes, not-no}
+use Rattle.counter.specs.declared.settings.BuddySettings.{BuddySettings}
+use Rattle.buddy_levels.specs.Level.{usedAt}
+use Rattle.buddy_shape.specs.Seen.{read, seen, looked}
+use Rattle.buddy_stores.specs.Tables.{Tables, levelsIn, placesIn, chunkPlacesIn, levelAfter}
+use Rattle.buddy_stores.specs.Test.{every, chunkOk, pairOk, loanOk, treesOk}
+use Rattle.buddy_stores.proofs.Tests.{every-same}
+use Rattle.buddy_walk.proofs.Shows.{chunk-shows}
+use Rattle.buddy_looks.proofs.Shows.{pairs-shown, loans-shown}
+
+module _ (s : BuddySettings) (levels places held : ℕ) (loans chunks tree : List ℕ) where
+  abbrev chunksPart : Bool
+  chunksPart = every (chunkOk s (seen levels places held loans chunks tree)) held
+
+  abbrev pairsPart : Bool
+  pairsPart = every (λ (l : ℕ). every (pairOk (read (s .minimal) (s .pairs) 0) (looked levels held chunks tree) l) (getD tree (levelAfter (s .pairs) l + usedAt) 0)) levels
+
+  abbrev loansPart : Bool
+  loansPart = every (loanOk (read (s .minimal) (s .pairs) (s .store .chunks)) (seen levels places held loans chunks tree)) places
+
+parts : (s : BuddySettings) (t : Tables)
+    → treesOk s t ≡ (chunksPart s (levelsIn t) (placesIn t) (chunkPlacesIn t) (t .loans) (t .chunks) (t .tree)
+    && (pairsPart s (levelsIn t) (placesIn t) (chunkPlacesIn t) (t .loans) (t .chunks) (t .tree) && loansPart s (levelsIn t) (placesIn t) (chunkPlacesIn t) (t .loans) (t .chunks) (t .tree)))
+unfolding treesOk
+parts s t =
+    let chunked : every (chunkOk s t) (chunkPlacesIn t) ≡ chunksPart s (levelsIn t) (placesIn t) (chunkPlacesIn t) (t .loans) (t .chunks) (t .tree) =
+    every-same (chunkOk s t) (chunkOk s (seen (levelsIn t) (placesIn t) (chunkPlacesIn t) (t .loans) (t .chunks) (t .tree))) (chunkPlacesIn t) (λ c h. chunk-shows s t (chunkPlacesIn t) c h h) in
+    λ j. chunked j && (pairs-shown s t j && loans-shown s t j)
+
+-- so it reads no more than these
+pub trees-shown : (s : BuddySettings) (t : Tables) → treesOk s t ≡ treesOk s (seen (levelsIn t) (placesIn t) (chunkPlacesIn t) (t .loans) (t .chunks) (t .tree))
+trees-shown s t = parts s t ∙ sym (parts s (seen (levelsIn t) (placesIn t) (chunkPlacesIn t) (t .loans) (t .chunks) (t .tree)))
+
+-- in turn, with what the code was told
+module _ (s : BuddySettings) (levels places held : ℕ) (loans chunks tree : List ℕ) where
+  abbrev whole : Bool
+  whole = treesOk s (seen levels places held loans chunks tree)
+
+  abbrev one : Bool
+  one = chunksPart s levels places held loans chunks tree
+
+  abbrev two : Bool
+  two = pairsPart s levels places held loans chunks tree
+
+  abbrev three : Bool
+  three = loansPart s levels places held loans chunks tree
+
+  is : whole ≡ (one && (two && three))
+  is = parts s (seen levels places held loans chunks tree)
+
+  module _ (c : Bool) (cs : c ≡ one) where
+    pub chunks-fail : not c ≡ true → false ≡ whole
+    chunks-fail f = sym (is ∙ (λ j. (sym cs ∙ not-yes c f) j && (two && three)))
+
+    module _ (ct : not c ≡ false) (p : Bool) (ps : p ≡ two) where
+      pub pairs-fail : not p ≡ true → false ≡ whole
+      pairs-fail f = sym (is ∙ (λ j. (sym cs ∙ not-no c ct) j && ((sym ps ∙ not-yes p f) j && three)))
+
+      pub loans-left : not p ≡ false → (r : Bool) → r ≡ three → r ≡ whole
+      loans-left pt r e = e ∙ sym (is ∙ (λ j. (sym cs ∙ not-no c ct) j && ((sym ps ∙ not-no p pt) j && three)))

@@ -1,0 +1,31 @@
+use borrow.Author.Needs.{needs}
+use Rattle.buddy_test.proofs.Parts.{places-told}
+use Rattle.buddy_test.proofs.heads.are_places.Statement.{statement}
+use Rattle.buddy_test.proofs.heads.are_places.Tie as tie
+
+chunks-from-requires : tie.Need-chunks-from-requires
+chunks-from-requires c κs = search needs
+
+word-requires : tie.Need-word-requires
+word-requires c κs = search needs
+
+add-after : tie.Need-add-after
+add-after c = search needs
+
+add-after-2 : tie.Need-add-after-2
+add-after-2 c = search needs
+
+is-parted-requires : tie.Need-is-parted-requires
+is-parted-requires c κs = search needs
+
+returns : tie.Need-returns
+returns c =
+    let v = c .before in
+    let f = v .before in
+    let a = f .before .before .before .before .args in
+    places-told (a .s) (a .n) (f .chunks-from .result) (v .word .result) (a .chunks .now) (a .tree .now) (c .is-parted .result) (f .chunks-from .ensures .0) (v .word .ensures) (c .is-parted .ensures)
+
+pub are-places-spec : {M : Type 1} → statement M
+are-places-spec =
+    tie.close
+    (tie.spec chunks-from-requires word-requires add-after add-after-2 is-parted-requires returns)

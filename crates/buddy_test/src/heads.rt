@@ -1,0 +1,103 @@
+// The head, the slab of chunk places, the levels, and the loans' units.
+ghost use mathlib.Core.Path.{_≡_};
+ghost use mathlib.Core.Bool.{_&&_, _||_};
+ghost use mathlib.Core.List.{[]};
+ghost use Prim.Native.Nat.{_+_, _%_, _≤_};
+ghost use lib.Dec.{eqb, leb};
+ghost use lib.ListN.{getD};
+ghost use Rattle.counter.specs.InTable.{BuddyIn};
+ghost use Rattle.counter.specs.Limits.{levelsMost, pairsMost, loansMost};
+ghost use Rattle.slab.specs.Test.{partedOk};
+ghost use Rattle.buddy_levels.specs.Test.{goodOk};
+ghost use Rattle.buddy_stores.specs.Tables.{mark, markAt, levelsAt, initialLevels, levelAfter, vacantChunk, chunkAfter, chunkSlab};
+ghost use Rattle.buddy_stores.specs.Test.{every, unitsOk};
+ghost use Rattle.buddy_shape.specs.Seen.{seen, looked};
+use buddy_stores::AFTER_AT;
+use buddy_stores::CHUNK_SIZE_AT;
+use buddy_stores::CHUNK_WORDS;
+use buddy_stores::LEVELS_AT;
+use buddy_stores::MARK;
+use buddy_stores::MARK_AT;
+use buddy_stores::PLACE_WORDS;
+use counter::BuddySettings;
+use counter::LEVELS_MOST;
+use slab::Slab;
+use store_rules::Loan;
+
+// Whether the head has the mark, and the levels are as many as at first or more, and not too many.
+pub fn is_head(s: BuddySettings, head: &[u64]) -> bool
+    ensures { λ r. ⌜ r ≡ (eqb (getD (now (head .entry)) markAt 0) mark && (leb (initialLevels s) (getD (now (head .entry)) levelsAt 0) && leb (getD (now (head .entry)) levelsAt 0) levelsMost)) ⌝ }
+{
+    let levels = words::word(head, LEVELS_AT);
+    let first = rounding::level(s.initial, s.minimal) as u64;
+    let most = LEVELS_MOST as u64;
+    (words::word(head, MARK_AT) == MARK) & ((first <= levels) & (levels <= most))
+}
+
+// Whether the first n chunk places are parted into used and vacant ones.
+pub fn are_places(s: BuddySettings, n: u64, chunks: &[u64], tree: &[u64]) -> bool
+    requires { ⌜ BuddyIn s ⌝ }
+    ensures { λ r. ⌜ r ≡ partedOk (vacantChunk (looked 0 n (now (chunks .entry)) (now (tree .entry)))) (chunkAfter s (looked 0 n (now (chunks .entry)) (now (tree .entry)))) (chunkSlab s (looked 0 n (now (chunks .entry)) (now (tree .entry)))) (s .store .chunks) ⌝ }
+{
+    let own = s.store;
+    let at = buddy_shape::chunks_from(s.pairs);
+    let places = Slab {
+        places: n,
+        vacant: words::word(tree, at),
+    };
+    let after = at + (1 + AFTER_AT);
+    slab::is_parted(
+        places,
+        own.chunks as u64,
+        chunks,
+        CHUNK_SIZE_AT,
+        CHUNK_WORDS,
+        tree,
+        after,
+        PLACE_WORDS,
+    )
+}
+
+// Whether the ring and the vacant places of each level are right.
+pub fn are_good(pairs: usize, levels: u64, tree: &[u64]) -> bool
+    requires { ⌜ (pairs ≤ pairsMost) × (levels ≤ levelsMost) ⌝ }
+    ensures { λ r. ⌜ r ≡ every (λ l. goodOk (levelAfter pairs l) pairs (now (tree .entry))) levels ⌝ }
+{
+    let mut l = 0;
+    while l < levels {
+        if !buddy_levels::is_good(
+            tree,
+            buddy_shape::level_from(pairs, l as usize),
+            pairs as u64,
+        ) {
+            return false;
+        }
+        l += 1;
+    }
+    true
+}
+
+// Whether a loan, where there is one, is of whole atom units.
+fn is_units(s: BuddySettings, l: Loan) -> bool
+    requires { ⌜ BuddyIn s ⌝ }
+    ensures { λ r. ⌜ r ≡ (eqb (l .size) 0 || (eqb (l .offset % (s .store .atom + 1)) 0 && eqb (l .size % (s .store .atom + 1)) 0)) ⌝ }
+{
+    let own = s.store;
+    let atom = own.atom;
+    (l.size == 0) | ((l.offset & atom == 0) & (l.size & atom == 0))
+}
+
+// Whether each loan in the first n places is.
+pub fn are_units(s: BuddySettings, n: u64, loans: &[u64]) -> bool
+    requires { ⌜ BuddyIn s × (n ≤ loansMost) ⌝ }
+    ensures { λ r. ⌜ r ≡ every (unitsOk s (seen 0 n 0 (now (loans .entry)) [] [])) n ⌝ }
+{
+    let mut k = 0;
+    while k < n {
+        if !is_units(s, book::loan_at(loans, k as usize)) {
+            return false;
+        }
+        k += 1;
+    }
+    true
+}

@@ -1,0 +1,88 @@
+// The test of a buddy store's tables. It reads each table as it stands, so that no word in one can make it fail.
+mod heads;
+mod memories;
+
+ghost use mathlib.Core.Path.{_≡_};
+ghost use Rattle.counter.specs.InTable.{BuddyIn};
+ghost use Rattle.counter.specs.Limits.{levelsMost, loansMost, chunksMost};
+ghost use Prim.Native.Nat.{_+_, _≤_, _<_};
+ghost use lib.ListN.{getD};
+ghost use Rattle.buddy_levels.specs.Level.{usedAt};
+ghost use Rattle.buddy_stores.specs.Tables.{tables, levelAfter};
+ghost use Rattle.buddy_stores.specs.Test.{treesOk, soundOk};
+ghost use Rattle.buddy_shape.specs.Seen.{seen};
+use buddy_stores::CHUNK_PLACES_AT;
+use buddy_stores::GIVEN_AT;
+use buddy_stores::LEVELS_AT;
+use buddy_stores::PLACES_AT;
+use counter::BuddySettings;
+
+// Whether every chunk, pair and loan stands where the others say.
+fn are_trees(
+    s: BuddySettings,
+    levels: u64,
+    places: u64,
+    held: u64,
+    loans: &[u64],
+    chunks: &[u64],
+    tree: &[u64],
+) -> bool
+    requires { ⌜ BuddyIn s × (levels ≤ levelsMost) × (places ≤ loansMost) × (held ≤ chunksMost) × ((l : _) → l < levels → getD (now tree) (levelAfter (s .pairs) l + usedAt) 0 ≤ s .pairs) ⌝ }
+    ensures { λ r. ⌜ r ≡ treesOk s (seen levels places held (now (loans .entry)) (now (chunks .entry)) (now (tree .entry))) ⌝ }
+{
+    let own = s.store;
+    if !buddy_walk::are_chunks(s, levels, places, held, loans, chunks, tree) {
+        return false;
+    }
+    if !buddy_looks::are_pairs(s.minimal, s.pairs, levels, held, chunks, tree) {
+        return false;
+    }
+    buddy_looks::are_lent(
+        s.minimal,
+        s.pairs,
+        own.chunks,
+        levels,
+        held,
+        places,
+        loans,
+        chunks,
+        tree,
+    )
+}
+
+// Whether the tables hold a sound store. The tests that read least come first, and each relies on those before it.
+pub fn is_sound(
+    s: BuddySettings,
+    head: &[u64],
+    loans: &[u64],
+    chunks: &[u64],
+    index: &[u64],
+    tree: &[u64],
+) -> bool
+    requires { ⌜ BuddyIn s ⌝ }
+    ensures { λ r. ⌜ r ≡ soundOk s (tables (now (head .entry)) (now (loans .entry)) (now (chunks .entry)) (now (index .entry)) (now (tree .entry))) ⌝ }
+{
+    if !heads::is_head(s, head) {
+        return false;
+    }
+    let own = s.store;
+    let levels = words::word(head, LEVELS_AT);
+    let places = words::word(head, PLACES_AT);
+    let held = words::word(head, CHUNK_PLACES_AT);
+    if !book::is_kept(loans, index, own.loans, places, words::word(head, GIVEN_AT)) {
+        return false;
+    }
+    if !heads::are_places(s, held, chunks, tree) {
+        return false;
+    }
+    if !memories::are_memories(chunks, held as usize) {
+        return false;
+    }
+    if !heads::are_good(s.pairs, levels, tree) {
+        return false;
+    }
+    if !are_trees(s, levels, places, held, loans, chunks, tree) {
+        return false;
+    }
+    heads::are_units(s, places, loans)
+}

@@ -1,0 +1,49 @@
+// The memory numbers of the chunks: none is held twice.
+ghost use mathlib.Core.Path.{_≡_};
+ghost use mathlib.Core.List.{[]};
+ghost use Prim.Native.Nat.{_≤_};
+ghost use lib.ListN.{length, take};
+ghost use Rattle.counter.specs.Limits.{chunksMost};
+ghost use Rattle.buddy_shape.specs.Seen.{read, looked};
+ghost use Rattle.buddy_stores.specs.Tables.{memories};
+ghost use Rattle.buddy_stores.specs.Test.{memoriesOk};
+use buddy_stores::CHUNK_SIZE_AT;
+use buddy_stores::CHUNK_WORDS;
+use buddy_stores::MEMORY_AT;
+use counter::CHUNKS_MOST;
+
+// The memory numbers of the chunks in the first n places, at the front of `found`. Answers how many.
+fn gather_held(chunks: &[u64], n: usize, found: &mut [u64]) -> usize
+    requires { ⌜ n ≤ length (now found) ⌝ }
+    ensures { λ r. ⌜ take r (now (found .exit)) ≡ memories (looked 0 n (now (chunks .entry)) []) n ⌝ }
+    ensures { λ r. ⌜ (r ≤ n) × (length (now (found .exit)) ≡ length (now (found .entry))) ⌝ }
+{
+    let mut k = 0;
+    let mut c = 0;
+    while c < n {
+        if words::cell(chunks, CHUNK_SIZE_AT, CHUNK_WORDS, c) != 0 {
+            found[k] = words::cell(chunks, MEMORY_AT, CHUNK_WORDS, c);
+            k += 1;
+        }
+        c += 1;
+    }
+    k
+}
+
+// Whether no two of the chunks in the first n places have one memory.
+pub fn are_memories(chunks: &[u64], n: usize) -> bool
+    requires { ⌜ n ≤ chunksMost ⌝ }
+    ensures { λ r. ⌜ r ≡ memoriesOk (read 0 0 0) (looked 0 n (now (chunks .entry)) []) ⌝ }
+{
+    let mut found = [0u64; CHUNKS_MOST];
+    are_apart(chunks, n, &mut found)
+}
+
+// The same, with room for the memory numbers.
+fn are_apart(chunks: &[u64], n: usize, found: &mut [u64]) -> bool
+    requires { ⌜ (n ≤ chunksMost) × (n ≤ length (now found)) ⌝ }
+    ensures { λ r. ⌜ r ≡ memoriesOk (read 0 0 0) (looked 0 n (now (chunks .entry)) []) ⌝ }
+{
+    let k = gather_held(chunks, n, found);
+    distinct::is_distinct(found, 0, 1, k)
+}

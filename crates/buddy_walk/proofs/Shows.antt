@@ -1,0 +1,50 @@
+-- What the walk down a chunk, and the test of a chunk, read: no more than their numbers and lists. Assumes nothing.
+use mathlib.Core.Path.{_≡_, refl, sym, _∙_}
+use mathlib.Core.Bool.{Bool, true, false, cond, _&&_}
+use Prim.Native.Nat.{ℕ, zero, suc, _+_, _/_, _%_, _<_}
+use lib.Dec.{eqb}
+use borrow.Author.Tests.{lt-ltb}
+use Rattle.counter.specs.declared.settings.BuddySettings.{BuddySettings}
+use Rattle.buddy_trees.specs.Trees.{bytes}
+use Rattle.buddy_rules.specs.Nodes.{Ent, L, R, nodeOf, place}
+use Rattle.buddy_shape.specs.Seen.{read, seen, walked}
+use Rattle.buddy_stores.specs.Tables.{Tables, levelsIn, placesIn, chunkPlacesIn, pairsIn}
+use Rattle.buddy_stores.specs.Test.{leafOk, entryOk, nodeOk, chunkOk}
+
+module _ (s : BuddySettings) (t : Tables) where
+  abbrev numbers : BuddySettings
+  numbers = read (s .minimal) (s .pairs) (s .store .chunks)
+
+  abbrev shown : Tables
+  shown = walked (placesIn t) (t .loans) (t .tree)
+
+  -- an entry by itself says all that is asked of it
+  pub entry-shows : (z : BuddySettings) (v : Tables) (e : Ent) (c o n : ℕ) → entryOk s t e c o n ≡ entryOk z v e c o n
+  unfolding entryOk
+  entry-shows z v e c o n = refl
+
+  leaf-shows : (k c l o n : ℕ) → leafOk s t k c l o n ≡ leafOk numbers shown k c l o n
+  unfolding leafOk
+  leaf-shows k c l o n = refl
+
+  pub node-shows : (l c o n w : ℕ) → nodeOk s t l c o n w ≡ nodeOk numbers shown l c o n w
+  unfolding nodeOk
+  node-shows zero c o n w = λ i. cond (eqb w 0) true (cond (eqb (w % 2) 1) (leaf-shows (w / 2) c zero o n i) false)
+  node-shows (suc l) c o n w =
+      let e = pairsIn s t l (place w) in
+      λ i. cond (eqb w 0) true
+      (cond (eqb (w % 2) 1) (leaf-shows (w / 2) c (suc l) o n i)
+      (entry-shows numbers shown e c o n i
+      && (node-shows l c o (nodeOf (place w) L) (e .left) i && node-shows l c (o + bytes (s .minimal) l) (nodeOf (place w) R) (e .right) i)))
+
+-- how many chunk places there are matters to a chunk no more than that its own is one of them
+module _ (s : BuddySettings) (t : Tables) (n c : ℕ) (used : c < chunkPlacesIn t) (within : c < n) where
+  abbrev others : Tables
+  others = seen (levelsIn t) (placesIn t) n (t .loans) (t .chunks) (t .tree)
+
+  pub chunk-shows : chunkOk s t c ≡ chunkOk s others c
+  unfolding chunkOk
+  chunk-shows = rw (lt-ltb c (chunkPlacesIn t) used, lt-ltb c n within, node-shows s t, node-shows s others)
+
+  pub chunk-told : (r x : Bool) → r ≡ chunkOk s t c → r ≡ x → chunkOk s others c ≡ x
+  chunk-told r x e i = sym chunk-shows ∙ sym e ∙ i

@@ -1,0 +1,120 @@
+use borrow.Author.Needs.{needs}
+use Prim.Native.Nat.{_+_, _≤_}
+use native.Mathlib.Omega.{arith}
+use Rattle.lists.proofs.Bools.{not-yes, not-no}
+use Rattle.rounding.proofs.Masks.{power-top}
+use Rattle.counter.specs.Limits.{levelsMost}
+use Rattle.buddy_shape.specs.Seen.{seen}
+use Rattle.buddy_walk.proofs.Tops.{chunk-none, chunk-high, chunk-off, chunk-walk, level-low, whole-room, small-in}
+use Rattle.buddy_walk.proofs.is_chunk.Statement.{statement}
+use Rattle.buddy_walk.proofs.is_chunk.Tie as tie
+
+cell-requires : tie.Need-cell-requires
+cell-requires c κs = search needs
+
+returns : tie.Need-returns
+returns c =
+    let n = c .before in
+    let a = n .before .before .before .before .args in
+    chunk-none (a .s) (seen (a .levels) (a .places) (a .c + 1) (a .loans .now) (a .chunks .now) (a .tree .now)) (a .c) (n .cell .result) (omega arith) (n .cell .ensures) (c .if1 .taken)
+
+level-requires : tie.Need-level-requires
+level-requires c κs = search needs
+
+cast-high : tie.Need-cast-high
+cast-high c = search needs
+
+level-requires-2 : tie.Need-level-requires-2
+level-requires-2 c κs = search needs
+
+cast-first : tie.Need-cast-first
+cast-first c = search needs
+
+returns-2 : tie.Need-returns-2
+returns-2 c =
+    let f = c .before in
+    let h = f .before in
+    let i = h .before in
+    let n = i .before in
+    let a = n .before .before .before .before .args in
+    chunk-high (a .s) (seen (a .levels) (a .places) (a .c + 1) (a .loans .now) (a .chunks .now) (a .tree .now)) (a .c) (n .cell .result) (omega arith) (n .cell .ensures)
+    (i .if1 .left) (h .level .result) (f .level2 .result) (h .level .ensures) (f .level2 .ensures) (not-yes _ (c .if2 .taken))
+
+chunks-from-requires : tie.Need-chunks-from-requires
+chunks-from-requires c κs = search needs
+
+add-cell : tie.Need-add-cell
+add-cell c = search needs
+
+cell-requires-2 : tie.Need-cell-requires-2
+cell-requires-2 c κs = search needs
+
+node-bytes-requires : tie.Need-node-bytes-requires
+node-bytes-requires c κs =
+    let g = c .before .before in
+    let f = g .before in
+    let h = f .before in
+    let p = h .before .before .before .before .before .before in
+    (power-top (p .pre .0 .minimal), omega (arith, level-low (h .level .result) (f .level2 .result) (p .args .levels) (not-no _ (g .if2 .left))))
+
+returns-3 : tie.Need-returns-3
+returns-3 c =
+    let m = c .before in
+    let b = m .before .before in
+    let g = b .before in
+    let f = g .before in
+    let h = f .before in
+    let i = h .before in
+    let n = i .before in
+    let a = n .before .before .before .before .args in
+    chunk-off (a .s) (seen (a .levels) (a .places) (a .c + 1) (a .loans .now) (a .chunks .now) (a .tree .now)) (a .c) (n .cell .result) (omega arith) (n .cell .ensures)
+    (i .if1 .left) (h .level .result) (f .level2 .result) (h .level .ensures) (f .level2 .ensures)
+    (b .chunks-from .result) (m .before .cell2 .result) (m .node-bytes .result) (b .chunks-from .ensures .0) (m .before .cell2 .ensures) (m .node-bytes .ensures .0) (c .if3 .taken)
+
+is-node-requires : tie.Need-is-node-requires
+is-node-requires c κs =
+    let m = c .before .before in
+    let b = m .before .before in
+    let g = b .before in
+    let f = g .before in
+    let h = f .before in
+    let i = h .before in
+    let p = i .before .before .before .before .before in
+    let a = p .args in
+    let low : h .level .result ≤ levelsMost = omega (arith, level-low (h .level .result) (f .level2 .result) (a .levels) (not-no _ (g .if2 .left))) in
+    (small-in (a .s) (a .places) (p .pre .0) (p .pre .2), low, omega (arith, whole-room (a .s .minimal) (h .level .result) low))
+
+returns-4 : tie.Need-returns-4
+returns-4 c =
+    let t = c .before .before in
+    let m = t .before in
+    let b = m .before .before in
+    let g = b .before in
+    let f = g .before in
+    let h = f .before in
+    let i = h .before in
+    let n = i .before in
+    let a = n .before .before .before .before .args in
+    chunk-walk (a .s) (seen (a .levels) (a .places) (a .c + 1) (a .loans .now) (a .chunks .now) (a .tree .now)) (a .c) (n .cell .result) (omega arith) (n .cell .ensures)
+    (i .if1 .left) (h .level .result) (f .level2 .result) (h .level .ensures) (f .level2 .ensures)
+    (b .chunks-from .result) (m .before .cell2 .result) (m .node-bytes .result) (b .chunks-from .ensures .0) (m .before .cell2 .ensures) (m .node-bytes .ensures .0)
+    (c .is-node .result) (not-no _ (g .if2 .left)) (t .if3 .left) (c .is-node .ensures)
+
+pub is-chunk-spec : {M : Type 1} → statement M
+is-chunk-spec =
+    tie.close
+    (tie.spec
+    cell-requires
+    returns
+    level-requires
+    cast-high
+    level-requires-2
+    cast-first
+    returns-2
+    chunks-from-requires
+    add-cell
+    cell-requires-2
+    node-bytes-requires
+    returns-3
+    is-node-requires
+    returns-4)

@@ -1,0 +1,47 @@
+use borrow.Author.Needs.{needs}
+use Rattle.buddy_shape.specs.Seen.{read, walked}
+use Rattle.buddy_walk.proofs.Downs.{leaf-past, leaf-is}
+use Rattle.buddy_walk.proofs.walk.is_leaf.Statement.{statement}
+use Rattle.buddy_walk.proofs.walk.is_leaf.Tie as tie
+
+returns : tie.Need-returns
+returns c =
+    let a = c .before .before .before .args in
+    leaf-past (read (a .minimal) (a .pairs) (a .chunks)) (walked (a .places) (a .loans .now) (a .tree .now)) (a .place) (a .chunk) (a .level) (a .offset) (a .node) (c .if1 .taken)
+
+loan-at-requires : tie.Need-loan-at-requires
+loan-at-requires c κs = search needs
+
+nodes-from-requires : tie.Need-nodes-from-requires
+nodes-from-requires c κs = search needs
+
+add-at : tie.Need-add-at
+add-at c = search needs
+
+node-bytes-requires : tie.Need-node-bytes-requires
+node-bytes-requires c κs = search needs
+
+word-requires : tie.Need-word-requires
+word-requires c κs = search needs
+
+returns-2 : tie.Need-returns-2
+returns-2 c =
+    let b = c .before .before .before .before .before in
+    let n = b .before in
+    let l = n .before in
+    let i = l .before in
+    let a = i .before .before .before .args in
+    leaf-is (read (a .minimal) (a .pairs) (a .chunks)) (walked (a .places) (a .loans .now) (a .tree .now)) (a .place) (a .chunk) (a .level) (a .offset) (a .node)
+    (l .loan-at .result) (b .node-bytes .result) (n .nodes-from .result) (c .word .result) (l .loan-at .ensures) (b .node-bytes .ensures .0) (n .nodes-from .ensures .0) (c .word .ensures) (i .if1 .left)
+
+pub is-leaf-spec : {M : Type 1} → statement M
+is-leaf-spec =
+    tie.close
+    (tie.spec
+    returns
+    loan-at-requires
+    nodes-from-requires
+    add-at
+    node-bytes-requires
+    word-requires
+    returns-2)

@@ -1,0 +1,23 @@
+-- What the walk down a chunk asks for, and what it says of a pair. Assumes nothing: these are definitions.
+use mathlib.Core.Bool.{Bool, _&&_}
+use Prim.Native.Nat.{ℕ, _+_, _^_, _≤_}
+use Rattle.counter.specs.Limits.{pairsMost, loansMost, chunksMost, minimalBits}
+use Rattle.counter.specs.declared.settings.BuddySettings.{BuddySettings}
+use Rattle.buddy_trees.specs.Trees.{bytes}
+use Rattle.buddy_rules.specs.Nodes.{L, R, nodeOf}
+use Rattle.buddy_stores.specs.Tables.{Tables, pairsIn}
+use Rattle.buddy_stores.specs.Test.{entryOk, nodeOk}
+
+-- the pair p that node n of level l + 1 is split into: its entry and its two halves
+abbrev pub halvesOk : BuddySettings → Tables → ℕ → ℕ → ℕ → ℕ → ℕ → Bool
+halvesOk s t l c o n p =
+    entryOk s t (pairsIn s t l p) c o n
+    && (nodeOk s t l c o (nodeOf p L) (pairsIn s t l p .left)
+    && nodeOk s t l c (o + bytes (s .minimal) l) (nodeOf p R) (pairsIn s t l p .right))
+
+-- the numbers are those of settings in the table
+pub record Small (minimal pairs chunks places : ℕ) : Type 0 where
+  pub short : minimal ≤ 2 ^ minimalBits
+  pub few-pairs : pairs ≤ pairsMost
+  pub few-chunks : chunks ≤ chunksMost
+  pub few-places : places ≤ loansMost

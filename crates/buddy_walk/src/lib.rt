@@ -1,0 +1,85 @@
+// The walk down each chunk of a buddy store, from its top node on.
+mod walk;
+
+ghost use mathlib.Core.Path.{_≡_};
+ghost use Prim.Native.Nat.{_+_, _≤_, _<_};
+ghost use Rattle.counter.specs.InTable.{BuddyIn};
+ghost use Rattle.counter.specs.Limits.{levelsMost, loansMost, chunksMost};
+ghost use Rattle.buddy_shape.specs.Seen.{seen};
+ghost use Rattle.buddy_stores.specs.Test.{every, chunkOk};
+use buddy_stores::CHUNK_SIZE_AT;
+use buddy_stores::CHUNK_WORDS;
+use buddy_stores::PLACE_WORDS;
+use counter::BuddySettings;
+use slab::NOWHERE;
+
+// Whether the chunk at a place, where there is one, has a size of the store's, and is right from its top node down. No
+// chunk is wholly free.
+fn is_chunk(
+    s: BuddySettings,
+    levels: u64,
+    places: u64,
+    c: u64,
+    loans: &[u64],
+    chunks: &[u64],
+    tree: &[u64],
+) -> bool
+    requires { ⌜ BuddyIn s × (levels ≤ levelsMost) × (places ≤ loansMost) × (c < chunksMost) ⌝ }
+    ensures { λ r. ⌜ r ≡ chunkOk s (seen levels places (c + 1) (now (loans .entry)) (now (chunks .entry)) (now (tree .entry))) c ⌝ }
+{
+    let size = words::cell(chunks, CHUNK_SIZE_AT, CHUNK_WORDS, c as usize);
+    if size == 0 {
+        return true;
+    }
+    let high = rounding::level(size, s.minimal) as u64;
+    let first = rounding::level(s.initial, s.minimal) as u64;
+    if !((0 < high) & ((first <= high) & (high <= levels))) {
+        return false;
+    }
+    let top = words::cell(
+        tree,
+        buddy_shape::chunks_from(s.pairs) + 1,
+        PLACE_WORDS,
+        c as usize,
+    );
+    if (size != buddy_shape::node_bytes(s.minimal, high)) | (top == 0) {
+        return false;
+    }
+    let own = s.store;
+    crate::walk::is_node(
+        s.minimal,
+        s.pairs,
+        own.chunks,
+        places,
+        high,
+        c,
+        0,
+        NOWHERE,
+        top,
+        loans,
+        tree,
+    )
+}
+
+// Whether each chunk in the first n places is.
+pub fn are_chunks(
+    s: BuddySettings,
+    levels: u64,
+    places: u64,
+    n: u64,
+    loans: &[u64],
+    chunks: &[u64],
+    tree: &[u64],
+) -> bool
+    requires { ⌜ BuddyIn s × (levels ≤ levelsMost) × (places ≤ loansMost) × (n ≤ chunksMost) ⌝ }
+    ensures { λ r. ⌜ r ≡ every (chunkOk s (seen levels places n (now (loans .entry)) (now (chunks .entry)) (now (tree .entry)))) n ⌝ }
+{
+    let mut c = 0;
+    while c < n {
+        if !is_chunk(s, levels, places, c, loans, chunks, tree) {
+            return false;
+        }
+        c += 1;
+    }
+    true
+}

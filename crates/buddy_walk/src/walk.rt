@@ -1,0 +1,167 @@
+// The walk down a chunk, as 01 has it: the node check calls the pair check, and that the node check on both halves.
+ghost use mathlib.Core.Path.{_≡_};
+ghost use mathlib.Core.List.{[]};
+ghost use Prim.Native.Nat.{_+_, _*_, _^_, _≤_, _<_};
+ghost use lib.Dec.{eqb};
+ghost use Rattle.counter.specs.Limits.{levelsMost};
+ghost use Rattle.buddy_trees.specs.Trees.{bytes};
+ghost use Rattle.buddy_rules.specs.Nodes.{tagOf};
+ghost use Rattle.buddy_levels.specs.Pairs.{entFrom};
+ghost use Rattle.buddy_stores.specs.Test.{leafOk, entryOk, nodeOk};
+ghost use Rattle.buddy_shape.specs.Seen.{read, walked};
+ghost use Rattle.buddy_walk.specs.Walks.{Small, halvesOk};
+use buddy_levels::Pair;
+
+// Whether a loan place has the loan of this node.
+fn is_leaf(
+    minimal: u64,
+    pairs: usize,
+    chunks: usize,
+    places: u64,
+    level: u64,
+    chunk: u64,
+    offset: u64,
+    node: u64,
+    place: u64,
+    loans: &[u64],
+    tree: &[u64],
+) -> bool
+    requires { ⌜ Small minimal pairs chunks places × (level ≤ levelsMost) ⌝ }
+    ensures { λ r. ⌜ r ≡ leafOk (read minimal pairs chunks) (walked places (now (loans .entry)) (now (tree .entry))) place chunk level offset node ⌝ }
+{
+    if places <= place {
+        return false;
+    }
+    let l = book::loan_at(loans, place as usize);
+    let at = buddy_shape::nodes_from(pairs, chunks) + place as usize;
+    let size = buddy_shape::node_bytes(minimal, level);
+    let stands = (l.chunk == chunk) & ((l.offset == offset) & (l.size == size));
+    (l.size != 0) & (stands & (words::word(tree, at) == node))
+}
+
+// The tag of a pair whose left and right nodes have these words.
+fn tag_of(left: u64, right: u64) -> u64
+    ensures { λ r. ⌜ r ≡ tagOf (eqb left 0) (eqb right 0) ⌝ }
+{
+    if left == 0 {
+        return 2;
+    }
+    if right == 0 { 3 } else { 1 }
+}
+
+// Whether a pair is that of this node, and ready where one of its nodes is free; not both, since they would be joined.
+fn is_entry(e: Pair, chunk: u64, offset: u64, node: u64) -> bool
+    ensures { λ r. ⌜ r ≡ entryOk (read 0 0 0) (walked 0 [] []) (entFrom e) chunk offset node ⌝ }
+{
+    let free = (e.left == 0) & (e.right == 0);
+    let stands = (e.chunk == chunk) & ((e.off == offset) & (e.up == node));
+    !free & ((e.tag == tag_of(e.left, e.right)) & stands)
+}
+
+// Whether a node, whose word this is, is free, on loan, or split into a pair that is right.
+pub fn is_node(
+    minimal: u64,
+    pairs: usize,
+    chunks: usize,
+    places: u64,
+    level: u64,
+    chunk: u64,
+    offset: u64,
+    node: u64,
+    word: u64,
+    loans: &[u64],
+    tree: &[u64],
+) -> bool
+    requires { ⌜ Small minimal pairs chunks places × (level ≤ levelsMost) × (offset + bytes minimal level ≤ bytes minimal levelsMost) ⌝ }
+    ensures { λ r. ⌜ r ≡ nodeOk (read minimal pairs chunks) (walked places (now (loans .entry)) (now (tree .entry))) level chunk offset node word ⌝ }
+{
+    if word == 0 {
+        return true;
+    }
+    let half = word / 2;
+    if word % 2 == 1 {
+        return is_leaf(
+            minimal,
+            pairs,
+            chunks,
+            places,
+            level,
+            chunk,
+            offset,
+            node,
+            half,
+            loans,
+            tree,
+        );
+    }
+    if level == 0 {
+        return false;
+    }
+    is_pair(
+        minimal,
+        pairs,
+        chunks,
+        places,
+        level - 1,
+        chunk,
+        offset,
+        node,
+        half - 1,
+        loans,
+        tree,
+    )
+}
+
+// Whether a node of the level above is split into the pair p, and both its halves are right.
+fn is_pair(
+    minimal: u64,
+    pairs: usize,
+    chunks: usize,
+    places: u64,
+    level: u64,
+    chunk: u64,
+    offset: u64,
+    node: u64,
+    p: u64,
+    loans: &[u64],
+    tree: &[u64],
+) -> bool
+    requires { ⌜ Small minimal pairs chunks places × (level < levelsMost) × (offset + 2 * bytes minimal level ≤ bytes minimal levelsMost) × (p < 2 ^ 63) ⌝ }
+    ensures { λ r. ⌜ r ≡ halvesOk (read minimal pairs chunks) (walked places (now (loans .entry)) (now (tree .entry))) level chunk offset node p ⌝ }
+{
+    let base = buddy_shape::level_from(pairs, level as usize);
+    let e = buddy_levels::pair_in(tree, base, p);
+    if !is_entry(e, chunk, offset, node) {
+        return false;
+    }
+    let l = 2 * p;
+    if !is_node(
+        minimal,
+        pairs,
+        chunks,
+        places,
+        level,
+        chunk,
+        offset,
+        l,
+        e.left,
+        loans,
+        tree,
+    ) {
+        return false;
+    }
+    let right = offset + buddy_shape::node_bytes(minimal, level);
+    is_node(
+        minimal,
+        pairs,
+        chunks,
+        places,
+        level,
+        chunk,
+        right,
+        l + 1,
+        e.right,
+        loans,
+        tree,
+    )
+}

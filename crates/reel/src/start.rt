@@ -1,0 +1,110 @@
+// What a store begins with: a fresh account, and tables of the lengths that its settings ask for.
+ghost use Prim.Native.Nat.{_+_, _*_, _≤_};
+use crate::calls::Settings;
+use crate::calls::store_of;
+use counter::Account;
+use counter::HEAPS;
+use counter::Heap;
+use counter::OpenOrder;
+use counter::Total;
+
+fn empty(size: u64) -> Heap {
+    let none = Total { hi: 0, lo: 0 };
+    Heap {
+        size: size,
+        used: 0,
+        allocated: none,
+        deallocated: none,
+    }
+}
+
+// Nothing is used of the heap with this number, and the others have no room.
+pub fn fresh_account(heap: usize, size: u64, objects: u32) -> Account {
+    let none = empty(0);
+    let heaps = [none; HEAPS];
+    let bare = Account {
+        heaps: heaps,
+        objects: objects,
+        order: OpenOrder::Nothing,
+    };
+    bare.settled(heap, empty(size), objects, OpenOrder::Nothing)
+}
+
+// How many words of each table a store is lent; `own` is a free list's regions or a buddy store's tree.
+pub struct Lengths {
+    pub head: usize,
+    pub loans: usize,
+    pub chunks: usize,
+    pub index: usize,
+    pub own: usize,
+}
+
+// The greatest limits that tables are lent for.
+pub struct Limits {
+    pub loans: usize,
+    pub chunks: usize,
+    pub pairs: usize,
+}
+
+fn least(a: usize, b: usize) -> usize
+    ensures { λ r. ⌜ r ≤ b ⌝ }
+{
+    if a < b { a } else { b }
+}
+
+fn free_list_lengths(loans: usize, chunks: usize) -> Lengths
+    requires { ⌜ loans ≤ 512 ⌝ }
+    requires { ⌜ chunks ≤ 64 ⌝ }
+    ensures { λ r. ⌜ r .head ≤ 6 ⌝ }
+    ensures { λ r. ⌜ r .loans ≤ 4 * loans ⌝ }
+    ensures { λ r. ⌜ r .chunks ≤ 3 * chunks ⌝ }
+    ensures { λ r. ⌜ r .index ≤ 1 + 3 * loans ⌝ }
+    ensures { λ r. ⌜ r .own ≤ 3 * (loans + chunks) + 1 ⌝ }
+{
+    Lengths {
+        head: freelist_rules::HEAD_WORDS,
+        loans: store_rules::LOAN_WORDS * loans,
+        chunks: freelist_rules::CHUNK_WORDS * chunks,
+        index: 1 + book::ENTRY_WORDS * loans,
+        own: freelist_rules::REGION_WORDS * (loans + chunks) + 1,
+    }
+}
+
+fn buddy_lengths(loans: usize, chunks: usize, pairs: usize) -> Lengths
+    requires { ⌜ loans ≤ 512 ⌝ }
+    requires { ⌜ chunks ≤ 64 ⌝ }
+    requires { ⌜ pairs ≤ 256 ⌝ }
+    ensures { λ r. ⌜ r .head ≤ 6 ⌝ }
+    ensures { λ r. ⌜ r .loans ≤ 4 * loans ⌝ }
+    ensures { λ r. ⌜ r .chunks ≤ 3 * chunks ⌝ }
+    ensures { λ r. ⌜ r .index ≤ 1 + 3 * loans ⌝ }
+    ensures { λ r. ⌜ r .own ≤ 256 * (1 + pairs) + 3 * (loans + chunks) + 1 ⌝ }
+{
+    Lengths {
+        head: buddy_stores::HEAD_WORDS,
+        loans: store_rules::LOAN_WORDS * loans,
+        chunks: buddy_stores::CHUNK_WORDS * chunks,
+        index: 1 + book::ENTRY_WORDS * loans,
+        own: buddy_shape::nodes_from(pairs, chunks) + loans,
+    }
+}
+
+// No more than so many loans, chunks and pairs need, whatever the settings say: past the limits set-up refuses them.
+pub fn table_lengths(settings: Settings, most: Limits) -> Lengths
+    requires { ⌜ most .loans ≤ 512 ⌝ }
+    requires { ⌜ most .chunks ≤ 64 ⌝ }
+    requires { ⌜ most .pairs ≤ 256 ⌝ }
+    ensures { λ r. ⌜ r .head ≤ 6 ⌝ }
+    ensures { λ r. ⌜ r .loans ≤ 4 * (most .loans) ⌝ }
+    ensures { λ r. ⌜ r .chunks ≤ 3 * (most .chunks) ⌝ }
+    ensures { λ r. ⌜ r .index ≤ 1 + 3 * (most .loans) ⌝ }
+    ensures { λ r. ⌜ r .own ≤ 256 * (1 + most .pairs) + 3 * (most .loans + most .chunks) + 1 ⌝ }
+{
+    let store = store_of(settings);
+    let loans = least(store.loans, most.loans);
+    let chunks = least(store.chunks, most.chunks);
+    match settings {
+        Settings::FreeList(_) => free_list_lengths(loans, chunks),
+        Settings::Buddy(s) => buddy_lengths(loans, chunks, least(s.pairs, most.pairs)),
+    }
+}
