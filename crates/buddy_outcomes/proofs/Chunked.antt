@@ -88,7 +88,7 @@ module _ (s : BuddySettings) (t : Tables) (fit : BuddyIn s) (lengths : Lengths s
 
   -- ---- words of the head
 
-  head-places : chunkPlacesIn chunked ≡ q
+  pub head-places : chunkPlacesIn chunked ≡ q
   head-places = getD-set-same (t .head) chunkPlacesAt q 0 (omega (arith, lengths .head))
 
   head-other : (i : ℕ) → (i ≡ chunkPlacesAt → ⊥) → getD (chunked .head) i 0 ≡ getD (t .head) i 0
@@ -135,10 +135,10 @@ module _ (s : BuddySettings) (t : Tables) (fit : BuddyIn s) (lengths : Lengths s
     first-long : length first ≡ chunkWords * s .store .chunks
     first-long = length-set (t .chunks) (cellOf memoryAt chunkWords p) memory ∙ lengths .chunks
 
-    size-here : chunkSizeIn chunked p ≡ z
+    pub size-here : chunkSizeIn chunked (chunkSpot s t .place) ≡ z
     size-here = getD-set-same first (cellOf chunkSizeAt chunkWords p) z 0 (omega (arith, first-long))
 
-    size-other : (b : ℕ) → (b ≡ p → ⊥) → chunkSizeIn chunked b ≡ chunkSizeIn t b
+    pub size-other : (b : ℕ) → (b ≡ p → ⊥) → chunkSizeIn chunked b ≡ chunkSizeIn t b
     size-other b n =
         getD-set-other first (cellOf chunkSizeAt chunkWords p) (cellOf chunkSizeAt chunkWords b) z 0 (λ e. n (omega arith))
         ∙ getD-set-other (t .chunks) (cellOf memoryAt chunkWords p) (cellOf chunkSizeAt chunkWords b) memory 0 (λ e. omega arith)
@@ -165,10 +165,10 @@ module _ (s : BuddySettings) (t : Tables) (fit : BuddyIn s) (lengths : Lengths s
       spot : ((p ≡ chunkPlacesIn t) × (q ≡ chunkPlacesIn t + 1)) ⊎ ((p < chunkPlacesIn t) × (vacantChunk t p ≡ true) × (q ≡ chunkPlacesIn t))
       spot = inserted-where (vacantChunk t) (t .tree) (placeAt s afterAt) placeWords (chunkSlab s t) (s .store .chunks) (sound .chunks-parted) few
 
-      spot-low : ((p ≡ chunkPlacesIn t) × (q ≡ chunkPlacesIn t + 1)) ⊎ ((p < chunkPlacesIn t) × (q ≡ chunkPlacesIn t))
+      pub spot-low : ((p ≡ chunkPlacesIn t) × (q ≡ chunkPlacesIn t + 1)) ⊎ ((p < chunkPlacesIn t) × (q ≡ chunkPlacesIn t))
       spot-low = ⊎-elim (λ w. inl w) (λ w. inr (w .0, w .2)) spot
 
-      within-places : p < q
+      pub within-places : p < q
       within-places = ⊎-elim (λ w. omega (arith, w .0, w .1)) (λ w. omega (arith, w .0, w .1)) spot-low
 
       pub spot-dead : heldIn t (chunkSpot s t .place) ≡ false
@@ -178,10 +178,10 @@ module _ (s : BuddySettings) (t : Tables) (fit : BuddyIn s) (lengths : Lengths s
           by (inl w) = rw (le-ltb p (chunkPlacesIn t) (omega (arith, w .0)))
           by (inr w) = and-no (ltb p (chunkPlacesIn t)) (not (vacantChunk t p)) (ap not (w .1))
 
-      held-here : heldIn chunked p ≡ true
+      pub held-here : heldIn chunked (chunkSpot s t .place) ≡ true
       held-here = rw (head-places, size-here, lt-ltb p q within-places, ne-eqb z 0 some)
 
-      held-other : (b : ℕ) → (b ≡ p → ⊥) → heldIn chunked b ≡ heldIn t b
+      pub held-other : (b : ℕ) → (b ≡ p → ⊥) → heldIn chunked b ≡ heldIn t b
       held-other b n = rw (head-places, size-other b n, lower b p (chunkPlacesIn t) q spot-low n)
 
       high-here : highIn s chunked p ≡ levelsIn t

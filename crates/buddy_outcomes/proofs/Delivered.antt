@@ -1,7 +1,7 @@
 -- A delivery on a sound store leaves it sound, whatever it answers: the memory kept, lost, or refused. Assumes nothing.
 use mathlib.Core.Path.{_≡_, refl, sym, ap, subst, _∙_}
 use mathlib.Core.Bool.{Bool, true, false, cond, not, _&&_, _||_}
-use mathlib.Core.Logic.{_⊎_, ⊎-elim}
+use mathlib.Core.Logic.{⊎-elim}
 use mathlib.Core.List.{List, [], _∷_, _++_}
 use Prim.Native.Nat.{ℕ, zero, suc, _+_, _-_, _≤_, _<_}
 use native.Mathlib.Omega.{arith}
@@ -24,6 +24,7 @@ use Rattle.counter.specs.declared.answers.Outcome.{Outcome}
 use Rattle.counter.specs.declared.answers.Outcome.the-variants as O
 use Rattle.counter.specs.declared.settings.BuddySettings.{BuddySettings}
 use Rattle.counter.proofs.Gates.{passed}
+use Rattle.heap.specs.Heap.{bearsOk}
 use Rattle.slab.specs.Slab.{inserted}
 use Rattle.slab.specs.declared.Slab.{Slab}
 use Rattle.store_rules.specs.Delivery.{buddy, holds, suits, deliveryOk, mapped, fateOf}
@@ -35,6 +36,7 @@ use Rattle.buddy_levels.specs.Level.{spotIn, ringHead}
 use Rattle.buddy_stores.specs.Tables.{Tables, Lengths, levelsIn, placesIn, chunkPlacesIn, heldIn, memoryIn, levelFrom, placeAt, afterAt, placeWords, memories}
 use Rattle.buddy_stores.specs.Sound.{Sound}
 use Rattle.buddy_stores.specs.Test.{soundOk}
+use Rattle.buddy_stores.proofs.Decides.{tables-yes}
 use Rattle.slab.specs.Slab as Slab
 use Rattle.buddy_outcomes.specs.Gate.{lentOk, accountOk}
 use Rattle.buddy_outcomes.specs.Ask as Ask
@@ -42,11 +44,11 @@ use Rattle.buddy_outcomes.specs.Ask.{levelFor, grownFor, foundFor, chunk
 use Rattle.buddy_outcomes.specs.Deliver as Deliver
 use Rattle.buddy_outcomes.specs.Deliver.{stillOk, deliverGateOf, servedTables, carryFate, decideDeliver, planDeliver, carryDeliver, deliverOf}
 use Rattle.buddy_outcomes.proofs.Passing.{Lent, lent-in}
-use Rattle.buddy_outcomes.proofs.Plans.{Buys, buys}
+use Rattle.buddy_outcomes.proofs.Plans.{Buys, buys, buy-bears}
 use Rattle.buddy_outcomes.proofs.Rounds.{level-low}
 use Rattle.buddy_outcomes.proofs.Changed.{grown-lengths, grown-tables-sound, grown-count, grown-held, grown-places, grown-slab, grown-head, grown-spot}
 use Rattle.buddy_outcomes.proofs.Searches.{search-none, room-place, room-chunk, room-pair}
-use Rattle.buddy_outcomes.proofs.Served.{served-sound}
+use Rattle.buddy_outcomes.proofs.Served.{served-lengths, served-sound}
 
 -- ---- the chunk arrives
 
@@ -100,7 +102,13 @@ module _ (s : BuddySettings) (t : Tables) (fit : BuddyIn s) (lengths : Lengths s
     unfolding grownTables
     new-in c h e = new c (sym (grown-held s t fit lengths sound n more most c) ∙ h) e
 
-    arrived-sound : Sound s (servedTables s size mask memory z (grownTables s n t))
+    pub arrived-lengths : Lengths s (servedTables s size mask memory z (grownTables s n t))
+    arrived-lengths =
+        let e : bytes (s .minimal) (levelsIn (grownTables s n t)) ≡ z = ap (bytes (s .minimal)) count ∙ b .order in
+        subst (λ (x : ℕ). Lengths s (servedTables s size mask memory x (grownTables s n t))) e
+        (served-lengths s (grownTables s n t) fit (grown-lengths s t fit lengths sound n) grown-sound size mask memory (b .sized) (omega (arith, count)) new-in empty pair place spot)
+
+    pub arrived-sound : Sound s (servedTables s size mask memory z (grownTables s n t))
     arrived-sound =
         let e : bytes (s .minimal) (levelsIn (grownTables s n t)) ≡ z = ap (bytes (s .minimal)) count ∙ b .order in
         subst (λ (x : ℕ). Sound s (servedTables s size mask memory x (grownTables s n t))) e
@@ -117,7 +125,7 @@ holds-there m (x ∷ xs) ys e = by (holds-there m xs ys) (eqb x m) e
     by rest true e = absurd (true-false true refl e)
     by rest false e = rest e
 
-new-memory : (m : ℕ) (t : Tables) (n : ℕ) → holds m (memories t n) ≡ false → (c : ℕ) → c < n → heldIn t c ≡ true → memoryIn t c ≡ m → ⊥
+pub new-memory : (m : ℕ) (t : Tables) (n : ℕ) → holds m (memories t n) ≡ false → (c : ℕ) → c < n → heldIn t c ≡ true → memoryIn t c ≡ m → ⊥
 unfolding memories
 new-memory m t zero e c h k q = absurd (omega arith)
 new-memory m t (suc n) e c h k q =
@@ -136,10 +144,17 @@ new-memory m t (suc n) e c h k q =
         by true e = e
         by false e = refl
 
-held-low : (t : Tables) (c : ℕ) → heldIn t c ≡ true → c < chunkPlacesIn t
+pub held-low : (t : Tables) (c : ℕ) → heldIn t c ≡ true → c < chunkPlacesIn t
 held-low t c e = ltb-true c (chunkPlacesIn t) (and-left (ltb c (chunkPlacesIn t)) _ e)
 
 -- ---- the call
+
+-- a delivery passes the gate on a sound store alone
+pub gate-sound : (s : BuddySettings) (a : Account) (t : Tables) → deliverGateOf s a t ≡ pass → Sound s t
+unfolding deliverGateOf
+gate-sound s a t e =
+    let r = passed (gateRow (lentOk s a t) (orderFor (s .store .number) (a .order)) (soundOk s t && stillOk s a t (a .order)) (accountOk s a t)) e in
+    tables-yes s t (lent-in s a t (r .0) .settings) (and-left (soundOk s t) (stillOk s a t (a .order)) (r .1 .1 .0))
 
 module _ (s : BuddySettings) (a : Account) (o : Outcome) (t : Tables) (sound : Sound s t) where
   abbrev held : List ℕ
@@ -164,19 +179,27 @@ module _ (s : BuddySettings) (a : Account) (o : Outcome) (t : Tables) (sound : S
     fate-sound (O.Made m) e = made-sound m (m .mapping) (not-yes (holds (m .number) held) (and-left (not (holds (m .number) held)) (suits (k .order .map) (m .mapping)) e))
 
   -- what a passed gate says
-  record Open (k : KeptOrder) : Type 0 where
+  pub record Open (k : KeptOrder) : Type 0 where
     pub lent : Lent s a t
     pub buys-it : Buys s (k .ask .size) (k .ask .mask) t (k .order .size)
+    pub bears : bearsOk (heapAt a (s .store .heap)) (k .order .size) ≡ true
+    pub object : 0 < a .objects
+    pub covered : accountOk s a t ≡ true
 
-  opened : (k : KeptOrder) → a .order ≡ Kept k → deliverGateOf s a t ≡ pass → Open k
+  pub opened : (k : KeptOrder) → a .order ≡ Kept k → deliverGateOf s a t ≡ pass → Open k
   unfolding deliverGateOf
   opened k e g =
       let r = passed (gateRow (lentOk s a t) (orderFor (s .store .number) (a .order)) (soundOk s t && stillOk s a t (a .order)) (accountOk s a t)) g in
       let still : stillOk s a t (Kept k) ≡ true = ap (stillOk s a t) (sym e) ∙ and-right (soundOk s t) (stillOk s a t (a .order)) (r .1 .1 .0) in
       let l = leads-buy (s .store) (k .order) (decideAsk s (heapAt a (s .store .heap)) (a .objects) (k .ask .size) (k .ask .mask) t) still in
+      let z : k .order .size ≡ l .0 = ap (λ (x : Order). x .size) (l .2) in
+      let b = buy-bears s (heapAt a (s .store .heap)) (a .objects) (k .ask .size) (k .ask .mask) t (l .0) (l .1) in
       record {
         lent = lent-in s a t (r .0);
-        buys-it = subst (λ (z : ℕ). Buys s (k .ask .size) (k .ask .mask) t z) (sym (ap (λ (x : Order). x .size) (l .2))) (buys s (heapAt a (s .store .heap)) (a .objects) (k .ask .size) (k .ask .mask) t (l .0) (l .1));
+        bears = ap (bearsOk (heapAt a (s .store .heap))) z ∙ b .0;
+        object = b .1;
+        covered = r .1 .1 .1 .0;
+        buys-it = subst (λ (z : ℕ). Buys s (k .ask .size) (k .ask .mask) t z) (sym z) (buys s (heapAt a (s .store .heap)) (a .objects) (k .ask .size) (k .ask .mask) t (l .0) (l .1));
       }
 
   after : (v : Verdict) → deliverGateOf s a t ≡ v → (ord : OpenOrder) → a .order ≡ ord → Sound s (carryDeliver s a t (Deliver.gated v (decideDeliver o held ord)) .tables)

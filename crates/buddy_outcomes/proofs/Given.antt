@@ -32,7 +32,7 @@ use Rattle.buddy_rules.specs.Stores as Stores
 use Rattle.buddy_rules.proofs.Returned.{returned-sound}
 use Rattle.buddy_levels.specs.Level.{part}
 use Rattle.buddy_levels.proofs.Ops.{levelOps}
-use Rattle.buddy_stores.specs.Tables.{Tables, Lengths, givenIn, levelsIn, placesIn, chunkPlacesIn, chunkSizeIn, chunksFrom, nodesFrom, loanCell, loanIn, liveIn, heldIn, highIn, topIn, vacantChunk}
+use Rattle.buddy_stores.specs.Tables.{Tables, Lengths, givenIn, levelsIn, placesIn, chunkPlacesIn, memoryIn, chunkSizeIn, chunksFrom, nodesFrom, loanCell, loanIn, liveIn, heldIn, highIn, topIn, vacantChunk}
 use Rattle.buddy_stores.specs.Sound.{Sound}
 use Rattle.buddy_stores.specs.Moves.{Climbed, climbed}
 use Rattle.buddy_stores.proofs.Abstract.{storeOf, treeIn, sound-store, Sizes, store-trees}
@@ -262,3 +262,13 @@ module _ (s : BuddySettings) (t : Tables) (fit : BuddyIn s) (lengths : Lengths s
   pub given-sound : Sound s (givenTables s b (wordFor s b t) t)
   unfolding givenTables
   given-sound = after-sound few-pairs (r .freed) refl
+
+  -- a chunk that is held still was so, and is as long as it was
+  pub given-held : (x : ℕ) → heldIn (givenTables s b (wordFor s b t) t) x ≡ true → (heldIn t x ≡ true) × (chunkSizeIn (givenTables s b (wordFor s b t) t) x ≡ chunkSizeIn t x)
+  unfolding givenTables
+  given-held x h = let z = still-held s t c (r .tree) loans′ index′ lengths (past few-pairs) (r .freed) x h in (z .0, z .1)
+
+  -- memory numbers stay as they were
+  pub given-memory : (x : ℕ) → memoryIn (givenTables s b (wordFor s b t) t) x ≡ memoryIn t x
+  unfolding givenTables
+  given-memory x = memory-by s t c (r .tree) loans′ index′ lengths (past few-pairs) (r .freed) x

@@ -1,11 +1,13 @@
--- Test 7 in the paper's words: it holds exactly when a loan has the block's serial, chunk, offset and size. Assumes nothing.
+-- Test 7 in the paper's words: it holds exactly when a loan has the block's serial, chunk, offset and size; and a loan's serial
+-- was given. Assumes nothing.
 use mathlib.Core.Path.{_≡_, refl, ap, subst, _∙_}
-use mathlib.Core.Bool.{true, false, not, _&&_}
-use Prim.Native.Nat.{ℕ, _<_}
+use mathlib.Core.Bool.{true, false, not}
+use Prim.Native.Nat.{ℕ, _%_, _≤_, _<_}
+use native.Mathlib.Nat.{mod-lt}
 use native.Mathlib.Omega.{arith}
 use lib.Dec.{eqb, ltb}
 use lib.ListN.{getD}
-use borrow.Author.Tests.{eqb-true, eqb-false, eq-eqb, ne-eqb, lt-ltb, ltb-true}
+use borrow.Author.Tests.{eqb-false, ne-eqb, lt-ltb, ltb-true}
 use Rattle.lists.proofs.Bools.{and-left, and-right, and-both, not-yes}
 use Rattle.words.specs.Rows.{row}
 use Rattle.words.proofs.Records.{cell-row}
@@ -15,30 +17,14 @@ use Rattle.counter.specs.declared.settings.BuddySettings.{BuddySettings}
 use Rattle.slab.specs.Slab.{nowhere}
 use Rattle.store_rules.specs.Loans.{loanWords, serialAt, sizeAt, loanRow, loan}
 use Rattle.store_rules.specs.declared.Loan.{Loan}
+use Rattle.store_rules.proofs.Loaned.{loan-is, same-self}
 use Rattle.book.specs.Book.{indexWords, serialOf, wordTo}
+use Rattle.book.proofs.Falling.{falling-most}
 use Rattle.book.proofs.Keeps.{freeIn, found}
 use Rattle.book.proofs.Uses.{leads-used}
-use Rattle.buddy_stores.specs.Tables.{Tables, Lengths, givenIn, placesIn, loanCell, liveIn}
+use Rattle.buddy_stores.specs.Tables.{Tables, Lengths, givenIn, placesIn, loanCell, liveIn, chainStart, chainNext}
 use Rattle.buddy_stores.specs.Sound.{Sound}
 use Rattle.buddy_outcomes.specs.Return.{wordFor, sameLoan, onLoanOk}
-
--- a loan that is told to be the block's is the block
-loan-is : (b : Block) (l : Loan) → sameLoan b l ≡ true → l ≡ loan (b .serial) (b .chunk) (b .offset) (b .size)
-loan-is b l e =
-    let p = eqb (l .serial) (b .serial) in
-    let q = eqb (l .chunk) (b .chunk) in
-    let r = eqb (l .offset) (b .offset) in
-    let z = eqb (l .size) (b .size) in
-    let f : (q && (r && z)) ≡ true = and-right p (q && (r && z)) e in
-    let g : (r && z) ≡ true = and-right q (r && z) f in
-    let ep = eqb-true (l .serial) (b .serial) (and-left p (q && (r && z)) e) in
-    let eq = eqb-true (l .chunk) (b .chunk) (and-left q (r && z) f) in
-    let er = eqb-true (l .offset) (b .offset) (and-left r z g) in
-    let ez = eqb-true (l .size) (b .size) (and-right r z g) in
-    (λ i. record { serial = ep i; chunk = eq i; offset = er i; size = ez i })
-
-same-self : (b : Block) → sameLoan b (loan (b .serial) (b .chunk) (b .offset) (b .size)) ≡ true
-same-self b = and-both _ _ (eq-eqb (b .serial) (b .serial) refl) (and-both _ _ (eq-eqb (b .chunk) (b .chunk) refl) (and-both _ _ (eq-eqb (b .offset) (b .offset) refl) (eq-eqb (b .size) (b .size) refl)))
 
 -- a place of a live loan is one in use, in the book's words, and back
 pub live-used : (t : Tables) (k : ℕ) → liveIn t k ≡ true → (k < placesIn t) × (freeIn (t .loans) k ≡ false)
@@ -49,6 +35,13 @@ live-used t k h =
 
 pub used-live : (t : Tables) (k : ℕ) → k < placesIn t → freeIn (t .loans) k ≡ false → liveIn t k ≡ true
 used-live t k h u = and-both _ _ (lt-ltb k (placesIn t) h) (ap not u)
+
+-- a live loan's serial was given
+pub live-given : (s : BuddySettings) (t : Tables) → BuddyIn s → Sound s t → (k : ℕ) → liveIn t k ≡ true → serialOf (t .loans) k ≤ givenIn t
+live-given s t fit sound k h =
+    let u = live-used t k h in
+    let c = sound .chained (serialOf (t .loans) k % s .store .loans) (mod-lt (serialOf (t .loans) k) (fit .store .loans-some)) in
+    falling-most (freeIn (t .loans)) (chainStart t) (chainNext t) (serialOf (t .loans)) (givenIn t) (c .members) (c .falling) k (c .all k (u .0) (u .1) refl)
 
 module _ (s : BuddySettings) (t : Tables) (fit : BuddyIn s) (lengths : Lengths s t) (sound : Sound s t) (b : Block) where
   pub on-loan-is : onLoanOk s b t ≡ true

@@ -1,8 +1,8 @@
 -- What a passed gate says of the store and the account. Assumes nothing.
 use mathlib.Core.Path.{_≡_, sym}
 use mathlib.Core.Bool.{Bool, true, _&&_}
-use borrow.Author.Tests.{eqb-true}
-use Rattle.lists.proofs.Bools.{and-left, and-right, all-each}
+use borrow.Author.Tests.{eqb-true, eq-eqb}
+use Rattle.lists.proofs.Bools.{and-left, and-right, all-each, each-all}
 use Rattle.counter.specs.Gate.{pass}
 use Rattle.counter.specs.InTable.{BuddyIn}
 use Rattle.counter.specs.Table.{buddyOk, heapsOk}
@@ -28,6 +28,11 @@ lengths-are s t e =
       index = eqb-true _ _ (r .1 .1 .1 .0);
       tree = eqb-true _ _ (r .1 .1 .1 .1 .0);
     }
+
+pub are-lengths : (s : BuddySettings) (t : Tables) → Lengths s t → lengthsOk s t ≡ true
+unfolding lengthsOk
+are-lengths s t w =
+    each-all (lengthsRow s t) (eq-eqb _ _ (w .head), (eq-eqb _ _ (w .loans), (eq-eqb _ _ (w .chunks), (eq-eqb _ _ (w .index), (eq-eqb _ _ (w .tree), tt)))))
 
 -- what test 1 says
 pub record Lent (s : BuddySettings) (a : Account) (t : Tables) : Type 0 where

@@ -6,16 +6,17 @@ use Prim.Native.Nat.{ℕ, _<_}
 use native.Mathlib.Omega.{arith}
 use lib.Dec.{ltb}
 use borrow.Author.Tests.{ltb-true}
-use Rattle.lists.proofs.Bools.{true-false, and-left}
+use Rattle.lists.proofs.Bools.{true-false, and-left, and-right}
 use Rattle.counter.specs.Gate.{Verdict, refuse, pass, first}
 use Rattle.counter.specs.Table.{alignmentOk}
 use Rattle.counter.specs.declared.account.Heap.{Heap}
 use Rattle.counter.specs.declared.settings.BuddySettings.{BuddySettings}
 use Rattle.counter.proofs.Gates.{passed, same-number}
+use Rattle.heap.specs.Heap.{bearsOk}
 use Rattle.store_rules.specs.Orders.{Plan, deny, take, buy}
 use Rattle.buddy_trees.specs.Trees.{bytes}
 use Rattle.buddy_stores.specs.Tables.{Tables, givenIn}
-use Rattle.buddy_outcomes.specs.Ask.{spent, Found, nowhere, at, grownFor, foundFor, sizeOk, roomOk, countOk, objectsOk, askRow, planned, decideAsk}
+use Rattle.buddy_outcomes.specs.Ask.{spent, Found, nowhere, at, grownFor, foundFor, orderFor, sizeOk, roomOk, countOk, objectsOk, askRow, planned, decideAsk}
 
 -- ---- no plan is two
 
@@ -57,6 +58,12 @@ pub record Buys (s : BuddySettings) (size mask : ℕ) (t : Tables) (z : ℕ) : T
   pub serial : givenIn t < spent
   pub order : bytes (s .minimal) (grownFor s size mask t) ≡ z
 
+-- a plan to buy: the search found no level, every test held, and the order is for this many bytes
+pub planned-buy : (s : BuddySettings) (size mask : ℕ) (t : Tables) (z : ℕ) (f : Found) (v : Verdict) → planned s size mask t f v ≡ buy z → (f ≡ nowhere) × (v ≡ pass) × (z ≡ orderFor s size mask t)
+planned-buy s size mask t z f (refuse n) p = absurd (true-false true refl (sym (ap isBuy p)))
+planned-buy s size mask t z (at i) pass p = absurd (true-false true refl (sym (ap isBuy p)))
+planned-buy s size mask t z nowhere pass p = (refl, refl, sym (ap numberIn p))
+
 -- 9 comes after the tests of mask and size
 before-nine : (a b c d e : Bool) → first ((a, 5) ∷ (b, 6) ∷ (c, 8) ∷ (d, 10) ∷ (e, 9) ∷ []) ≡ refuse 9 → (a ≡ true) × (b ≡ true)
 before-nine true true c d e h = (refl, refl)
@@ -90,6 +97,20 @@ module _ (s : BuddySettings) (h : Heap) (objects size mask : ℕ) (t : Tables) w
   pub buys : (z : ℕ) → decideAsk s h objects size mask t ≡ buy z → Buys s size mask t z
   unfolding decideAsk
   buys z p = buy-by z (foundFor s size mask t) refl _ refl p
+
+  bears-by : (z : ℕ) (f : Found) (v : Verdict) → first (askRow s h objects size mask t f) ≡ v → planned s size mask t f v ≡ buy z → (bearsOk h z ≡ true) × (0 < objects)
+  unfolding countOk objectsOk
+  bears-by z f (refuse n) w p = absurd (true-false true refl (sym (ap isBuy p)))
+  bears-by z (at i) pass w p = absurd (true-false true refl (sym (ap isBuy p)))
+  bears-by z nowhere pass w p =
+      let r = passed (askRow s h objects size mask t nowhere) w .1 .1 .1 in
+      let b : bearsOk h (orderFor s size mask t) ≡ true = and-right (ltb (givenIn t) spent) (bearsOk h (orderFor s size mask t)) (r .0) in
+      (subst (λ (x : ℕ). bearsOk h x ≡ true) (ap numberIn p) b, ltb-true 0 objects (r .1 .0))
+
+  -- the heap bears what is ordered, and a device object remains
+  pub buy-bears : (z : ℕ) → decideAsk s h objects size mask t ≡ buy z → (bearsOk h z ≡ true) × (0 < objects)
+  unfolding decideAsk
+  buy-bears z p = bears-by z (foundFor s size mask t) _ refl p
 
   nine-by : (f : Found) (v : Verdict) → first (askRow s h objects size mask t f) ≡ v → planned s size mask t f v ≡ deny 9 → (alignmentOk mask ≡ true) × (sizeOk s size mask ≡ true)
   nine-by (at i) pass w p = absurd (true-false true refl (sym (ap isDeny p)))

@@ -40,7 +40,7 @@ module _ (s : BuddySettings) (a : Account) (b : Block) (t : Tables) (list : List
   return-comes = after-return (gateOf s a t (listOk (s .store) list)) refl
 
   -- what is written is the same whether the chunk goes or stays
-  given-tables : (w : ℕ) → releasedBy s a b w t list .tables ≡ givenTables s b w t
+  pub given-tables : (w : ℕ) → releasedBy s a b w t list .tables ≡ givenTables s b w t
   unfolding releasedBy
   given-tables w = ⊎-elim (λ e. rw e) (λ e. rw e) (told (climbFor s b w t .freed))
 

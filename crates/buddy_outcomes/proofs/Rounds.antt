@@ -1,5 +1,5 @@
--- What is looked for: its size is that of its level, which is below 32, and of whole atom units; and the initial levels are at
--- most 32. Assumes nothing.
+-- What is looked for: its size is that of its level, which is below 32, is no less than was asked for, and is of whole units of
+-- the atom mask and of the ask's; and the initial levels are at most 32. Assumes nothing.
 use mathlib.Core.Path.{_≡_, refl, sym, ap, _∙_}
 use mathlib.Core.Bool.{true}
 use mathlib.Core.Logic.{⊎-elim}
@@ -10,7 +10,7 @@ use lib.Dec.{ltb}
 use lib.Pow.{pow-add, pow-lt, pow-mono}
 use borrow.Author.Tests.{ltb-true}
 use Rattle.lists.proofs.Bools.{and-left, and-right, lt-or-le}
-use Rattle.rounding.specs.Masks.{Power}
+use Rattle.rounding.specs.Masks.{Ones, Power}
 use Rattle.rounding.specs.Raising.{upTo, bits, powerUp}
 use Rattle.rounding.proofs.Levels.{level-logs, level-doubles}
 use Rattle.rounding.proofs.Masks.{ones-size}
@@ -18,7 +18,9 @@ use Rattle.rounding.proofs.Powers.{log-lt, log-le, power-multiple, bits-zero, b
 use Rattle.rounding.proofs.Raising.{up-enough, up-multiple}
 use Rattle.counter.specs.InTable.{BuddyIn}
 use Rattle.counter.specs.Limits.{levelsMost}
+use Rattle.counter.specs.Table.{alignmentOk}
 use Rattle.counter.specs.declared.settings.BuddySettings.{BuddySettings}
+use Rattle.counter.proofs.Tables.{alignment-yes}
 use Rattle.buddy_trees.specs.Trees.{bytes}
 use Rattle.buddy_stores.specs.Tables.{initialLevels}
 use Rattle.buddy_outcomes.specs.Ask.{maskFor, sizeFor, levelFor, sizeOk}
@@ -79,12 +81,20 @@ module _ (s : BuddySettings) (fit : BuddyIn s) where
     log-below : log < fit .minimal .log + 32
     log-below = log-lt log (fit .minimal .log + 32) (rw (← minimal-up 32, ← log-is) below)
 
+    -- it holds what is looked for, raised
+    raised-in : raised ≤ sizeFor s size mask
+    raised-in =
+        let a : bits 64 (raised - 1) < 64 = omega (arith, log-below, fit .minimal .small) in
+        omega (arith, log-is, bits-few 64 (raised - 1) a)
+
+    -- and so the size itself
+    pub size-enough : size ≤ sizeFor s size mask
+    size-enough = omega (arith, raised-in, up-enough size (maskFor s mask))
+
     enough : maskFor s mask + 1 ≤ sizeFor s size mask
     enough =
-        let a : bits 64 (raised - 1) < 64 = omega (arith, log-below, fit .minimal .small) in
-        let b = bits-few 64 (raised - 1) a in
         let c = unit-least raised (maskFor s mask) (up-multiple size (maskFor s mask)) (omega (arith, some, up-enough size (maskFor s mask))) in
-        omega (arith, log-is)
+        omega (arith, raised-in)
 
     abbrev size-power : Power 63 (sizeFor s size mask)
     size-power = record { log = log; small = omega (arith, log-below, fit .minimal .small); is = log-is }
@@ -103,8 +113,14 @@ module _ (s : BuddySettings) (fit : BuddyIn s) where
     unfolding levelFor
     level-low = omega (arith, level-logs minimal-power size-power, log-below)
 
+    -- it is of whole units of a mask that is held
+    mask-units : {most : ℕ} (m : ℕ) → Ones most m → m ≤ maskFor s mask → sizeFor s size mask % (m + 1) ≡ 0
+    mask-units m a h =
+        let k : 2 ^ a .log ≤ 2 ^ log = rw (← ones-size a, ← log-is) (omega (arith, enough)) in
+        rw (ones-size a, log-is) (power-multiple (a .log) log (log-le (a .log) log k))
+
     pub size-units : sizeFor s size mask % (s .store .atom + 1) ≡ 0
-    size-units =
-        let a = fit .store .atom in
-        let h : 2 ^ a .log ≤ 2 ^ log = rw (← ones-size a, ← log-is) (omega (arith, enough)) in
-        rw (ones-size a, log-is) (power-multiple (a .log) log (log-le (a .log) log h))
+    size-units = mask-units (s .store .atom) (fit .store .atom) (omega arith)
+
+    pub size-aligned : alignmentOk mask ≡ true → sizeFor s size mask % (mask + 1) ≡ 0
+    size-aligned e = mask-units mask (alignment-yes mask e) (omega arith)

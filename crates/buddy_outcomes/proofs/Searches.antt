@@ -54,7 +54,7 @@ module _ (s : BuddySettings) (t : List ℕ) where
           (omega arith, omega arith, (λ k. eqb-false (head l) nowhere z (ap head q ∙ k)), λ j h k. absurd (omega arith))
 
 module _ (s : BuddySettings) (t : Tables) where
-  room-each : (l n : ℕ) → pairsRoom s t l n ≡ true → (j : ℕ) → l ≤ j → j < l + n → pairRoom s t j ≡ true
+  pub room-each : (l n : ℕ) → pairsRoom s t l n ≡ true → (j : ℕ) → l ≤ j → j < l + n → pairRoom s t j ≡ true
   unfolding pairsRoom
   room-each l zero e j h k = absurd (omega arith)
   room-each l (suc n) e j h k = ⊎-elim

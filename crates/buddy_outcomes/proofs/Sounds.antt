@@ -15,9 +15,10 @@ use Rattle.counter.specs.InTable.{BuddyIn}
 use Rattle.counter.specs.Table.{buddyOk, alignmentOk}
 use Rattle.counter.specs.declared.account.Account.{Account}
 use Rattle.counter.specs.declared.settings.BuddySettings.{BuddySettings}
-use Rattle.counter.proofs.Gates.{passed, same-number, never}
+use Rattle.counter.proofs.Gates.{passed, same-number}
 use Rattle.counter.proofs.Tables.{buddy-yes}
 use Rattle.store_rules.specs.Tests.{noOrder, gateRow}
+use Rattle.store_rules.proofs.Tested.{gate-low}
 use Rattle.buddy_stores.specs.Tables.{Tables, Lengths, lengthsOk}
 use Rattle.buddy_stores.specs.Sound.{Sound}
 use Rattle.buddy_stores.specs.Test.{soundOk}
@@ -41,11 +42,7 @@ set-up-sound s t e =
 
 -- none of the gate's numbers is 9
 pub gate-number : (a b c d : Bool) (n : ℕ) → first (gateRow a b c d) ≡ refuse n → eqb n 9 ≡ false
-gate-number false b c d n e = ne-eqb n 9 (λ z. omega (arith, same-number 1 n e))
-gate-number true false c d n e = ne-eqb n 9 (λ z. omega (arith, same-number 2 n e))
-gate-number true true false d n e = ne-eqb n 9 (λ z. omega (arith, same-number 3 n e))
-gate-number true true true false n e = ne-eqb n 9 (λ z. omega (arith, same-number 4 n e))
-gate-number true true true true n e = never n (sym e)
+gate-number a b c d n e = ne-eqb n 9 (λ z. omega (arith, gate-low a b c d n e))
 
 -- and where an ask's own is, its size is one that a level holds
 ask-number : (a b c d e : Bool) (n : ℕ) → first ((a, 5) ∷ (b, 6) ∷ (c, 8) ∷ (d, 10) ∷ (e, 9) ∷ []) ≡ refuse n → (eqb n 9 ≡ false) ⊎ (b ≡ true)

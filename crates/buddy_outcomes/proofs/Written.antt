@@ -30,6 +30,14 @@ module _ (loans : List ℕ) (n p : ℕ) (l : Loan) (long : length loans ≡ loan
   three-long : length three ≡ loanWords * n
   three-long = length-set two (cellOf 2 loanWords p) (l .offset) ∙ two-long
 
+  pub serial-here : getD (written loanRow p l loans) (cellOf 0 loanWords p) 0 ≡ l .serial
+  serial-here =
+      ap (λ (t : List ℕ). getD t (cellOf 0 loanWords p) 0) (by-words loans n p l long room)
+      ∙ getD-set-other three (cellOf 3 loanWords p) (cellOf 0 loanWords p) (l .size) 0 (λ e. omega arith)
+      ∙ getD-set-other two (cellOf 2 loanWords p) (cellOf 0 loanWords p) (l .offset) 0 (λ e. omega arith)
+      ∙ getD-set-other one (cellOf 1 loanWords p) (cellOf 0 loanWords p) (l .chunk) 0 (λ e. omega arith)
+      ∙ getD-set-same loans (cellOf 0 loanWords p) (l .serial) 0 (omega (arith, long))
+
   pub chunk-here : getD (written loanRow p l loans) (cellOf 1 loanWords p) 0 ≡ l .chunk
   chunk-here =
       ap (λ (t : List ℕ). getD t (cellOf 1 loanWords p) 0) (by-words loans n p l long room)

@@ -3,3 +3,4 @@ pub mod Ask
 pub mod Deliver
 pub mod Return
 pub mod SetUp
+pub mod Refusals

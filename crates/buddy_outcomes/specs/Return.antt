@@ -16,6 +16,7 @@ use Rattle.counter.specs.declared.settings.BuddySettings.{BuddySettings}
 use Rattle.slab.specs.Slab.{nowhere}
 use Rattle.store_rules.specs.Loans.{loanRow}
 use Rattle.store_rules.specs.Outcomes.{Listed, listed, listOk, releasedAccount}
+pub use Rattle.store_rules.specs.Views.{sameLoan}
 use Rattle.store_rules.specs.declared.Loan.{Loan}
 use Rattle.book.specs.Book.{wordTo, struck, struckIndex}
 use Rattle.buddy_stores.specs.Tables.{Tables, tables, chunkWords, chunkSizeAt, levelsIn, placesIn, memoryIn, chunkSizeIn, chunksFrom, placeAt, afterAt, placeWords, nodesFrom}
@@ -25,9 +26,6 @@ use Rattle.buddy_outcomes.specs.Gate.{gateOf}
 -- the word of the index that leads to the loan with the block's serial, and the loan's place
 abbrev pub wordFor : BuddySettings → Block → Tables → ℕ
 wordFor s b t = wordTo (t .loans) (t .index) (s .store .loans) (placesIn t) (b .serial)
-
-abbrev pub sameLoan : Block → Loan → Bool
-sameLoan b l = eqb (l .serial) (b .serial) && (eqb (l .chunk) (b .chunk) && (eqb (l .offset) (b .offset) && eqb (l .size) (b .size)))
 
 -- 7: "no loan has this serial, chunk, offset and size"
 unfoldable pub onLoanOk : BuddySettings → Block → Tables → Bool

@@ -20,7 +20,7 @@ use Rattle.buddy_rules.proofs.Returned.{free?, AllLive, sound-all, live
 
 module _ (u : ℕ) where
   -- a tree's loans have numbers
-  has-who : (l o : ℕ) (t : Tree) (y : Piece) → Has u l o t y → (k : ℕ) × (y .who ≡ k + 1)
+  pub has-who : (l o : ℕ) (t : Tree) (y : Piece) → Has u l o t y → (k : ℕ) × (y .who ≡ k + 1)
   has-who l o free y h = absurd h
   has-who l o (loan k) y h = (k, h .2)
   has-who zero o (split a b) y h = absurd h

@@ -3,13 +3,14 @@
 use mathlib.Core.Path.{_≡_, refl, sym, ap, _∙_, subst}
 use mathlib.Core.Bool.{true}
 use mathlib.Core.Logic.{_⊎_, inl, inr, ⊎-elim}
-use Prim.Native.Nat.{ℕ, zero, suc, _+_, _*_, _-_, _^_, _≤_, _<_}
+use Prim.Native.Nat.{ℕ, _+_, _*_, _-_, _^_, _≤_, _<_}
 use native.Mathlib.Nat.{zero-mul, mul-assoc}
 use native.Mathlib.Omega.{arith}
 use lib.Pow.{pow-pos}
 use Rattle.lists.proofs.Bools.{told}
 use Rattle.slab.specs.Slab.{nowhere}
 use Rattle.buddy_trees.specs.Trees.{Tree, Taken, Has, up, bytes, Free, Quiet}
+pub use Rattle.buddy_trees.proofs.Bytes.{up-add}
 use Rattle.buddy_trees.proofs.Bytes.{bytes-up, bytes-end}
 use Rattle.buddy_trees.proofs.Fills.{free-in, free-quiet, free-aligned}
 use Rattle.buddy_rules.specs.Nodes.{isFree}
@@ -20,10 +21,6 @@ use Rattle.buddy_rules.proofs.Frames.{rep-free}
 use Rattle.buddy_rules.proofs.Sides.{not-taken}
 use Rattle.buddy_rules.proofs.Readies.{ready-free}
 use Rattle.buddy_rules.proofs.Fits.{some-quiet, quiet-some}
-
-pub up-add : (d i : ℕ) → up d i ≡ i + d
-up-add zero i = omega arith
-up-add (suc d) i = omega (arith, up-add d i)
 
 -- a node is no longer than one above it
 no-longer : (u d lev : ℕ) → bytes u lev ≤ bytes u (up d lev)

@@ -10,3 +10,6 @@ pub mod Abstract
 pub mod Climbing
 pub mod Worded
 pub mod Splitting
+pub mod Viewed
+pub mod Named
+pub mod Onces

@@ -2,3 +2,4 @@ pub mod Tables
 pub mod Sound
 pub mod Test
 pub mod Moves
+pub mod Views

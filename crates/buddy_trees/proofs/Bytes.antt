@@ -1,9 +1,11 @@
 -- How long nodes are: one is twice as long as one of the level below. Assumes nothing.
 use mathlib.Core.Path.{_≡_, ap, sym, _∙_}
-use Prim.Native.Nat.{ℕ, zero, suc, _+_, _*_, _^_, _≤_, _<_}
-use native.Mathlib.Nat.{two-pow-succ, mul-add, add-mul, suc-mul, one-mul, mul-pos, mul-le-mul-right}
+use mathlib.Core.Logic.{⊎-elim}
+use Prim.Native.Nat.{ℕ, zero, suc, _+_, _-_, _*_, _%_, _^_, _≤_, _<_}
+use native.Mathlib.Nat.{two-pow-succ, mul-add, add-mul, suc-mul, one-mul, mul-pos, mul-le-mul-left, mul-le-mul-right, mul-assoc, mul-mod-left}
 use native.Mathlib.Omega.{arith}
-use lib.Pow.{pow-pos}
+use lib.Pow.{pow-pos, pow-mono}
+use Rattle.lists.proofs.Bools.{lt-or-le}
 use Rattle.buddy_trees.specs.Trees.{bytes, up}
 
 pub bytes-suc : (u l : ℕ) → bytes u (suc l) ≡ bytes u l + bytes u l
@@ -28,3 +30,23 @@ bytes-end u d lev q h = omega (arith, bytes-up u d lev, suc-mul q (bytes u lev),
 pub up-le : (d lev : ℕ) → lev ≤ up d lev
 up-le zero lev = omega arith
 up-le (suc d) lev = omega (arith, up-le d lev)
+
+pub up-add : (d i : ℕ) → up d i ≡ i + d
+up-add zero i = omega arith
+up-add (suc d) i = omega (arith, up-add d i)
+
+-- a node of a higher level is no shorter
+pub bytes-mono : (u l m : ℕ) → l ≤ m → bytes u l ≤ bytes u m
+unfolding bytes
+bytes-mono u l m h = mul-le-mul-left u (pow-mono {i = l} {j = m} h)
+
+-- and a shorter node is of a lower level
+pub bytes-lower : (u l m : ℕ) → 0 < u → bytes u l ≤ bytes u m → l ≤ m
+bytes-lower u l m p h = ⊎-elim (λ g. absurd (omega (arith, bytes-mono u (suc m) l (omega arith), bytes-suc u m, bytes-pos u m p))) (λ g. g) (lt-or-le m l)
+
+-- a multiple of a node's size is one of a lower node's
+pub bytes-multiple : (u l m q : ℕ) → l ≤ m → (q * bytes u m) % bytes u l ≡ 0
+bytes-multiple u l m q h =
+    let d = m - l in
+    let e : bytes u m ≡ 2 ^ d * bytes u l = ap (bytes u) (omega (arith, up-add d l)) ∙ bytes-up u d l in
+    ap (λ (n : ℕ). (q * n) % bytes u l) e ∙ ap (λ (n : ℕ). n % bytes u l) (sym (mul-assoc q (2 ^ d) (bytes u l))) ∙ mul-mod-left (q * 2 ^ d) (bytes u l)

@@ -35,7 +35,7 @@ module _ (u : ℕ) where
       taken (split a b) n = tt
 
   -- a split node's loan is below its level
-  split-low : (l o : ℕ) (a b : Tree) (y : Piece) → Has u l o (split a b) y → y .lev < l
+  pub split-low : (l o : ℕ) (a b : Tree) (y : Piece) → Has u l o (split a b) y → y .lev < l
   split-low zero o a b y h = absurd h
   split-low (suc l) o a b y (inl h) = let i = has-in u l o a y h in omega arith
   split-low (suc l) o a b y (inr h) = let i = has-in u l (o + bytes u l) b y h in omega arith

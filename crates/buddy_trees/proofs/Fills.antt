@@ -1,7 +1,7 @@
 -- What a tree fills: its pieces fill its node, end to end; its loans and free nodes lie in it and don't meet, and a free
 -- node stands at a multiple of its size. Assumes nothing.
-use mathlib.Core.Path.{_≡_, refl, ap, _∙_}
-use mathlib.Core.Logic.{inl, inr}
+use mathlib.Core.Path.{_≡_, refl, sym, ap, _∙_}
+use mathlib.Core.Logic.{_⊎_, inl, inr}
 use mathlib.Core.List.{List, [], _∷_, _++_}
 use Prim.Native.Nat.{ℕ, zero, suc, _+_, _*_, _≤_}
 use native.Mathlib.Nat.{add-mul, mul-add}
@@ -49,6 +49,16 @@ module _ (u : ℕ) where
   free-quiet (suc l) o (split a b) x m (inr f) y (inr h) = free-quiet l (o + bytes u l) b x m f y h
   free-quiet (suc l) o (split a b) x m (inl f) y (inr h) = let i = free-in l o a x m f in let j = has-in l (o + bytes u l) b y h in inr (omega (arith, i .1, j .0))
   free-quiet (suc l) o (split a b) x m (inr f) y (inl h) = let i = free-in l (o + bytes u l) b x m f in let j = has-in l o a y h in inl (omega (arith, i .0, j .1))
+
+  -- two loans don't meet
+  pub has-apart : (l o : ℕ) (t : Tree) (y z : Piece) → Has u l o t y → Has u l o t z → (y ≡ z → ⊥) → (y .at + bytes u (y .lev) ≤ z .at) ⊎ (z .at + bytes u (z .lev) ≤ y .at)
+  has-apart l o free y z h i ne = absurd h
+  has-apart l o (loan k) y z h i ne = absurd (ne (λ j. record { at = (h .0 ∙ sym (i .0)) j; lev = (h .1 ∙ sym (i .1)) j; who = (h .2 ∙ sym (i .2)) j }))
+  has-apart zero o (split a b) y z h i ne = absurd h
+  has-apart (suc l) o (split a b) y z (inl h) (inl i) ne = has-apart l o a y z h i ne
+  has-apart (suc l) o (split a b) y z (inr h) (inr i) ne = has-apart l (o + bytes u l) b y z h i ne
+  has-apart (suc l) o (split a b) y z (inl h) (inr i) ne = inl (omega (arith, has-in l o a y h .1, has-in l (o + bytes u l) b z i .0))
+  has-apart (suc l) o (split a b) y z (inr h) (inl i) ne = inr (omega (arith, has-in l o a z i .1, has-in l (o + bytes u l) b y h .0))
 
   half : (l q : ℕ) → q * bytes u (suc l) ≡ (q + q) * bytes u l
   half l q = omega (arith, ap (λ (n : ℕ). q * n) (bytes-suc u l), mul-add q (bytes u l) (bytes u l), add-mul q q (bytes u l))

@@ -15,8 +15,8 @@ use Rattle.store_rules.specs.Outcomes.{Listed, listed, releasedAccount}
 use Rattle.freelist_rules.specs.Records.{chunkWords, regionWords, chunkRow, regionRow}
 use Rattle.freelist_rules.specs.Release.{staying, leaving, remaining, memoriesOf, bytesOf}
 use Rattle.freelist_rules.specs.Tables.{Tables, tables, chunksAt, countAt, storeOf, laidRegions}
-use Rattle.freelist_rules.specs.declared.Chunk.{Chunk}
-use Rattle.freelist_rules.specs.declared.Region.{Region}
+use Rattle.store_rules.specs.declared.Chunk.{Chunk}
+use Rattle.store_rules.specs.declared.Region.{Region}
 use Rattle.freelist_release.specs.Releasable.{Releasable}
 use Rattle.freelist_outcomes.specs.Return.{releasedTables, releaseOf}
 use Rattle.freelist.specs.Frees.{Frees}

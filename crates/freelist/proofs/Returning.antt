@@ -18,7 +18,7 @@ use Rattle.counter.specs.declared.settings.FreeListSettings.{FreeListSettings}
 use Rattle.store_rules.specs.Outcomes.{Listed, listed, listOk}
 use Rattle.freelist_rules.specs.Pieces.{total}
 use Rattle.freelist_rules.specs.Tables.{Tables, tables, chunksIn, storeOf}
-use Rattle.freelist_rules.specs.declared.Chunk.{Chunk}
+use Rattle.store_rules.specs.declared.Chunk.{Chunk}
 use Rattle.freelist_outcomes.specs.Gate.{accountOk, gateOf}
 use Rattle.freelist_outcomes.specs.Return.{Plan, deny, back, wordFor, onLoanOk, givenTables, decideReturn, gated, planReturn, releaseOf, carryReturn, returnOf, carryCleanUp, cleanUpOf}
 use Rattle.freelist_place.specs.Ready.{Backs}

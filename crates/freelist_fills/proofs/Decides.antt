@@ -17,8 +17,8 @@ use Rattle.store_rules.specs.declared.Loan.{Loan}
 use Rattle.freelist_rules.specs.Pieces.{piece, All}
 use Rattle.freelist_rules.specs.Tables.{ordered}
 use Rattle.freelist_rules.specs.Walk.{numbersRise, allOk, fillsOk}
-use Rattle.freelist_rules.specs.declared.Chunk.{Chunk}
-use Rattle.freelist_rules.specs.declared.Region.{Region}
+use Rattle.store_rules.specs.declared.Chunk.{Chunk}
+use Rattle.store_rules.specs.declared.Region.{Region}
 use Rattle.freelist_rules.proofs.Base.{on-in, total-mem}
 use Rattle.freelist_rules.proofs.Facts.{has, Small, held-where}
 use Rattle.freelist_rules.proofs.Gaps.{begins, stops, gapsOf-fill, inside-rise}

@@ -19,7 +19,7 @@ use Rattle.store_rules.specs.declared.Loan.{Loan}
 use Rattle.freelist_rules.specs.Records.{chunkRow}
 use Rattle.freelist_rules.specs.Steps.{noLoan}
 use Rattle.freelist_rules.specs.Walk.{allOk}
-use Rattle.freelist_rules.specs.declared.Chunk.{Chunk}
+use Rattle.store_rules.specs.declared.Chunk.{Chunk}
 use Rattle.freelist_rules.proofs.Turns.{and-no}
 use Rattle.freelist_fills.specs.Keys.{rankOf, homed, keyOf, keysFrom}
 use Rattle.freelist_fills.specs.Gathering.{KeysGathered}

@@ -19,7 +19,7 @@ use Rattle.store_rules.specs.declared.Loan.{Loan}
 use Rattle.freelist_rules.specs.Steps.{noLoan}
 use Rattle.freelist_rules.specs.Pieces.{total}
 use Rattle.freelist_rules.specs.Walk.{allOk}
-use Rattle.freelist_rules.specs.declared.Chunk.{Chunk}
+use Rattle.store_rules.specs.declared.Chunk.{Chunk}
 use Rattle.freelist_rules.proofs.Facts.{ChunksRise}
 use Rattle.freelist_rules.proofs.Gaps.{begins}
 use Rattle.freelist_fills.specs.Keys.{rankOf, homed, keyOf, keysFrom, ledTo, led}

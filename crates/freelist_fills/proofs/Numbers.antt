@@ -14,7 +14,7 @@ use Rattle.words.specs.Rows.{rows}
 use Rattle.words.proofs.Records.{length-rows}
 use Rattle.freelist_rules.specs.Records.{chunkRow}
 use Rattle.freelist_rules.specs.Walk.{numbersRise}
-use Rattle.freelist_rules.specs.declared.Chunk.{Chunk}
+use Rattle.store_rules.specs.declared.Chunk.{Chunk}
 use Rattle.freelist_rules.proofs.Decides.{numbers-yes}
 use Rattle.freelist_rules.proofs.Facts.{ChunksRise}
 use Rattle.freelist_regions.specs.Spot.{Parting, Parts}

@@ -17,8 +17,8 @@ use Rattle.store_rules.specs.declared.Loan.{Loan}
 use Rattle.freelist_rules.specs.Records.{region, regionRow}
 use Rattle.freelist_rules.specs.Steps.{noRegion}
 use Rattle.freelist_rules.specs.Walk.{same}
-use Rattle.freelist_rules.specs.declared.Chunk.{Chunk}
-use Rattle.freelist_rules.specs.declared.Region.{Region}
+use Rattle.store_rules.specs.declared.Chunk.{Chunk}
+use Rattle.store_rules.specs.declared.Region.{Region}
 use Rattle.freelist_rules.specs.Rest.{rest, nextIs}
 use Rattle.freelist_rules.proofs.Turns.{firstIn, and-no, rest-loan, rest-gap, rest-before, rest-empty, rest-past, rest-end, rest-tail, rest-over}
 use Rattle.freelist_fills.specs.Turn.{gapThen, within, GapPassed, LoanPassed}

@@ -7,7 +7,7 @@ use Rattle.words.specs.Words.{cellOf}
 use Rattle.words.specs.Rows.{rows}
 use Rattle.words.proofs.Records.{getD-rows, cell-row}
 use Rattle.freelist_rules.specs.Records.{chunk, chunkRow}
-use Rattle.freelist_rules.specs.declared.Chunk.{Chunk}
+use Rattle.store_rules.specs.declared.Chunk.{Chunk}
 
 abbrev pub noChunk : Chunk
 noChunk = chunk 0 0 0

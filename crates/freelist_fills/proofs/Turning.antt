@@ -15,8 +15,8 @@ use Rattle.words.proofs.Records.{length-rows, getD-rows}
 use Rattle.store_rules.specs.declared.Loan.{Loan}
 use Rattle.freelist_rules.specs.Records.{chunkRow, regionRow}
 use Rattle.freelist_rules.specs.Walk.{fillsOk}
-use Rattle.freelist_rules.specs.declared.Chunk.{Chunk}
-use Rattle.freelist_rules.specs.declared.Region.{Region}
+use Rattle.store_rules.specs.declared.Chunk.{Chunk}
+use Rattle.store_rules.specs.declared.Region.{Region}
 use Rattle.freelist_rules.specs.Rest.{rest}
 use Rattle.freelist_rules.proofs.Turns.{firstIn, rest-start, rest-done, rest-loan-left, rest-region-left}
 use Rattle.freelist_fills.specs.Keys.{ledTo, led}

@@ -7,7 +7,7 @@ use lib.ListN.{length, take}
 use Rattle.store_rules.specs.Loans.{onLoan}
 use Rattle.store_rules.specs.declared.Loan.{Loan}
 use Rattle.freelist_rules.specs.Walk.{allOk}
-use Rattle.freelist_rules.specs.declared.Chunk.{Chunk}
+use Rattle.store_rules.specs.declared.Chunk.{Chunk}
 use Rattle.freelist_fills.specs.Keys.{homed, keysFrom}
 use Rattle.freelist_fills.specs.declared.keys.Gathered.{Gathered}
 use Rattle.freelist_fills.specs.declared.keys.Gathered.the-variants.{Homeless, Keys}

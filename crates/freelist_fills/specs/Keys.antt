@@ -9,7 +9,7 @@ use Rattle.counter.specs.Limits.{loansMost, chunkSizeMost}
 use Rattle.words.specs.Rows.{row}
 use Rattle.store_rules.specs.Loans.{loanRow}
 use Rattle.store_rules.specs.declared.Loan.{Loan}
-use Rattle.freelist_rules.specs.declared.Chunk.{Chunk}
+use Rattle.store_rules.specs.declared.Chunk.{Chunk}
 
 -- which chunk has the number n: as many as there are where none has it
 unfoldable pub rankOf : ℕ → List Chunk → ℕ

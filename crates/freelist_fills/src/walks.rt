@@ -11,8 +11,8 @@ use book::loan_at;
 use counter::LOANS_MOST;
 use freelist_regions::chunk_at;
 use freelist_regions::region_at;
-use freelist_rules::Region;
 use store_rules::Loan;
+use store_rules::Region;
 
 // How far the walk has come: at a byte of a chunk, with the loan and the region that are next. Not ok: it has ended with a no.
 pub struct Spot {

@@ -27,7 +27,7 @@ use Rattle.store.specs.Comings.{knownIn}
 use Rattle.freelist_rules.specs.Records.{chunkWords, chunkRow}
 use Rattle.freelist_rules.specs.Tables.{Tables, tables, chunksAt, chunksIn, storeOf, soundOk}
 use Rattle.freelist_rules.specs.Walk.{memories}
-use Rattle.freelist_rules.specs.declared.Chunk.{Chunk}
+use Rattle.store_rules.specs.declared.Chunk.{Chunk}
 use Rattle.freelist_outcomes.specs.Ask.{decideAsk}
 use Rattle.freelist_outcomes.specs.Deliver as Deliver
 use Rattle.freelist_outcomes.specs.Deliver.{stillOk, deliverGateOf, decideDeliver, planDeliver}

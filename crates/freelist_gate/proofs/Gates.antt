@@ -21,7 +21,7 @@ use Rattle.book.specs.Book.{indexWords}
 use Rattle.freelist_rules.specs.Records.{chunkWords, chunkRow}
 use Rattle.freelist_rules.specs.Pieces.{total}
 use Rattle.freelist_rules.specs.Tables.{Tables, headWords, chunksAt, chunksIn, countAt, lengthsOk, storeOf, soundOk}
-use Rattle.freelist_rules.specs.declared.Chunk.{Chunk}
+use Rattle.store_rules.specs.declared.Chunk.{Chunk}
 use Rattle.freelist_rules.proofs.GivesBack.{total-append}
 use Rattle.freelist_outcomes.specs.Gate.{lentOk, accountOk, gateOf}
 use Rattle.freelist_gate.specs.Gates.{storeGate}

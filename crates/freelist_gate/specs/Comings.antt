@@ -10,7 +10,7 @@ use Rattle.store_rules.specs.Orders.{leadsTo}
 use Rattle.store_rules.specs.Tests.{coversOk}
 use Rattle.freelist_rules.specs.Pieces.{total}
 use Rattle.freelist_rules.specs.Tables.{Tables, chunksIn, storeOf, soundOk}
-use Rattle.freelist_rules.specs.declared.Chunk.{Chunk}
+use Rattle.store_rules.specs.declared.Chunk.{Chunk}
 use Rattle.freelist_outcomes.specs.Ask.{decideAsk}
 
 -- the later half of a delivery's gate, by one heap, the object count and the kept order

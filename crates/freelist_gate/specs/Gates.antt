@@ -7,7 +7,7 @@ use Rattle.counter.specs.declared.settings.FreeListSettings.{FreeListSettings}
 use Rattle.store_rules.specs.Tests.{coversOk}
 use Rattle.freelist_rules.specs.Pieces.{total}
 use Rattle.freelist_rules.specs.Tables.{Tables, chunksIn, storeOf, soundOk}
-use Rattle.freelist_rules.specs.declared.Chunk.{Chunk}
+use Rattle.store_rules.specs.declared.Chunk.{Chunk}
 
 unfoldable pub storeGate : FreeListSettings → Heap → ℕ → Tables → Verdict
 storeGate s h objects t =

@@ -17,7 +17,7 @@ use Rattle.freelist_rules.specs.Pieces.{All}
 use Rattle.freelist_rules.specs.Steps.{delivered, lent}
 use Rattle.freelist_rules.specs.Records.{Store}
 use Rattle.freelist_rules.specs.Tables.{Tables, madeAt, chunkSizeAt, chunksAt, placesAt, Lengths, placesIn, chunksIn, storeOf, SoundTables}
-use Rattle.freelist_rules.specs.declared.Chunk.{Chunk}
+use Rattle.store_rules.specs.declared.Chunk.{Chunk}
 use Rattle.freelist_rules.proofs.Delivers.{delivered-serves}
 use Rattle.freelist_rules.proofs.Facts.{sized-some}
 use Rattle.freelist_rules.proofs.Fits.{lengths-are}

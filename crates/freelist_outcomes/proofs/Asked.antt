@@ -8,9 +8,8 @@ use native.Mathlib.Numerals.{add-one}
 use native.Mathlib.Omega.{arith}
 use lib.Dec.{eqb, leb, ltb}
 use lib.ListN.{length, getD, length-append}
-use borrow.Author.Tests.{ltb-true, ltb-false, lt-ltb, le-ltb, leb-false, lt-leb}
 use Rattle.lists.specs.Members.{Below, headOr}
-use Rattle.lists.proofs.Bools.{told, true-false, lt-or-le}
+use Rattle.lists.proofs.Bools.{told, true-false}
 use Rattle.words.specs.Rows.{row, rows}
 use Rattle.words.proofs.Records.{rows-snoc, cell-row}
 use Rattle.counter.specs.Account.{value}
@@ -34,13 +33,14 @@ use Rattle.slab.proofs.Steps.{vacancies-none, vacancies-more, vacancies-same}
 use Rattle.store_rules.specs.Loans.{loanWords, sizeAt, loanRow, onLoan, loansOf}
 use Rattle.store_rules.specs.Orders.{deny, take, buy}
 use Rattle.store_rules.proofs.Refused.{mask-off}
+use Rattle.store_rules.proofs.Tested.{off-and, off-where, off-less, off-within, off-some, off-room, bears-off}
 use Rattle.book.specs.Book.{entryWords, vacantAfterAt, slabOf, takenOf}
 use Rattle.freelist_rules.specs.Place.{Found, nowhere, at, sizeFor, maskFor, cut}
 use Rattle.freelist_rules.specs.Records.{Store}
 use Rattle.freelist_rules.specs.Steps.{noRegion}
 use Rattle.freelist_rules.specs.Tables.{Tables, placesIn, chunksIn, storeOf, vacantIn, vacantAfterIn, SoundTables}
-use Rattle.freelist_rules.specs.declared.Chunk.{Chunk}
-use Rattle.freelist_rules.specs.declared.Region.{Region}
+use Rattle.store_rules.specs.declared.Chunk.{Chunk}
+use Rattle.store_rules.specs.declared.Region.{Region}
 use Rattle.freelist_rules.proofs.Base.{at-in}
 use Rattle.freelist_rules.proofs.Enters.{on-loan-amid, on-loan-past}
 use Rattle.freelist_rules.proofs.Facts.{region-home, once}
@@ -76,32 +76,12 @@ used-and-vacant t (suc n) =
         let a = ap onLoan (rows-snoc loanRow n t) ∙ on-loan-amid (row loanRow n t) (rows loanRow n t) [] (sized false e) in
         omega (arith, ap length a, length-append (onLoan (rows loanRow n t)) (row loanRow n t ∷ []), vacancies-same (vacantAt t sizeAt loanWords) n e)
 
--- ---- where a test fails
-
-off-and : (a b : Bool) {P Q : Type 0} → (a ≡ false) ↔ P → (b ≡ false) ↔ Q → ((a && b) ≡ false) ↔ (P ⊎ Q)
-off-and true b f g = ((λ e. inr (g .0 e)), (λ w. ⊎-elim (λ p. absurd (true-false true refl (f .1 p))) (λ q. g .1 q) w))
-off-and false b f g = ((λ e. inl (f .0 refl)), (λ w. refl))
-
--- of a test that is made only where n holds
-off-where : (n b : Bool) {P Q : Type 0} → (n ≡ true) ↔ P → (b ≡ false) ↔ Q → ((not n || b) ≡ false) ↔ (P × Q)
-off-where true b f g = ((λ e. (f .0 refl, g .0 e)), (λ w. g .1 (w .1)))
-off-where false b f g = ((λ e. absurd (true-false true refl e)), (λ w. absurd (true-false false (f .1 (w .0)) refl)))
-
-off-less : (x y : ℕ) → (ltb x y ≡ false) ↔ (y ≤ x)
-off-less x y = (ltb-false x y, le-ltb x y)
-
-off-within : (x y : ℕ) → (leb x y ≡ false) ↔ (y < x)
-off-within x y = (leb-false x y, lt-leb x y)
+-- ---- the tests
 
 -- 6
 size-off : (s : FreeListSettings) (size : ℕ) → (sizeOk s size ≡ false) ↔ SizeOff s size
 unfolding sizeOk
-size-off s size = off-and (ltb 0 size) (leb size (s .last)) ((λ e. omega (arith, ltb-false 0 size e)), (λ e. le-ltb 0 size (omega arith))) (off-within size (s .last))
-
--- the part of 10 that is the heap's
-bears-off : (h : Heap) (z : ℕ) → (bearsOk h z ≡ false) ↔ ((heapBytesMost < h .used + z) ⊎ (2 ^ 128 ≤ value (h .allocated) + z))
-unfolding bearsOk
-bears-off h z = off-and (leb (h .used + z) heapBytesMost) (ltb (value (h .allocated) + z) (2 ^ 128)) (off-within (h .used + z) heapBytesMost) (off-less (value (h .allocated) + z) (2 ^ 128))
+size-off s size = off-and (ltb 0 size) (leb size (s .last)) (off-some size) (off-within size (s .last))
 
 -- a chunk is needed where the search found none
 needs-none : (f : Found) → (needs f ≡ true) ↔ (f ≡ nowhere)
@@ -184,10 +164,7 @@ module _ (s : FreeListSettings) (t : Tables) (fit : FreeListIn s) (sound : Sound
           (off-where (needs found) (ltb (chunksIn t) (s .store .chunks)) needed chunks)
         where
           places : (ltb (takenOf (placesIn t) (t .index) .place) (s .store .loans) ≡ false) ↔ (s .store .loans ≤ length (storeOf s t .loans))
-          places = (
-            (λ e. ⊎-elim (λ k. absurd (true-false _ (lt-ltb _ _ (place-left .1 k)) e)) (λ k. k) (lt-or-le (length (storeOf s t .loans)) (s .store .loans))),
-            (λ g. ⊎-elim (λ e. let k = place-left .0 (ltb-true _ _ e) in absurd (omega arith)) (λ e. e) (told (ltb (takenOf (placesIn t) (t .index) .place) (s .store .loans)))),
-          )
+          places = off-room (takenOf (placesIn t) (t .index) .place) (length (storeOf s t .loans)) (s .store .loans) place-left
 
           chunks : (ltb (chunksIn t) (s .store .chunks) ≡ false) ↔ (s .store .chunks ≤ length (storeOf s t .chunks))
           chunks = rw (chunks-length s t) (off-less (chunksIn t) (s .store .chunks))
@@ -209,7 +186,7 @@ module _ (s : FreeListSettings) (t : Tables) (fit : FreeListIn s) (sound : Sound
 
       objects-off : (objectsOk objects found ≡ false) ↔ NoObject s objects size mask t
       unfolding objectsOk
-      objects-off = off-where (needs found) (ltb 0 objects) needed ((λ e. omega (arith, ltb-false 0 objects e)), (λ e. le-ltb 0 objects (omega arith)))
+      objects-off = off-where (needs found) (ltb 0 objects) needed (off-some objects)
 
     -- each test fails exactly when its row's words hold, where those before it do not
     pub ask-decided : Decides (askRow s h objects size mask t (foundFor s size mask t)) (askTests s h objects size mask t)

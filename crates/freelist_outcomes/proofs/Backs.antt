@@ -14,7 +14,7 @@ use Rattle.freelist_rules.specs.Sound.{Sound}
 use Rattle.freelist_rules.specs.Join.{insert}
 use Rattle.freelist_rules.specs.Steps.{noLoan, givenBack}
 use Rattle.freelist_rules.specs.Tables.{Tables, regionsMost, storeOf, SoundTables}
-use Rattle.freelist_rules.specs.declared.Region.{Region}
+use Rattle.store_rules.specs.declared.Region.{Region}
 use Rattle.freelist_rules.proofs.Base.{at-in}
 use Rattle.freelist_rules.proofs.Facts.{loan-low}
 use Rattle.freelist_rules.proofs.Fits.{chunks-length, loans-few}

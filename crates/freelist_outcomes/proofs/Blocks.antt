@@ -22,7 +22,7 @@ use Rattle.freelist_rules.specs.Records.{Store}
 use Rattle.freelist_rules.specs.Sound.{Sound}
 use Rattle.freelist_rules.specs.Steps.{noRegion, served}
 use Rattle.freelist_rules.specs.Tables.{Tables, storeOf}
-use Rattle.freelist_rules.specs.declared.Region.{Region}
+use Rattle.store_rules.specs.declared.Region.{Region}
 use Rattle.freelist_rules.proofs.Base.{at-in}
 use Rattle.freelist_rules.proofs.Facts.{region-home, loan-some}
 use Rattle.freelist_rules.proofs.Lends.{fits-is, lent-block}

@@ -23,8 +23,8 @@ use Rattle.freelist_rules.specs.Release.{staying, remaining}
 use Rattle.freelist_rules.specs.Sound.{Sound}
 use Rattle.freelist_rules.specs.Steps.{fresh, raised, delivered, released}
 use Rattle.freelist_rules.specs.Tables.{Tables, tables, markAt, givenAt, madeAt, chunkSizeAt, placesAt, chunksAt, headWords, regionsMost, countAt, Lengths, placesIn, chunksIn, regionsIn, ordered, storeOf, vacantIn, vacantAfterIn, SoundTables, laidRegions, RegionsFit}
-use Rattle.freelist_rules.specs.declared.Chunk.{Chunk}
-use Rattle.freelist_rules.specs.declared.Region.{Region}
+use Rattle.store_rules.specs.declared.Chunk.{Chunk}
+use Rattle.store_rules.specs.declared.Region.{Region}
 use Rattle.freelist_rules.proofs.Delivers.{fresh-sound, raised-sound, delivered-sound}
 use Rattle.freelist_rules.proofs.Fits.{chunks-length, loans-few, laid-long, laid-count, laid-regions}
 use Rattle.freelist_rules.proofs.GivesBack.{gone-count}

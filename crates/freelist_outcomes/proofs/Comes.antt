@@ -27,7 +27,7 @@ use Rattle.counter.specs.declared.answers.Memory.{Memory}
 use Rattle.counter.specs.declared.answers.Outcome.{Outcome}
 use Rattle.counter.specs.declared.answers.Outcome.the-variants as O
 use Rattle.counter.specs.declared.settings.FreeListSettings.{FreeListSettings}
-use Rattle.counter.proofs.Gates.{passed, never, same-number}
+use Rattle.counter.proofs.Gates.{passed}
 use Rattle.counter.proofs.Tables.{free-list-yes}
 use Rattle.heap.specs.Heap.{bearsOk}
 use Rattle.store_rules.specs.Delivery.{kept, lost, freeList, holds, suits, deliveryOk, fateOf, backOf}
@@ -35,12 +35,13 @@ use Rattle.store_rules.specs.Orders as Orders
 use Rattle.store_rules.specs.Orders.{orderFrom, keptFrom, sameOrder, leadsTo}
 use Rattle.store_rules.specs.Outcomes.{Out, out, Listed, listed, listOk, withOrder, blockSaid}
 use Rattle.store_rules.specs.Tests.{orderFor, gateRow}
+use Rattle.store_rules.proofs.Tested.{gate-low}
 use Rattle.book.specs.Book.{takenOf}
 use Rattle.freelist_rules.specs.Place.{nowhere, at}
 use Rattle.freelist_rules.specs.Pieces.{All}
 use Rattle.freelist_rules.specs.Tables.{Tables, Lengths, lengthsOk, placesIn, chunksIn, storeOf, soundOk, SoundTables}
 use Rattle.freelist_rules.specs.Walk.{memories}
-use Rattle.freelist_rules.specs.declared.Chunk.{Chunk}
+use Rattle.store_rules.specs.declared.Chunk.{Chunk}
 use Rattle.freelist_rules.proofs.Fits.{lengths-are}
 use Rattle.freelist_rules.proofs.Tested.{tables-yes}
 use Rattle.freelist_outcomes.specs.Gate.{lentOk, accountOk, gateOf}
@@ -173,14 +174,6 @@ not-held m (d ∷ cs) e c k q = ⊎-elim first (λ h. not-held m cs rest c h q) 
 
     first : c ≡ d → ⊥
     first h = true-false (eqb (d .memory) m) (eq-eqb (d .memory) m (sym (ap (λ (x : Chunk). x .memory) h) ∙ q)) (split (eqb (d .memory) m) (holds m (memories cs)) e .0)
-
--- the gate's numbers are 1 to 4
-gate-low : (a b c d : Bool) (m : ℕ) → first (gateRow a b c d) ≡ refuse m → m ≤ 4
-gate-low false b c d m e = omega (arith, same-number 1 m e)
-gate-low true false c d m e = omega (arith, same-number 2 m e)
-gate-low true true false d m e = omega (arith, same-number 3 m e)
-gate-low true true true false m e = omega (arith, same-number 4 m e)
-gate-low true true true true m e = never m (sym e)
 
 module _ (s : FreeListSettings) (a : Account) (o : Outcome) (t : Tables) where
   leads-open : (k : KeptOrder) (p : Orders.Plan ℕ) → decideAsk s (heapAt a (s .store .heap)) (a .objects) (k .ask .size) (k .ask .mask) t ≡ p → leadsTo (s .store) (k .order) p ≡ true

@@ -13,13 +13,14 @@ use Rattle.counter.specs.Paper as Paper
 use Rattle.counter.specs.declared.account.Account.{Account}
 use Rattle.counter.specs.declared.account.Order.{Order}
 use Rattle.counter.specs.declared.settings.FreeListSettings.{FreeListSettings}
+pub use Rattle.store_rules.proofs.Said.{order-block, refusal-block, same-block}
 use Rattle.store_rules.specs.Orders.{Plan, deny, take, buy, orderFrom}
 use Rattle.store_rules.specs.declared.Loan.{Loan}
 use Rattle.store_rules.specs.Outcomes.{blockSaid}
 use Rattle.freelist_rules.specs.Place.{sizeFor, maskFor, fitsIn}
 use Rattle.freelist_rules.specs.Steps.{noRegion}
 use Rattle.freelist_rules.specs.Tables.{Tables, storeOf}
-use Rattle.freelist_rules.specs.declared.Region.{Region}
+use Rattle.store_rules.specs.declared.Region.{Region}
 use Rattle.freelist_rules.proofs.Lends.{fits-is, cut-low}
 use Rattle.freelist_rules.proofs.Orders.{fits-all}
 use Rattle.freelist_rules.proofs.Search.{find-fits, find-last}
@@ -30,15 +31,6 @@ use Rattle.freelist_outcomes.proofs.Plans.{take-is, plan-take, plan-buy
 use Rattle.freelist_outcomes.proofs.Asked.{ask-buys, ask-takes}
 
 -- ---- no answer is two
-
-order-block : {A : Type 0} (o : Order) (b c d e : ℕ) → Paper.orderOf o ≡ Paper.block b c d e → A
-order-block o b c d e q = let z : _≡_ {A = ℕ} 0 1 = cc in absurd (omega arith)
-
-pub refusal-block : {A : Type 0} (n : ℕ) (back : List ℕ) (b c d e : ℕ) → Paper.refusal n back ≡ Paper.block b c d e → A
-refusal-block n back b c d e q = let z : _≡_ {A = ℕ} 0 1 = cc in absurd (omega arith)
-
-pub same-block : (a b c d e f g h : ℕ) → Paper.block a b c d ≡ Paper.block e f g h → (a ≡ e) × (b ≡ f) × (c ≡ g) × (d ≡ h)
-same-block a b c d e f g h q = (cc, cc, cc, cc)
 
 -- ---- an ask answered by a block
 

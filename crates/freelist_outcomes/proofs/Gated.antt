@@ -22,7 +22,7 @@ use Rattle.store_rules.specs.Tests.{noOrder, coversOk, gateRow}
 use Rattle.store_rules.proofs.Refused.{fails, order-open, uncovered}
 use Rattle.freelist_rules.specs.Pieces.{total}
 use Rattle.freelist_rules.specs.Tables.{Tables, lengthsOk, storeOf, soundOk, SoundTables}
-use Rattle.freelist_rules.specs.declared.Chunk.{Chunk}
+use Rattle.store_rules.specs.declared.Chunk.{Chunk}
 use Rattle.freelist_rules.proofs.Fits.{lengths-are, are-lengths, chunks-length}
 use Rattle.freelist_rules.proofs.Tested.{tables-yes, tables-all}
 use Rattle.freelist_outcomes.specs.Gate.{lentOk, accountOk}

@@ -29,7 +29,7 @@ use Rattle.freelist_rules.specs.Seek.{sameLoan}
 use Rattle.freelist_rules.specs.Sound.{Sound}
 use Rattle.freelist_rules.specs.Steps.{noLoan}
 use Rattle.freelist_rules.specs.Tables.{Tables, Lengths, SoundTables, RegionsFit, givenAt, placesIn, ordered, regionsMost, storeOf}
-use Rattle.freelist_rules.specs.declared.Region.{Region}
+use Rattle.store_rules.specs.declared.Region.{Region}
 use Rattle.freelist_rules.proofs.AnyOrder.{loanOf, loan-is, same-self}
 use Rattle.freelist_rules.proofs.Base.{at-in}
 use Rattle.freelist_rules.proofs.Fits.{are-lengths, regions-fit, laid-long, laid-count, laid-regions}

@@ -16,5 +16,4 @@ pub mod Gated
 pub mod Refused
 pub mod Accounts
 pub mod Again
-pub mod Unique
 pub mod Told

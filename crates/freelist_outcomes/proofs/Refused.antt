@@ -1,14 +1,13 @@
 -- What a refusal leaves, and exactly when each number of 01's table is given. Assumes nothing.
 use mathlib.Core.Path.{_≡_, refl, sym, ap, subst, _∙_}
 use mathlib.Core.Bool.{Bool, true, false, cond, _&&_}
-use mathlib.Core.Logic.{_⊎_, inl, inr, ⊎-elim, _↔_, Iff·trans}
+use mathlib.Core.Logic.{_⊎_, ⊎-elim, _↔_, Iff·trans}
 use mathlib.Core.List.{List, [], _∷_, _++_, Memᴰ·cast}
 use Prim.Native.Nat.{ℕ}
 use Rattle.lists.proofs.Bools.{true-false, and-left, and-right, and-both}
 use Rattle.counter.specs.Account.{heapAt}
 use Rattle.counter.specs.Gate.{Verdict, pass, refuse, Row, first}
 use Rattle.counter.specs.InTable.{FreeListIn}
-use Rattle.counter.specs.Paper.{Said}
 use Rattle.counter.specs.Paper as Paper
 use Rattle.counter.specs.Reasons.{Reasons, none, reason, Given, Clear, Decides}
 use Rattle.counter.specs.Table.{freeListOk}
@@ -17,20 +16,19 @@ use Rattle.counter.specs.declared.account.KeptOrder.{KeptOrder}
 use Rattle.counter.specs.declared.account.OpenOrder.{OpenOrder}
 use Rattle.counter.specs.declared.account.OpenOrder.the-variants.{Nothing, Kept}
 use Rattle.counter.specs.declared.answers.Block.{Block}
-use Rattle.counter.specs.declared.answers.Mapping.{Mapping}
-use Rattle.counter.specs.declared.answers.Mapping.the-variants as M
 use Rattle.counter.specs.declared.answers.Outcome.{Outcome}
-use Rattle.counter.specs.declared.answers.Outcome.the-variants as O
 use Rattle.counter.specs.declared.settings.FreeListSettings.{FreeListSettings}
-use Rattle.counter.proofs.Gates.{passed, never, same-number}
+use Rattle.counter.proofs.Gates.{passed}
 use Rattle.counter.proofs.Reasoned.{given-first, decides-then, andThen, first-then}
 use Rattle.counter.proofs.Tables.{free-list-yes, free-list-all}
-use Rattle.store_rules.specs.Delivery.{Fate, kept, lost, freeList, givesBack, mapped, fateOf, deliveryOk}
+use Rattle.store_rules.specs.Delivery.{Fate, kept, lost, freeList, fateOf}
 use Rattle.store_rules.specs.Orders.{Plan, deny, take, buy, orderFrom, leadsTo}
-use Rattle.store_rules.specs.Outcomes.{Out, out, listed, listOk, withOrder, chargedAccount, backAccount, lostAccount}
-use Rattle.store_rules.specs.Refusals.{OrderOpen, Unwelcome, DeviceOut, HostOut}
+use Rattle.store_rules.specs.Outcomes.{Out, out, listed, listOk}
+use Rattle.store_rules.specs.Refusals.{OrderOpen, lostFor}
 use Rattle.store_rules.specs.Tests.{noOrder, orderFor, gateRow}
-use Rattle.store_rules.proofs.Refused.{fails, none-for, unwelcome, is-same-order, leads-buy}
+use Rattle.store_rules.proofs.Refused.{fails, none-for, is-same-order, leads-buy}
+use Rattle.store_rules.proofs.Said.{not-refused, said-number, said-back, Says, says-refused, says-passed, Tells, tells-refused, tells-passed}
+use Rattle.store_rules.proofs.Fates.{left, fateVerdict, fateRow, device-out, host-out, welcomeOk, unwelcomed, same-kept, arrival-tells}
 use Rattle.freelist_rules.specs.Place.{Found, nowhere, at}
 use Rattle.freelist_rules.specs.Tables.{Tables, lengthsOk, Lengths, storeOf, soundOk, SoundTables}
 use Rattle.freelist_rules.specs.Walk.{memories}
@@ -40,37 +38,17 @@ use Rattle.freelist_rules.proofs.Tested.{tables-yes, tables-all}
 use Rattle.freelist_outcomes.specs.Gate.{lentOk, accountOk, gateOf}
 use Rattle.freelist_outcomes.specs.Ask.{foundFor, raisedFor, askRow, planned, decideAsk, carryAsk, planAsk, askOf}
 use Rattle.freelist_outcomes.specs.Ask as A
-use Rattle.freelist_outcomes.specs.Deliver.{stillOk, deliverGateOf, carryFate, decideDeliver, planDeliver, carryDeliver, deliverOf}
+use Rattle.freelist_outcomes.specs.Deliver.{stillOk, deliverGateOf, carryFate, planDeliver, carryDeliver, deliverOf}
 use Rattle.freelist_outcomes.specs.Deliver as D
 use Rattle.freelist_outcomes.specs.Return.{wordFor, onLoanOk, releaseOf, decideReturn, planReturn, carryReturn, returnOf, carryCleanUp, cleanUpOf}
 use Rattle.freelist_outcomes.specs.Return as R
 use Rattle.freelist_outcomes.specs.SetUp.{setUp, fitOk, setUpOf, freshTables}
-use Rattle.freelist_outcomes.specs.Refusals.{InTable, Short, Needed, askTests, askReasons, Stale, returnReasons, Leads, Unwelcomed, deliverReasons, lostFor, cleanUpReasons, setUpReasons}
+use Rattle.freelist_outcomes.specs.Refusals.{InTable, Short, Needed, askTests, askReasons, Stale, returnReasons, Leads, deliverReasons, cleanUpReasons, setUpReasons}
 use Rattle.freelist_outcomes.proofs.Asked.{ask-decided, ask-buys}
 use Rattle.freelist_outcomes.proofs.Comes.{Arrival, early, fated, arrives}
 use Rattle.freelist_outcomes.proofs.Gated.{in-table, short, gate-decided, list-decided}
 use Rattle.freelist_outcomes.proofs.Given.{on-loan-is, is-on-loan}
 use Rattle.freelist_outcomes.proofs.Passing.{Passed, gate-passed}
-
--- ---- what is said
-
--- whether it is a refusal
-abbrev refuses : Said → Bool
-refuses Paper.ready = false
-refuses (Paper.block n c o z) = false
-refuses (Paper.order s z k m) = false
-refuses (Paper.released n) = false
-refuses Paper.ranked = false
-refuses (Paper.refusal n back) = true
-
-not-refused : {A : Type 0} (w : Said) (n : ℕ) (back : List ℕ) → refuses w ≡ false → w ≡ Paper.refusal n back → A
-not-refused w n back q e = absurd (true-false (refuses w) (ap refuses e) q)
-
-said-number : (m n : ℕ) (b c : List ℕ) → Paper.refusal m b ≡ Paper.refusal n c → m ≡ n
-said-number m n b c e = cc
-
-said-back : (m n : ℕ) (b c : List ℕ) → Paper.refusal m b ≡ Paper.refusal n c → b ≡ c
-said-back m n b c e = cc
 
 -- ---- a refusal leaves the account and every word of every table and list as they were
 
@@ -114,16 +92,6 @@ set-up-leaves s t n back = by (fitOk s t)
 
 -- ---- exactly when each number is given
 
--- what is said is the verdict's number
-abbrev Says : Said → Verdict → ℕ → Type 0
-Says w v n = (w ≡ Paper.refusal n []) ↔ (v ≡ refuse n)
-
-says-refused : (m n : ℕ) → Says (Paper.refusal m []) (refuse m) n
-says-refused m n = ((λ e. ap refuse (said-number m n [] [] e)), (λ e. ap (λ (k : ℕ). Paper.refusal k []) (same-number m n e)))
-
-says-passed : (w : Said) (n : ℕ) → refuses w ≡ false → Says w pass n
-says-passed w n q = ((λ e. not-refused w n [] q e), (λ e. never n (sym e)))
-
 -- a clean-up is refused with n exactly when n is the number of the first of the rows 1 to 4 whose words hold
 pub clean-up-refused : (s : FreeListSettings) (a : Account) (t : Tables) (list : List ℕ) (n : ℕ) → (cleanUpOf s a t list .said ≡ Paper.refusal n []) ↔ Given (cleanUpReasons s a t list) n
 unfolding cleanUpOf carryCleanUp releaseOf gateOf
@@ -153,52 +121,11 @@ set-up-refused s t n = Iff·trans (by (fitOk s t)) (given-first ((fitOk s t, 1) 
 
 -- ---- a delivery
 
-same-fate : (m n : ℕ) (c d : Bool) (x y : List ℕ) → lost m c x ≡ lost n d y → (m ≡ n) × (c ≡ d) × (x ≡ y)
-same-fate m n c d x y e = (cc, cc, cc)
-
-abbrev keeps : Fate → Bool
-keeps (kept m) = true
-keeps (lost n c back) = false
-
-no-fate : {A : Type 0} (m n : ℕ) (c : Bool) (back : List ℕ) → kept m ≡ lost n c back → A
-no-fate m n c back e = absurd (true-false true refl (ap keeps e))
-
-module _ (s : FreeListSettings) (a : Account) (k : KeptOrder) where
-  -- the number of memory lost, and the account that is left
-  abbrev Left : ℕ → Bool → List ℕ → Account → Type 0
-  Left n c back b = ((n ≡ 11) ⊎ (n ≡ 12)) × (lostAccount (s .store) a (k .order .size) c back ≡ b)
-
-  left-by : (b : Account) (m n : ℕ) (c d : Bool) (x y : List ℕ) → Left m c x b → lost m c x ≡ lost n d y → Left n d y b
-  left-by b m n c d x y l e =
-      let w = same-fate m n c d x y e in (
-        ⊎-elim (λ q. inl (sym (w .0) ∙ q)) (λ q. inr (sym (w .0) ∙ q)) (l .0),
-        (λ j. lostAccount (s .store) a (k .order .size) (sym (w .1) j) (sym (w .2) j)) ∙ l .1,
-      )
-
-  left : (o : Outcome) (n : ℕ) (c : Bool) (back : List ℕ) → fateOf freeList o ≡ lost n c back → Left n c back (lostFor s a k o)
-  unfolding lostAccount
-  left O.OutOfDevice n c back e = left-by (withOrder a Nothing) 11 n false c [] back (inl refl, refl) e
-  left O.OutOfHost n c back e = left-by (withOrder a Nothing) 12 n false c [] back (inr refl, refl) e
-  left (O.Made m) n c back e = made (m .mapping) e
-    where
-      charged : Account
-      charged = chargedAccount (s .store) a (k .order .size)
-
-      given : Account
-      given = backAccount (s .store) a (k .order .size)
-
-      made : (w : Mapping) → mapped freeList (m .number) w ≡ lost n c back → Left n c back (cond (givesBack freeList w) given charged)
-      made M.Mapped e = no-fate (m .number) n c back e
-      made M.NotWanted e = no-fate (m .number) n c back e
-      made M.Failed e = left-by given 12 n true c (m .number ∷ []) back (inr refl, refl) e
-      made M.OutOfDevice e = left-by charged 11 n true c [] back (inl refl, refl) e
-      made M.OutOfHost e = left-by charged 12 n true c [] back (inr refl, refl) e
-
-  -- a fate that is said as a refusal is a loss
-  fate-lost : (t : Tables) (f : Fate) (n : ℕ) (back : List ℕ) → carryFate s a k t f .said ≡ Paper.refusal n back → (c : Bool) × (f ≡ lost n c back)
-  unfolding carryFate
-  fate-lost t (kept m) n back e = not-refused (carryFate s a k t (kept m) .said) n back refl e
-  fate-lost t (lost m c x) n back e = (c, (λ j. lost (said-number m n x back e j) c (said-back m n x back e j)))
+-- a fate that is said as a refusal is a loss
+fate-lost : (s : FreeListSettings) (a : Account) (k : KeptOrder) (t : Tables) (f : Fate) (n : ℕ) (back : List ℕ) → carryFate s a k t f .said ≡ Paper.refusal n back → (c : Bool) × (f ≡ lost n c back)
+unfolding carryFate
+fate-lost s a k t (kept m) n back e = not-refused (carryFate s a k t (kept m) .said) n back refl e
+fate-lost s a k t (lost m c x) n back e = (c, (λ j. lost (said-number m n x back e j) c (said-back m n x back e j)))
 
 -- every refusal but 11 and 12 leaves the account and every table as they were
 pub deliver-leaves : (s : FreeListSettings) (a : Account) (o : Outcome) (t : Tables) (n : ℕ) (back : List ℕ) → deliverOf s a o t .said ≡ Paper.refusal n back → (n ≡ 11 → ⊥) → (n ≡ 12 → ⊥) → deliverOf s a o t ≡ out (Paper.refusal n []) a t
@@ -208,141 +135,25 @@ deliver-leaves s a o t n back e device host = by (deliverOf s a o t) (arrives s 
     by _ (early m x y) q = ap (λ (i : ℕ). out (Paper.refusal i []) a t) (said-number m n [] back q)
     by _ (fated k w g) q =
         let f = fate-lost s a k t (fateOf freeList o) n back q in
-        absurd (⊎-elim device host (left s a k o n (f .0) back (f .1) .0))
+        absurd (⊎-elim device host (left freeList (s .store) a k o n (f .0) back (f .1) .0))
 
 -- 11 and 12 leave every table as it was, and of the account what 01 says
 pub deliver-lost : (s : FreeListSettings) (a : Account) (o : Outcome) (t : Tables) (k : KeptOrder) (n : ℕ) (back : List ℕ) → a .order ≡ Kept k → deliverOf s a o t .said ≡ Paper.refusal n back → (n ≡ 11) ⊎ (n ≡ 12)
-    → deliverOf s a o t ≡ out (Paper.refusal n back) (lostFor s a k o) t
+    → deliverOf s a o t ≡ out (Paper.refusal n back) (lostFor freeList (s .store) a k o) t
 unfolding carryFate
 deliver-lost s a o t k n back its e number = by (deliverOf s a o t) (arrives s a o t) e
   where
-    same-kept : (i j : KeptOrder) → Kept i ≡ Kept j → i ≡ j
-    same-kept i j e = cc
-
-    by : (r : Out Tables) → Arrival s a o t r → r .said ≡ Paper.refusal n back → r ≡ out (Paper.refusal n back) (lostFor s a k o) t
+    by : (r : Out Tables) → Arrival s a o t r → r .said ≡ Paper.refusal n back → r ≡ out (Paper.refusal n back) (lostFor freeList (s .store) a k o) t
     by _ (early m x y) q =
         let z = said-number m n [] back q in
         absurd (⊎-elim (λ p. x (z ∙ p)) (λ p. y (z ∙ p)) number)
     by _ (fated j w g) q =
         let f = fate-lost s a j t (fateOf freeList o) n back q in
         ap (carryFate s a j t) (f .1)
-        ∙ (λ i. out (Paper.refusal n back) (left s a j o n (f .0) back (f .1) .1 i) t)
-        ∙ (λ i. out (Paper.refusal n back) (lostFor s a (same-kept j k (sym (w .is) ∙ its) i) o) t)
+        ∙ (λ i. out (Paper.refusal n back) (left freeList (s .store) a j o n (f .0) back (f .1) .1 i) t)
+        ∙ (λ i. out (Paper.refusal n back) (lostFor freeList (s .store) a (same-kept j k (sym (w .is) ∙ its) i) o) t)
 
 -- ---- exactly when each number of a delivery is given
-
--- 11 and 12, as tests of the outcome
-abbrev mapDevice : Mapping → Bool
-mapDevice M.Mapped = true
-mapDevice M.NotWanted = true
-mapDevice M.Failed = true
-mapDevice M.OutOfDevice = false
-mapDevice M.OutOfHost = true
-
-abbrev deviceOk : Outcome → Bool
-deviceOk (O.Made m) = mapDevice (m .mapping)
-deviceOk O.OutOfDevice = false
-deviceOk O.OutOfHost = true
-
-abbrev mapHost : Mapping → Bool
-mapHost M.Mapped = true
-mapHost M.NotWanted = true
-mapHost M.Failed = false
-mapHost M.OutOfDevice = true
-mapHost M.OutOfHost = false
-
-abbrev hostOk : Outcome → Bool
-hostOk (O.Made m) = mapHost (m .mapping)
-hostOk O.OutOfDevice = true
-hostOk O.OutOfHost = false
-
-device-out : (o : Outcome) → (deviceOk o ≡ false) ↔ DeviceOut o
-device-out o = (there o, back)
-  where
-    map : (w : Mapping) → mapDevice w ≡ false → w ≡ M.OutOfDevice
-    map M.Mapped e = absurd (true-false true refl e)
-    map M.NotWanted e = absurd (true-false true refl e)
-    map M.Failed e = absurd (true-false true refl e)
-    map M.OutOfDevice e = refl
-    map M.OutOfHost e = absurd (true-false true refl e)
-
-    there : (o : Outcome) → deviceOk o ≡ false → DeviceOut o
-    there (O.Made m) e = inr (m, refl, map (m .mapping) e)
-    there O.OutOfDevice e = inl refl
-    there O.OutOfHost e = absurd (true-false true refl e)
-
-    back : DeviceOut o → deviceOk o ≡ false
-    back (inl q) = ap deviceOk q
-    back (inr w) = ap deviceOk (w .1) ∙ ap mapDevice (w .2)
-
-host-out : (o : Outcome) → (hostOk o ≡ false) ↔ HostOut o
-host-out o = (there o, back)
-  where
-    map : (w : Mapping) → mapHost w ≡ false → (w ≡ M.OutOfHost) ⊎ (w ≡ M.Failed)
-    map M.Mapped e = absurd (true-false true refl e)
-    map M.NotWanted e = absurd (true-false true refl e)
-    map M.Failed e = inr refl
-    map M.OutOfDevice e = absurd (true-false true refl e)
-    map M.OutOfHost e = inl refl
-
-    there : (o : Outcome) → hostOk o ≡ false → HostOut o
-    there (O.Made m) e = inr (m, refl, map (m .mapping) e)
-    there O.OutOfDevice e = absurd (true-false true refl e)
-    there O.OutOfHost e = inl refl
-
-    back : HostOut o → hostOk o ≡ false
-    back (inl q) = ap hostOk q
-    back (inr w) = ap hostOk (w .1) ∙ ⊎-elim (λ q. ap mapHost q) (λ q. ap mapHost q) (w .2)
-
--- 13, of the open order
-abbrev welcomeOk : List ℕ → Outcome → OpenOrder → Bool
-welcomeOk held o Nothing = true
-welcomeOk held o (Kept k) = deliveryOk (k .order .map) held o
-
-unwelcomed : (s : FreeListSettings) (a : Account) (o : Outcome) (t : Tables) → (welcomeOk (memories (storeOf s t .chunks)) o (a .order) ≡ false) ↔ Unwelcomed s a o t
-unwelcomed s a o t = (there (a .order), back)
-  where
-    held : List ℕ
-    held = memories (storeOf s t .chunks)
-
-    there : (ord : OpenOrder) → welcomeOk held o ord ≡ false → (k : KeptOrder) × (ord ≡ Kept k) × Unwelcome (k .order .map) held o
-    there Nothing e = absurd (true-false true refl e)
-    there (Kept k) e = (k, refl, unwelcome (k .order .map) held o .0 e)
-
-    back : Unwelcomed s a o t → welcomeOk held o (a .order) ≡ false
-    back w = ap (welcomeOk held o) (w .1) ∙ unwelcome (w .0 .order .map) held o .1 (w .2)
-
-abbrev fateRow : Outcome → Row
-fateRow o = (deviceOk o, 11) ∷ (hostOk o, 12) ∷ []
-
-abbrev fateVerdict : Fate → Verdict
-fateVerdict (kept m) = pass
-fateVerdict (lost n c back) = refuse n
-
-fate-first : (o : Outcome) → fateVerdict (fateOf freeList o) ≡ first (fateRow o)
-fate-first O.OutOfDevice = refl
-fate-first O.OutOfHost = refl
-fate-first (O.Made m) = by (m .mapping)
-  where
-    by : (w : Mapping) → fateVerdict (mapped freeList (m .number) w) ≡ first ((mapDevice w, 11) ∷ (mapHost w, 12) ∷ [])
-    by M.Mapped = refl
-    by M.NotWanted = refl
-    by M.Failed = refl
-    by M.OutOfDevice = refl
-    by M.OutOfHost = refl
-
--- what is said is the verdict's number, whatever memory is to be freed
-abbrev Tells : Said → Verdict → ℕ → Type 0
-Tells w v n = ((back : List ℕ) × (w ≡ Paper.refusal n back)) ↔ (v ≡ refuse n)
-
-tells-refused : (m n : ℕ) (back : List ℕ) → Tells (Paper.refusal m back) (refuse m) n
-tells-refused m n back = (
-  (λ w. ap refuse (said-number m n back (w .0) (w .1))),
-  (λ e. (back, ap (λ (k : ℕ). Paper.refusal k back) (same-number m n e))),
-)
-
-tells-passed : (w : Said) (n : ℕ) → refuses w ≡ false → Tells w pass n
-tells-passed w n q = ((λ x. not-refused w n (x .0) q (x .1)), (λ e. never n (sym e)))
 
 tells-fate : (s : FreeListSettings) (a : Account) (k : KeptOrder) (t : Tables) (f : Fate) (n : ℕ) → Tells (carryFate s a k t f .said) (fateVerdict f) n
 unfolding carryFate
@@ -363,22 +174,10 @@ module _ (s : FreeListSettings) (a : Account) (o : Outcome) (t : Tables) where
   -- a delivery says what the row of its tests comes to
   deliver-tells : (n : ℕ) → Tells (deliverOf s a o t .said) (first deliverRow) n
   unfolding deliverOf planDeliver deliverGateOf carryDeliver
-  deliver-tells n = by (first gates) (a .order) stands (first deliverRow) (first-then gates ((welcomeOk held o (a .order), 13) ∷ fateRow o))
-    where
-      stands : first gates ≡ pass → orderFor (s .store .number) (a .order) ≡ true
-      stands e = passed gates e .1 .0
+  deliver-tells n =
+      arrival-tells freeList o held (s .store .number) (λ (p : D.Arrival). carryDeliver s a t p .said) n (λ m. tells-refused m n []) (λ k f. tells-fate s a k t f n) gates (a .order)
+      (λ e. passed gates e .1 .0)
 
-      on : (b : Bool) (k : KeptOrder) → Tells (carryDeliver s a t (cond b (D.go k (fateOf freeList o)) (D.deny 13)) .said) (cond b (first (fateRow o)) (refuse 13)) n
-      on false k = tells-refused 13 n []
-      on true k = rw (← fate-first o) (tells-fate s a k t (fateOf freeList o) n)
-
-      by : (v : Verdict) (ord : OpenOrder) → (v ≡ pass → orderFor (s .store .number) ord ≡ true) → (u : Verdict) → u ≡ andThen v (first ((welcomeOk held o ord, 13) ∷ fateRow o))
-          → Tells (carryDeliver s a t (D.gated v (decideDeliver o held ord)) .said) u n
-      by (refuse m) ord f u e = rw e (tells-refused m n [])
-      by pass Nothing f u e = absurd (true-false false (f refl) refl)
-      by pass (Kept k) f u e = rw e (on (deliveryOk (k .order .map) held o) k)
-
-module _ (s : FreeListSettings) (a : Account) (o : Outcome) (t : Tables) where
   leads : FreeListIn s → ((soundOk s t && stillOk s a t (a .order)) ≡ true) ↔ (SoundTables s t × Leads s a t)
   leads fit = (there, back)
     where
@@ -408,7 +207,7 @@ module _ (s : FreeListSettings) (a : Account) (o : Outcome) (t : Tables) where
           ∙ ap (leadsTo (s .store) (k .order)) (bought (w .0) k z .1 (l .clear, l .needed, refl))
           ∙ is-same-order (k .order) (orderFrom (s .store) z) (l .same))
 
-  deliver-decided : Decides (deliverRow s a o t) (deliverReasons s a o t)
+  deliver-decided : Decides deliverRow (deliverReasons s a o t)
   deliver-decided = (
     refl,
     fails (lentOk s a t) (in-table s a t .0) (in-table s a t .1),
@@ -423,7 +222,7 @@ module _ (s : FreeListSettings) (a : Account) (o : Outcome) (t : Tables) where
           short s a t,
           (λ _. (
             refl,
-            unwelcomed s a o t,
+            unwelcomed a held o,
             (λ _. (refl, device-out o, (λ _. (refl, host-out o, (λ _. tt))))),
           )),
         )),

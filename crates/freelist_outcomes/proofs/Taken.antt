@@ -26,7 +26,7 @@ use Rattle.freelist_rules.specs.Place.{sizeFor, maskFor, at, cutOff, putLoan}
 use Rattle.freelist_rules.specs.Sound.{Sound}
 use Rattle.freelist_rules.specs.Steps.{noRegion, lent}
 use Rattle.freelist_rules.specs.Tables.{Tables, markAt, givenAt, madeAt, chunkSizeAt, placesAt, chunksAt, headWords, regionsMost, Lengths, placesIn, ordered, storeOf, SoundTables, RegionsFit}
-use Rattle.freelist_rules.specs.declared.Region.{Region}
+use Rattle.store_rules.specs.declared.Region.{Region}
 use Rattle.freelist_rules.proofs.Base.{rising-low, rising-apart}
 use Rattle.freelist_rules.proofs.Enters.{enters-new, enters-again}
 use Rattle.freelist_rules.proofs.Fits.{regions-length, laid-long, laid-count, laid-regions}

@@ -20,8 +20,8 @@ use Rattle.freelist_rules.specs.Records.{Store}
 use Rattle.freelist_rules.specs.Release.{memoriesOf}
 use Rattle.freelist_rules.specs.Steps.{released}
 use Rattle.freelist_rules.specs.Tables.{Tables, Lengths, storeOf, SoundTables}
-use Rattle.freelist_rules.specs.declared.Chunk.{Chunk}
-use Rattle.freelist_rules.specs.declared.Region.{Region}
+use Rattle.store_rules.specs.declared.Chunk.{Chunk}
+use Rattle.store_rules.specs.declared.Region.{Region}
 use Rattle.freelist_rules.proofs.Fits.{lengths-are, chunks-length}
 use Rattle.freelist_rules.proofs.Listed.{sets-front, memories-length}
 use Rattle.freelist_rules.proofs.GivesBack.{gone-count, gone-memories}

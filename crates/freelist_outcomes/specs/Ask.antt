@@ -22,7 +22,7 @@ use Rattle.book.specs.Book.{takenOf, entered, enteredIndex}
 use Rattle.freelist_rules.specs.Place.{sizeFor, maskFor, Found, nowhere, at, find, cutOff, lentLoan}
 use Rattle.freelist_rules.specs.Steps.{served}
 use Rattle.freelist_rules.specs.Tables.{Tables, tables, givenAt, chunkSizeAt, placesAt, placesIn, chunksIn, storeOf, laidRegions}
-use Rattle.freelist_rules.specs.declared.Region.{Region}
+use Rattle.store_rules.specs.declared.Region.{Region}
 use Rattle.freelist_outcomes.specs.Gate.{gateOf}
 
 -- the last number that a count can have given

@@ -16,7 +16,7 @@ use Rattle.freelist_rules.specs.Place.{maskFor}
 use Rattle.freelist_rules.specs.Records.{Store}
 use Rattle.freelist_rules.specs.Steps.{delivered}
 use Rattle.freelist_rules.specs.Tables.{Tables, storeOf}
-use Rattle.freelist_rules.specs.declared.Chunk.{Chunk}
+use Rattle.store_rules.specs.declared.Chunk.{Chunk}
 use Rattle.freelist_outcomes.specs.Deliver.{deliverOf}
 
 -- a block as it has to be, in the store t and for this ask

@@ -8,7 +8,7 @@ use Rattle.counter.specs.declared.settings.FreeListSettings.{FreeListSettings}
 use Rattle.store_rules.specs.Tests.{noOrder, coversOk, gateRow}
 use Rattle.freelist_rules.specs.Pieces.{total}
 use Rattle.freelist_rules.specs.Tables.{Tables, lengthsOk, chunksIn, storeOf, soundOk}
-use Rattle.freelist_rules.specs.declared.Chunk.{Chunk}
+use Rattle.store_rules.specs.declared.Chunk.{Chunk}
 
 -- 1: every value, and every table's length
 unfoldable pub lentOk : FreeListSettings → Account → Tables → Bool

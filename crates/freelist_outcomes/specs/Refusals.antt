@@ -1,7 +1,6 @@
 -- 01's table, "When the counter says no", for each call of a free-list store, in the paper's words and in the order of its
 -- tests. proofs/Refused shows that each call gives exactly these numbers. Assumes nothing: these are definitions.
 use mathlib.Core.Path.{_≡_}
-use mathlib.Core.Bool.{cond}
 use mathlib.Core.Logic.{_⊎_}
 use mathlib.Core.List.{List, List·Memᴰ}
 use Prim.Native.Nat.{ℕ, _+_, _%_, _^_, _≤_, _<_}
@@ -13,22 +12,19 @@ use Rattle.counter.specs.Reasons.{Reasons, none, reason, Clear}
 use Rattle.counter.specs.declared.account.Account.{Account}
 use Rattle.counter.specs.declared.account.Heap.{Heap}
 use Rattle.counter.specs.declared.account.KeptOrder.{KeptOrder}
-use Rattle.counter.specs.declared.account.OpenOrder.the-variants.{Nothing, Kept}
+use Rattle.counter.specs.declared.account.OpenOrder.the-variants.{Kept}
 use Rattle.counter.specs.declared.answers.Block.{Block}
 use Rattle.counter.specs.declared.answers.Outcome.{Outcome}
-use Rattle.counter.specs.declared.answers.Outcome.the-variants as O
 use Rattle.counter.specs.declared.settings.FreeListSettings.{FreeListSettings}
-use Rattle.store_rules.specs.Delivery.{freeList, givesBack}
 use Rattle.store_rules.specs.Orders.{orderFrom}
-use Rattle.store_rules.specs.Outcomes.{withOrder, chargedAccount, backAccount}
-use Rattle.store_rules.specs.Refusals.{OrderOpen, NoneFor, Uncovered, MaskOff, Unwelcome, DeviceOut, HostOut}
+use Rattle.store_rules.specs.Refusals.{OrderOpen, NoneFor, Uncovered, MaskOff, UnwelcomeTo, DeviceOut, HostOut}
 use Rattle.store_rules.specs.declared.Loan.{Loan}
 use Rattle.freelist_rules.specs.Records.{Store}
 use Rattle.freelist_rules.specs.Pieces.{total}
 use Rattle.freelist_rules.specs.Tables.{Tables, Lengths, storeOf, SoundTables}
 use Rattle.freelist_rules.specs.Walk.{memories}
-use Rattle.freelist_rules.specs.declared.Chunk.{Chunk}
-use Rattle.freelist_rules.specs.declared.Region.{Region}
+use Rattle.store_rules.specs.declared.Chunk.{Chunk}
+use Rattle.store_rules.specs.declared.Region.{Region}
 use Rattle.freelist_outcomes.specs.Ask.{spent, raisedFor}
 
 -- ---- 1
@@ -129,7 +125,7 @@ pub record Leads (s : FreeListSettings) (a : Account) (t : Tables) : Type 0 wher
 
 -- 13: of the open order
 abbrev pub Unwelcomed : FreeListSettings → Account → Outcome → Tables → Type 0
-Unwelcomed s a o t = (k : KeptOrder) × (a .order ≡ Kept k) × Unwelcome (k .order .map) (memories (storeOf s t .chunks)) o
+Unwelcomed s a o t = UnwelcomeTo a (memories (storeOf s t .chunks)) o
 
 -- "13, 11, 12 for a delivery"
 abbrev pub deliverReasons : FreeListSettings → Account → Outcome → Tables → Reasons
@@ -138,14 +134,6 @@ deliverReasons s a o t =
     (reason (NoneFor (s .store .number) a) 2
     (reason (SoundTables s t × Leads s a t → ⊥) 3
     (reason (Short s a t) 4 (reason (Unwelcomed s a o t) 13 (reason (DeviceOut o) 11 (reason (HostOut o) 12 none))))))
-
--- what 11 and 12 leave of the account: the order is closed; where memory was made the heap is charged and the object
--- counted, and a failed map's is given back
-abbrev pub lostFor : FreeListSettings → Account → KeptOrder → Outcome → Account
-lostFor s a k (O.Made m) =
-    cond (givesBack freeList (m .mapping)) (backAccount (s .store) a (k .order .size)) (chargedAccount (s .store) a (k .order .size))
-lostFor s a k O.OutOfDevice = withOrder a Nothing
-lostFor s a k O.OutOfHost = withOrder a Nothing
 
 -- "7 for a return"
 abbrev pub returnReasons : FreeListSettings → Account → Block → Tables → List ℕ → Reasons

@@ -8,17 +8,9 @@ use lib.ListN.{length, take, drop}
 use Rattle.counter.specs.Paper.{Said}
 use Rattle.counter.specs.Paper as Paper
 use Rattle.counter.specs.declared.settings.FreeListSettings.{FreeListSettings}
+pub use Rattle.store_rules.specs.Outcomes.{toFree}
 use Rattle.freelist_rules.specs.Tables.{Tables, storeOf}
-use Rattle.freelist_rules.specs.declared.Chunk.{Chunk}
-
--- how many memory numbers the caller is to free: those that are released, or given back with a refusal
-abbrev pub toFree : Said → ℕ
-toFree Paper.ready = 0
-toFree (Paper.block serial chunk offset size) = 0
-toFree (Paper.order store size kind map) = 0
-toFree (Paper.released n) = n
-toFree Paper.ranked = 0
-toFree (Paper.refusal n back) = length back
+use Rattle.store_rules.specs.declared.Chunk.{Chunk}
 
 -- a return or a clean-up that says `released n` has written n memory numbers, those of the chunks that were held and are
 -- held no more; places past the count are untouched

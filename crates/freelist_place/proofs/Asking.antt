@@ -11,7 +11,7 @@ use Rattle.counter.specs.Limits.{alignBits, atomBits}
 use Rattle.counter.specs.declared.settings.FreeListSettings.{FreeListSettings}
 use Rattle.store_rules.specs.declared.Loan.{Loan}
 use Rattle.freelist_rules.specs.Place.{sizeFor, maskFor, block, lentLoan}
-use Rattle.freelist_rules.specs.declared.Region.{Region}
+use Rattle.store_rules.specs.declared.Region.{Region}
 
 module _ (s : FreeListSettings) (fit : FreeListIn s) where
   pub unit-ones : Ones 63 (s .store .atom)

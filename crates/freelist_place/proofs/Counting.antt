@@ -12,7 +12,7 @@ use Rattle.freelist_rules.specs.Records.{regionRow}
 use Rattle.freelist_rules.specs.Pieces.{lo, hi, Rising}
 use Rattle.freelist_rules.specs.Join.{insert}
 use Rattle.freelist_rules.specs.Tables.{regionsMost, countAt, laidRegions, RegionsFit, regionsOf}
-use Rattle.freelist_rules.specs.declared.Region.{Region}
+use Rattle.store_rules.specs.declared.Region.{Region}
 use Rattle.freelist_regions.specs.Order.{RegionsStand, LowPlace}
 
 -- the count as the code reads it

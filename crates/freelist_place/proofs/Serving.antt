@@ -12,7 +12,7 @@ use Rattle.freelist_rules.specs.Records.{regionRow}
 use Rattle.freelist_rules.specs.Place.{sizeFor, maskFor, block, cutOff, lentLoan}
 use Rattle.freelist_rules.specs.Steps.{noRegion}
 use Rattle.freelist_rules.specs.Tables.{Tables, tables, givenAt, placesAt, countAt, storeOf, laidRegions, regionsOf}
-use Rattle.freelist_rules.specs.declared.Region.{Region}
+use Rattle.store_rules.specs.declared.Region.{Region}
 use Rattle.freelist_outcomes.specs.Ask.{loanFrom, takenTables}
 
 module _ (s : FreeListSettings) (size mask i : ℕ) (head regions : List ℕ) where

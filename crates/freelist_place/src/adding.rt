@@ -8,9 +8,9 @@ ghost use Rattle.freelist_place.specs.Ready.{Adds};
 use counter::FreeListSettings;
 use freelist_rules::CHUNK_SIZE_AT;
 use freelist_rules::CHUNKS_AT;
-use freelist_rules::Chunk;
 use freelist_rules::MADE_AT;
-use freelist_rules::Region;
+use store_rules::Chunk;
+use store_rules::Region;
 
 // A chunk number more is given, the chunk size is this, and so many chunks are held.
 fn count_chunk(head: &mut [u64], number: u64, size: u64, chunks: u64)

@@ -6,8 +6,8 @@ ghost use Rattle.counter.specs.InTable.{FreeListIn};
 ghost use Rattle.counter.specs.Limits.{alignBits};
 ghost use Rattle.freelist_rules.specs.Place.{sizeFor, maskFor, block, lentLoan};
 use counter::FreeListSettings;
-use freelist_rules::Region;
 use store_rules::Loan;
+use store_rules::Region;
 
 // The size raised to a multiple of the atom unit: no size up to the final chunk overflows.
 pub fn size_for(s: FreeListSettings, size: u64) -> u64

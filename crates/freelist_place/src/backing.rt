@@ -6,7 +6,7 @@ ghost use Rattle.freelist_outcomes.specs.Return.{givenTables};
 ghost use Rattle.freelist_place.specs.Ready.{Backs};
 use counter::Block;
 use counter::FreeListSettings;
-use freelist_rules::Region;
+use store_rules::Region;
 
 // The block that the word at `at` of the index leads to.
 pub fn take_back(

@@ -10,7 +10,7 @@ ghost use Rattle.freelist_rules.specs.Tables.{regionsMost, countAt, laidRegions
 ghost use Rattle.freelist_regions.specs.Order.{RegionsStand, LowPlace};
 use counter::FreeListSettings;
 use freelist_regions::count_at;
-use freelist_rules::Region;
+use store_rules::Region;
 
 // Region i ends at `place` from now on, or is gone where that is its start.
 pub fn cut(s: FreeListSettings, regions: &mut [u64], i: usize, place: u64)

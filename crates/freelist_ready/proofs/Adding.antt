@@ -15,7 +15,7 @@ use Rattle.store_rules.specs.Orders.{buy}
 use Rattle.freelist_rules.specs.Records.{region}
 use Rattle.freelist_rules.specs.Place.{nowhere}
 use Rattle.freelist_rules.specs.Tables.{Tables, givenAt, madeAt, chunkSizeAt, chunksAt, regionsMost, countAt, lengthsOk, chunksIn, regionsIn, storeOf, SoundTables, laidRegions}
-use Rattle.freelist_rules.specs.declared.Region.{Region}
+use Rattle.store_rules.specs.declared.Region.{Region}
 use Rattle.freelist_rules.proofs.Fits.{lengths-are, regions-fit, regions-length, chunks-length, loans-few, laid-fit, laid-count}
 use Rattle.freelist_rules.proofs.Meaning.{room-enough}
 use Rattle.freelist_outcomes.specs.Ask.{decideAsk}

@@ -11,7 +11,7 @@ use Rattle.counter.specs.declared.settings.FreeListSettings.{FreeListSettings}
 use Rattle.freelist_rules.specs.Pieces.{lo, hi, Rising}
 use Rattle.freelist_rules.specs.Steps.{noRegion}
 use Rattle.freelist_rules.specs.Tables.{Tables, lengthsOk, storeOf, SoundTables, regionsOf}
-use Rattle.freelist_rules.specs.declared.Region.{Region}
+use Rattle.store_rules.specs.declared.Region.{Region}
 use Rattle.freelist_rules.proofs.Base.{at-in}
 use Rattle.freelist_rules.proofs.Facts.{Low, region-low}
 use Rattle.freelist_rules.proofs.Fits.{regions-fit}

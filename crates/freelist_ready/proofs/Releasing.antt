@@ -15,8 +15,8 @@ use Rattle.store_rules.specs.Tests.{coversOk}
 use Rattle.freelist_rules.specs.Records.{chunkWords, regionWords}
 use Rattle.freelist_rules.specs.Join.{insert}
 use Rattle.freelist_rules.specs.Tables.{Tables, lengthsOk, chunksIn, regionsIn, storeOf, SoundTables, RegionsFit}
-use Rattle.freelist_rules.specs.declared.Chunk.{Chunk}
-use Rattle.freelist_rules.specs.declared.Region.{Region}
+use Rattle.store_rules.specs.declared.Chunk.{Chunk}
+use Rattle.store_rules.specs.declared.Region.{Region}
 use Rattle.freelist_release.specs.Releasable.{Releasable}
 use Rattle.freelist_release.proofs.Sounds.{releasable}
 use Rattle.freelist_outcomes.specs.Return.{wordFor, onLoanOk, givenTables, goneFrom}

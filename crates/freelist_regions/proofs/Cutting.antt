@@ -10,7 +10,7 @@ use Rattle.words.specs.Rows.{rows, row, laid, written}
 use Rattle.words.proofs.Records.{length-rows, getD-rows, updated-at, removed-at, length-removeAt}
 use Rattle.freelist_rules.specs.Records.{region, regionRow}
 use Rattle.freelist_rules.specs.Place.{cutOff}
-use Rattle.freelist_rules.specs.declared.Region.{Region}
+use Rattle.store_rules.specs.declared.Region.{Region}
 use Rattle.freelist_regions.specs.Ended.{endedAt}
 
 module _ (t : List ℕ) (n i x : ℕ) (h : i < n) (f : 3 * n ≤ length t) (r : Region) (e : r ≡ row regionRow i t) where

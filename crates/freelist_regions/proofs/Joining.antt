@@ -14,7 +14,7 @@ use Rattle.words.proofs.Records.{length-rows, getD-rows, updated-at, removed-at
 use Rattle.freelist_rules.specs.Records.{region, regionRow}
 use Rattle.freelist_rules.specs.Pieces.{line, lo, hi, Rising}
 use Rattle.freelist_rules.specs.Join.{meets, join, insert}
-use Rattle.freelist_rules.specs.declared.Region.{Region}
+use Rattle.store_rules.specs.declared.Region.{Region}
 use Rattle.freelist_rules.proofs.Inserts.{Apart, Ahead, insert-alone, insert-right, insert-left, insert-both}
 use Rattle.freelist_regions.specs.Ended.{endedAt}
 use Rattle.freelist_rules.specs.Steps.{noRegion}

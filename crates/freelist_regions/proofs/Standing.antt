@@ -11,7 +11,7 @@ use Rattle.words.specs.Words.{cellOf}
 use Rattle.words.specs.Rows.{rows}
 use Rattle.words.proofs.Records.{length-rows, getD-rows, cell-row}
 use Rattle.freelist_rules.specs.Records.{regionRow}
-use Rattle.freelist_rules.specs.declared.Region.{Region}
+use Rattle.store_rules.specs.declared.Region.{Region}
 use Rattle.freelist_rules.specs.Pieces.{line, lo}
 use Rattle.lists.specs.Pairs.{earlier}
 use Rattle.lists.proofs.Pairs.{earlier-then}

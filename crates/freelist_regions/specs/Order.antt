@@ -6,7 +6,7 @@ use lib.ListN.{length, getD}
 use Rattle.counter.specs.Limits.{chunkSizeMost}
 use Rattle.freelist_rules.specs.Pieces.{lo}
 use Rattle.freelist_rules.specs.Steps.{noRegion}
-use Rattle.freelist_rules.specs.declared.Region.{Region}
+use Rattle.store_rules.specs.declared.Region.{Region}
 
 abbrev pub LowPlace : ℕ → Type 0
 LowPlace x = x < 2 * chunkSizeMost

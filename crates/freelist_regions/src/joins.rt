@@ -14,7 +14,7 @@ use crate::records::put_region;
 use crate::records::region_at;
 use crate::spots::spot;
 use freelist_rules::REGION_WORDS;
-use freelist_rules::Region;
+use store_rules::Region;
 
 fn touch(r: Region, b: Region) -> bool
     ensures { λ t. ⌜ t ≡ meets r b ⌝ }

@@ -4,9 +4,9 @@ ghost use Rattle.words.specs.Rows.{row, written};
 ghost use Rattle.freelist_rules.specs.Records.{chunkRow, regionRow};
 ghost use Rattle.freelist_regions.specs.Ended.{endedAt};
 use freelist_rules::CHUNK_WORDS;
-use freelist_rules::Chunk;
 use freelist_rules::REGION_WORDS;
-use freelist_rules::Region;
+use store_rules::Chunk;
+use store_rules::Region;
 
 pub fn region_at(t: &[u64], i: usize) -> Region
     ensures { λ r. ⌜ r ≡ row regionRow i (now (t .entry)) ⌝ }

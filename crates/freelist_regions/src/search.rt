@@ -6,7 +6,7 @@ ghost use Rattle.freelist_rules.specs.Records.{regionRow};
 ghost use Rattle.freelist_rules.specs.Place.{fitsIn, find};
 ghost use Rattle.freelist_regions.specs.Found.{foundOf};
 use crate::records::region_at;
-use freelist_rules::Region;
+use store_rules::Region;
 
 pub enum Found {
     Nowhere,

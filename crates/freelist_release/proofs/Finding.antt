@@ -14,8 +14,8 @@ use Rattle.words.proofs.Records.{length-rows, getD-rows, cell-row}
 use Rattle.lists.proofs.Bools.{and-left, and-right, and-both, told, true-false, same?, lt-or-le}
 use Rattle.freelist_rules.specs.Records.{chunkRow, regionRow}
 use Rattle.freelist_rules.specs.Release.{covers, wholly, goes, memoryOf}
-use Rattle.freelist_rules.specs.declared.Chunk.{Chunk}
-use Rattle.freelist_rules.specs.declared.Region.{Region}
+use Rattle.store_rules.specs.declared.Chunk.{Chunk}
+use Rattle.store_rules.specs.declared.Region.{Region}
 use Rattle.freelist_rules.proofs.Base.{rising-low, at-in}
 use Rattle.freelist_rules.proofs.Facts.{ChunksRise}
 use Rattle.freelist_regions.specs.Spot.{Parting, Parts}

@@ -13,8 +13,8 @@ use borrow.Author.Tests.{eqb-true, eq-eqb, ne-eqb}
 use Rattle.lists.proofs.Bools.{or-cases, or-left, or-right, true-false, same-test}
 use Rattle.freelist_rules.specs.Pieces.{All}
 use Rattle.freelist_rules.specs.Release.{covers, leaving, left, remaining, memoriesOf}
-use Rattle.freelist_rules.specs.declared.Chunk.{Chunk}
-use Rattle.freelist_rules.specs.declared.Region.{Region}
+use Rattle.store_rules.specs.declared.Chunk.{Chunk}
+use Rattle.store_rules.specs.declared.Region.{Region}
 use Rattle.freelist_rules.proofs.Releases.{covers-yes, wholly-where, left-where, where-left, going-in, leaving-in}
 use Rattle.freelist_rules.proofs.GivesBack.{memory-of, memory-in, in-memory}
 use Rattle.freelist_release.specs.Listed.{among, unlisted}

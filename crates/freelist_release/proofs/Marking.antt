@@ -12,8 +12,8 @@ use Rattle.words.proofs.Records.{length-rows, getD-rows}
 use Rattle.counter.specs.Limits.{chunkSizeMost}
 use Rattle.freelist_rules.specs.Records.{regionRow}
 use Rattle.freelist_rules.specs.Release.{wholly, rotated, leaving, memoryOf, memoriesOf, bytesOf}
-use Rattle.freelist_rules.specs.declared.Chunk.{Chunk}
-use Rattle.freelist_rules.specs.declared.Region.{Region}
+use Rattle.store_rules.specs.declared.Chunk.{Chunk}
+use Rattle.store_rules.specs.declared.Region.{Region}
 use Rattle.freelist_rules.proofs.Listed.{memories-length}
 use Rattle.freelist_rules.proofs.Base.{at-in}
 use Rattle.freelist_release.specs.Listed.{turned}

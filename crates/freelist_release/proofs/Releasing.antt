@@ -10,8 +10,8 @@ use Rattle.words.specs.Rows.{rows, laid}
 use Rattle.words.proofs.Records.{length-rows, laid-rows}
 use Rattle.freelist_rules.specs.Records.{chunkRow, regionRow}
 use Rattle.freelist_rules.specs.Release.{staying, leaving, remaining, memoriesOf, bytesOf}
-use Rattle.freelist_rules.specs.declared.Chunk.{Chunk}
-use Rattle.freelist_rules.specs.declared.Region.{Region}
+use Rattle.store_rules.specs.declared.Chunk.{Chunk}
+use Rattle.store_rules.specs.declared.Region.{Region}
 use Rattle.freelist_release.specs.Listed.{unlisted}
 use Rattle.freelist_release.specs.Releasable.{Releasable}
 use Rattle.freelist_rules.proofs.Listed.{sets-front, memories-length}

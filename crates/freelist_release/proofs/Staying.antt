@@ -12,8 +12,8 @@ use Rattle.words.specs.Rows.{Layout, row, rows}
 use Rattle.words.proofs.Records.{length-rows, getD-rows}
 use Rattle.freelist_rules.specs.Records.{regionRow}
 use Rattle.freelist_rules.specs.Release.{wholly, goes, staying, rotated, leaving, remaining}
-use Rattle.freelist_rules.specs.declared.Chunk.{Chunk}
-use Rattle.freelist_rules.specs.declared.Region.{Region}
+use Rattle.store_rules.specs.declared.Chunk.{Chunk}
+use Rattle.store_rules.specs.declared.Region.{Region}
 use Rattle.freelist_release.specs.Listed.{among, unlisted}
 use Rattle.freelist_release.proofs.Finding.{goes-by}
 use Rattle.freelist_release.proofs.Fronts.{length-rotated}

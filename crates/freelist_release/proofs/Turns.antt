@@ -10,8 +10,8 @@ use Rattle.words.specs.Rows.{row, rows, laid, written}
 use Rattle.words.proofs.Records.{length-rows}
 use Rattle.freelist_rules.specs.Records.{chunkRow, regionRow}
 use Rattle.freelist_rules.specs.Release.{wholly, staying}
-use Rattle.freelist_rules.specs.declared.Chunk.{Chunk}
-use Rattle.freelist_rules.specs.declared.Region.{Region}
+use Rattle.store_rules.specs.declared.Chunk.{Chunk}
+use Rattle.store_rules.specs.declared.Region.{Region}
 use Rattle.freelist_release.specs.Listed.{among, unlisted}
 use Rattle.freelist_release.proofs.Keeping.{Kept, kept-row, kept-past, kept-more, kept-all}
 use Rattle.freelist_release.proofs.Staying.{staying-past, staying-more, staying-end, unlisted-past, unlisted-more, unlisted-end}

@@ -5,7 +5,7 @@ use Prim.Native.Nat.{ℕ}
 use lib.Dec.{eqb}
 use lib.ListN.{take, drop}
 use Rattle.freelist_rules.specs.Release.{rotated}
-use Rattle.freelist_rules.specs.declared.Chunk.{Chunk}
+use Rattle.store_rules.specs.declared.Chunk.{Chunk}
 
 -- x stands in the list
 unfoldable pub among : ℕ → List ℕ → Bool

@@ -7,8 +7,8 @@ use lib.ListN.{length}
 use Rattle.counter.specs.Limits.{chunkSizeMost}
 use Rattle.freelist_rules.specs.Pieces.{Rising, All, Differ}
 use Rattle.freelist_rules.specs.Release.{leaving}
-use Rattle.freelist_rules.specs.declared.Chunk.{Chunk}
-use Rattle.freelist_rules.specs.declared.Region.{Region}
+use Rattle.store_rules.specs.declared.Chunk.{Chunk}
+use Rattle.store_rules.specs.declared.Region.{Region}
 
 abbrev pub NumbersRise : List Chunk → Type 0
 NumbersRise cs = Rising (λ (c : Chunk). c .number) (λ (c : Chunk). suc (c .number)) 0 1 cs

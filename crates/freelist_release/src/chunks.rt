@@ -6,7 +6,7 @@ ghost use Rattle.freelist_release.specs.Numbered.{numbered};
 ghost use Rattle.freelist_release.specs.Releasable.{NumbersRise};
 use freelist_regions::chunk_at;
 use freelist_regions::seat;
-use freelist_rules::Chunk;
+use store_rules::Chunk;
 
 // The chunk with this number, of the first k; a record of zeros where there is none.
 pub fn find_chunk(t: &[u64], k: usize, number: u64) -> Chunk

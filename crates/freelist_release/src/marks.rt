@@ -14,10 +14,10 @@ ghost use Rattle.freelist_release.specs.Numbered.{fills};
 ghost use Rattle.freelist_release.specs.Releasable.{NumbersRise, Releasable};
 use crate::chunks::find_chunk;
 use freelist_regions::region_at;
-use freelist_rules::Chunk;
 use freelist_rules::REGION_START_AT;
 use freelist_rules::REGION_WORDS;
-use freelist_rules::Region;
+use store_rules::Chunk;
+use store_rules::Region;
 
 pub struct Marked {
     pub count: usize,

@@ -1,41 +1,32 @@
 -- Blocks on loan may be returned in any order, to the same end. Assumes nothing.
 use mathlib.Core.Path.{_≡_, refl, sym, _∙_, ap, subst}
 use mathlib.Core.Bool.{true, false, cond}
-use mathlib.Core.Logic.{_⊎_, inl, inr, ⊎-elim}
+use mathlib.Core.Logic.{_⊎_, inl, inr}
 use mathlib.Core.List.{List, [], _∷_, map, List·Memᴰ, List·Memᴰ·head, List·Memᴰ·tail, List·Memᴰ·cases-cons, List·Memᴰ·not-nil, Memᴰ·cast, List·Permᴰ, List·Permᴰ·nil, List·Permᴰ·cons, List·Permᴰ·swap, List·Permᴰ·trans}
 use Prim.Native.Nat.{ℕ, _+_}
 use lib.ListN.{getD}
-use borrow.Author.Tests.{eq-eqb}
 use Rattle.counter.specs.InTable.{FreeListIn}
 use Rattle.counter.specs.declared.answers.Block.{Block}
 use Rattle.counter.specs.declared.settings.FreeListSettings.{FreeListSettings}
-use Rattle.lists.specs.Members.{NotIn, Distinct}
-use Rattle.lists.proofs.Bools.{and-both, told}
+use Rattle.lists.specs.Members.{Distinct}
+use Rattle.lists.proofs.Bools.{told}
 use Rattle.store_rules.specs.declared.Loan.{Loan}
+pub use Rattle.store_rules.specs.Views.{loanOf}
+pub use Rattle.store_rules.proofs.Loaned.{loan-is, same-self}
+pub use Rattle.store_rules.proofs.Permuted.{perm-mem, perm-apart}
+use Rattle.store_rules.proofs.Permuted.{Apart, other-not}
 use Rattle.freelist_rules.specs.Records.{Store}
 use Rattle.freelist_rules.specs.Pieces.{All}
 use Rattle.freelist_rules.specs.Sound.{Sound}
 use Rattle.freelist_rules.specs.Place.{at}
 use Rattle.freelist_rules.specs.Seek.{sameLoan, seekFrom, seek}
 use Rattle.freelist_rules.specs.Steps.{noLoan, released, takenBack, returned, returnedAll}
-use Rattle.freelist_rules.proofs.Search.{same-loan, seek-is}
+use Rattle.freelist_rules.proofs.Search.{seek-is}
 use Rattle.freelist_rules.proofs.Base.{at-in}
 use Rattle.freelist_rules.proofs.Giving.{give, given-back-is}
 use Rattle.freelist_rules.proofs.Swaps.{settled, settled-sound, settled-swap, still}
 
 -- ---- a block's return
-
--- a block as it stands among the loans
-abbrev pub loanOf : Block → Loan
-loanOf b = record { serial = b .serial; chunk = b .chunk; offset = b .offset; size = b .size }
-
-pub loan-is : (b : Block) (l : Loan) → sameLoan b l ≡ true → l ≡ loanOf b
-loan-is b l e =
-    let w = same-loan b l e in
-    (λ i. record { serial = w .0 i; chunk = w .1 i; offset = w .2 i; size = w .3 i })
-
-pub same-self : (b : Block) → sameLoan b (loanOf b) ≡ true
-same-self b = and-both _ _ (eq-eqb (b .serial) (b .serial) refl) (and-both _ _ (eq-eqb (b .chunk) (b .chunk) refl) (and-both _ _ (eq-eqb (b .offset) (b .offset) refl) (eq-eqb (b .size) (b .size) refl)))
 
 seek-mem : (b : Block) (i : ℕ) (ls : List Loan) → seek b ls ≡ at i → List·Memᴰ (loanOf b) ls
 seek-mem b i ls e = let w = seek-is b i ls noLoan e in Memᴰ·cast (sym (loan-is b (getD ls i noLoan) (w .1))) (at-in i ls noLoan (w .0))
@@ -64,40 +55,6 @@ module _ (s : FreeListSettings) (fit : FreeListIn s) where
       ∙ ap (released true) (given-back-is s t fit sound (w .0) (k .0) ∙ ap (λ (d : Loan). give d t) (loan-is b (getD (t .loans) (w .0) noLoan) (k .1)))
 
 -- ---- orders
-
-pub perm-mem : {xs ys : List Block} (a : Block) → List·Permᴰ xs ys → List·Memᴰ a ys → List·Memᴰ a xs
-perm-mem a List·Permᴰ·nil m = m
-perm-mem a (List·Permᴰ·cons e p) m = ⊎-elim (λ h. List·Memᴰ·head (h ∙ sym e)) (λ h. List·Memᴰ·tail (perm-mem a p h)) (List·Memᴰ·cases-cons m)
-perm-mem a (List·Permᴰ·swap e f) m =
-    ⊎-elim (λ h. List·Memᴰ·tail (List·Memᴰ·head (h ∙ sym f))) (λ h. ⊎-elim (λ g. List·Memᴰ·head (g ∙ sym e)) (λ g. List·Memᴰ·tail (List·Memᴰ·tail g)) (List·Memᴰ·cases-cons h)) (List·Memᴰ·cases-cons m)
-perm-mem a (List·Permᴰ·trans p q) m = perm-mem a p (perm-mem a q m)
-
--- no two have one serial, and none has k
-abbrev Apart : List Block → Type 0
-Apart bs = Distinct (map (λ (b : Block). b .serial) bs)
-
-abbrev Other : ℕ → List Block → Type 0
-Other k bs = NotIn k (map (λ (b : Block). b .serial) bs)
-
-perm-other : {xs ys : List Block} (k : ℕ) → List·Permᴰ xs ys → Other k xs → Other k ys
-perm-other k List·Permᴰ·nil h = h
-perm-other k (List·Permᴰ·cons e p) h = ((λ q. h .0 (q ∙ ap (λ (b : Block). b .serial) (sym e))), perm-other k p (h .1))
-perm-other k (List·Permᴰ·swap e f) h = ((λ q. h .1 .0 (q ∙ ap (λ (b : Block). b .serial) (sym f))), ((λ q. h .0 (q ∙ ap (λ (b : Block). b .serial) (sym e))), h .1 .1))
-perm-other k (List·Permᴰ·trans p q) h = perm-other k q (perm-other k p h)
-
-pub perm-apart : {xs ys : List Block} → List·Permᴰ xs ys → Apart xs → Apart ys
-perm-apart List·Permᴰ·nil h = h
-perm-apart (List·Permᴰ·cons {b = b} {l₂ = l₂} e p) h =
-    let z = ap (λ (b : Block). b .serial) e in
-    let w : Other (b .serial) l₂ = rw (← z) (perm-other _ p (h .0)) in
-    (w, perm-apart p (h .1))
-perm-apart (List·Permᴰ·swap e f) h = rw (← e, ← f) (((λ q. h .0 .0 (sym q)), h .1 .0), (h .0 .1, h .1 .1))
-perm-apart (List·Permᴰ·trans p q) h = perm-apart q (perm-apart p h)
-
--- a block among those that have another serial has another serial
-other-not : (k : ℕ) (bs : List Block) (b : Block) → Other k bs → List·Memᴰ b bs → b .serial ≡ k → ⊥
-other-not k [] b h m e = List·Memᴰ·not-nil m
-other-not k (c ∷ bs) b h m e = ⊎-elim (λ q. h .0 (sym e ∙ ap (λ (b : Block). b .serial) q)) (λ q. other-not k bs b (h .1) q e) (List·Memᴰ·cases-cons m)
 
 -- those left are still on loan after one has come back
 pub left-on-loan : (b : Block) (bs : List Block) (t : Store) → Apart (b ∷ bs) → OnLoan (b ∷ bs) t → OnLoan bs (settled (loanOf b) t)

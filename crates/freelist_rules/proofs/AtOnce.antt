@@ -1,6 +1,6 @@
 -- Blocks returned one after the other end as if they all came back at once. Assumes nothing.
 use mathlib.Core.Path.{_≡_, refl, sym, _∙_, ap, subst}
-use mathlib.Core.Bool.{Bool, true, false, cond, _&&_, _||_, not}
+use mathlib.Core.Bool.{Bool, true, _&&_, not}
 use mathlib.Core.Logic.{_⊎_, inl, inr, ⊎-elim, _↔_}
 use mathlib.Core.List.{List, [], _∷_, map, List·Memᴰ, List·Memᴰ·head, List·Memᴰ·not-nil}
 use lib.Dec.{eqb}
@@ -9,71 +9,32 @@ use Rattle.counter.specs.InTable.{FreeListIn}
 use Rattle.counter.specs.declared.answers.Block.{Block}
 use Rattle.counter.specs.declared.settings.FreeListSettings.{FreeListSettings}
 use Rattle.lists.specs.Members.{Distinct}
-use Rattle.lists.proofs.Bools.{or-cases, or-left, or-right, told, true-false, same-test, not-yes}
+use Rattle.lists.proofs.Bools.{or-cases, or-left, or-right, same-test}
 use Rattle.store_rules.specs.declared.Loan.{Loan}
+pub use Rattle.store_rules.proofs.Lessening.{loans-less-in}
+use Rattle.store_rules.proofs.Lessening.{less-those, not-or, less-none, less-alike}
 use Rattle.freelist_rules.specs.Records.{Store}
 use Rattle.freelist_rules.specs.Sound.{Sound}
 use Rattle.freelist_rules.specs.Seek.{sameLoan}
 use Rattle.freelist_rules.specs.Walk.{gapsOf}
 use Rattle.freelist_rules.specs.Steps.{released, returnedAll}
 use Rattle.freelist_rules.specs.AtOnce.{among, loansLess, without, atOnce}
-use Rattle.freelist_rules.specs.declared.Chunk.{Chunk}
+use Rattle.store_rules.specs.declared.Chunk.{Chunk}
 use Rattle.freelist_rules.proofs.Search.{same-loan}
 use Rattle.freelist_rules.proofs.Decides.{regions-are}
 use Rattle.freelist_rules.proofs.Releases.{released-sound}
-use Rattle.freelist_rules.proofs.Giving.{those, some-of, those-mem, those-yes, mem-those, those-same, those-twice, those-all, some-where, some-yes, give, give-sound}
+use Rattle.freelist_rules.proofs.Giving.{those, those-mem, those-yes, mem-those, those-same, those-twice, some-where, some-yes, give, give-sound}
 use Rattle.freelist_rules.proofs.Settling.{lastOr, busy, stays, released-chunks}
 use Rattle.freelist_rules.proofs.Swaps.{release-return}
-use Rattle.freelist_rules.proofs.AnyOrder.{loanOf, loan-is, same-self, OnLoan, returned-is, left-on-loan}
+use Rattle.freelist_rules.proofs.AnyOrder.{loanOf, same-self, OnLoan, returned-is, left-on-loan}
 
 -- ---- the loans left
-
-among-some : (bs : List Block) (l : Loan) → among bs l ≡ some-of (λ (b : Block). sameLoan b l) bs
-among-some [] l = refl
-among-some (b ∷ bs) l = ap (λ (z : Bool). sameLoan b l || z) (among-some bs l)
-
--- a loan is one of the blocks exactly when it is some block's, whole
-among-where : (bs : List Block) (l : Loan) → among bs l ≡ true → (b : Block) × List·Memᴰ b bs × (l ≡ loanOf b)
-among-where bs l e =
-    let w = some-where (λ (b : Block). sameLoan b l) bs (sym (among-some bs l) ∙ e) in
-    (w .0, w .1, loan-is (w .0) l (w .2))
-
-among-yes : (bs : List Block) (l : Loan) (b : Block) → List·Memᴰ b bs → l ≡ loanOf b → among bs l ≡ true
-among-yes bs l b m e = among-some bs l ∙ some-yes (λ (c : Block). sameLoan c l) bs b m (ap (sameLoan b) e ∙ same-self b)
-
-less-those : (bs : List Block) (ls : List Loan) → loansLess bs ls ≡ those (λ (l : Loan). not (among bs l)) ls
-less-those bs [] = refl
-less-those bs (l ∷ ls) = go (among bs l) (less-those bs ls)
-  where
-    go : (x : Bool) → loansLess bs ls ≡ those (λ (d : Loan). not (among bs d)) ls → cond x (loansLess bs ls) (l ∷ loansLess bs ls) ≡ cond (not x) (l ∷ those (λ (d : Loan). not (among bs d)) ls) (those (λ (d : Loan). not (among bs d)) ls)
-    go true ih = ih
-    go false ih = ap (λ (ds : List Loan). l ∷ ds) ih
-
--- the loans left are exactly those that are none of the blocks, whole records
-pub loans-less-in : (bs : List Block) (ls : List Loan) (l : Loan) → List·Memᴰ l (loansLess bs ls) ↔ (List·Memᴰ l ls × ((b : Block) → List·Memᴰ b bs → l ≡ loanOf b → ⊥))
-loans-less-in bs ls l = (there, back)
-  where
-    there : List·Memᴰ l (loansLess bs ls) → List·Memᴰ l ls × ((b : Block) → List·Memᴰ b bs → l ≡ loanOf b → ⊥)
-    there m =
-        let k = subst (List·Memᴰ l) (less-those bs ls) m in
-        (those-mem _ l ls k, λ b q e. true-false (among bs l) (among-yes bs l b q e) (not-yes (among bs l) (those-yes _ l ls k)))
-
-    back : List·Memᴰ l ls × ((b : Block) → List·Memᴰ b bs → l ≡ loanOf b → ⊥) → List·Memᴰ l (loansLess bs ls)
-    back w = go (told (among bs l))
-      where
-        go : (among bs l ≡ true) ⊎ (among bs l ≡ false) → List·Memᴰ l (loansLess bs ls)
-        go (inl e) = let v = among-where bs l e in absurd (w .1 (v .0) (v .1) (v .2))
-        go (inr e) = subst (List·Memᴰ l) (sym (less-those bs ls)) (mem-those _ l ls (w .0) (ap not e))
 
 -- the rest of the store follows from the loans left
 less-without : (bs cs : List Block) (t v : Store) → t .given ≡ v .given → t .made ≡ v .made → t .size ≡ v .size → t .chunks ≡ v .chunks → loansLess bs (t .loans) ≡ loansLess cs (v .loans) → without bs t ≡ without cs v
 less-without bs cs t v a b c d e = λ j. record { given = a j; made = b j; size = c j; loans = e j; chunks = d j; regions = gapsOf (d j) (e j) }
 
 -- ---- one block of several
-
-not-or : (a b : Bool) → (not a && not b) ≡ not (a || b)
-not-or true b = refl
-not-or false b = refl
 
 module _ (s : FreeListSettings) (fit : FreeListIn s) where
   -- a block on loan is known by its serial
@@ -85,7 +46,7 @@ module _ (s : FreeListSettings) (fit : FreeListIn s) where
   -- none comes back
   without-none : (t : Store) → Sound s t → without [] t ≡ t
   without-none t sound =
-      let e : loansLess [] (t .loans) ≡ t .loans = less-those [] (t .loans) ∙ those-all _ (t .loans) (λ l m. refl) in
+      let e : loansLess [] (t .loans) ≡ t .loans = less-none (t .loans) in
       let f : gapsOf (t .chunks) (loansLess [] (t .loans)) ≡ t .regions = ap (gapsOf (t .chunks)) e ∙ sym (regions-are s t fit sound) in
       (λ j. record { given = t .given; made = t .made; size = t .size; loans = e j; chunks = t .chunks; regions = f j })
 
@@ -170,11 +131,4 @@ at-once-same (b ∷ bs) [] t f = absurd (List·Memᴰ·not-nil (f b .0 (List·Me
 at-once-same (b ∷ bs) (c ∷ cs) t f =
     ap (released true)
     (less-without (b ∷ bs) (c ∷ cs) t t refl refl refl refl
-    (less-those (b ∷ bs) (t .loans)
-    ∙ those-same _ _ (t .loans)
-    (λ l m.
-    ap not
-    (same-test (among (b ∷ bs) l) (among (c ∷ cs) l)
-    (λ e. let w = among-where (b ∷ bs) l e in among-yes (c ∷ cs) l (w .0) (f (w .0) .0 (w .1)) (w .2))
-    (λ e. let w = among-where (c ∷ cs) l e in among-yes (b ∷ bs) l (w .0) (f (w .0) .1 (w .1)) (w .2))))
-    ∙ sym (less-those (c ∷ cs) (t .loans))))
+    (less-alike (b ∷ bs) (c ∷ cs) (t .loans) f))

@@ -19,8 +19,8 @@ use Rattle.freelist_rules.specs.Records.{Store}
 use Rattle.freelist_rules.specs.Pieces.{loaned, free, held, Rising, All, Differ}
 use Rattle.freelist_rules.specs.Sound.{Units, Sized, Sound}
 use Rattle.freelist_rules.specs.Walk.{inside, gapsOf, same, sameAll, fillsOk, allOk, sizedFrom, sizedOk, unitsOk, numbersRise, chunkOk, loanOk, apartFrom, apart, serials, memories, soundRow}
-use Rattle.freelist_rules.specs.declared.Chunk.{Chunk}
-use Rattle.freelist_rules.specs.declared.Region.{Region}
+use Rattle.store_rules.specs.declared.Chunk.{Chunk}
+use Rattle.store_rules.specs.declared.Region.{Region}
 use Rattle.freelist_rules.proofs.Base.{never, rising-mono, rising-low}
 use Rattle.freelist_rules.proofs.Facts.{Small, ChunksRise, same-regions, sized-low, chunks-small, region-low, loan-home}
 use Rattle.freelist_rules.proofs.Gaps.{begins, stops, gapsOf-fill, gapsOf-rise, low-of, inside-rise, inside-ok}

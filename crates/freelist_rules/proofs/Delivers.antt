@@ -19,8 +19,8 @@ use Rattle.freelist_rules.specs.Pieces.{on, total, lo, hi, Rising, All}
 use Rattle.freelist_rules.specs.Sound.{Sized, Sound}
 use Rattle.freelist_rules.specs.Place.{at, orElse, fitsIn, findFrom, find, cut}
 use Rattle.freelist_rules.specs.Steps.{fresh, raised, delivered}
-use Rattle.freelist_rules.specs.declared.Chunk.{Chunk}
-use Rattle.freelist_rules.specs.declared.Region.{Region}
+use Rattle.store_rules.specs.declared.Chunk.{Chunk}
+use Rattle.store_rules.specs.declared.Region.{Region}
 use Rattle.freelist_rules.proofs.Facts.{has, sized-low, sized-some, region-home, region-low}
 use Rattle.freelist_rules.proofs.Units.{sized-units}
 

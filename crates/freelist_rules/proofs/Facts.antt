@@ -13,8 +13,8 @@ use Rattle.store_rules.specs.declared.Loan.{Loan}
 use Rattle.freelist_rules.specs.Records.{Store}
 use Rattle.freelist_rules.specs.Pieces.{on, piece, free, loaned, held, line, lo, hi, Rising, All}
 use Rattle.freelist_rules.specs.Sound.{Sized, Sound}
-use Rattle.freelist_rules.specs.declared.Chunk.{Chunk}
-use Rattle.freelist_rules.specs.declared.Region.{Region}
+use Rattle.store_rules.specs.declared.Chunk.{Chunk}
+use Rattle.store_rules.specs.declared.Region.{Region}
 use Rattle.freelist_rules.proofs.Base.{on-in, on-out, on-where, on-one, total-mem, total-where, total-none, rising-low}
 
 -- 1 where the region has byte x of chunk n, else 0

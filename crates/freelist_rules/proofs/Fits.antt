@@ -19,7 +19,7 @@ use Rattle.store_rules.specs.Loans.{loanRow, onLoan, loansOf}
 use Rattle.store_rules.specs.declared.Loan.{Loan}
 use Rattle.freelist_rules.specs.Records.{chunkRow, regionRow}
 use Rattle.freelist_rules.specs.Tables.{Tables, regionsMost, countAt, lengthsRow, lengthsOk, Lengths, placesIn, chunksIn, regionsIn, storeOf, SoundTables, laidRegions, RegionsFit, regionsOf}
-use Rattle.freelist_rules.specs.declared.Region.{Region}
+use Rattle.store_rules.specs.declared.Region.{Region}
 use Rattle.freelist_rules.proofs.Ordered.{ordered-length}
 
 -- ---- the lengths

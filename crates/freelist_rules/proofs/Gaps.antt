@@ -13,8 +13,8 @@ use Rattle.lists.proofs.Bools.{and-left, and-right, and-both, told}
 use Rattle.store_rules.specs.declared.Loan.{Loan}
 use Rattle.freelist_rules.specs.Pieces.{on, total, piece, free, loaned, held, line, lo, hi, Rising, All}
 use Rattle.freelist_rules.specs.Walk.{front, behind, within, inside, gaps, gapsOf}
-use Rattle.freelist_rules.specs.declared.Chunk.{Chunk}
-use Rattle.freelist_rules.specs.declared.Region.{Region}
+use Rattle.store_rules.specs.declared.Chunk.{Chunk}
+use Rattle.store_rules.specs.declared.Region.{Region}
 use Rattle.freelist_rules.proofs.Base.{never, on-in, on-out, on-join, total-mem, rising-mono, rising-low, rising-from}
 use Rattle.freelist_rules.proofs.Facts.{has, Low, Small, ChunksRise, held-where}
 

@@ -11,13 +11,14 @@ use borrow.Author.Tests.{eqb-true, eq-eqb}
 use Rattle.counter.specs.InTable.{FreeListIn}
 use Rattle.counter.specs.declared.settings.FreeListSettings.{FreeListSettings}
 use Rattle.lists.proofs.Bools.{told, true-false}
+pub use Rattle.store_rules.proofs.Bytes.{total-append}
 use Rattle.freelist_rules.specs.Records.{Store}
 use Rattle.freelist_rules.specs.Pieces.{total, lo, hi, Rising, All}
 use Rattle.freelist_rules.specs.Sound.{Sound}
 use Rattle.freelist_rules.specs.Release.{covers, goes, rotated, leaving, left, memoryOf, memoriesOf, bytesOf}
 use Rattle.freelist_rules.specs.Steps.{released}
-use Rattle.freelist_rules.specs.declared.Chunk.{Chunk}
-use Rattle.freelist_rules.specs.declared.Region.{Region}
+use Rattle.store_rules.specs.declared.Chunk.{Chunk}
+use Rattle.store_rules.specs.declared.Region.{Region}
 use Rattle.freelist_rules.proofs.Base.{rising-mono, rising-low}
 use Rattle.freelist_rules.proofs.Facts.{ChunksRise}
 use Rattle.freelist_rules.proofs.Releases.{covers-yes, wholly-where, left-where, where-left, going, going-in, leaving-in, in-leaving, removed, remaining-in, in-remaining, removed-in, in-removed, remaining-total}
@@ -25,10 +26,6 @@ use Rattle.freelist_rules.proofs.Releases.{covers-yes, wholly-where, le
 -- ---- sums over lists in another order
 
 module _ {A : Type 0} where
-  pub total-append : (f : A → ℕ) (xs ys : List A) → total f (xs ++ ys) ≡ total f xs + total f ys
-  total-append f [] ys = omega arith
-  total-append f (x ∷ xs) ys = omega (arith, total-append f xs ys)
-
   total-rotated : (f : A → ℕ) (xs : List A) → total f (rotated xs) ≡ total f xs
   total-rotated f [] = refl
   total-rotated f (x ∷ xs) = omega (arith, total-append f xs (x ∷ []))

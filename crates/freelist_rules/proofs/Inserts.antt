@@ -12,7 +12,7 @@ use lib.Seq.{split-at, take-suc, drop-cons, append-snoc, set-split, take-suc-set
 use Rattle.words.specs.Rows.{removeAt, insertAt}
 use Rattle.freelist_rules.specs.Pieces.{lo, hi, Rising, All}
 use Rattle.freelist_rules.specs.Join.{meets, join, absorb, insert}
-use Rattle.freelist_rules.specs.declared.Region.{Region}
+use Rattle.store_rules.specs.declared.Region.{Region}
 use Rattle.freelist_rules.proofs.Joins.{Past, firstMeets, meets-is, meets-never, insert-past, insert-first, insert-onto, insert-after, absorb-alone, absorb-next}
 
 -- ---- at an index

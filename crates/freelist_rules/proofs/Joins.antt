@@ -11,7 +11,7 @@ use Rattle.counter.specs.Limits.{chunkSizeMost}
 use Rattle.lists.proofs.Bools.{and-left, and-right, and-both, told}
 use Rattle.freelist_rules.specs.Pieces.{on, free, lo, hi, Rising, All}
 use Rattle.freelist_rules.specs.Join.{meets, join, absorb, insert}
-use Rattle.freelist_rules.specs.declared.Region.{Region}
+use Rattle.store_rules.specs.declared.Region.{Region}
 use Rattle.freelist_rules.proofs.Base.{never, on-join, rising-mono}
 use Rattle.freelist_rules.proofs.Facts.{has, Low}
 

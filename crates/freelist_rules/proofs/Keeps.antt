@@ -14,7 +14,7 @@ use Rattle.freelist_rules.specs.Sound.{Sound}
 use Rattle.freelist_rules.specs.Place.{Found, nowhere, at, sizeFor, maskFor, find}
 use Rattle.freelist_rules.specs.Seek.{seek}
 use Rattle.freelist_rules.specs.Steps.{noLoan, fresh, lent, raised, delivered, givenBack, released, takenBack, returned}
-use Rattle.freelist_rules.specs.declared.Chunk.{Chunk}
+use Rattle.store_rules.specs.declared.Chunk.{Chunk}
 use Rattle.freelist_rules.proofs.Search.{seek-is}
 use Rattle.freelist_rules.proofs.Lends.{lent-sound}
 use Rattle.freelist_rules.proofs.Delivers.{fresh-sound, raised-sound, delivered-sound}

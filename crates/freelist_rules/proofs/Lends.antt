@@ -25,7 +25,7 @@ use Rattle.freelist_rules.specs.Pieces.{on, total, piece, free, line, lo
 use Rattle.freelist_rules.specs.Sound.{Units, Sound}
 use Rattle.freelist_rules.specs.Place.{at, sizeFor, maskFor, cut, fitsIn, find, cutOff, lentLoan, putLoan}
 use Rattle.freelist_rules.specs.Steps.{noRegion, served, lent}
-use Rattle.freelist_rules.specs.declared.Region.{Region}
+use Rattle.store_rules.specs.declared.Region.{Region}
 use Rattle.freelist_rules.proofs.Base.{on-join, total-mem, rising-mono, at-in}
 use Rattle.freelist_rules.proofs.Facts.{has, apart-pieces, region-low, loan-some, loan-low, once}
 use Rattle.freelist_rules.proofs.Gaps.{begins, stops}

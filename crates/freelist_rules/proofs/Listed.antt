@@ -7,8 +7,8 @@ use native.Mathlib.Omega.{arith}
 use lib.ListN.{length, drop}
 use lib.Seq.{sets, sets-eq}
 use Rattle.freelist_rules.specs.Release.{memoriesOf}
-use Rattle.freelist_rules.specs.declared.Chunk.{Chunk}
-use Rattle.freelist_rules.specs.declared.Region.{Region}
+use Rattle.store_rules.specs.declared.Chunk.{Chunk}
+use Rattle.store_rules.specs.declared.Region.{Region}
 
 pub sets-front : (l ys : List ℕ) → length ys ≤ length l → sets l 0 ys ≡ ys ++ drop (length ys) l
 sets-front l ys h = sets-eq ys l 0 (omega arith) ∙ ap (λ (k : ℕ). ys ++ drop k l) (zero-add (length ys))

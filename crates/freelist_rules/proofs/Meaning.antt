@@ -16,8 +16,8 @@ use Rattle.freelist_rules.specs.Records.{Store}
 use Rattle.freelist_rules.specs.Pieces.{on, piece, free, loaned, held, line, lo, hi}
 use Rattle.freelist_rules.specs.Sound.{Sound}
 use Rattle.freelist_rules.specs.Walk.{front, behind, gaps, gapsOf}
-use Rattle.freelist_rules.specs.declared.Chunk.{Chunk}
-use Rattle.freelist_rules.specs.declared.Region.{Region}
+use Rattle.store_rules.specs.declared.Chunk.{Chunk}
+use Rattle.store_rules.specs.declared.Region.{Region}
 use Rattle.freelist_rules.proofs.Base.{on-in, on-where, total-mem, total-where, rising-low, rising-apart}
 use Rattle.freelist_rules.proofs.Facts.{has, sized-some, held-once, region-home, loan-home, loan-some, once}
 use Rattle.freelist_rules.proofs.Decides.{regions-are}

@@ -13,6 +13,7 @@ use Rattle.words.specs.Rows.{row, rows}
 use Rattle.words.proofs.Records.{length-rows, getD-rows}
 use Rattle.store_rules.specs.Loans.{loanRow, onLoan, loansOf}
 use Rattle.store_rules.specs.declared.Loan.{Loan}
+pub use Rattle.store_rules.proofs.Placed.{on-loan-in, on-loan-out, on-loan-append, loan-place}
 use Rattle.freelist_rules.specs.Pieces.{All}
 use Rattle.freelist_rules.specs.Place.{putLoan}
 use Rattle.freelist_rules.specs.Steps.{noLoan}
@@ -102,39 +103,3 @@ pub ordered-length : (ls : List Loan) → length (ordered ls) ≡ length ls
 unfolding ordered
 ordered-length [] = refl
 ordered-length (l ∷ ls) = omega (arith, put-length l (ordered ls), ordered-length ls)
-
--- ---- those that are no vacant place's
-
-pub on-loan-in : (a : Loan) (ls : List Loan) → List·Memᴰ a ls → eqb (a .size) 0 ≡ false → List·Memᴰ a (onLoan ls)
-on-loan-in a [] m e = absurd (List·Memᴰ·not-nil m)
-on-loan-in a (l ∷ ls) m e = go (told (eqb (l .size) 0)) (List·Memᴰ·cases-cons m) (λ k. on-loan-in a ls k e)
-  where
-    go : (eqb (l .size) 0 ≡ true) ⊎ (eqb (l .size) 0 ≡ false) → (a ≡ l) ⊎ List·Memᴰ a ls → (List·Memᴰ a ls → List·Memᴰ a (onLoan ls)) → List·Memᴰ a (onLoan (l ∷ ls))
-    go (inl q) (inl z) ih = absurd (true-false (eqb (l .size) 0) q (ap (λ (d : Loan). eqb (d .size) 0) (sym z) ∙ e))
-    go (inl q) (inr k) ih = rw q (ih k)
-    go (inr q) (inl z) ih = rw q (List·Memᴰ·head z)
-    go (inr q) (inr k) ih = rw q (List·Memᴰ·tail (ih k))
-
-pub on-loan-out : (a : Loan) (ls : List Loan) → List·Memᴰ a (onLoan ls) → List·Memᴰ a ls × (eqb (a .size) 0 ≡ false)
-on-loan-out a [] m = absurd (List·Memᴰ·not-nil m)
-on-loan-out a (l ∷ ls) m = go (told (eqb (l .size) 0)) (on-loan-out a ls)
-  where
-    go : (eqb (l .size) 0 ≡ true) ⊎ (eqb (l .size) 0 ≡ false) → (List·Memᴰ a (onLoan ls) → List·Memᴰ a ls × (eqb (a .size) 0 ≡ false)) → List·Memᴰ a (l ∷ ls) × (eqb (a .size) 0 ≡ false)
-    go (inl q) ih = let k = ih (rw q at m) in (List·Memᴰ·tail (k .0), k .1)
-    go (inr q) ih =
-        let k : List·Memᴰ a (l ∷ onLoan ls) = rw q at m in
-        ⊎-elim (λ e. (List·Memᴰ·head e, ap (λ (d : Loan). eqb (d .size) 0) e ∙ q)) (λ i. let j = ih i in (List·Memᴰ·tail (j .0), j .1)) (List·Memᴰ·cases-cons k)
-
--- a loan of the first n places stands at one of them
-
-pub on-loan-append : (xs ys : List Loan) → onLoan (xs ++ ys) ≡ onLoan xs ++ onLoan ys
-on-loan-append [] ys = refl
-on-loan-append (x ∷ xs) ys = ⊎-elim (λ e. rw (e) (on-loan-append xs ys)) (λ e. rw (e) (ap (λ (zs : List Loan). x ∷ zs) (on-loan-append xs ys))) (told (eqb (x .size) 0))
-
-pub loan-place : (n : ℕ) (t : List ℕ) (a : Loan) → List·Memᴰ a (loansOf n t) → (p : ℕ) × (p < n) × (row loanRow p t ≡ a) × (eqb (a .size) 0 ≡ false)
-unfolding loansOf
-loan-place n t a m =
-    let k = on-loan-out a (rows loanRow n t) m in
-    let w = mem-at a (rows loanRow n t) noLoan (k .0) in
-    let h : w .0 < n = omega (arith, w .1, length-rows loanRow n t) in
-    (w .0, h, sym (getD-rows loanRow n (w .0) t noLoan h) ∙ w .2, k .1)

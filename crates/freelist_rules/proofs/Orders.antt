@@ -19,8 +19,8 @@ use Rattle.freelist_rules.specs.Pieces.{loaned}
 use Rattle.freelist_rules.specs.Sound.{Sound}
 use Rattle.freelist_rules.specs.Place.{Found, nowhere, at, sizeFor, maskFor, cut, fitsIn, find}
 use Rattle.freelist_rules.specs.Steps.{noRegion}
-use Rattle.freelist_rules.specs.declared.Chunk.{Chunk}
-use Rattle.freelist_rules.specs.declared.Region.{Region}
+use Rattle.store_rules.specs.declared.Chunk.{Chunk}
+use Rattle.store_rules.specs.declared.Region.{Region}
 use Rattle.freelist_rules.proofs.Base.{never, at-in}
 use Rattle.freelist_rules.proofs.Facts.{region-home, once}
 use Rattle.freelist_rules.proofs.Search.{find-fits, find-nowhere}

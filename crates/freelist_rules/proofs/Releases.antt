@@ -15,8 +15,8 @@ use Rattle.freelist_rules.specs.Pieces.{on, total, free, held, lo, hi, R
 use Rattle.freelist_rules.specs.Sound.{Sound}
 use Rattle.freelist_rules.specs.Release.{covers, wholly, goes, staying, rotated, leaving, left, remaining}
 use Rattle.freelist_rules.specs.Steps.{released}
-use Rattle.freelist_rules.specs.declared.Chunk.{Chunk}
-use Rattle.freelist_rules.specs.declared.Region.{Region}
+use Rattle.store_rules.specs.declared.Chunk.{Chunk}
+use Rattle.store_rules.specs.declared.Region.{Region}
 use Rattle.freelist_rules.proofs.Base.{on-in, total-mem, rising-mono, rising-low}
 use Rattle.freelist_rules.proofs.Facts.{held-once, held-where, region-home, region-some, once}
 use Rattle.freelist_rules.proofs.Meaning.{Idle, region-at, at-region, chunk-one, wholly-free}

@@ -17,7 +17,7 @@ use Rattle.freelist_rules.specs.Pieces.{piece, lo, hi, All}
 use Rattle.freelist_rules.specs.Sound.{Units, Sound}
 use Rattle.freelist_rules.specs.Join.{meets, join, absorb, insert}
 use Rattle.freelist_rules.specs.Steps.{noLoan, givenBack}
-use Rattle.freelist_rules.specs.declared.Region.{Region}
+use Rattle.store_rules.specs.declared.Region.{Region}
 use Rattle.freelist_rules.proofs.Base.{total-mem, at-in, removed-in, removed-total, removed-rise}
 use Rattle.freelist_rules.proofs.Facts.{has, apart-pieces, region-some, region-low, loan-some, loan-low, once}
 use Rattle.freelist_rules.proofs.Units.{multiple-plus}

@@ -14,9 +14,10 @@ use Rattle.lists.specs.Members.{NotIn, Distinct}
 use Rattle.lists.proofs.Bools.{and-left, and-right, told, same?}
 use Rattle.store_rules.specs.declared.Loan.{Loan}
 use Rattle.freelist_rules.specs.Place.{Found, nowhere, at, orElse, fitsIn, findFrom, find, spotFor}
+pub use Rattle.store_rules.proofs.Loaned.{same-loan}
 use Rattle.freelist_rules.specs.Seek.{sameLoan, seekFrom, seek}
 use Rattle.freelist_rules.specs.Walk.{serials}
-use Rattle.freelist_rules.specs.declared.Region.{Region}
+use Rattle.store_rules.specs.declared.Region.{Region}
 use Rattle.freelist_rules.proofs.Gaps.{begins, stops, LoansRise}
 
 -- ---- a region, from the last back: before the turn at i the regions from i + 1 on are passed
@@ -122,16 +123,6 @@ pub spot-between : (x b i : ℕ) (ls : List Loan) (d : Loan) → LoansRise b ls 
 spot-between x b i ls d r h f g = spot-at x i ls d h (λ j k. omega (arith, f (omega arith), rise-all b (i - 1) ls d r (omega arith) j (omega arith))) g
 
 -- ---- the loan of a block
-
-pub same-loan : (b : Block) (l : Loan) → sameLoan b l ≡ true → (l .serial ≡ b .serial) × (l .chunk ≡ b .chunk) × (l .offset ≡ b .offset) × (l .size ≡ b .size)
-same-loan b l e =
-    let p = eqb (l .serial) (b .serial) in
-    let q = eqb (l .chunk) (b .chunk) in
-    let r = eqb (l .offset) (b .offset) in
-    let s = eqb (l .size) (b .size) in
-    let u = and-right p (q && (r && s)) e in
-    let v = and-right q (r && s) u in
-    (eqb-true _ _ (and-left p (q && (r && s)) e), eqb-true _ _ (and-left q (r && s) u), eqb-true _ _ (and-left r s v), eqb-true _ _ (and-right r s v))
 
 pub seek-none : (b : Block) (ls : List Loan) (d : Loan) → ((i : ℕ) → i < length ls → sameLoan b (getD ls i d) ≡ false) → seek b ls ≡ nowhere
 unfolding seekFrom

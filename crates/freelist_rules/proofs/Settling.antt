@@ -16,8 +16,8 @@ use Rattle.freelist_rules.specs.Pieces.{lo, hi, Rising, All}
 use Rattle.freelist_rules.specs.Sound.{Sound}
 use Rattle.freelist_rules.specs.Release.{covers, wholly, goes, staying, rotated, leaving, left, remaining}
 use Rattle.freelist_rules.specs.Steps.{released}
-use Rattle.freelist_rules.specs.declared.Chunk.{Chunk}
-use Rattle.freelist_rules.specs.declared.Region.{Region}
+use Rattle.store_rules.specs.declared.Chunk.{Chunk}
+use Rattle.store_rules.specs.declared.Region.{Region}
 use Rattle.freelist_rules.proofs.Base.{never, rising-low}
 use Rattle.freelist_rules.proofs.Facts.{region-home}
 use Rattle.freelist_rules.proofs.Meaning.{chunk-one, wholly-free, idle-unnamed, unnamed-idle}

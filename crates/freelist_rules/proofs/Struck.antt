@@ -15,6 +15,7 @@ use Rattle.words.specs.Rows.{row, rows}
 use Rattle.words.proofs.Records.{length-rows, getD-rows, rows-after, stored-at}
 use Rattle.store_rules.specs.Loans.{loanWords, sizeAt, loanRow, onLoan, loansOf}
 use Rattle.store_rules.specs.declared.Loan.{Loan}
+pub use Rattle.store_rules.proofs.Placed.{earlier, later, loans-with, loans-less}
 use Rattle.freelist_rules.specs.Pieces.{All}
 use Rattle.freelist_rules.specs.Place.{putLoan}
 use Rattle.freelist_rules.specs.Steps.{noLoan}
@@ -23,47 +24,6 @@ use Rattle.freelist_rules.proofs.Base.{rising-low, rising-apart}
 use Rattle.freelist_rules.proofs.Gaps.{begins, stops, LoansRise}
 use Rattle.freelist_rules.proofs.Giving.{those, those-all, without}
 use Rattle.freelist_rules.proofs.Ordered.{ordered-in, ordered-out, ordered-amid, on-loan-append}
-
--- ---- among the records of a table
-
-module _ (n p : ℕ) (t : List ℕ) (h : p < n) (long : loanWords * n ≤ length t) where
-  abbrev all : List Loan
-  all = rows loanRow n t
-
-  -- the loans at the places before p, and at those past it
-  abbrev pub earlier : List Loan
-  earlier = onLoan (take p (rows loanRow n t))
-
-  abbrev pub later : List Loan
-  later = onLoan (drop (suc p) (rows loanRow n t))
-
-  inside : p < length (rows loanRow n t)
-  inside = omega (arith, length-rows loanRow n t)
-
-  -- one at p stands between them
-  pub loans-with : eqb (row loanRow p t .size) 0 ≡ false → loansOf n t ≡ earlier ++ (row loanRow p t ∷ later)
-  unfolding loansOf
-  loans-with u =
-      let e : all ≡ take p all ++ (row loanRow p t ∷ drop (suc p) all) =
-      split-at all p noLoan inside ∙ ap (λ (l : Loan). take p all ++ (l ∷ drop (suc p) all)) (getD-rows loanRow n p t noLoan h) in
-      let f : onLoan (row loanRow p t ∷ drop (suc p) all) ≡ row loanRow p t ∷ later = rw u in
-      ap onLoan e ∙ on-loan-append (take p all) (row loanRow p t ∷ drop (suc p) all) ∙ ap (λ (xs : List Loan). earlier ++ xs) f
-
-  -- the record at p as it is when p has been made vacant
-  abbrev gone : Loan
-  gone = loanRow .dec (set (drop (loanWords * p) t) sizeAt 0)
-
-  -- where p is made vacant they are left
-  pub loans-less : loansOf n (set t (cellOf sizeAt loanWords p) 0) ≡ earlier ++ later
-  unfolding loansOf
-  loans-less =
-      let z : gone .size ≡ 0 = getD-set-same (drop (loanWords * p) t) sizeAt 0 0 (simp length-drop (omega arith)) in
-      let v : eqb (gone .size) 0 ≡ true = eq-eqb (gone .size) 0 z in
-      let e : rows loanRow n (set t (cellOf sizeAt loanWords p) 0) ≡ set all p gone =
-      ap (rows loanRow n) (stored-at loanRow n p sizeAt 0 t h long (omega arith))
-      ∙ rows-after loanRow n (set all p gone) t (length-set all p gone ∙ length-rows loanRow n t) in
-      let f : onLoan (gone ∷ drop (suc p) all) ≡ later = rw v in
-      ap onLoan (e ∙ set-split all p gone inside) ∙ on-loan-append (take p all) (gone ∷ drop (suc p) all) ∙ ap (λ (xs : List Loan). earlier ++ xs) f
 
 -- ---- in order
 

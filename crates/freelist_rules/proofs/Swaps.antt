@@ -17,8 +17,8 @@ use Rattle.freelist_rules.specs.Pieces.{piece, line, lo, hi, Rising}
 use Rattle.freelist_rules.specs.Sound.{Sound}
 use Rattle.freelist_rules.specs.Join.{meets, join, absorb, insert}
 use Rattle.freelist_rules.specs.Steps.{released}
-use Rattle.freelist_rules.specs.declared.Chunk.{Chunk}
-use Rattle.freelist_rules.specs.declared.Region.{Region}
+use Rattle.store_rules.specs.declared.Chunk.{Chunk}
+use Rattle.store_rules.specs.declared.Region.{Region}
 use Rattle.freelist_rules.proofs.Facts.{Low, region-low, loan-some, loan-low}
 use Rattle.freelist_rules.proofs.Joins.{meets-is}
 use Rattle.freelist_rules.proofs.Releases.{released-sound}

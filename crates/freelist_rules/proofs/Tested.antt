@@ -29,7 +29,7 @@ use Rattle.freelist_rules.specs.Sound.{Sound}
 use Rattle.freelist_rules.specs.Walk.{allOk, sizedOk, chunkOk, loanOk, apart, serials}
 use Rattle.freelist_rules.specs.Walk as Walk
 use Rattle.freelist_rules.specs.Tables.{Tables, markAt, mark, givenAt, placesIn, chunksIn, regionsIn, regionsMost, ordered, storeOf, vacantIn, vacantAfterIn, chainStart, chainNext, SoundTables, soundRow, soundOk}
-use Rattle.freelist_rules.specs.declared.Chunk.{Chunk}
+use Rattle.store_rules.specs.declared.Chunk.{Chunk}
 use Rattle.freelist_rules.proofs.Decides.{all-yes, all-all, apart-all, differ-distinct, sized-yes, numbers-yes, fills-yes, sound-yes, sound-all}
 use Rattle.freelist_rules.proofs.Facts.{Small, sized-low}
 use Rattle.freelist_rules.proofs.Gaps.{begins, stops, inside-rise}

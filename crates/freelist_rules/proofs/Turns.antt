@@ -13,8 +13,8 @@ use Rattle.store_rules.specs.declared.Loan.{Loan}
 use Rattle.freelist_rules.specs.Records.{region}
 use Rattle.freelist_rules.specs.Walk.{front, behind, within, inside, gaps, gapsOf, same, sameAll, fillsOk}
 use Rattle.freelist_rules.specs.Rest.{rest, nextIs}
-use Rattle.freelist_rules.specs.declared.Chunk.{Chunk}
-use Rattle.freelist_rules.specs.declared.Region.{Region}
+use Rattle.store_rules.specs.declared.Chunk.{Chunk}
+use Rattle.store_rules.specs.declared.Region.{Region}
 use Rattle.freelist_rules.proofs.Base.{never}
 use Rattle.freelist_rules.proofs.Gaps.{within-le, within-rest}
 

@@ -15,8 +15,8 @@ use Rattle.freelist_rules.specs.Records.{region}
 use Rattle.freelist_rules.specs.Pieces.{All}
 use Rattle.freelist_rules.specs.Sound.{Units, Sized}
 use Rattle.freelist_rules.specs.Walk.{front, behind, gaps, gapsOf}
-use Rattle.freelist_rules.specs.declared.Chunk.{Chunk}
-use Rattle.freelist_rules.specs.declared.Region.{Region}
+use Rattle.store_rules.specs.declared.Chunk.{Chunk}
+use Rattle.store_rules.specs.declared.Region.{Region}
 use Rattle.freelist_rules.proofs.Gaps.{front-in, behind-in}
 
 -- ---- multiples of any u

@@ -4,20 +4,11 @@ use mathlib.Core.Bool.{Bool, true, false, cond, _||_}
 use mathlib.Core.List.{List, [], _∷_}
 use Rattle.counter.specs.declared.answers.Block.{Block}
 use Rattle.store_rules.specs.declared.Loan.{Loan}
+pub use Rattle.store_rules.specs.Views.{among, loansLess}
 use Rattle.freelist_rules.specs.Records.{Store}
 use Rattle.freelist_rules.specs.Seek.{sameLoan}
 use Rattle.freelist_rules.specs.Steps.{released}
 use Rattle.freelist_rules.specs.Walk.{gapsOf}
-
--- a loan is one of the blocks
-abbrev pub among : List Block → Loan → Bool
-among [] l = false
-among (b ∷ bs) l = sameLoan b l || among bs l
-
--- the loans that are none of them
-abbrev pub loansLess : List Block → List Loan → List Loan
-loansLess bs [] = []
-loansLess bs (l ∷ ls) = cond (among bs l) (loansLess bs ls) (l ∷ loansLess bs ls)
 
 -- those loans are left, and what lies between them in the held chunks is free
 abbrev pub without : List Block → Store → Store

@@ -7,31 +7,14 @@ use lib.Dec.{eqb, leb, ltb}
 use Rattle.counter.specs.Limits.{chunkSizeMost}
 use Rattle.store_rules.specs.declared.Loan.{Loan}
 use Rattle.freelist_rules.specs.Records.{region}
-use Rattle.freelist_rules.specs.declared.Chunk.{Chunk}
-use Rattle.freelist_rules.specs.declared.Region.{Region}
-
--- 1 where bytes lo to hi of chunk c hold byte x of chunk n, else 0
-unfoldable pub on : ℕ → ℕ → ℕ → ℕ → ℕ → ℕ
-on n x c lo hi = cond (eqb c n && (leb lo x && ltb x hi)) 1 0
-
--- the sum of f over a list
-abbrev pub total : {A : Type 0} → (A → ℕ) → List A → ℕ
-total f [] = 0
-total f (a ∷ xs) = f a + total f xs
+unfoldable pub use Rattle.store_rules.specs.Views.{on}
+pub use Rattle.store_rules.specs.Views.{All, Differ, total, free, loaned, held}
+use Rattle.store_rules.specs.declared.Chunk.{Chunk}
+use Rattle.store_rules.specs.declared.Region.{Region}
 
 -- the bytes of a loan
 abbrev pub piece : Loan → Region
 piece l = region (l .chunk) (l .offset) (l .offset + l .size)
-
--- how many free regions, loans and chunks hold byte x of chunk n
-abbrev pub free : ℕ → ℕ → List Region → ℕ
-free n x rs = total (λ (r : Region). on n x (r .chunk) (r .start) (r .end)) rs
-
-abbrev pub loaned : ℕ → ℕ → List Loan → ℕ
-loaned n x ls = total (λ (l : Loan). on n x (l .chunk) (l .offset) (l .offset + l .size)) ls
-
-abbrev pub held : ℕ → ℕ → List Chunk → ℕ
-held n x cs = total (λ (c : Chunk). on n x (c .number) 0 (c .size)) cs
 
 -- byte x of chunk c on one line: chunks are at most 2^40 bytes long and lie twice as far apart, so that pieces of two
 -- chunks never meet
@@ -49,11 +32,3 @@ module _ {A : Type 0} where
   abbrev pub Rising : (A → ℕ) → (A → ℕ) → ℕ → ℕ → List A → Type 0
   Rising begin stop g b [] = Unit {0}
   Rising begin stop g b (a ∷ xs) = (b ≤ begin a) × (begin a < stop a) × Rising begin stop g (g + stop a) xs
-
-  -- P holds of each
-  abbrev pub All : (A → Type 0) → List A → Type 0
-  All P xs = (a : A) → List·Memᴰ a xs → P a
-
-  -- no two have the same key
-  abbrev pub Differ : (A → ℕ) → List A → Type 0
-  Differ key xs = (a b : A) → List·Memᴰ a xs → List·Memᴰ b xs → key a ≡ key b → a ≡ b

@@ -12,7 +12,7 @@ use Rattle.counter.specs.declared.settings.FreeListSettings.{FreeListSettings}
 use Rattle.store_rules.specs.declared.Loan.{Loan}
 use Rattle.freelist_rules.specs.Records.{Store, region}
 use Rattle.freelist_rules.specs.Pieces.{piece, lo}
-use Rattle.freelist_rules.specs.declared.Region.{Region}
+use Rattle.store_rules.specs.declared.Region.{Region}
 
 -- the size that is looked for, and the mask that its place is aligned to: of two masks the greater holds both
 abbrev pub sizeFor : FreeListSettings → ℕ → ℕ

@@ -6,8 +6,9 @@ use native.Mathlib.Omega.{arith}
 use lib.ListN.{length, take, getD}
 use Rattle.words.specs.Rows.{Layout}
 use Rattle.store_rules.specs.declared.Loan.{Loan}
-use Rattle.freelist_rules.specs.declared.Chunk.{Chunk}
-use Rattle.freelist_rules.specs.declared.Region.{Region}
+pub use Rattle.store_rules.specs.Views.{region, chunk}
+use Rattle.store_rules.specs.declared.Chunk.{Chunk}
+use Rattle.store_rules.specs.declared.Region.{Region}
 
 -- serials given, chunk numbers given, chunk size now; loans and regions by chunk and place, chunks by number
 pub record Store : Type 0 where
@@ -17,12 +18,6 @@ pub record Store : Type 0 where
   pub loans : List Loan
   pub chunks : List Chunk
   pub regions : List Region
-
-abbrev pub region : ℕ → ℕ → ℕ → Region
-region c a b = record { chunk = c; start = a; end = b }
-
-abbrev pub chunk : ℕ → ℕ → ℕ → Chunk
-chunk n m z = record { number = n; memory = m; size = z }
 
 -- ---- in words
 

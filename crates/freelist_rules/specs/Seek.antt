@@ -6,10 +6,8 @@ use Prim.Native.Nat.{ℕ, _+_}
 use lib.Dec.{eqb}
 use Rattle.counter.specs.declared.answers.Block.{Block}
 use Rattle.store_rules.specs.declared.Loan.{Loan}
+pub use Rattle.store_rules.specs.Views.{sameLoan}
 use Rattle.freelist_rules.specs.Place.{Found, nowhere, at}
-
-abbrev pub sameLoan : Block → Loan → Bool
-sameLoan b l = eqb (l .serial) (b .serial) && (eqb (l .chunk) (b .chunk) && (eqb (l .offset) (b .offset) && eqb (l .size) (b .size)))
 
 unfoldable pub seekFrom : Block → ℕ → List Loan → Found
 seekFrom b i [] = nowhere

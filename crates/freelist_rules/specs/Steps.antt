@@ -7,6 +7,7 @@ use Rattle.rounding.specs.Growth.{doubled}
 use Rattle.words.specs.Rows.{removeAt}
 use Rattle.counter.specs.declared.answers.Block.{Block}
 use Rattle.counter.specs.declared.settings.FreeListSettings.{FreeListSettings}
+pub use Rattle.store_rules.specs.Loans.{noLoan}
 use Rattle.store_rules.specs.declared.Loan.{Loan}
 use Rattle.freelist_rules.specs.Records.{Store, region, chunk}
 use Rattle.freelist_rules.specs.Pieces.{piece}
@@ -14,14 +15,11 @@ use Rattle.freelist_rules.specs.Place.{Found, nowhere, at, block, cutOff
 use Rattle.freelist_rules.specs.Join.{insert}
 use Rattle.freelist_rules.specs.Release.{staying, leaving, remaining}
 use Rattle.freelist_rules.specs.Seek.{seek}
-use Rattle.freelist_rules.specs.declared.Chunk.{Chunk}
-use Rattle.freelist_rules.specs.declared.Region.{Region}
+use Rattle.store_rules.specs.declared.Chunk.{Chunk}
+use Rattle.store_rules.specs.declared.Region.{Region}
 
 abbrev pub noRegion : Region
 noRegion = region 0 0 0
-
-abbrev pub noLoan : Loan
-noLoan = record { serial = 0; chunk = 0; offset = 0; size = 0 }
 
 -- a store as set-up leaves it
 abbrev pub fresh : FreeListSettings → Store

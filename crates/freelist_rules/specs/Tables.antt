@@ -20,7 +20,7 @@ use Rattle.freelist_rules.specs.Records.{Store, chunkWords, regionWords,
 use Rattle.freelist_rules.specs.Sound.{Sound}
 use Rattle.freelist_rules.specs.Walk.{allOk, sizedOk, numbersRise, chunkOk, loanOk, fillsOk, apart, memories}
 use Rattle.freelist_rules.specs.Place.{putLoan}
-use Rattle.freelist_rules.specs.declared.Region.{Region}
+use Rattle.store_rules.specs.declared.Region.{Region}
 
 pub record Tables : Type 0 where
   pub head : List ℕ

@@ -28,16 +28,3 @@ pub const PLACES_AT: usize = 4;
 pub const CHUNKS_AT: usize = 5;
 
 pub const HEAD_WORDS: usize = 6;
-
-pub struct Chunk {
-    pub number: u64,
-    pub memory: u64,
-    pub size: u64,
-}
-
-// A free region: bytes `start` to `end` of a chunk.
-pub struct Region {
-    pub chunk: u64,
-    pub start: u64,
-    pub end: u64,
-}

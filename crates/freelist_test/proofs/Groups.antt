@@ -28,7 +28,7 @@ use Rattle.freelist_rules.specs.Records.{chunkRow}
 use Rattle.freelist_rules.specs.Pieces.{All}
 use Rattle.freelist_rules.specs.Tables.{tables, mark, markAt, givenAt, placesAt, chunksAt, regionsMost, partedIn}
 use Rattle.freelist_rules.specs.Walk.{sizedOk, numbersRise, chunkOk, loanOk, apart, memories}
-use Rattle.freelist_rules.specs.declared.Chunk.{Chunk}
+use Rattle.store_rules.specs.declared.Chunk.{Chunk}
 use Rattle.freelist_rules.proofs.Decides.{all-yes, apart-yes, apart-all, sized-yes}
 use Rattle.freelist_rules.proofs.Facts.{sized-low}
 use Rattle.freelist_test.specs.Parts.{counted, headOk, bookOk, eachOk, chunksOk}

@@ -9,7 +9,7 @@ use Rattle.counter.specs.declared.settings.FreeListSettings.{FreeListSettings}
 use Rattle.freelist_rules.specs.Records.{Store}
 use Rattle.freelist_rules.specs.Tables.{tables, mark, markAt, chunksAt, regionsMost, partedIn, chainedIn}
 use Rattle.freelist_rules.specs.Walk.{allOk, sizedOk, numbersRise, chunkOk, apart, memories}
-use Rattle.freelist_rules.specs.declared.Chunk.{Chunk}
+use Rattle.store_rules.specs.declared.Chunk.{Chunk}
 
 -- a store of which only its counts are told: the tests of a chunk and of a loan look at nothing else
 abbrev pub counted : ℕ → ℕ → ℕ → Store

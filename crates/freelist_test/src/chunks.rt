@@ -10,7 +10,7 @@ ghost use Rattle.freelist_test.specs.Parts.{counted, eachOk, chunksOk};
 use counter::FreeListSettings;
 use freelist_rules::CHUNK_MEMORY_AT;
 use freelist_rules::CHUNK_WORDS;
-use freelist_rules::Chunk;
+use store_rules::Chunk;
 
 // Whether z is the start size doubled so often, or the final size where that is reached. Below the final size no doubling
 // leaves a word.

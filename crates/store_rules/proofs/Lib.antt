@@ -1,2 +1,13 @@
 -- What follows from the definitions that both engines share.
+pub mod Tested
+pub mod Said
 pub mod Refused
+pub mod Fates
+pub mod Loaned
+pub mod Bytes
+pub mod Placed
+pub mod Accounts
+pub mod Going
+pub mod Releasing
+pub mod Permuted
+pub mod Lessening

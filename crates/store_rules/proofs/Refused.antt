@@ -3,9 +3,9 @@ use mathlib.Core.Path.{_≡_, refl, sym, ap, _∙_}
 use mathlib.Core.Bool.{Bool, true, false, _&&_, not}
 use mathlib.Core.Logic.{_⊎_, inl, inr, ⊎-elim, _↔_}
 use mathlib.Core.List.{List, [], _∷_, List·Memᴰ, List·Memᴰ·head, List·Memᴰ·tail, List·Memᴰ·cases-cons, List·Memᴰ·not-nil}
-use Prim.Native.Nat.{ℕ, _+_, _<_}
+use Prim.Native.Nat.{ℕ, _+_}
 use lib.Dec.{eqb, leb}
-use borrow.Author.Tests.{eqb-true, eq-eqb, ne-eqb, leb-false, lt-leb}
+use borrow.Author.Tests.{eqb-true, eq-eqb, ne-eqb}
 use Rattle.lists.proofs.Bools.{told, true-false, and-left, and-right, and-both, or-cases, or-left, or-right, not-no}
 use Rattle.counter.specs.Limits.{objectsMost}
 use Rattle.counter.specs.Table.{alignmentOk}
@@ -28,18 +28,13 @@ use Rattle.store_rules.specs.Delivery.{suits, holds, deliveryOk}
 use Rattle.store_rules.specs.Orders.{Plan, deny, take, buy, orderFrom, sameBool, sameOrder, leadsTo}
 use Rattle.store_rules.specs.Refusals.{OrderOpen, NoneFor, Uncovered, MaskOff, Unsuited, Unwelcome}
 use Rattle.store_rules.specs.Tests.{noOrder, orderFor, coversOk}
+use Rattle.store_rules.proofs.Tested.{off-and, off-within}
 
 -- ---- tests that fail
 
 -- a test that holds exactly where some words do fails exactly where they do not
 pub fails : (b : Bool) {W : Type 0} → (b ≡ true → W) → (W → b ≡ true) → (b ≡ false) ↔ (W → ⊥)
 fails b to from = ((λ e w. true-false b (from w) e), (λ f. ⊎-elim (λ e. absurd (f (to e))) (λ e. e) (told b)))
-
--- of two tests one fails
-either : (a b : Bool) {A B : Type 0} → (a ≡ false) ↔ A → (b ≡ false) ↔ B → ((a && b) ≡ false) ↔ (A ⊎ B)
-either true b p q =
-    ((λ e. inr (q .0 e)), (λ w. ⊎-elim (λ x. absurd (true-false true refl (p .1 x))) (λ x. q .1 x) w))
-either false b p q = ((λ e. inl (p .0 refl)), (λ w. refl))
 
 -- ---- 2
 
@@ -62,14 +57,11 @@ none-for store a = (there, back (a .order))
 
 -- ---- 4
 
-below : (a b : ℕ) → (leb a b ≡ false) ↔ (b < a)
-below a b = (leb-false a b, lt-leb a b)
-
 pub uncovered : (h : Heap) (objects chunks bytes : ℕ) → (coversOk h objects chunks bytes ≡ false) ↔ Uncovered h objects chunks bytes
 unfolding coversOk
 uncovered h objects chunks bytes =
-    either (leb bytes (h .used)) (agreesOk h && leb (objects + chunks) objectsMost) (below bytes (h .used))
-    (either (agreesOk h) (leb (objects + chunks) objectsMost) (fails (agreesOk h) (agrees-yes h) (agrees-all h)) (below (objects + chunks) objectsMost))
+    off-and (leb bytes (h .used)) (agreesOk h && leb (objects + chunks) objectsMost) (off-within bytes (h .used))
+    (off-and (agreesOk h) (leb (objects + chunks) objectsMost) (fails (agreesOk h) (agrees-yes h) (agrees-all h)) (off-within (objects + chunks) objectsMost))
 
 -- ---- 5
 
@@ -134,7 +126,7 @@ unfolding deliveryOk
 unwelcome map held o = (there o, back)
   where
     made : (m : Memory) → (deliveryOk map held (O.Made m) ≡ false) ↔ (List·Memᴰ (m .number) held ⊎ Unsuited map (m .mapping))
-    made m = either (not (holds (m .number) held)) (suits map (m .mapping)) (held-off (m .number) held) (suits-off map (m .mapping))
+    made m = off-and (not (holds (m .number) held)) (suits map (m .mapping)) (held-off (m .number) held) (suits-off map (m .mapping))
 
     there : (o : Outcome) → deliveryOk map held o ≡ false → Unwelcome map held o
     there (O.Made m) e = (m, refl, made m .0 e)

@@ -5,3 +5,4 @@ pub mod Outcomes
 pub mod Loans
 pub mod Refusals
 pub mod Arrivals
+pub mod Views

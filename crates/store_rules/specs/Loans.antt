@@ -22,6 +22,9 @@ sizeAt = 3
 abbrev pub loan : ℕ → ℕ → ℕ → ℕ → Loan
 loan serial chunk offset size = record { serial = serial; chunk = chunk; offset = offset; size = size }
 
+abbrev pub noLoan : Loan
+noLoan = loan 0 0 0 0
+
 abbrev pub wordsOf : Loan → List ℕ
 wordsOf l = l .serial ∷ l .chunk ∷ l .offset ∷ l .size ∷ []
 

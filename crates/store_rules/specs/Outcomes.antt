@@ -19,6 +19,15 @@ use Rattle.store_rules.specs.declared.Loan.{Loan}
 abbrev pub blockSaid : Loan → Said
 blockSaid l = Paper.block (l .serial) (l .chunk) (l .offset) (l .size)
 
+-- how many memory numbers the caller is to free: those that are released, or given back with a refusal
+abbrev pub toFree : Said → ℕ
+toFree Paper.ready = 0
+toFree (Paper.block serial chunk offset size) = 0
+toFree (Paper.order store size kind map) = 0
+toFree (Paper.released n) = n
+toFree Paper.ranked = 0
+toFree (Paper.refusal n back) = length back
+
 pub record Out (T : Type 0) : Type 0 where
   pub said : Said
   pub account : Account

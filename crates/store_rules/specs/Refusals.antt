@@ -1,7 +1,7 @@
 -- 01's rows that both engines share, in the paper's words and not as tests: proofs/Refused shows that the tests decide
 -- exactly these. Assumes nothing: these are definitions.
 use mathlib.Core.Path.{_≡_}
-use mathlib.Core.Bool.{Bool, true, false}
+use mathlib.Core.Bool.{Bool, true, false, cond}
 use mathlib.Core.Logic.{_⊎_}
 use mathlib.Core.List.{List, List·Memᴰ}
 use Prim.Native.Nat.{ℕ, _+_, _-_, _^_, _≤_, _<_}
@@ -10,12 +10,15 @@ use Rattle.counter.specs.Limits.{alignBits, objectsMost}
 use Rattle.counter.specs.declared.account.Account.{Account}
 use Rattle.counter.specs.declared.account.Heap.{Heap}
 use Rattle.counter.specs.declared.account.KeptOrder.{KeptOrder}
-use Rattle.counter.specs.declared.account.OpenOrder.the-variants.{Kept}
+use Rattle.counter.specs.declared.account.OpenOrder.the-variants.{Nothing, Kept}
 use Rattle.counter.specs.declared.answers.Mapping.{Mapping}
 use Rattle.counter.specs.declared.answers.Mapping.the-variants as M
 use Rattle.counter.specs.declared.answers.Memory.{Memory}
 use Rattle.counter.specs.declared.answers.Outcome.{Outcome}
 use Rattle.counter.specs.declared.answers.Outcome.the-variants as O
+use Rattle.counter.specs.declared.settings.StoreSettings.{StoreSettings}
+use Rattle.store_rules.specs.Delivery.{Engine, givesBack}
+use Rattle.store_rules.specs.Outcomes.{withOrder, chargedAccount, backAccount}
 
 -- 2: "an order is open, on an ask, return or clean-up"
 abbrev pub OrderOpen : Account → Type 0
@@ -44,6 +47,10 @@ Unsuited map m = ((map ≡ true) × (m ≡ M.NotWanted)) ⊎ ((map ≡ false) ×
 abbrev pub Unwelcome : Bool → List ℕ → Outcome → Type 0
 Unwelcome map held o = (m : Memory) × (o ≡ O.Made m) × (List·Memᴰ (m .number) held ⊎ Unsuited map (m .mapping))
 
+-- of the open order
+abbrev pub UnwelcomeTo : Account → List ℕ → Outcome → Type 0
+UnwelcomeTo a held o = (k : KeptOrder) × (a .order ≡ Kept k) × Unwelcome (k .order .map) held o
+
 -- 11: "delivered: out of device memory, by allocation or map"
 abbrev pub DeviceOut : Outcome → Type 0
 DeviceOut o = (o ≡ O.OutOfDevice) ⊎ ((m : Memory) × (o ≡ O.Made m) × (m .mapping ≡ M.OutOfDevice))
@@ -51,3 +58,10 @@ DeviceOut o = (o ≡ O.OutOfDevice) ⊎ ((m : Memory) × (o ≡ O.Made m) × (m 
 -- 12: "delivered: out of host memory, or map failed"
 abbrev pub HostOut : Outcome → Type 0
 HostOut o = (o ≡ O.OutOfHost) ⊎ ((m : Memory) × (o ≡ O.Made m) × ((m .mapping ≡ M.OutOfHost) ⊎ (m .mapping ≡ M.Failed)))
+
+-- what 11 and 12 leave of the account: the order is closed; where memory was made the heap is charged and the object counted,
+-- and what the engine gives back is given back
+abbrev pub lostFor : Engine → StoreSettings → Account → KeptOrder → Outcome → Account
+lostFor e s a k (O.Made m) = cond (givesBack e (m .mapping)) (backAccount s a (k .order .size)) (chargedAccount s a (k .order .size))
+lostFor e s a k O.OutOfDevice = withOrder a Nothing
+lostFor e s a k O.OutOfHost = withOrder a Nothing

@@ -14,3 +14,17 @@ pub struct Loan {
     pub offset: u64,
     pub size: u64,
 }
+
+// A chunk that a store holds: its number, the memory number that it has, its size.
+pub struct Chunk {
+    pub number: u64,
+    pub memory: u64,
+    pub size: u64,
+}
+
+// A free region: bytes `start` to `end` of a chunk.
+pub struct Region {
+    pub chunk: u64,
+    pub start: u64,
+    pub end: u64,
+}

@@ -2,7 +2,7 @@ use borrow.Author.Needs.{needs}
 use mathlib.Core.Path.{sym, ap, _∙_}
 use borrow.Author.Tests.{lt-ltb, le-ltb}
 use Rattle.freelist_rules.specs.Join.{meets}
-use Rattle.freelist_rules.specs.declared.Region.{Region}
+use Rattle.store_rules.specs.declared.Region.{Region}
 use Rattle.freelist_regions.proofs.joins.touches_before.Statement.{statement}
 use Rattle.freelist_regions.proofs.joins.touches_before.Tie as tie
 

@@ -2,7 +2,7 @@ use borrow.Author.Needs.{needs}
 use mathlib.Core.Path.{sym, ap, _∙_}
 use Rattle.words.specs.Rows.{written}
 use Rattle.freelist_rules.specs.Records.{region, regionRow}
-use Rattle.freelist_rules.specs.declared.Region.{Region}
+use Rattle.store_rules.specs.declared.Region.{Region}
 use Rattle.freelist_regions.specs.Ended.{endedAt}
 use Rattle.freelist_regions.proofs.records.end_at.Statement.{statement}
 use Rattle.freelist_regions.proofs.records.end_at.Tie as tie

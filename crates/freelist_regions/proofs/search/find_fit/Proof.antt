@@ -9,7 +9,7 @@ use Rattle.words.specs.Rows.{rows, row}
 use Rattle.words.proofs.Records.{length-rows, getD-rows}
 use Rattle.freelist_rules.specs.Records.{region, regionRow}
 use Rattle.freelist_rules.specs.Place.{fitsIn, find}
-use Rattle.freelist_rules.specs.declared.Region.{Region}
+use Rattle.store_rules.specs.declared.Region.{Region}
 use Rattle.freelist_rules.proofs.Search.{find-start, find-none, find-here, find-past}
 use Rattle.freelist_regions.proofs.search.find_fit.Statement.{statement}
 use Rattle.freelist_regions.proofs.search.find_fit.Tie as tie

@@ -5,7 +5,7 @@ use native.Mathlib.Omega.{arith}
 use Rattle.words.specs.Rows.{rows}
 use Rattle.words.proofs.Records.{length-rows}
 use Rattle.freelist_rules.specs.Records.{chunkRow, regionRow}
-use Rattle.freelist_rules.specs.declared.Chunk.{Chunk}
+use Rattle.store_rules.specs.declared.Chunk.{Chunk}
 use Rattle.freelist_release.proofs.Finding.{memory-numbered}
 use Rattle.freelist_release.proofs.Marking.{Marking, marking-none, marking-done, marking-length, marking-room, marking-turns, marking-stays, marking-goes}
 use Rattle.freelist_release.proofs.marks.mark.Statement.{statement}

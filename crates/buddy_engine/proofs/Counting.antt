@@ -1,0 +1,97 @@
+-- The buddy gives serials as an engine has to: they count up, and one that is gone stays so and is never taken. Assumes
+-- nothing.
+use mathlib.Core.Path.{_≡_, refl, sym, ap, _∙_}
+use mathlib.Core.Bool.{Bool, true, false, cond}
+use mathlib.Core.Logic.{_⊎_}
+use mathlib.Core.List.{List, []}
+use Prim.Native.Nat.{ℕ}
+use native.Mathlib.Omega.{arith}
+use lib.ListN.{getD}
+use Rattle.words.proofs.Records.{cell-row}
+use Rattle.counter.specs.Paper.{Said}
+use Rattle.counter.specs.Paper as Paper
+use Rattle.counter.specs.Reasons.{Given}
+use Rattle.counter.specs.declared.account.Account.{Account}
+use Rattle.counter.specs.declared.answers.Block.{Block}
+use Rattle.counter.specs.declared.settings.BuddySettings.{BuddySettings}
+use Rattle.counter.proofs.Papers.{kindOf}
+use Rattle.store_rules.specs.Loans.{loanWords}
+use Rattle.store_rules.specs.Outcomes.{listed}
+use Rattle.store_rules.specs.declared.Loan.{Loan}
+use Rattle.engines.specs.Serials.{Gone, Counted, Counts}
+use Rattle.engines.specs.Shapes.{Lent, Call, setsUp, asks, delivers, returns, others, does, Marked}
+use Rattle.buddy_stores.specs.Tables.{Tables, mark, markAt, givenIn}
+use Rattle.buddy_stores.proofs.Viewed.{loanAt, live-loan, loan-live}
+use Rattle.buddy_outcomes.specs.Refusals.{gateReasons}
+use Rattle.buddy_outcomes.specs.SetUp.{setUp, freshTables, fitOk, setUpOf}
+use Rattle.buddy_outcomes.proofs.Gone as Buddy
+use Rattle.buddy_outcomes.proofs.Gone.{ask-gone, deliver-gone, return-gone-stays}
+use Rattle.buddy_engine.specs.Shape.{asBuddy, asLent, listedAs, buddyShape}
+use Rattle.buddy_engine.proofs.Stepping.{Stepped, ask-stepped, deliver-stepped, return-stepped}
+
+-- ---- set-up
+
+begins : (s : BuddySettings) (t : Tables) → setUpOf s t .said ≡ Paper.ready → (getD (setUpOf s t .tables .head) markAt 0 ≡ mark) × (givenIn (setUpOf s t .tables) ≡ 0)
+unfolding setUpOf freshTables
+begins s t e = by (fitOk s t) e
+  where
+    by : (b : Bool) → cond b (setUp Paper.ready (freshTables s t)) (setUp (Paper.refusal 1 []) t) .said ≡ Paper.ready
+        → (getD (cond b (setUp Paper.ready (freshTables s t)) (setUp (Paper.refusal 1 []) t) .tables .head) markAt 0 ≡ mark)
+        × (givenIn (cond b (setUp Paper.ready (freshTables s t)) (setUp (Paper.refusal 1 []) t) .tables) ≡ 0)
+    by true q = (refl, refl)
+    by false q = let z : kindOf (Paper.refusal 1 []) ≡ kindOf Paper.ready = ap kindOf q in absurd (omega arith)
+
+-- ---- the other calls
+
+counted-as : (t : Lent) (u : Tables) (said : Said) → Marked buddyShape t → Stepped (asBuddy t) u said → Counted buddyShape t (asLent u) said
+counted-as t u said m w = record { gives = w .gives; nexts = w .nexts; marks = w .marks m }
+
+counted : (s : BuddySettings) (a : Account) (t : Lent) (c : Call ⊥) → (c ≡ setsUp → ⊥) → Marked buddyShape t
+    → Counted buddyShape t (does buddyShape s a t c .tables) (does buddyShape s a t c .said)
+counted s a t setsUp f m = absurd (f refl)
+counted s a t (asks size mask) f m = counted-as t _ _ m (ask-stepped s a size mask (asBuddy t))
+counted s a t (delivers o) f m = counted-as t _ _ m (deliver-stepped s a (asBuddy t) o)
+counted s a t (returns b list) f m = counted-as t _ _ m (return-stepped s a (asBuddy t) b list)
+counted s a t (others c list) f m = absurd c
+
+-- ---- a serial that is gone, by the places of the loans and by the loans
+
+gone-seen : (k : ℕ) (u : Tables) → Buddy.Gone k u → Gone buddyShape k (asLent u)
+gone-seen k u g =
+    record {
+      marked = g .marked;
+      old = g .old;
+      away = λ l m e. let w = loan-live u l m in g .away (w .0) (w .1) (cell-row (u .loans) 0 loanWords (w .0) ∙ ap (λ (d : Loan). d .serial) (w .2) ∙ e);
+    }
+
+gone-placed : (k : ℕ) (t : Lent) → Gone buddyShape k t → Buddy.Gone k (asBuddy t)
+gone-placed k t g =
+    record {
+      old = g .old;
+      away = λ p h e. g .away (loanAt (asBuddy t) p) (live-loan (asBuddy t) p h) (sym (cell-row (t .loans) 0 loanWords p) ∙ e);
+      marked = g .marked;
+    }
+
+gone-stays : (k : ℕ) (s : BuddySettings) (a : Account) (t : Lent) (c : Call ⊥) → (c ≡ setsUp → ⊥) → Gone buddyShape k t → Gone buddyShape k (does buddyShape s a t c .tables)
+gone-stays k s a t setsUp f g = absurd (f refl)
+gone-stays k s a t (asks size mask) f g = gone-seen k _ (ask-gone k s a size mask (asBuddy t) (gone-placed k t g))
+gone-stays k s a t (delivers o) f g = gone-seen k _ (deliver-gone k s a o (asBuddy t) (gone-placed k t g))
+gone-stays k s a t (returns b list) f g = gone-seen k _ (return-gone-stays s a b (asBuddy t) list k (gone-placed k t g))
+gone-stays k s a t (others c list) f g = absurd c
+
+gone-refused : (s : BuddySettings) (a : Account) (b : Block) (t : Lent) (list : List ℕ) → Gone buddyShape (b .serial) t
+    → (n : ℕ) × (does buddyShape s a t (returns b list) ≡ listed (Paper.refusal n []) a t list) × ((n ≡ 7) ⊎ Given (gateReasons s a (asBuddy t) list) n)
+gone-refused s a b t list g =
+    let r = Buddy.gone-refused s a b (asBuddy t) list (gone-placed (b .serial) t g) in
+    (r .0, ap listedAs (r .1), r .2)
+
+-- the buddy gives serials as an engine has to
+pub counts : Counts buddyShape
+counts =
+    record {
+      begins = λ s t e. begins s (asBuddy t) e;
+      counted = counted;
+      gone-stays = gone-stays;
+      released-gone = λ s a b t list n e. gone-seen (b .serial) _ (Buddy.released-gone s a b (asBuddy t) list n e);
+      gone-refused = gone-refused;
+    }

@@ -1,0 +1,72 @@
+-- Blocks handed back to a buddy store end as an engine's have to: by the set of them. Assumes nothing.
+use mathlib.Core.Path.{_≡_, refl, sym, ap, subst, _∙_}
+use mathlib.Core.Bool.{true}
+use mathlib.Core.Logic.{⊎-elim, _↔_}
+use mathlib.Core.List.{List, [], _∷_, List·Memᴰ, List·Memᴰ·head, List·Memᴰ·cases-cons, List·Memᴰ·not-nil}
+use Prim.Native.Nat.{ℕ, _≤_}
+use lib.ListN.{length}
+use Rattle.counter.specs.Account.{heapAt}
+use Rattle.counter.specs.Gate.{pass}
+use Rattle.counter.specs.declared.account.Account.{Account}
+use Rattle.counter.specs.declared.answers.Block.{Block}
+use Rattle.counter.specs.declared.settings.BuddySettings.{BuddySettings}
+use Rattle.store_rules.specs.Views.{View, loanOf, loansLess}
+use Rattle.store_rules.specs.declared.Loan.{Loan}
+use Rattle.store_rules.proofs.Accounts.{covers-yes}
+use Rattle.store_rules.proofs.Lessening.{loans-less-in}
+use Rattle.engines.specs.Ends.{Ends}
+use Rattle.buddy_chunks.specs.Chunks.{atOnce}
+use Rattle.buddy_chunks.proofs.Ending.{at-once-none, at-once-next, at-once-same}
+use Rattle.buddy_stores.specs.Tables.{Tables, chunkPlacesIn}
+use Rattle.buddy_stores.specs.Views.{loansIn, viewOf}
+use Rattle.buddy_stores.proofs.Named.{has-loan}
+use Rattle.buddy_outcomes.specs.Gate.{heldCount, heldBytes, accountOk, gateOf}
+use Rattle.buddy_outcomes.specs.Return.{returnOf}
+use Rattle.buddy_outcomes.proofs.Ended.{return-told, return-view}
+use Rattle.buddy_outcomes.proofs.Passing.{gate-passed}
+use Rattle.buddy_engine.specs.Shape.{asBuddy, buddyShape}
+
+module _ (s : BuddySettings) (a : Account) (b : Block) (t : Tables) (list : List ℕ) (passes : gateOf s a t true ≡ pass)
+    (lent : List·Memᴰ (loanOf b) (loansIn t)) (long : s .store .chunks ≤ length list) where
+  -- the loans left are the others
+  loans-left : loansIn (returnOf s a b t list .tables) ≡ loansLess (b ∷ []) (loansIn t)
+  unfolding atOnce
+  loans-left = ap (λ (v : View). v .loans) (return-view s a b t list passes lent long)
+
+  loans-are : (l : Loan) → List·Memᴰ l (loansIn (returnOf s a b t list .tables)) ↔ (List·Memᴰ l (loansIn t) × (l ≡ loanOf b → ⊥))
+  loans-are l = (there, back)
+    where
+      there : List·Memᴰ l (loansIn (returnOf s a b t list .tables)) → List·Memᴰ l (loansIn t) × (l ≡ loanOf b → ⊥)
+      there m = let w = loans-less-in (b ∷ []) (loansIn t) l .0 (subst (List·Memᴰ l) loans-left m) in (w .0, w .1 b (List·Memᴰ·head refl))
+
+      back : List·Memᴰ l (loansIn t) × (l ≡ loanOf b → ⊥) → List·Memᴰ l (loansIn (returnOf s a b t list .tables))
+      back w =
+          let others : (c : Block) → List·Memᴰ c (b ∷ []) → l ≡ loanOf c → ⊥ =
+          λ c m e. ⊎-elim (λ q. w .1 (e ∙ ap loanOf q)) (λ k. List·Memᴰ·not-nil k) (List·Memᴰ·cases-cons m) in
+          subst (List·Memᴰ l) (sym loans-left) (loans-less-in (b ∷ []) (loansIn t) l .1 (w .0, others))
+
+-- every order of returns ends alike
+pub ends : Ends buddyShape
+unfolding accountOk
+ends =
+    record {
+      taken = λ s a b t list passes lent long.
+          let h = return-told s a b (asBuddy t) list passes lent long in
+          record {
+            said = h .said;
+            loans = loans-are s a b (asBuddy t) list passes lent long;
+            account = h .account;
+            goes = h .goes;
+          };
+      none = λ s a t passes.
+          let p = gate-passed s a (asBuddy t) true (sym passes) in
+          at-once-none (s .minimal) (viewOf s (asBuddy t)) (has-loan s (asBuddy t) (p .lent .settings) (p .sound)) refl;
+      next = λ s a b bs t list passes lot long.
+          ap (atOnce (s .minimal) bs) (return-view s a b (asBuddy t) list passes (lot .lent b (List·Memᴰ·head refl)) long)
+          ∙ at-once-next (s .minimal) b bs (viewOf s (asBuddy t));
+      same = λ s a bs cs t passes lot e. at-once-same (s .minimal) (viewOf s (asBuddy t)) e;
+      heap-low = λ s a t passes. gate-passed s a (asBuddy t) true (sym passes) .lent .settings .store .heap;
+      heap-agrees = λ s a t passes.
+          let u : Tables = asBuddy t in
+          covers-yes (heapAt a (s .store .heap)) (a .objects) (heldCount u (chunkPlacesIn u)) (heldBytes u (chunkPlacesIn u)) (gate-passed s a u true (sym passes) .covered) .1;
+    }

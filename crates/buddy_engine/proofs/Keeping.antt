@@ -1,0 +1,71 @@
+-- The buddy stays sound and filled as an engine has to, and lends good blocks. Assumes nothing.
+use mathlib.Core.Path.{_≡_, refl, sym}
+use mathlib.Core.Bool.{Bool, true, false, cond}
+use mathlib.Core.List.{[]}
+use Prim.Native.Nat.{ℕ}
+use Rattle.lists.proofs.Bools.{true-false}
+use Rattle.counter.specs.Gate.{pass}
+use Rattle.counter.specs.Paper as Paper
+use Rattle.counter.specs.declared.account.Account.{Account}
+use Rattle.counter.specs.declared.settings.BuddySettings.{BuddySettings}
+use Rattle.store_rules.specs.Views.{Filled}
+use Rattle.store_rules.proofs.Said.{not-refused}
+use Rattle.engines.specs.Keeps.{Keeps, Lends}
+use Rattle.buddy_chunks.proofs.Filling.{filled}
+use Rattle.buddy_stores.specs.Tables.{Tables}
+use Rattle.buddy_stores.specs.Views.{loansIn, chunksIn, viewOf}
+use Rattle.buddy_stores.proofs.Named.{standing}
+use Rattle.buddy_stores.proofs.Onces.{loans-once, chunks-once}
+use Rattle.buddy_stores.proofs.Walks.{minimal-pos}
+use Rattle.buddy_outcomes.specs.Gate.{gateOf}
+use Rattle.buddy_outcomes.specs.SetUp.{setUp, freshTables, fitOk, setUpOf}
+use Rattle.buddy_outcomes.proofs.Again.{ask-again, deliver-again, return-again}
+use Rattle.buddy_outcomes.proofs.Blocks.{ask-block, deliver-block}
+use Rattle.buddy_outcomes.proofs.Delivered.{deliver-sound}
+use Rattle.buddy_outcomes.proofs.Fitted.{orders-when}
+use Rattle.buddy_outcomes.proofs.Passing.{gate-passed}
+use Rattle.buddy_outcomes.proofs.Returned.{return-sound}
+use Rattle.buddy_outcomes.proofs.Sounds.{set-up-sound, ask-sound}
+use Rattle.buddy_engine.specs.Shape.{asBuddy, buddyShape}
+
+-- what was set up passed its test
+begun : (s : BuddySettings) (t : Tables) → setUpOf s t .said ≡ Paper.ready → fitOk s t ≡ true
+unfolding setUpOf
+begun s t = by (fitOk s t)
+  where
+    by : (b : Bool) → cond b (setUp Paper.ready (freshTables s t)) (setUp (Paper.refusal 1 []) t) .said ≡ Paper.ready → b ≡ true
+    by true e = refl
+    by false e = not-refused Paper.ready 1 [] refl (sym e)
+
+-- blocks on loan and free pieces fill each held chunk
+fills : (s : BuddySettings) (a : Account) (t : Tables) → gateOf s a t true ≡ pass → Filled (viewOf s t)
+fills s a t passes =
+    let p = gate-passed s a t true (sym passes) in
+    let fit = p .lent .settings in
+    filled (s .minimal) (minimal-pos s fit) (loansIn t) (chunksIn t) (standing s t fit (p .sound)) (loans-once s t fit (p .sound)) (chunks-once t)
+
+-- the buddy stays sound, passes its tests again, and is filled
+pub keeps : Keeps buddyShape
+keeps =
+    record {
+      set-up-sound = λ s t e. set-up-sound s (asBuddy t) (begun s (asBuddy t) e);
+      ask-sound = λ s a size mask t sound. ask-sound s a size mask (asBuddy t) sound;
+      deliver-sound = λ s a o t sound. deliver-sound s a o (asBuddy t) sound;
+      return-sound = λ s a b t list sound. return-sound s a b (asBuddy t) list sound;
+      other-sound = λ s a c t list sound. absurd c;
+      ask-again = λ s a t typed passes size mask none. ask-again s a (asBuddy t) typed passes size mask none;
+      deliver-again = λ s a o t typed passes none. deliver-again s a o (asBuddy t) typed passes none;
+      return-again = λ s a t typed passes b list. return-again s a (asBuddy t) typed passes b list;
+      other-again = λ s a t typed passes c list. absurd c;
+      passed-sound = λ s a t passes. gate-passed s a (asBuddy t) true (sym passes) .sound;
+      filled = λ s a t passes. fills s a (asBuddy t) passes;
+    }
+
+-- the buddy lends good blocks, and orders a chunk exactly when none that is held has room
+pub lends : Lends buddyShape
+lends =
+    record {
+      ask-block = λ s a size mask t serial number offset len e. ask-block s a size mask (asBuddy t) serial number offset len e;
+      deliver-block = λ s a o t serial number offset len e. deliver-block s a o (asBuddy t) serial number offset len e;
+      orders-when = λ s a size mask t f. orders-when s a size mask (asBuddy t) f;
+    }

@@ -1,0 +1,9 @@
+-- The buddy is an engine.
+pub mod Stepping
+pub mod Counting
+pub mod Refusing
+pub mod Leaving
+pub mod Booking
+pub mod Keeping
+pub mod Ending
+pub mod Engine

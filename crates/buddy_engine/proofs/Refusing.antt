@@ -1,0 +1,101 @@
+-- The buddy refuses as an engine has to: each number exactly when, and what a refusal leaves; its calls on another engine's
+-- tables too. Assumes nothing.
+use mathlib.Core.Path.{_≡_, refl, ap, _∙_}
+use mathlib.Core.Bool.{Bool, true, _&&_}
+use mathlib.Core.List.{List, []}
+use Prim.Native.Nat.{ℕ, _≤_, _<_}
+use native.Mathlib.Omega.{arith}
+use lib.ListN.{getD}
+use borrow.Author.Tests.{eqb-true, ne-eqb}
+use Rattle.lists.proofs.Bools.{and-left, all-each}
+use Rattle.counter.specs.Gate.{refuse}
+use Rattle.counter.specs.Paper as Paper
+use Rattle.counter.specs.declared.account.Account.{Account}
+use Rattle.counter.specs.declared.answers.Block.{Block}
+use Rattle.counter.specs.declared.answers.Outcome.{Outcome}
+use Rattle.counter.specs.declared.settings.BuddySettings.{BuddySettings}
+use Rattle.store_rules.specs.Outcomes.{Out, out, listed, listOk}
+use Rattle.store_rules.specs.Tests.{noOrder, orderFor}
+use Rattle.engines.specs.Refuses.{Refuses}
+use Rattle.engines.specs.Shapes.{Lent, Call, setsUp, asks, delivers, returns, others, does, Marked, lentList}
+use Rattle.engines.proofs.Shutting.{shut}
+use Rattle.buddy_stores.specs.Tables.{Tables, mark, markAt}
+use Rattle.buddy_stores.specs.Views.{viewOf}
+use Rattle.buddy_stores.specs.Test.{soundRow, soundOk}
+use Rattle.buddy_outcomes.specs.Gate.{lentOk, accountOk, gateOf}
+use Rattle.buddy_outcomes.specs.Ask.{grownFor, deniedTables, carryAsk, planAsk, askOf}
+use Rattle.buddy_outcomes.specs.Deliver.{stillOk, deliverGateOf, planDeliver, carryDeliver, deliverOf}
+use Rattle.buddy_outcomes.specs.Return.{planReturn, carryReturn, returnOf}
+use Rattle.buddy_outcomes.proofs.Denied.{deliver-refused, deliver-lost}
+use Rattle.buddy_outcomes.proofs.Lendings.{grown-view}
+use Rattle.buddy_outcomes.proofs.Refused.{set-up-refused, ask-refused, return-refused, set-up-leaves, ask-leaves, ask-leaves-grown, deliver-leaves, return-leaves}
+use Rattle.buddy_engine.specs.Shape.{asBuddy, begunAs, outAs, listedAs, buddyShape}
+
+-- ---- tables without the mark
+
+module _ (s : BuddySettings) (a : Account) (t : Tables) (other : getD (t .head) markAt 0 ≡ mark → ⊥) where
+  not-sound : soundOk s t ≡ true → ⊥
+  unfolding soundOk
+  not-sound e = other (eqb-true (getD (t .head) markAt 0) mark (all-each (soundRow s t) e .0))
+
+  gate-shut : (list : Bool) → (n : ℕ) × (gateOf s a t list ≡ refuse n) × (0 < n) × (n ≤ 3)
+  unfolding gateOf
+  gate-shut list = shut (lentOk s a t && list) (noOrder (a .order)) (soundOk s t) (accountOk s a t) not-sound
+
+  deliver-gate-shut : (n : ℕ) × (deliverGateOf s a t ≡ refuse n) × (0 < n) × (n ≤ 3)
+  unfolding deliverGateOf
+  deliver-gate-shut =
+      shut (lentOk s a t) (orderFor (s .store .number) (a .order)) (soundOk s t && stillOk s a t (a .order)) (accountOk s a t)
+      (λ e. not-sound (and-left (soundOk s t) (stillOk s a t (a .order)) e))
+
+  ask-shut : (size mask : ℕ) → (n : ℕ) × (askOf s a size mask t ≡ out (Paper.refusal n []) a t) × (0 < n) × (n ≤ 3)
+  unfolding askOf planAsk carryAsk deniedTables
+  ask-shut size mask =
+      let g = gate-shut true in
+      let e = g .1 in
+      let f = ne-eqb (g .0) 9 (λ z. omega (arith, g .3)) in
+      (g .0, rw (e, f), g .2, g .3)
+
+  deliver-shut : (o : Outcome) → (n : ℕ) × (deliverOf s a o t ≡ out (Paper.refusal n []) a t) × (0 < n) × (n ≤ 3)
+  unfolding deliverOf planDeliver carryDeliver
+  deliver-shut o = let g = deliver-gate-shut in let e = g .1 in (g .0, rw e, g .2, g .3)
+
+  return-shut : (b : Block) (list : List ℕ) → (n : ℕ) × (returnOf s a b t list ≡ listed (Paper.refusal n []) a t list) × (0 < n) × (n ≤ 3)
+  unfolding returnOf planReturn carryReturn
+  return-shut b list = let g = gate-shut (listOk (s .store) list) in let e = g .1 in (g .0, rw e, g .2, g .3)
+
+-- each call but set-up is refused there, by 1, 2 or 3, and leaves everything
+foreign : (s : BuddySettings) (a : Account) (t : Lent) (c : Call ⊥) → (c ≡ setsUp → ⊥) → (Marked buddyShape t → ⊥)
+    → (n : ℕ) × (does buddyShape s a t c ≡ listed (Paper.refusal n []) a t (lentList c)) × (0 < n) × (n ≤ 3)
+foreign s a t setsUp f m = absurd (f refl)
+foreign s a t (asks size mask) f m =
+    let r = ask-shut s a (asBuddy t) m size mask in (r .0, ap (λ (o : Out Tables). listed (o .said) (o .account) (outAs o .tables) []) (r .1), r .2, r .3)
+foreign s a t (delivers x) f m =
+    let r = deliver-shut s a (asBuddy t) m x in (r .0, ap (λ (o : Out Tables). listed (o .said) (o .account) (outAs o .tables) []) (r .1), r .2, r .3)
+foreign s a t (returns b list) f m = let r = return-shut s a (asBuddy t) m b list in (r .0, ap listedAs (r .1), r .2, r .3)
+foreign s a t (others c list) f m = absurd c
+
+-- the buddy refuses as an engine has to
+pub refuses : Refuses buddyShape
+refuses =
+    record {
+      set-up-refused = λ s t n. set-up-refused s (asBuddy t) n;
+      ask-refused = λ s a size mask t n. ask-refused s a size mask (asBuddy t) n;
+      deliver-refused = λ s a o t n. deliver-refused s a o (asBuddy t) n;
+      return-refused = λ s a b t list n. return-refused s a b (asBuddy t) list n;
+      other-refused = λ s a c t list n. absurd c;
+      set-up-leaves = λ s t n back e. ap begunAs (set-up-leaves s (asBuddy t) n back e);
+      ask-leaves = λ s a size mask t n back e x. ap outAs (ask-leaves s a size mask (asBuddy t) n back e x);
+      deliver-leaves = λ s a o t n back e x y. ap outAs (deliver-leaves s a o (asBuddy t) n back e x y);
+      return-leaves = λ s a b t list n back e. ap listedAs (return-leaves s a b (asBuddy t) list n back e);
+      other-leaves = λ s a c t list n back e. absurd c;
+      nine-leaves = λ s a size mask t back e.
+          let u : Tables = asBuddy t in
+          let r = ask-leaves-grown s a size mask u back e in
+          (ap (λ (o : Out Tables). o .account) r, ap (λ (o : Out Tables). viewOf s (o .tables)) r ∙ grown-view s (grownFor s size mask u) u);
+      lost-leaves = λ s a o t k n back its e number.
+          let u : Tables = asBuddy t in
+          let r = deliver-lost s a o u k n back its e number in
+          (ap (λ (x : Out Tables). x .account) r, ap (λ (x : Out Tables). viewOf s (x .tables)) r ∙ grown-view s (grownFor s (k .ask .size) (k .ask .mask) u) u);
+      foreign = foreign;
+    }

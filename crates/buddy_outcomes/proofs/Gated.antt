@@ -1,0 +1,104 @@
+-- The gate of a buddy store decides rows 1 to 4 of 01's table. Assumes nothing.
+use mathlib.Core.Path.{_≡_, refl}
+use mathlib.Core.Bool.{Bool, true, false, _&&_}
+use mathlib.Core.Logic.{_↔_}
+use mathlib.Core.List.{List}
+use Prim.Native.Nat.{ℕ}
+use lib.Dec.{leb}
+use lib.ListN.{length, getD}
+use borrow.Author.Tests.{leb-true, le-leb}
+use Rattle.lists.proofs.Bools.{and-left, and-right, and-both}
+use Rattle.counter.specs.Account.{heapAt, noHeap}
+use Rattle.counter.specs.InTable.{BuddyIn}
+use Rattle.counter.specs.Limits.{heapsMost, heapBytesMost}
+use Rattle.counter.specs.Reasons.{none, reason, Decides}
+use Rattle.counter.specs.Table.{buddyOk, heapsOk}
+use Rattle.counter.specs.declared.account.Account.{Account}
+use Rattle.counter.specs.declared.settings.BuddySettings.{BuddySettings}
+use Rattle.counter.proofs.Tables.{buddy-all, heaps-each, each-heaps}
+use Rattle.store_rules.specs.Outcomes.{listOk}
+use Rattle.store_rules.specs.Refusals.{OrderOpen}
+use Rattle.store_rules.specs.Tests.{noOrder, gateRow}
+use Rattle.store_rules.proofs.Refused.{fails, order-open, uncovered}
+use Rattle.buddy_stores.specs.Sound.{Sound}
+use Rattle.buddy_stores.specs.Tables.{Tables, lengthsOk, chunkPlacesIn}
+use Rattle.buddy_stores.specs.Test.{soundOk}
+use Rattle.buddy_stores.proofs.Decides.{tables-yes, tables-all}
+use Rattle.buddy_outcomes.specs.Gate.{lentOk, heldCount, heldBytes, accountOk}
+use Rattle.buddy_outcomes.specs.Refusals.{InTable, WithList, Short}
+use Rattle.buddy_outcomes.proofs.Passing.{lent-in, are-lengths}
+
+-- ---- 1
+
+pub in-table : (s : BuddySettings) (a : Account) (t : Tables) → (lentOk s a t ≡ true) ↔ InTable s a t
+unfolding lentOk
+in-table s a t = (there, back)
+  where
+    there : lentOk s a t ≡ true → InTable s a t
+    there e =
+        let l = lent-in s a t e in
+        let each = heaps-each (a .heaps) heapsMost (l .heaps) in
+        record {
+          settings = l .settings;
+          heaps = λ i low.
+              let h = getD (a .heaps) i noHeap in
+              let size = leb (h .size) heapBytesMost in
+              let used = leb (h .used) heapBytesMost in
+              (leb-true (h .size) heapBytesMost (and-left size used (each i low)), leb-true (h .used) heapBytesMost (and-right size used (each i low)));
+          lengths = l .lengths;
+        }
+
+    back : InTable s a t → lentOk s a t ≡ true
+    back w =
+        and-both (buddyOk s) (heapsOk (a .heaps) && lengthsOk s t) (buddy-all s (w .settings))
+        (and-both (heapsOk (a .heaps)) (lengthsOk s t)
+        (each-heaps (a .heaps) heapsMost
+        (λ i low.
+        let h = getD (a .heaps) i noHeap in
+        and-both (leb (h .size) heapBytesMost) (leb (h .used) heapBytesMost) (le-leb (h .size) heapBytesMost (w .heaps i low .0)) (le-leb (h .used) heapBytesMost (w .heaps i low .1))))
+        (are-lengths s t (w .lengths)))
+
+module _ (s : BuddySettings) (a : Account) (t : Tables) where
+  with-list : (list : List ℕ) → ((lentOk s a t && listOk (s .store) list) ≡ true) ↔ WithList s a t list
+  with-list list = (
+    (λ e. (
+      in-table s a t .0 (and-left (lentOk s a t) (listOk (s .store) list) e),
+      leb-true (s .store .chunks) (length list) (and-right (lentOk s a t) (listOk (s .store) list) e),
+    )),
+    (λ w. and-both (lentOk s a t) (listOk (s .store) list) (in-table s a t .1 (w .0)) (le-leb (s .store .chunks) (length list) (w .1))),
+  )
+
+  -- ---- 4
+
+  pub short : (accountOk s a t ≡ false) ↔ Short s a t
+  unfolding accountOk
+  short = uncovered (heapAt a (s .store .heap)) (a .objects) (heldCount t (chunkPlacesIn t)) (heldBytes t (chunkPlacesIn t))
+
+  -- ---- 1 to 4
+
+  decided : (lent : Bool) {W : Type 0} → (lent ≡ true) ↔ W → (W → BuddyIn s)
+      → Decides (gateRow lent (noOrder (a .order)) (soundOk s t) (accountOk s a t)) (reason (W → ⊥) 1 (reason (OrderOpen a) 2 (reason (Sound s t → ⊥) 3 (reason (Short s a t) 4 none))))
+  decided lent w fit = (
+    refl,
+    fails lent (w .0) (w .1),
+    (λ e. (
+      refl,
+      order-open a,
+      (λ _. (
+        refl,
+        fails (soundOk s t) (tables-yes s t (fit (w .0 e))) (tables-all s t (fit (w .0 e))),
+        (λ _. (refl, short, (λ _. tt))),
+      )),
+    )),
+  )
+
+  pub list-decided : (list : List ℕ) → Decides (gateRow (lentOk s a t && listOk (s .store) list) (noOrder (a .order)) (soundOk s t) (accountOk s a t))
+      (reason (WithList s a t list → ⊥) 1 (reason (OrderOpen a) 2 (reason (Sound s t → ⊥) 3 (reason (Short s a t) 4 none))))
+  list-decided list = decided (lentOk s a t && listOk (s .store) list) (with-list list) (λ (i : WithList s a t list). i .0 .settings)
+
+  pub gate-decided : Decides (gateRow (lentOk s a t && true) (noOrder (a .order)) (soundOk s t) (accountOk s a t))
+      (reason (InTable s a t → ⊥) 1 (reason (OrderOpen a) 2 (reason (Sound s t → ⊥) 3 (reason (Short s a t) 4 none))))
+  gate-decided =
+      decided (lentOk s a t && true)
+      ((λ e. in-table s a t .0 (and-left (lentOk s a t) true e)), (λ w. and-both (lentOk s a t) true (in-table s a t .1 w) refl))
+      (λ (i : InTable s a t). i .settings)

@@ -1,0 +1,99 @@
+-- What an engine is: its calls as functions, and what its tables say. 01, "What one store holds". Assumes nothing: these are
+-- definitions.
+use mathlib.Core.Path.{_≡_}
+use mathlib.Core.List.{List, []}
+use Prim.Native.Nat.{ℕ}
+use lib.ListN.{getD}
+use Rattle.counter.specs.Gate.{Verdict}
+use Rattle.counter.specs.Paper.{Said}
+use Rattle.counter.specs.Reasons.{Reasons}
+use Rattle.counter.specs.declared.account.Account.{Account}
+use Rattle.counter.specs.declared.answers.Block.{Block}
+use Rattle.counter.specs.declared.answers.Outcome.{Outcome}
+use Rattle.counter.specs.declared.settings.StoreSettings.{StoreSettings}
+use Rattle.store_rules.specs.Delivery.{Engine}
+use Rattle.store_rules.specs.Outcomes.{Out, Listed, listed}
+use Rattle.store_rules.specs.Views.{View}
+use Rattle.store_rules.specs.declared.Loan.{Loan}
+
+-- every store lends five tables; room is the one that says what of its chunks is free
+pub record Lent : Type 0 where
+  pub head : List ℕ
+  pub loans : List ℕ
+  pub chunks : List ℕ
+  pub index : List ℕ
+  pub room : List ℕ
+
+abbrev pub noTables : Lent
+noTables = record { head = []; loans = []; chunks = []; index = []; room = [] }
+
+-- the first word of the head tells which engine set the tables up
+abbrev pub markOf : Lent → ℕ
+markOf t = getD (t .head) 0 0
+
+pub record Begun : Type 0 where
+  pub said : Said
+  pub tables : Lent
+
+-- a call with what it is given: a size and a mask, an outcome, a block and a lent list, or one that only this engine has, with
+-- a lent list
+pub data Call (Own : Type 0) : Type 0 where
+  setsUp : Call Own
+  asks : ℕ → ℕ → Call Own
+  delivers : Outcome → Call Own
+  returns : Block → List ℕ → Call Own
+  others : Own → List ℕ → Call Own
+
+pub record Shape : Type 1 where
+  -- ---- its calls
+  pub Settings : Type 0
+  pub store : Settings → StoreSettings
+  pub Own : Type 0
+  pub setUp : Settings → Lent → Begun
+  pub ask : Settings → Account → ℕ → ℕ → Lent → Out Lent
+  pub deliver : Settings → Account → Outcome → Lent → Out Lent
+  pub return : Settings → Account → Block → Lent → List ℕ → Listed Lent
+  pub other : Settings → Account → Own → Lent → List ℕ → Listed Lent
+  -- ---- which of 01's engines it is: that decides what becomes of memory that was not mapped
+  pub kind : Engine
+  -- ---- what its tables say: its mark, how many serials were given, the loans; blocks on loan, held chunks and free pieces
+  pub mark : ℕ
+  pub given : Lent → ℕ
+  pub loans : Lent → List Loan
+  pub view : Settings → Lent → View
+  -- ---- when they are sound, and when no held chunk has a fitting free place for a size and a mask
+  pub Sound : Settings → Lent → Type 0
+  pub Needed : Settings → ℕ → ℕ → Lent → Type 0
+  -- ---- the tests 1 to 4 of an ask, and of a delivery
+  pub gate : Settings → Account → Lent → Verdict
+  pub deliverGate : Settings → Account → Lent → Verdict
+  -- ---- 01's rows for each call, in the paper's words; gateReasons are the rows 1 to 4 of a call that is lent a list
+  pub setUpReasons : Settings → Lent → Reasons
+  pub askReasons : Settings → Account → ℕ → ℕ → Lent → Reasons
+  pub deliverReasons : Settings → Account → Outcome → Lent → Reasons
+  pub returnReasons : Settings → Account → Block → Lent → List ℕ → Reasons
+  pub otherReasons : Settings → Account → Own → Lent → List ℕ → Reasons
+  pub gateReasons : Settings → Account → Lent → List ℕ → Reasons
+  -- ---- several blocks come back: the end that 01's rules give
+  pub atOnce : Settings → List Block → Lent → View
+
+module _ (E : Shape) where
+  -- what a call says and leaves; a call that is lent no list leaves none
+  abbrev pub does : E .Settings → Account → Lent → Call (E .Own) → Listed Lent
+  does s a t setsUp = listed (E .setUp s t .said) a (E .setUp s t .tables) []
+  does s a t (asks size mask) = listed (E .ask s a size mask t .said) (E .ask s a size mask t .account) (E .ask s a size mask t .tables) []
+  does s a t (delivers o) = listed (E .deliver s a o t .said) (E .deliver s a o t .account) (E .deliver s a o t .tables) []
+  does s a t (returns b list) = E .return s a b t list
+  does s a t (others c list) = E .other s a c t list
+
+  -- tables that this engine set up
+  abbrev pub Marked : Lent → Type 0
+  Marked t = markOf t ≡ E .mark
+
+-- the list that a call is lent
+abbrev pub lentList : {Own : Type 0} → Call Own → List ℕ
+lentList setsUp = []
+lentList (asks size mask) = []
+lentList (delivers o) = []
+lentList (returns b list) = list
+lentList (others c list) = list

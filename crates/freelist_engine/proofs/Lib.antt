@@ -1,0 +1,9 @@
+-- The free list is an engine.
+pub mod Refusing
+pub mod Stepping
+pub mod Counting
+pub mod Booking
+pub mod Keeping
+pub mod Handing
+pub mod Ending
+pub mod Engine

@@ -1,0 +1,105 @@
+-- The free list refuses as an engine has to: each number exactly when, and what a refusal leaves; its calls on another
+-- engine's tables too. Assumes nothing.
+use mathlib.Core.Path.{_≡_, refl, ap}
+use mathlib.Core.Bool.{Bool, true, _&&_}
+use mathlib.Core.Logic.{_↔_}
+use mathlib.Core.List.{List, []}
+use Prim.Native.Nat.{ℕ, _≤_, _<_}
+use lib.ListN.{getD}
+use borrow.Author.Tests.{eqb-true}
+use Rattle.lists.proofs.Bools.{and-left, all-each}
+use Rattle.counter.specs.Gate.{refuse}
+use Rattle.counter.specs.Paper as Paper
+use Rattle.counter.specs.Reasons.{Given}
+use Rattle.counter.specs.declared.account.Account.{Account}
+use Rattle.counter.specs.declared.answers.Block.{Block}
+use Rattle.counter.specs.declared.answers.Outcome.{Outcome}
+use Rattle.counter.specs.declared.settings.FreeListSettings.{FreeListSettings}
+use Rattle.store_rules.specs.Outcomes.{Out, out, listed, listOk}
+use Rattle.store_rules.specs.Tests.{noOrder, orderFor}
+use Rattle.engines.specs.Refuses.{Refuses}
+use Rattle.engines.specs.Shapes.{Lent, Call, setsUp, asks, delivers, returns, others, does, Marked, lentList}
+use Rattle.engines.proofs.Shutting.{shut}
+use Rattle.freelist_rules.specs.Tables.{Tables, mark, markAt, soundRow, soundOk, storeOf}
+use Rattle.freelist_outcomes.specs.Gate.{lentOk, accountOk, gateOf}
+use Rattle.freelist_outcomes.specs.Ask.{carryAsk, planAsk, askOf}
+use Rattle.freelist_outcomes.specs.Deliver.{stillOk, deliverGateOf, planDeliver, carryDeliver, deliverOf}
+use Rattle.freelist_outcomes.specs.Refusals.{cleanUpReasons}
+use Rattle.freelist_outcomes.specs.Return.{planReturn, carryReturn, returnOf, carryCleanUp, cleanUpOf}
+use Rattle.freelist_outcomes.proofs.Refused.{set-up-refused, ask-refused, deliver-refused, return-refused, clean-up-refused, set-up-leaves, ask-leaves, deliver-leaves, return-leaves, clean-up-leaves-all, deliver-lost}
+use Rattle.freelist_engine.specs.Shape.{OwnCall, cleansUp, asList, begunAs, outAs, listedAs, ownOf, listShape, seen}
+
+-- ---- tables without the mark
+
+module _ (s : FreeListSettings) (a : Account) (t : Tables) (other : getD (t .head) markAt 0 ≡ mark → ⊥) where
+  not-sound : soundOk s t ≡ true → ⊥
+  unfolding soundOk
+  not-sound e = other (eqb-true (getD (t .head) markAt 0) mark (all-each (soundRow s t) e .0))
+
+  gate-shut : (list : Bool) → (n : ℕ) × (gateOf s a t list ≡ refuse n) × (0 < n) × (n ≤ 3)
+  unfolding gateOf
+  gate-shut list = shut (lentOk s a t && list) (noOrder (a .order)) (soundOk s t) (accountOk s a t) not-sound
+
+  deliver-gate-shut : (n : ℕ) × (deliverGateOf s a t ≡ refuse n) × (0 < n) × (n ≤ 3)
+  unfolding deliverGateOf
+  deliver-gate-shut =
+      shut (lentOk s a t) (orderFor (s .store .number) (a .order)) (soundOk s t && stillOk s a t (a .order)) (accountOk s a t)
+      (λ e. not-sound (and-left (soundOk s t) (stillOk s a t (a .order)) e))
+
+  ask-shut : (size mask : ℕ) → (n : ℕ) × (askOf s a size mask t ≡ out (Paper.refusal n []) a t) × (0 < n) × (n ≤ 3)
+  unfolding askOf planAsk carryAsk
+  ask-shut size mask = let g = gate-shut true in let e = g .1 in (g .0, rw e, g .2, g .3)
+
+  deliver-shut : (o : Outcome) → (n : ℕ) × (deliverOf s a o t ≡ out (Paper.refusal n []) a t) × (0 < n) × (n ≤ 3)
+  unfolding deliverOf planDeliver carryDeliver
+  deliver-shut o = let g = deliver-gate-shut in let e = g .1 in (g .0, rw e, g .2, g .3)
+
+  return-shut : (b : Block) (list : List ℕ) → (n : ℕ) × (returnOf s a b t list ≡ listed (Paper.refusal n []) a t list) × (0 < n) × (n ≤ 3)
+  unfolding returnOf planReturn carryReturn
+  return-shut b list = let g = gate-shut (listOk (s .store) list) in let e = g .1 in (g .0, rw e, g .2, g .3)
+
+  clean-up-shut : (list : List ℕ) → (n : ℕ) × (cleanUpOf s a t list ≡ listed (Paper.refusal n []) a t list) × (0 < n) × (n ≤ 3)
+  unfolding cleanUpOf carryCleanUp
+  clean-up-shut list = let g = gate-shut (listOk (s .store) list) in let e = g .1 in (g .0, rw e, g .2, g .3)
+
+-- each call but set-up is refused there, by 1, 2 or 3, and leaves everything
+foreign : (s : FreeListSettings) (a : Account) (t : Lent) (c : Call OwnCall) → (c ≡ setsUp → ⊥) → (Marked listShape t → ⊥)
+    → (n : ℕ) × (does listShape s a t c ≡ listed (Paper.refusal n []) a t (lentList c)) × (0 < n) × (n ≤ 3)
+foreign s a t setsUp f m = absurd (f refl)
+foreign s a t (asks size mask) f m =
+    let r = ask-shut s a (asList t) m size mask in (r .0, ap (λ (o : Out Tables). listed (o .said) (o .account) (outAs o .tables) []) (r .1), r .2, r .3)
+foreign s a t (delivers x) f m =
+    let r = deliver-shut s a (asList t) m x in (r .0, ap (λ (o : Out Tables). listed (o .said) (o .account) (outAs o .tables) []) (r .1), r .2, r .3)
+foreign s a t (returns b list) f m = let r = return-shut s a (asList t) m b list in (r .0, ap listedAs (r .1), r .2, r .3)
+foreign s a t (others cleansUp list) f m = let r = clean-up-shut s a (asList t) m list in (r .0, ap listedAs (r .1), r .2, r .3)
+
+-- ---- a call that only a free list has
+
+own-refused : (s : FreeListSettings) (a : Account) (c : OwnCall) (t : Tables) (list : List ℕ) (n : ℕ) → (ownOf s a c t list .said ≡ Paper.refusal n []) ↔ Given (cleanUpReasons s a t list) n
+own-refused s a cleansUp t list n = clean-up-refused s a t list n
+
+own-leaves : (s : FreeListSettings) (a : Account) (c : OwnCall) (t : Tables) (list : List ℕ) (n : ℕ) (back : List ℕ) → ownOf s a c t list .said ≡ Paper.refusal n back → ownOf s a c t list ≡ listed (Paper.refusal n []) a t list
+own-leaves s a cleansUp t list n back e = clean-up-leaves-all s a t list n back e
+
+-- the free list refuses as an engine has to
+pub list-refuses : Refuses listShape
+list-refuses =
+    record {
+      set-up-refused = λ s t n. set-up-refused s (asList t) n;
+      ask-refused = λ s a size mask t n. ask-refused s a size mask (asList t) n;
+      deliver-refused = λ s a o t n. deliver-refused s a o (asList t) n;
+      return-refused = λ s a b t list n. return-refused s a b (asList t) list n;
+      other-refused = λ s a c t list n. own-refused s a c (asList t) list n;
+      set-up-leaves = λ s t n back e. ap begunAs (set-up-leaves s (asList t) n back e);
+      ask-leaves = λ s a size mask t n back e _. ap outAs (ask-leaves s a size mask (asList t) n back e);
+      deliver-leaves = λ s a o t n back e x y. ap outAs (deliver-leaves s a o (asList t) n back e x y);
+      return-leaves = λ s a b t list n back e. ap listedAs (return-leaves s a b (asList t) list n back e);
+      other-leaves = λ s a c t list n back e. ap listedAs (own-leaves s a c (asList t) list n back e);
+      nine-leaves = λ s a size mask t back e.
+          let r = ask-leaves s a size mask (asList t) 9 back e in
+          (ap (λ (o : Out Tables). o .account) r, ap (λ (o : Out Tables). seen (storeOf s (o .tables))) r);
+      lost-leaves = λ s a o t k n back its e number.
+          let r = deliver-lost s a o (asList t) k n back its e number in
+          (ap (λ (x : Out Tables). x .account) r, ap (λ (x : Out Tables). seen (storeOf s (x .tables))) r);
+      foreign = foreign;
+    }

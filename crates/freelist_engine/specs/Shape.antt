@@ -1,0 +1,78 @@
+-- The free list's calls and tables as those of an engine. Assumes nothing: these are definitions.
+use mathlib.Core.Bool.{true}
+use mathlib.Core.List.{List}
+use Prim.Native.Nat.{ℕ}
+use lib.ListN.{getD}
+use Rattle.counter.specs.declared.account.Account.{Account}
+use Rattle.counter.specs.declared.answers.Block.{Block}
+use Rattle.counter.specs.declared.settings.FreeListSettings.{FreeListSettings}
+use Rattle.store_rules.specs.Delivery.{freeList}
+use Rattle.store_rules.specs.Loans.{loansOf}
+use Rattle.store_rules.specs.Outcomes.{Out, out, Listed, listed}
+use Rattle.store_rules.specs.Views.{View}
+use Rattle.engines.specs.Shapes.{Lent, Begun, Shape}
+use Rattle.freelist_rules.specs.AtOnce.{atOnce}
+use Rattle.freelist_rules.specs.Records.{Store}
+use Rattle.freelist_rules.specs.Tables.{Tables, tables, mark, givenAt, placesIn, storeOf, SoundTables}
+use Rattle.freelist_outcomes.specs.Gate.{gateOf}
+use Rattle.freelist_outcomes.specs.Ask.{askOf}
+use Rattle.freelist_outcomes.specs.Deliver.{deliverGateOf, deliverOf}
+use Rattle.freelist_outcomes.specs.Refusals.{Needed, setUpReasons, askReasons, deliverReasons, returnReasons, cleanUpReasons}
+use Rattle.freelist_outcomes.specs.Return.{returnOf, cleanUpOf}
+use Rattle.freelist_outcomes.specs.SetUp.{SetUp, setUpOf}
+
+-- a call that only a free list has
+pub data OwnCall : Type 0 where
+  cleansUp : OwnCall
+
+-- its regions are what says which room is free
+abbrev pub asList : Lent → Tables
+asList t = tables (t .head) (t .loans) (t .chunks) (t .room) (t .index)
+
+abbrev pub asLent : Tables → Lent
+asLent t = record { head = t .head; loans = t .loans; chunks = t .chunks; index = t .index; room = t .regions }
+
+abbrev pub begunAs : SetUp → Begun
+begunAs r = record { said = r .said; tables = asLent (r .tables) }
+
+abbrev pub outAs : Out Tables → Out Lent
+outAs r = out (r .said) (r .account) (asLent (r .tables))
+
+abbrev pub listedAs : Listed Tables → Listed Lent
+listedAs r = listed (r .said) (r .account) (asLent (r .tables)) (r .list)
+
+abbrev pub ownOf : FreeListSettings → Account → OwnCall → Tables → List ℕ → Listed Tables
+ownOf s a cleansUp t list = cleanUpOf s a t list
+
+-- what its user sees of a store: loans and free regions by chunk and place, chunks by number
+abbrev pub seen : Store → View
+seen v = record { loans = v .loans; chunks = v .chunks; free = v .regions }
+
+abbrev pub listShape : Shape
+listShape =
+    record {
+      Settings = FreeListSettings;
+      store = λ s. s .store;
+      Own = OwnCall;
+      setUp = λ s t. begunAs (setUpOf s (asList t));
+      ask = λ s a size mask t. outAs (askOf s a size mask (asList t));
+      deliver = λ s a o t. outAs (deliverOf s a o (asList t));
+      return = λ s a b t list. listedAs (returnOf s a b (asList t) list);
+      other = λ s a c t list. listedAs (ownOf s a c (asList t) list);
+      kind = freeList;
+      mark = mark;
+      given = λ t. getD (t .head) givenAt 0;
+      loans = λ t. loansOf (placesIn (asList t)) (t .loans);
+      view = λ s t. seen (storeOf s (asList t));
+      Sound = λ s t. SoundTables s (asList t);
+      Needed = λ s size mask t. Needed s size mask (asList t);
+      gate = λ s a t. gateOf s a (asList t) true;
+      deliverGate = λ s a t. deliverGateOf s a (asList t);
+      setUpReasons = λ s t. setUpReasons s (asList t);
+      askReasons = λ s a size mask t. askReasons s a size mask (asList t);
+      deliverReasons = λ s a o t. deliverReasons s a o (asList t);
+      returnReasons = λ s a b t list. returnReasons s a b (asList t) list;
+      otherReasons = λ s a c t list. cleanUpReasons s a (asList t) list;
+      gateReasons = λ s a t list. cleanUpReasons s a (asList t) list;
+      atOnce = λ s bs t. seen (atOnce bs (storeOf s (asList t)));
+    }

@@ -1,0 +1,6 @@
+-- What holds of every history of calls of both engines over one account.
+pub mod Both
+pub mod NeverAgain
+pub mod Serials
+pub mod HeapAndObjects
+pub mod AnyOrder
