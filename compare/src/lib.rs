@@ -43,22 +43,23 @@ mod util {
 }
 
 mod account;
-mod answer;
+pub mod answer;
+pub mod bare;
 pub mod counter;
 mod device;
-mod difference;
+pub mod difference;
 mod engine;
 pub mod generator;
 mod ledger;
-mod parallel;
+pub mod parallel;
 #[rustfmt::skip]
 mod plain;
-mod random;
+pub mod random;
 mod recorded;
 pub mod runs;
-mod settings;
+pub mod settings;
 pub mod shelf;
 mod smallest;
 mod store;
 mod tally;
-mod tape;
+pub mod tape;

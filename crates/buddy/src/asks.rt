@@ -78,7 +78,7 @@ pub fn ask(
 ) -> Asked
     ensures { λ r. ⌜ out (askSaid (r .answer)) (r .account) (tables (now (head .exit)) (now (loans .exit)) (now (chunks .entry)) (now (index .exit)) (now (tree .exit))) ≡ askOf s a size mask (tables (now (head .entry)) (now (loans .entry)) (now (chunks .entry)) (now (index .entry)) (now (tree .entry))) ⌝ }
 {
-    let plan = buddy_gate::plan_ask(s, a, size, mask, head, loans, chunks, index, tree);
+    let plan = buddy_plan::plan_ask(s, a, size, mask, head, loans, chunks, index, tree);
     match plan {
         Plan::Refuse(refusal) => refuse(s, a, size, mask, refusal, head, tree),
         Plan::Take(t) => {

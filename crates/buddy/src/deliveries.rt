@@ -82,7 +82,7 @@ pub fn deliver(
 ) -> Delivered
     ensures { λ r. ⌜ out (deliverSaid (r .answer)) (r .account) (tables (now (head .exit)) (now (loans .exit)) (now (chunks .exit)) (now (index .exit)) (now (tree .exit))) ≡ deliverOf s a o (tables (now (head .entry)) (now (loans .entry)) (now (chunks .entry)) (now (index .entry)) (now (tree .entry))) ⌝ }
 {
-    let coming = buddy_gate::plan_deliver(s, a, o, head, loans, chunks, index, tree);
+    let coming = buddy_plan::plan_deliver(s, a, o, head, loans, chunks, index, tree);
     match coming {
         Coming::Refuse(r) => store::refuse_delivery(a, r),
         Coming::Keep(c) => {

@@ -9,7 +9,7 @@ ghost use Rattle.store_rules.specs.Outcomes.{listed};
 ghost use Rattle.buddy_stores.specs.Tables.{tables};
 ghost use Rattle.buddy_outcomes.specs.Return.{climbFor, releasedBy, returnOf};
 ghost use Rattle.buddy_ready.specs.Ready.{Backs};
-use buddy_gate::Back;
+use buddy_plan::Back;
 use buddy_stores::CHUNK_SIZE_AT;
 use buddy_stores::CHUNK_WORDS;
 use buddy_stores::MEMORY_AT;
@@ -36,7 +36,7 @@ fn carry_return(
 {
     let memory = words::cell(chunks, MEMORY_AT, CHUNK_WORDS, b.chunk as usize);
     let bytes = words::cell(chunks, CHUNK_SIZE_AT, CHUNK_WORDS, b.chunk as usize);
-    if buddy_place::take_back(s, b, at, head, loans, chunks, index, tree) {
+    if buddy_back::take_back(s, b, at, head, loans, chunks, index, tree) {
         words::put(list, 0, memory);
         return store::settle(s.store, a, 1, bytes);
     }
@@ -59,7 +59,7 @@ pub fn return_block(
 {
     let own = s.store;
     let long = own.chunks <= list.len();
-    let plan = buddy_gate::plan_return(s, a, b, long, head, loans, chunks, index, tree);
+    let plan = buddy_plan::plan_return(s, a, b, long, head, loans, chunks, index, tree);
     match plan {
         Back::Refuse(refusal) => store::refuse_return(a, refusal),
         Back::From(at) => carry_return(s, a, b, at, head, loans, chunks, index, tree, list),

@@ -1,16 +1,14 @@
 -- The buddy books as an engine has to: what one call of it charges and releases, and how many device objects it takes and
 -- gives. Assumes nothing.
-use mathlib.Core.Path.{_≡_, refl, sym, ap, subst, _∙_}
-use mathlib.Core.Bool.{Bool, true, false, _&&_}
+use mathlib.Core.Path.{_≡_, refl, sym, ap, _∙_}
+use mathlib.Core.Bool.{true, false, _&&_}
 use mathlib.Core.Logic.{⊎-elim}
 use mathlib.Core.List.{List, [], _∷_}
-use Prim.Native.Nat.{ℕ, _+_, _-_, _<_}
+use Prim.Native.Nat.{ℕ, _+_, _-_}
 use native.Mathlib.Omega.{arith}
-use lib.Dec.{ltb}
-use borrow.Author.Tests.{ltb-true}
 use Rattle.lists.proofs.Bools.{told, and-right}
 use Rattle.counter.specs.Account.{heapAt}
-use Rattle.counter.specs.Gate.{Verdict, pass, refuse, first}
+use Rattle.counter.specs.Gate.{Verdict, pass, refuse}
 use Rattle.counter.specs.Paper as Paper
 use Rattle.counter.specs.declared.account.Account.{Account}
 use Rattle.counter.specs.declared.account.KeptOrder.{KeptOrder}
@@ -24,7 +22,7 @@ use Rattle.counter.specs.declared.answers.Memory.{Memory}
 use Rattle.counter.specs.declared.answers.Outcome.{Outcome}
 use Rattle.counter.specs.declared.answers.Outcome.the-variants as O
 use Rattle.counter.specs.declared.settings.BuddySettings.{BuddySettings}
-use Rattle.counter.proofs.Gates.{passed, same-number, never}
+use Rattle.counter.proofs.Gates.{passed}
 use Rattle.heap.specs.Heap.{bearsOk}
 use Rattle.heap.specs.History.{release}
 use Rattle.heap.proofs.Bounds.{agrees-yes}
@@ -40,12 +38,12 @@ use Rattle.engines.specs.Books as Entries
 use Rattle.engines.specs.Shapes.{Lent, Call, setsUp, asks, delivers, returns, others, does}
 use Rattle.store_rules.proofs.Tested.{gate-low}
 use Rattle.engines.proofs.Booking.{not-accepted, Bears, still, early-booked, charged-booked, release-booked}
-use Rattle.buddy_stores.specs.Tables.{Tables, givenIn, chunkSizeIn, chunkPlacesIn, memories}
+use Rattle.buddy_stores.specs.Tables.{Tables, chunkSizeIn, chunkPlacesIn, memories}
 use Rattle.buddy_stores.specs.Test.{soundOk}
 use Rattle.buddy_stores.specs.Views.{chunksIn}
 use Rattle.buddy_outcomes.specs.Gate.{lentOk, heldCount, heldBytes, accountOk}
 use Rattle.buddy_outcomes.specs.Ask as Ask
-use Rattle.buddy_outcomes.specs.Ask.{Found, at, foundFor, countOk, objectsOk, askRow, planned, decideAsk, carryAsk, planAsk, askOf}
+use Rattle.buddy_outcomes.specs.Ask.{decideAsk, carryAsk, planAsk, askOf}
 use Rattle.buddy_outcomes.specs.Deliver as Deliver
 use Rattle.buddy_outcomes.specs.Deliver.{stillOk, deliverGateOf, carryFate, decideDeliver, planDeliver, carryDeliver, deliverOf}
 use Rattle.buddy_outcomes.specs.Return.{wordFor, onLoanOk, climbFor, givenTables, releasedBy, returnOf}

@@ -2,7 +2,7 @@
 use mathlib.Core.Path.{_≡_, refl, sym, ap, subst, _∙_}
 use mathlib.Core.Bool.{true}
 use mathlib.Core.Logic.{⊎-elim, _↔_}
-use mathlib.Core.List.{List, [], _∷_, List·Memᴰ, List·Memᴰ·head, List·Memᴰ·cases-cons, List·Memᴰ·not-nil}
+use mathlib.Core.List.{List, [], _∷_, List·Memᴰ, List·Memᴰ·head}
 use Prim.Native.Nat.{ℕ, _≤_}
 use lib.ListN.{length}
 use Rattle.counter.specs.Account.{heapAt}
@@ -13,7 +13,7 @@ use Rattle.counter.specs.declared.settings.BuddySettings.{BuddySettings}
 use Rattle.store_rules.specs.Views.{View, loanOf, loansLess}
 use Rattle.store_rules.specs.declared.Loan.{Loan}
 use Rattle.store_rules.proofs.Accounts.{covers-yes}
-use Rattle.store_rules.proofs.Lessening.{loans-less-in}
+use Rattle.store_rules.proofs.Lessening.{less-one}
 use Rattle.engines.specs.Ends.{Ends}
 use Rattle.buddy_chunks.specs.Chunks.{atOnce}
 use Rattle.buddy_chunks.proofs.Ending.{at-once-none, at-once-next, at-once-same}
@@ -34,16 +34,7 @@ module _ (s : BuddySettings) (a : Account) (b : Block) (t : Tables) (list : List
   loans-left = ap (λ (v : View). v .loans) (return-view s a b t list passes lent long)
 
   loans-are : (l : Loan) → List·Memᴰ l (loansIn (returnOf s a b t list .tables)) ↔ (List·Memᴰ l (loansIn t) × (l ≡ loanOf b → ⊥))
-  loans-are l = (there, back)
-    where
-      there : List·Memᴰ l (loansIn (returnOf s a b t list .tables)) → List·Memᴰ l (loansIn t) × (l ≡ loanOf b → ⊥)
-      there m = let w = loans-less-in (b ∷ []) (loansIn t) l .0 (subst (List·Memᴰ l) loans-left m) in (w .0, w .1 b (List·Memᴰ·head refl))
-
-      back : List·Memᴰ l (loansIn t) × (l ≡ loanOf b → ⊥) → List·Memᴰ l (loansIn (returnOf s a b t list .tables))
-      back w =
-          let others : (c : Block) → List·Memᴰ c (b ∷ []) → l ≡ loanOf c → ⊥ =
-          λ c m e. ⊎-elim (λ q. w .1 (e ∙ ap loanOf q)) (λ k. List·Memᴰ·not-nil k) (List·Memᴰ·cases-cons m) in
-          subst (List·Memᴰ l) (sym loans-left) (loans-less-in (b ∷ []) (loansIn t) l .1 (w .0, others))
+  loans-are l = subst (λ (ls : List Loan). List·Memᴰ l ls ↔ (List·Memᴰ l (loansIn t) × (l ≡ loanOf b → ⊥))) (sym loans-left) (less-one b (loansIn t) l)
 
 -- every order of returns ends alike
 pub ends : Ends buddyShape

@@ -2,8 +2,6 @@
 use mathlib.Core.Path.{_≡_, refl, sym}
 use mathlib.Core.Bool.{Bool, true, false, cond}
 use mathlib.Core.List.{[]}
-use Prim.Native.Nat.{ℕ}
-use Rattle.lists.proofs.Bools.{true-false}
 use Rattle.counter.specs.Gate.{pass}
 use Rattle.counter.specs.Paper as Paper
 use Rattle.counter.specs.declared.account.Account.{Account}

@@ -1,9 +1,6 @@
 -- The buddy's calls and tables as those of an engine. Assumes nothing: these are definitions.
 use mathlib.Core.Bool.{true}
-use mathlib.Core.List.{List}
-use Prim.Native.Nat.{ℕ}
 use Rattle.counter.specs.Reasons.{none}
-use Rattle.counter.specs.declared.account.Account.{Account}
 use Rattle.counter.specs.declared.settings.BuddySettings.{BuddySettings}
 use Rattle.store_rules.specs.Delivery.{buddy}
 use Rattle.store_rules.specs.Outcomes.{Out, out, Listed, listed}

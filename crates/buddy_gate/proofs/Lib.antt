@@ -1,5 +1,2 @@
-pub mod Arrivals
 pub mod Gates
 pub mod Held
-pub mod Planned
-pub mod Stale

@@ -17,7 +17,6 @@ use Rattle.counter.specs.InTable.{BuddyIn}
 use Rattle.counter.specs.Paper as Paper
 use Rattle.counter.specs.Table.{alignmentOk}
 use Rattle.counter.specs.declared.account.Account.{Account}
-use Rattle.counter.specs.declared.account.Order.{Order}
 use Rattle.counter.specs.declared.settings.BuddySettings.{BuddySettings}
 use Rattle.slab.specs.Slab.{nowhere}
 pub use Rattle.store_rules.proofs.Said.{order-block, refusal-block, same-block}

@@ -9,7 +9,6 @@ use Rattle.rounding.specs.Raising.{upTo, powerUp, levelOf}
 use Rattle.counter.specs.Account.{heapAt}
 use Rattle.counter.specs.Gate.{Verdict, pass, refuse, Row, first}
 use Rattle.counter.specs.Limits.{levelsMost}
-use Rattle.counter.specs.Paper.{Said}
 use Rattle.counter.specs.Paper as Paper
 use Rattle.counter.specs.Table.{alignmentOk}
 use Rattle.counter.specs.declared.account.Account.{Account}

@@ -1,7 +1,7 @@
 -- What a delivery to a buddy store says and leaves. 01, "buddy.rs", and the tests 13, 11 and 12. Assumes nothing: these are
 -- definitions.
-use mathlib.Core.Bool.{Bool, false, cond, _&&_}
-use mathlib.Core.List.{List, [], _∷_}
+use mathlib.Core.Bool.{Bool, false, _&&_}
+use mathlib.Core.List.{List, []}
 use Prim.Native.Nat.{ℕ, _+_, _-_, _*_}
 use lib.ListN.{set}
 use Rattle.words.specs.Words.{cellOf}

@@ -4,7 +4,7 @@ use mathlib.Core.Path.{_≡_}
 use mathlib.Core.Bool.{true, cond}
 use mathlib.Core.Logic.{_⊎_}
 use mathlib.Core.List.{List}
-use Prim.Native.Nat.{ℕ, zero, suc, _+_, _%_, _^_, _≤_, _<_}
+use Prim.Native.Nat.{ℕ, zero, suc, _+_, _^_, _≤_, _<_}
 use lib.Dec.{ltb}
 use lib.ListN.{length, getD}
 use Rattle.counter.specs.Account.{value, heapAt, noHeap}
@@ -25,9 +25,9 @@ use Rattle.buddy_trees.specs.Trees.{bytes}
 use Rattle.buddy_chunks.specs.Chunks.{Fitting}
 use Rattle.buddy_stores.specs.Sound.{Sound}
 use Rattle.buddy_stores.specs.Views.{viewOf}
-use Rattle.buddy_stores.specs.Tables.{Tables, Lengths, givenIn, levelsIn, placesIn, chunkPlacesIn, chunkSizeIn, heldIn, liveIn, loanCell, pairsIn, memories}
+use Rattle.buddy_stores.specs.Tables.{Tables, Lengths, givenIn, levelsIn, placesIn, chunkPlacesIn, liveIn, loanCell, pairsIn, memories}
 use Rattle.buddy_outcomes.specs.Gate.{heldCount, heldBytes}
-use Rattle.buddy_outcomes.specs.Ask.{spent, sizeFor, levelFor, grownFor, orderFor}
+use Rattle.buddy_outcomes.specs.Ask.{spent, sizeFor, levelFor, orderFor}
 
 -- ---- 1
 

@@ -17,7 +17,6 @@ use Rattle.slab.specs.Slab.{nowhere}
 use Rattle.store_rules.specs.Loans.{loanRow}
 use Rattle.store_rules.specs.Outcomes.{Listed, listed, listOk, releasedAccount}
 pub use Rattle.store_rules.specs.Views.{sameLoan}
-use Rattle.store_rules.specs.declared.Loan.{Loan}
 use Rattle.book.specs.Book.{wordTo, struck, struckIndex}
 use Rattle.buddy_stores.specs.Tables.{Tables, tables, chunkWords, chunkSizeAt, levelsIn, placesIn, memoryIn, chunkSizeIn, chunksFrom, placeAt, afterAt, placeWords, nodesFrom}
 use Rattle.buddy_stores.specs.Moves.{Climbed, climbed}

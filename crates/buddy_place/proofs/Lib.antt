@@ -2,4 +2,3 @@ pub mod Grown
 pub mod Booked
 pub mod Lent
 pub mod Served
-pub mod Returned

@@ -1,11 +1,9 @@
-// A buddy store's tables written: its levels grown, a block lent from a ready side or from a new chunk, a block taken back.
-mod backing;
+// A buddy store's tables written: its levels grown, a block lent from a ready side or from a new chunk.
 mod booking;
 mod growing;
 mod lending;
 mod serving;
 
-pub use backing::take_back;
 pub use growing::fresh_levels;
 pub use growing::grow;
 pub use lending::lend;

@@ -16,7 +16,7 @@ use Rattle.counter.specs.declared.account.Account.{Account}
 use Rattle.counter.specs.declared.answers.Block.{Block}
 use Rattle.heap.specs.Heap.{agreesOk}
 use Rattle.store_rules.specs.Outcomes.{Listed, toFree, releasedAccount}
-use Rattle.store_rules.specs.Views.{View, loanOf, All, sizes, Go}
+use Rattle.store_rules.specs.Views.{loanOf, All, sizes, Go}
 use Rattle.store_rules.specs.declared.Loan.{Loan}
 use Rattle.engines.specs.Shapes.{Lent, Shape}
 

@@ -13,7 +13,7 @@ use Rattle.counter.specs.declared.answers.Block.{Block}
 use Rattle.counter.specs.declared.answers.Outcome.{Outcome}
 use Rattle.store_rules.specs.Outcomes.{out, listed}
 use Rattle.store_rules.specs.Refusals.{lostFor}
-use Rattle.engines.specs.Shapes.{Lent, Begun, Call, setsUp, Shape, does, Marked, lentList}
+use Rattle.engines.specs.Shapes.{Lent, Call, setsUp, Shape, does, Marked, lentList}
 
 pub record Refuses (E : Shape) : Type 0 where
   -- a call is refused with n exactly when n is the number of the first of its rows whose words hold

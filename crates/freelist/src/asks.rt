@@ -7,7 +7,7 @@ ghost use Rattle.freelist_outcomes.specs.Ask.{askOf};
 use counter::Account;
 use counter::Asked;
 use counter::FreeListSettings;
-use freelist_gate::Plan;
+use freelist_decide::Plan;
 use freelist_rules::CHUNK_SIZE_AT;
 
 pub fn ask(

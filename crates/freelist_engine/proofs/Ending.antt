@@ -13,6 +13,7 @@ use Rattle.counter.specs.declared.settings.FreeListSettings.{FreeListSettings}
 use Rattle.store_rules.specs.Loans.{loansOf}
 use Rattle.store_rules.specs.Views.{loanOf, loansLess, sizes}
 use Rattle.store_rules.proofs.Accounts.{covers-yes}
+use Rattle.store_rules.proofs.Lessening.{less-one}
 use Rattle.store_rules.specs.declared.Loan.{Loan}
 use Rattle.engines.specs.Ends.{Lot, Ends}
 use Rattle.engines.specs.Shapes.{Lent}
@@ -21,7 +22,7 @@ use Rattle.freelist_rules.specs.Records.{Store}
 use Rattle.freelist_rules.specs.Steps.{returned, returnedAll}
 use Rattle.freelist_rules.specs.Tables.{Tables, placesIn, storeOf}
 use Rattle.freelist_rules.proofs.AnyOrder.{OnLoan, returned-is, left-on-loan, perm-mem}
-use Rattle.freelist_rules.proofs.AtOnce.{loans-less-in, returned-at-once, at-once-same}
+use Rattle.freelist_rules.proofs.AtOnce.{returned-at-once, at-once-same}
 use Rattle.freelist_rules.proofs.Ordered.{ordered-in, ordered-out}
 use Rattle.freelist_outcomes.specs.Gate.{gateOf}
 use Rattle.freelist_outcomes.specs.Return.{returnOf}
@@ -66,16 +67,14 @@ module _ (s : FreeListSettings) (a : Account) (b : Block) (t : Tables) (list : L
   loans-are : (l : Loan) → List·Memᴰ l (loansOf (placesIn after) (after .loans)) ↔ (List·Memᴰ l (loansOf (placesIn t) (t .loans)) × (l ≡ loanOf b → ⊥))
   loans-are l = (there, back)
     where
+      one : List·Memᴰ l (storeOf s after .loans) ↔ (List·Memᴰ l (storeOf s t .loans) × (l ≡ loanOf b → ⊥))
+      one = subst (λ (ls : List Loan). List·Memᴰ l ls ↔ (List·Memᴰ l (storeOf s t .loans) × (l ≡ loanOf b → ⊥))) (sym loans-left) (less-one b (storeOf s t .loans) l)
+
       there : List·Memᴰ l (loansOf (placesIn after) (after .loans)) → List·Memᴰ l (loansOf (placesIn t) (t .loans)) × (l ≡ loanOf b → ⊥)
-      there m =
-          let w = loans-less-in (b ∷ []) (storeOf s t .loans) l .0 (subst (List·Memᴰ l) loans-left (loan-there s after l m)) in
-          (loan-here s t l (w .0), w .1 b (List·Memᴰ·head refl))
+      there m = let w = one .0 (loan-there s after l m) in (loan-here s t l (w .0), w .1)
 
       back : List·Memᴰ l (loansOf (placesIn t) (t .loans)) × (l ≡ loanOf b → ⊥) → List·Memᴰ l (loansOf (placesIn after) (after .loans))
-      back w =
-          let others : (c : Block) → List·Memᴰ c (b ∷ []) → l ≡ loanOf c → ⊥ =
-          λ c m e. ⊎-elim (λ q. w .1 (e ∙ ap loanOf q)) (λ k. List·Memᴰ·not-nil k) (List·Memᴰ·cases-cons m) in
-          loan-here s after l (subst (List·Memᴰ l) (sym loans-left) (loans-less-in (b ∷ []) (storeOf s t .loans) l .1 (loan-there s t l (w .0), others)))
+      back w = loan-here s after l (one .1 (loan-there s t l (w .0), w .1))
 
 -- ---- the others after it
 

@@ -2,4 +2,3 @@ pub mod Arrivals
 pub mod Gates
 pub mod Planned
 pub mod Stale
-pub mod Tests

@@ -1,4 +1,3 @@
 pub mod Backs
 pub mod Comings
 pub mod Gates
-pub mod Plans

@@ -3,11 +3,11 @@ ghost use mathlib.Core.Path.{_≡_};
 ghost use mathlib.Core.Bool.{true};
 ghost use Rattle.freelist_rules.specs.Tables.{tables};
 ghost use Rattle.freelist_outcomes.specs.Ask.{planAsk};
-ghost use Rattle.freelist_gate.specs.Plans.{planOf};
-use crate::deciding::Plan;
+ghost use Rattle.freelist_decide.specs.Plans.{planOf};
 use counter::Account;
 use counter::FreeListSettings;
 use counter::Gate;
+use freelist_decide::Plan;
 
 pub fn plan_ask(
     s: FreeListSettings,
@@ -28,7 +28,7 @@ pub fn plan_ask(
         Gate::Go => {
             let own = s.store;
             let h = a.heap(own.heap);
-            crate::deciding::decide(s, h, a.objects, size, mask, head, regions, index)
+            freelist_decide::decide(s, h, a.objects, size, mask, head, regions, index)
         }
     }
 }

@@ -15,7 +15,6 @@ ghost use Rattle.freelist_rules.specs.Walk.{memories};
 ghost use Rattle.freelist_outcomes.specs.Ask.{decideAsk};
 ghost use Rattle.freelist_outcomes.specs.Deliver.{deliverGateOf, decideDeliver, planDeliver};
 ghost use Rattle.freelist_gate.specs.Comings.{keptGate};
-use crate::deciding::Plan;
 use counter::Account;
 use counter::FreeListSettings;
 use counter::Gate;
@@ -24,6 +23,7 @@ use counter::KeptOrder;
 use counter::OpenOrder;
 use counter::Outcome;
 use counter::Refusal;
+use freelist_decide::Plan;
 use freelist_rules::CHUNK_MEMORY_AT;
 use freelist_rules::CHUNK_WORDS;
 use freelist_rules::CHUNKS_AT;
@@ -46,7 +46,7 @@ fn is_still(
     let ask = k.ask;
     let order = k.order;
     let store = s.store;
-    let plan = crate::deciding::decide(s, h, objects, ask.size, ask.mask, head, regions, index);
+    let plan = freelist_decide::decide(s, h, objects, ask.size, ask.mask, head, regions, index);
     match plan {
         Plan::Refuse(_) => false,
         Plan::Take(_) => false,

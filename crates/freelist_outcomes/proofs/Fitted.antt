@@ -11,7 +11,6 @@ use Rattle.rounding.proofs.Raising.{down-most}
 use Rattle.counter.specs.Account.{heapAt}
 use Rattle.counter.specs.Paper as Paper
 use Rattle.counter.specs.declared.account.Account.{Account}
-use Rattle.counter.specs.declared.account.Order.{Order}
 use Rattle.counter.specs.declared.settings.FreeListSettings.{FreeListSettings}
 pub use Rattle.store_rules.proofs.Said.{order-block, refusal-block, same-block}
 use Rattle.store_rules.specs.Orders.{Plan, deny, take, buy, orderFrom}

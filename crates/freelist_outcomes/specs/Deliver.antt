@@ -1,6 +1,6 @@
 -- What a delivery says and leaves. 01, "freelist.rs": "After a good delivery it doubles, up to final", and the tests 13, 11
 -- and 12. Assumes nothing: these are definitions.
-use mathlib.Core.Bool.{Bool, false, cond, _&&_}
+use mathlib.Core.Bool.{Bool, false, _&&_}
 use mathlib.Core.List.{List, [], _∷_, _++_}
 use Prim.Native.Nat.{ℕ, _+_}
 use lib.ListN.{length, set}

@@ -1,14 +1,11 @@
 -- The laws of lists of spans that rise. Assumes nothing.
 use mathlib.Core.Path.{_≡_, refl, sym, _∙_, ap}
-use mathlib.Core.Bool.{Bool, true, false, cond, _&&_}
+use mathlib.Core.Bool.{Bool, true, false, cond}
 use mathlib.Core.Logic.{_⊎_, inl, inr, ⊎-elim}
 use mathlib.Core.List.{List, [], _∷_, List·Memᴰ, List·Memᴰ·head, List·Memᴰ·tail, List·Memᴰ·cases-cons, List·Memᴰ·not-nil}
 use Prim.Native.Nat.{ℕ, zero, suc, _+_, _≤_, _<_}
 use native.Mathlib.Omega.{arith}
-use lib.Dec.{ltb, leb, eqb}
 use lib.ListN.{length, getD}
-use borrow.Author.Tests.{ltb-true, leb-true, eqb-true, lt-ltb, le-ltb, eq-eqb, le-leb, lt-leb}
-use Rattle.lists.proofs.Bools.{and-left, and-right, told, lt-or-le}
 use Rattle.words.specs.Rows.{removeAt}
 pub use Rattle.store_rules.proofs.Placed.{at-in}
 pub use Rattle.store_rules.proofs.Bytes.{on-in, on-where, on-out, on-one, on-join, total-mem, total-where, total-none}

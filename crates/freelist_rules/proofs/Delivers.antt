@@ -17,7 +17,7 @@ use Rattle.counter.specs.declared.settings.FreeListSettings.{FreeListSettings}
 use Rattle.freelist_rules.specs.Records.{Store, region, chunk}
 use Rattle.freelist_rules.specs.Pieces.{on, total, lo, hi, Rising, All}
 use Rattle.freelist_rules.specs.Sound.{Sized, Sound}
-use Rattle.freelist_rules.specs.Place.{at, orElse, fitsIn, findFrom, find, cut}
+use Rattle.freelist_rules.specs.Place.{at, fitsIn, findFrom, find, cut}
 use Rattle.freelist_rules.specs.Steps.{fresh, raised, delivered}
 use Rattle.store_rules.specs.declared.Chunk.{Chunk}
 use Rattle.store_rules.specs.declared.Region.{Region}

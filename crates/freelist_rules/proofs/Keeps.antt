@@ -1,7 +1,6 @@
 -- From set-up on every call leaves a store sound. Assumes nothing.
 use mathlib.Core.Path.{_≡_, refl}
 use mathlib.Core.Bool.{true, false}
-use mathlib.Core.List.{List}
 use Prim.Native.Nat.{ℕ, _<_}
 use Rattle.rounding.specs.Growth.{grown}
 use Rattle.counter.specs.InTable.{FreeListIn}

@@ -2,25 +2,20 @@
 use mathlib.Core.Path.{_≡_, refl, sym, ap, _∙_}
 use mathlib.Core.Bool.{true, false}
 use mathlib.Core.Logic.{_⊎_, inl, inr, ⊎-elim}
-use mathlib.Core.List.{List, [], _∷_, _++_, List·Memᴰ, List·Memᴰ·head, List·Memᴰ·tail, List·Memᴰ·cases-cons, List·Memᴰ·not-nil}
-use Prim.Native.Nat.{ℕ, _+_, _≤_, _<_}
+use mathlib.Core.List.{List, [], _∷_, _++_, List·Memᴰ, List·Memᴰ·head, List·Memᴰ·tail, List·Memᴰ·cases-cons}
+use Prim.Native.Nat.{_+_, _≤_, _<_}
 use native.Mathlib.Omega.{arith}
-use lib.Dec.{eqb, ltb}
+use lib.Dec.{ltb}
 use lib.ListN.{length}
 use borrow.Author.Tests.{lt-ltb, le-ltb}
-use Rattle.lists.proofs.Bools.{told, true-false, lt-or-le}
-use Rattle.words.specs.Rows.{row, rows}
-use Rattle.words.proofs.Records.{length-rows, getD-rows}
-use Rattle.store_rules.specs.Loans.{loanRow, onLoan, loansOf}
+use Rattle.lists.proofs.Bools.{told, lt-or-le}
 use Rattle.store_rules.specs.declared.Loan.{Loan}
 pub use Rattle.store_rules.proofs.Placed.{on-loan-in, on-loan-out, on-loan-append, loan-place}
 use Rattle.freelist_rules.specs.Pieces.{All}
 use Rattle.freelist_rules.specs.Place.{putLoan}
-use Rattle.freelist_rules.specs.Steps.{noLoan}
 use Rattle.freelist_rules.specs.Tables.{ordered}
 use Rattle.freelist_rules.proofs.Gaps.{begins}
 use Rattle.freelist_rules.proofs.Lends.{put-member}
-use Rattle.freelist_rules.proofs.Giving.{mem-at}
 
 -- ---- one put among others
 

@@ -1,17 +1,16 @@
 -- What a loop that looks for a region, a loan or a loan's place finds, by index. Assumes nothing.
 use mathlib.Core.Path.{_≡_, refl, sym, _∙_, ap}
-use mathlib.Core.Bool.{true, false, cond, _&&_}
+use mathlib.Core.Bool.{true, false, cond}
 use mathlib.Core.Logic.{_⊎_, inl, inr, ⊎-elim}
 use mathlib.Core.List.{List, [], _∷_}
 use Prim.Native.Nat.{ℕ, zero, suc, _+_, _-_, _≤_, _<_}
 use native.Mathlib.Omega.{arith}
-use lib.Dec.{eqb}
 use lib.ListN.{length, take, getD}
 use lib.Seq.{take-length}
-use borrow.Author.Tests.{lt-ltb, le-ltb, eqb-true}
+use borrow.Author.Tests.{lt-ltb, le-ltb}
 use Rattle.counter.specs.declared.answers.Block.{Block}
 use Rattle.lists.specs.Members.{NotIn, Distinct}
-use Rattle.lists.proofs.Bools.{and-left, and-right, told, same?}
+use Rattle.lists.proofs.Bools.{told, same?}
 use Rattle.store_rules.specs.declared.Loan.{Loan}
 use Rattle.freelist_rules.specs.Place.{Found, nowhere, at, orElse, fitsIn, findFrom, find, spotFor}
 pub use Rattle.store_rules.proofs.Loaned.{same-loan}

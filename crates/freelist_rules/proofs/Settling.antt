@@ -9,7 +9,7 @@ use lib.Dec.{eqb}
 use borrow.Author.Tests.{eqb-true, eqb-false, eq-eqb}
 use Rattle.counter.specs.InTable.{FreeListIn}
 use Rattle.counter.specs.declared.settings.FreeListSettings.{FreeListSettings}
-use Rattle.lists.proofs.Bools.{and-left, and-right, and-both, or-cases, or-left, or-right}
+use Rattle.lists.proofs.Bools.{and-right, and-both, or-cases, or-left, or-right}
 use Rattle.store_rules.specs.declared.Loan.{Loan}
 use Rattle.freelist_rules.specs.Records.{Store}
 use Rattle.freelist_rules.specs.Pieces.{lo, hi, Rising, All}

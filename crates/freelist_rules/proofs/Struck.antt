@@ -3,27 +3,20 @@ use mathlib.Core.Path.{_≡_, refl, ap, _∙_}
 use mathlib.Core.Bool.{Bool, true, false, not}
 use mathlib.Core.Logic.{_⊎_, inl, inr, ⊎-elim}
 use mathlib.Core.List.{List, [], _∷_, _++_, List·Memᴰ·head, Memᴰ·append-left, Memᴰ·append-right}
-use Prim.Native.Nat.{ℕ, suc, _+_, _*_, _≤_, _<_}
+use Prim.Native.Nat.{_+_}
 use native.Mathlib.Omega.{arith}
 use lib.Dec.{eqb, ltb}
-use lib.ListN.{length, set, take, drop, length-set, length-drop}
-use lib.Seq.{getD-set-same, set-split, split-at}
 use borrow.Author.Tests.{eq-eqb, ne-eqb}
 use Rattle.lists.proofs.Bools.{told}
-use Rattle.words.specs.Words.{cellOf}
-use Rattle.words.specs.Rows.{row, rows}
-use Rattle.words.proofs.Records.{length-rows, getD-rows, rows-after, stored-at}
-use Rattle.store_rules.specs.Loans.{loanWords, sizeAt, loanRow, onLoan, loansOf}
 use Rattle.store_rules.specs.declared.Loan.{Loan}
 pub use Rattle.store_rules.proofs.Placed.{earlier, later, loans-with, loans-less}
 use Rattle.freelist_rules.specs.Pieces.{All}
 use Rattle.freelist_rules.specs.Place.{putLoan}
-use Rattle.freelist_rules.specs.Steps.{noLoan}
 use Rattle.freelist_rules.specs.Tables.{ordered}
 use Rattle.freelist_rules.proofs.Base.{rising-low, rising-apart}
 use Rattle.freelist_rules.proofs.Gaps.{begins, stops, LoansRise}
 use Rattle.freelist_rules.proofs.Giving.{those, those-all, without}
-use Rattle.freelist_rules.proofs.Ordered.{ordered-in, ordered-out, ordered-amid, on-loan-append}
+use Rattle.freelist_rules.proofs.Ordered.{ordered-in, ordered-out, ordered-amid}
 
 -- ---- in order
 

@@ -1,35 +1,29 @@
 -- The test of a store's tables decides whether they are sound. Assumes nothing.
-use mathlib.Core.Path.{_≡_, refl, sym, ap, _∙_}
-use mathlib.Core.Bool.{Bool, true, false}
-use mathlib.Core.List.{List, List·Memᴰ}
-use Prim.Native.Nat.{ℕ, suc, _≤_, _<_}
+use mathlib.Core.Path.{_≡_, sym, ap, _∙_}
+use mathlib.Core.Bool.{true, false}
+use mathlib.Core.List.{List}
+use Prim.Native.Nat.{ℕ, _≤_, _<_}
 use native.Mathlib.Omega.{arith}
 use lib.Dec.{eqb, leb}
 use lib.ListN.{getD}
 use borrow.Author.Tests.{eqb-true, eq-eqb, leb-true, le-leb}
-use Rattle.lists.specs.Tests.{all}
 use Rattle.lists.proofs.Bools.{and-left, and-right, all-each, each-all}
-use Rattle.words.specs.Words.{cellOf}
 use Rattle.words.specs.Rows.{row}
 use Rattle.words.proofs.Records.{cell-row}
 use Rattle.counter.specs.InTable.{FreeListIn}
 use Rattle.counter.specs.declared.settings.FreeListSettings.{FreeListSettings}
 use Rattle.slab.specs.Slab.{nowhere}
 use Rattle.slab.specs.Test.{partedOk}
-use Rattle.slab.specs.declared.Slab.{Slab}
 use Rattle.slab.proofs.Decides.{decides-yes, decides-all}
 use Rattle.store_rules.specs.Loans.{loanWords, serialAt, sizeAt, loanRow, loansOf}
 use Rattle.store_rules.specs.declared.Loan.{Loan}
 use Rattle.book.specs.Book.{serialOf, slabOf}
 use Rattle.book.specs.Chains.{Chained}
 use Rattle.book.proofs.Decides.{chains-yes, chains-all, serial-once}
-use Rattle.freelist_rules.specs.Records.{Store}
-use Rattle.freelist_rules.specs.Pieces.{Differ, All}
-use Rattle.freelist_rules.specs.Sound.{Sound}
-use Rattle.freelist_rules.specs.Walk.{allOk, sizedOk, chunkOk, loanOk, apart, serials}
+use Rattle.freelist_rules.specs.Pieces.{Differ}
+use Rattle.freelist_rules.specs.Walk.{allOk, sizedOk, chunkOk, loanOk, serials}
 use Rattle.freelist_rules.specs.Walk as Walk
 use Rattle.freelist_rules.specs.Tables.{Tables, markAt, mark, givenAt, placesIn, chunksIn, regionsIn, regionsMost, ordered, storeOf, vacantIn, vacantAfterIn, chainStart, chainNext, SoundTables, soundRow, soundOk}
-use Rattle.store_rules.specs.declared.Chunk.{Chunk}
 use Rattle.freelist_rules.proofs.Decides.{all-yes, all-all, apart-all, differ-distinct, sized-yes, numbers-yes, fills-yes, sound-yes, sound-all}
 use Rattle.freelist_rules.proofs.Facts.{Small, sized-low}
 use Rattle.freelist_rules.proofs.Gaps.{begins, stops, inside-rise}

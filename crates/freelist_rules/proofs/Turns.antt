@@ -11,7 +11,7 @@ use borrow.Author.Tests.{lt-ltb, le-ltb, le-leb, lt-leb}
 use Rattle.lists.proofs.Bools.{told}
 use Rattle.store_rules.specs.declared.Loan.{Loan}
 use Rattle.freelist_rules.specs.Records.{region}
-use Rattle.freelist_rules.specs.Walk.{front, behind, within, inside, gaps, gapsOf, same, sameAll, fillsOk}
+use Rattle.freelist_rules.specs.Walk.{front, behind, within, inside, same, fillsOk}
 use Rattle.freelist_rules.specs.Rest.{rest, nextIs}
 use Rattle.store_rules.specs.declared.Chunk.{Chunk}
 use Rattle.store_rules.specs.declared.Region.{Region}

@@ -1,12 +1,10 @@
 -- Several blocks come back: the end that 01's rules give, whatever their order. Demand 3: "every order ends with the same
 -- loans, free pieces, held and released chunks". Assumes nothing: these are definitions.
-use mathlib.Core.Bool.{Bool, true, false, cond, _||_}
+use mathlib.Core.Bool.{true}
 use mathlib.Core.List.{List, [], _∷_}
 use Rattle.counter.specs.declared.answers.Block.{Block}
-use Rattle.store_rules.specs.declared.Loan.{Loan}
 pub use Rattle.store_rules.specs.Views.{among, loansLess}
 use Rattle.freelist_rules.specs.Records.{Store}
-use Rattle.freelist_rules.specs.Seek.{sameLoan}
 use Rattle.freelist_rules.specs.Steps.{released}
 use Rattle.freelist_rules.specs.Walk.{gapsOf}
 

@@ -2,7 +2,6 @@
 -- Assumes nothing: these are definitions.
 use mathlib.Core.Bool.{Bool, cond, _&&_}
 use mathlib.Core.List.{List, [], _∷_}
-use Prim.Native.Nat.{ℕ}
 use lib.Dec.{eqb, ltb}
 use Rattle.freelist_rules.specs.Records.{region}
 use Rattle.freelist_rules.specs.Pieces.{lo}

@@ -1,15 +1,11 @@
 -- Where the pieces of a store lie, byte by byte. Assumes nothing: these are definitions.
-use mathlib.Core.Path.{_≡_}
-use mathlib.Core.Bool.{Bool, cond, _&&_}
-use mathlib.Core.List.{List, [], _∷_, List·Memᴰ}
-use Prim.Native.Nat.{ℕ, _+_, _*_, _^_, _≤_, _<_}
-use lib.Dec.{eqb, leb, ltb}
+use mathlib.Core.List.{List, [], _∷_}
+use Prim.Native.Nat.{ℕ, _+_, _*_, _≤_, _<_}
 use Rattle.counter.specs.Limits.{chunkSizeMost}
 use Rattle.store_rules.specs.declared.Loan.{Loan}
 use Rattle.freelist_rules.specs.Records.{region}
 unfoldable pub use Rattle.store_rules.specs.Views.{on}
 pub use Rattle.store_rules.specs.Views.{All, Differ, total, free, loaned, held}
-use Rattle.store_rules.specs.declared.Chunk.{Chunk}
 use Rattle.store_rules.specs.declared.Region.{Region}
 
 -- the bytes of a loan

@@ -3,14 +3,14 @@
 -- Assumes nothing: these are definitions.
 use mathlib.Core.Bool.{Bool, cond, _&&_}
 use mathlib.Core.List.{List, [], _∷_}
-use Prim.Native.Nat.{ℕ, suc, _+_, _-_, max}
+use Prim.Native.Nat.{ℕ, suc, _-_, max}
 use lib.Dec.{leb, ltb}
 use lib.ListN.{getD, set}
 use Rattle.rounding.specs.Raising.{upTo, downTo}
 use Rattle.words.specs.Rows.{insertAt, removeAt}
 use Rattle.counter.specs.declared.settings.FreeListSettings.{FreeListSettings}
 use Rattle.store_rules.specs.declared.Loan.{Loan}
-use Rattle.freelist_rules.specs.Records.{Store, region}
+use Rattle.freelist_rules.specs.Records.{region}
 use Rattle.freelist_rules.specs.Pieces.{piece, lo}
 use Rattle.store_rules.specs.declared.Region.{Region}
 

@@ -1,7 +1,7 @@
 -- Which chunks go, and how they are listed. 01, "freelist.rs": "Then every wholly free chunk except the one of the last
 -- region is released; clean-up spares none. Releases are listed thus: walking up, each kept region met sends the first of
 -- those marked so far to the back of their list." Assumes nothing: these are definitions.
-use mathlib.Core.Bool.{Bool, true, false, cond, _&&_, _||_, not}
+use mathlib.Core.Bool.{Bool, false, cond, _&&_, _||_, not}
 use mathlib.Core.List.{List, [], _∷_, _++_}
 use Prim.Native.Nat.{ℕ, _+_}
 use lib.Dec.{eqb}

@@ -1,9 +1,8 @@
 -- Which loan a block is. 01, "When the counter says no": 7, "no loan has this serial, chunk, offset and size".
 -- Assumes nothing: these are definitions.
-use mathlib.Core.Bool.{Bool, cond, _&&_}
+use mathlib.Core.Bool.{cond}
 use mathlib.Core.List.{List, [], _∷_}
 use Prim.Native.Nat.{ℕ, _+_}
-use lib.Dec.{eqb}
 use Rattle.counter.specs.declared.answers.Block.{Block}
 use Rattle.store_rules.specs.declared.Loan.{Loan}
 pub use Rattle.store_rules.specs.Views.{sameLoan}

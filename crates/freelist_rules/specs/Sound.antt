@@ -1,6 +1,5 @@
 -- When a free-list store is sound, as 01 defines it. Assumes nothing: these are definitions.
 use mathlib.Core.Path.{_≡_}
-use mathlib.Core.List.{List}
 use Prim.Native.Nat.{ℕ, suc, _+_, _*_, _^_, _%_, _≤_, _<_, min}
 use Rattle.counter.specs.declared.settings.FreeListSettings.{FreeListSettings}
 use Rattle.store_rules.specs.declared.Loan.{Loan}

@@ -8,14 +8,12 @@ use Rattle.words.specs.Rows.{removeAt}
 use Rattle.counter.specs.declared.answers.Block.{Block}
 use Rattle.counter.specs.declared.settings.FreeListSettings.{FreeListSettings}
 pub use Rattle.store_rules.specs.Loans.{noLoan}
-use Rattle.store_rules.specs.declared.Loan.{Loan}
 use Rattle.freelist_rules.specs.Records.{Store, region, chunk}
 use Rattle.freelist_rules.specs.Pieces.{piece}
 use Rattle.freelist_rules.specs.Place.{Found, nowhere, at, block, cutOff, lentLoan, putLoan}
 use Rattle.freelist_rules.specs.Join.{insert}
 use Rattle.freelist_rules.specs.Release.{staying, leaving, remaining}
 use Rattle.freelist_rules.specs.Seek.{seek}
-use Rattle.store_rules.specs.declared.Chunk.{Chunk}
 use Rattle.store_rules.specs.declared.Region.{Region}
 
 abbrev pub noRegion : Region

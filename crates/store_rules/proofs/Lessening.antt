@@ -124,6 +124,16 @@ pub not-or : (a b : Bool) → (not a && not b) ≡ not (a || b)
 not-or true b = refl
 not-or false b = refl
 
+-- of one block: the others
+pub less-one : (b : Block) (ls : List Loan) (l : Loan) → List·Memᴰ l (loansLess (b ∷ []) ls) ↔ (List·Memᴰ l ls × (l ≡ loanOf b → ⊥))
+less-one b ls l = (there, back)
+  where
+    there : List·Memᴰ l (loansLess (b ∷ []) ls) → List·Memᴰ l ls × (l ≡ loanOf b → ⊥)
+    there m = let w = loans-less-in (b ∷ []) ls l .0 m in (w .0, w .1 b (List·Memᴰ·head refl))
+
+    back : List·Memᴰ l ls × (l ≡ loanOf b → ⊥) → List·Memᴰ l (loansLess (b ∷ []) ls)
+    back w = loans-less-in (b ∷ []) ls l .1 (w .0, λ c m e. ⊎-elim (λ q. w .1 (e ∙ ap loanOf q)) (λ k. List·Memᴰ·not-nil k) (List·Memᴰ·cases-cons m))
+
 -- none came back
 pub less-none : (ls : List Loan) → loansLess [] ls ≡ ls
 less-none ls = less-those [] ls ∙ those-all _ ls (λ l m. refl)

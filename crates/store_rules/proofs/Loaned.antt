@@ -1,5 +1,5 @@
 -- Which loan a block is: the one with its serial, chunk, offset and size. Assumes nothing.
-use mathlib.Core.Path.{_≡_, refl, sym, ap, _∙_}
+use mathlib.Core.Path.{_≡_, refl, ap, _∙_}
 use mathlib.Core.Bool.{true, _&&_}
 use mathlib.Core.Logic.{_↔_}
 use lib.Dec.{eqb}

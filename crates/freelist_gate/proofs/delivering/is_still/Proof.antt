@@ -1,6 +1,6 @@
 use borrow.Author.Needs.{needs}
 use mathlib.Core.Path.{ap}
-use Rattle.freelist_gate.specs.Plans.{planOf}
+use Rattle.freelist_decide.specs.Plans.{planOf}
 use Rattle.freelist_gate.proofs.Arrivals.{leads-not, leads-take, leads-buy}
 use Rattle.freelist_gate.proofs.delivering.is_still.Statement.{statement}
 use Rattle.freelist_gate.proofs.delivering.is_still.Tie as tie

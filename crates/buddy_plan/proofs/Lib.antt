@@ -1,0 +1,3 @@
+pub mod Arrivals
+pub mod Planned
+pub mod Stale

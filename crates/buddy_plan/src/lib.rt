@@ -1,0 +1,9 @@
+// What an ask, a delivery and a return of a buddy store come to: its gate, and the tests behind it.
+mod asking;
+mod delivering;
+mod returning;
+
+pub use asking::plan_ask;
+pub use delivering::plan_deliver;
+pub use returning::Back;
+pub use returning::plan_return;

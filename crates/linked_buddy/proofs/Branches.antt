@@ -1,0 +1,127 @@
+-- What each exported call leaves where the lent words are right, and where they are not. Assumes nothing.
+use mathlib.Core.Path.{_≡_, refl, sym, ap, _∙_}
+use mathlib.Core.Bool.{Bool, true, false, _&&_}
+use mathlib.Core.List.{List, []}
+use Prim.Native.Nat.{ℕ}
+use Rattle.lists.proofs.Bools.{and-left, and-right}
+use Rattle.counter.specs.Paper.{Said}
+use Rattle.counter.specs.Paper as Paper
+use Rattle.counter.specs.declared.account.Account.{Account}
+use Rattle.counter.specs.declared.answers.Block.{Block}
+use Rattle.counter.specs.declared.answers.Outcome.{Outcome}
+use Rattle.counter.specs.declared.settings.BuddySettings.{BuddySettings}
+use Rattle.store_rules.specs.Outcomes.{out, listed}
+use Rattle.buddy_stores.specs.Tables.{Tables}
+use Rattle.buddy_outcomes.specs.Ask.{askOf}
+use Rattle.buddy_outcomes.specs.Deliver.{deliverOf}
+use Rattle.buddy_outcomes.specs.Return.{returnOf}
+use Rattle.buddy_outcomes.specs.SetUp.{SetUp, setUp, setUpOf}
+use Rattle.wire.specs.Linked.{Left, left, untouched}
+use Rattle.wire.specs.Wire.{buddyWords, buddyIn, settingsOk, accountIn, accountOk, accountOut, outcomeIn, outcomeOk, saidOut}
+use Rattle.linked_buddy.specs.Calls.{listing, rightOk, linkedSetUp, leftBy, leftListed, linkedAsk, linkedDeliver, linkedReturn}
+
+-- ---- set-up; v is the lent answer, v′ what is left in it
+
+-- the settings are right: what set-up said is told, and its tables are left
+pub set-up-made : (s v v′ : List ℕ) (t t′ : Tables) (said : Said) (s′ : BuddySettings) (ok : Bool)
+    → ok ≡ settingsOk buddyWords s → ok ≡ true → s′ ≡ buddyIn s → setUp said t′ ≡ setUpOf s′ t → v′ ≡ saidOut said v
+    → (t′ ≡ linkedSetUp s t .tables) × (v′ ≡ saidOut (linkedSetUp s t .said) v)
+unfolding linkedSetUp
+set-up-made s v v′ t t′ said s′ ok e right es r g =
+    let o : settingsOk buddyWords s ≡ true = sym e ∙ right in
+    let q : setUp said t′ ≡ linkedSetUp s t = r ∙ ap (λ (x : BuddySettings). setUpOf x t) es ∙ sym (rw o refl) in
+    (ap (λ (x : SetUp). x .tables) q, g ∙ ap (λ (x : SetUp). saidOut (x .said) v) q)
+
+-- they are not: 1 is told, and the tables stay
+pub set-up-bad : (s v v′ : List ℕ) (t : Tables) (ok : Bool)
+    → ok ≡ settingsOk buddyWords s → ok ≡ false → v′ ≡ saidOut (Paper.refusal 1 []) v
+    → (t ≡ linkedSetUp s t .tables) × (v′ ≡ saidOut (linkedSetUp s t .said) v)
+unfolding linkedSetUp
+set-up-bad s v v′ t ok e wrong g =
+    let o : settingsOk buddyWords s ≡ false = sym e ∙ wrong in
+    let q : setUp (Paper.refusal 1 []) t ≡ linkedSetUp s t = sym (rw o refl) in
+    (ap (λ (x : SetUp). x .tables) q, g ∙ ap (λ (x : SetUp). saidOut (x .said) v) q)
+
+-- ---- any other call
+
+-- the lent account is left as w, the tables as t; of the answer v is left v′
+abbrev pub Leaves : {T : Type 0} → Left T → List ℕ → T → List ℕ → List ℕ → Type 0
+Leaves l w t v v′ = (w ≡ l .account) × ((t ≡ l .tables) × (v′ ≡ saidOut (l .said) v))
+
+leaves-made : {T : Type 0} (l : Left T) (w w′ v v′ : List ℕ) (t′ : T) (said : Said) (account : Account)
+    → left w said account t′ ≡ l → w′ ≡ accountOut account w → v′ ≡ saidOut said v → Leaves l w′ t′ v v′
+leaves-made {T = T} l w w′ v v′ t′ said account q f g =
+    (f ∙ ap (λ (x : Left T). x .account) q, (ap (λ (x : Left T). x .tables) q, g ∙ ap (λ (x : Left T). saidOut (x .said) v) q))
+
+leaves-bad : {T : Type 0} (l : Left T) (w v v′ : List ℕ) (t : T) → untouched w t ≡ l → v′ ≡ saidOut (Paper.refusal 1 []) v → Leaves l w t v v′
+leaves-bad {T = T} l w v v′ t q g =
+    (ap (λ (x : Left T). x .account) q, (ap (λ (x : Left T). x .tables) q, g ∙ ap (λ (x : Left T). saidOut (x .said) v) q))
+
+-- the tests p and q of the settings s and the account w
+module _ (s w : List ℕ) (p q : Bool) (ep : p ≡ settingsOk buddyWords s) (eq : q ≡ accountOk w) where
+  both : (x : Bool) → (p && q) ≡ x → rightOk s w ≡ x
+  both x e = (λ j. sym ep j && sym eq j) ∙ e
+
+  -- where both tests hold the settings are right
+  pub settings-right : (p && q) ≡ true → settingsOk buddyWords s ≡ true
+  settings-right e = and-left _ _ (both true e)
+
+  -- and the account
+  pub account-right : (p && q) ≡ true → accountOk w ≡ true
+  account-right e = and-right (settingsOk buddyWords s) _ (both true e)
+
+  module _ (size mask : ℕ) (t : Tables) where
+    -- both are right: the account that the ask left is written, and its answer told
+    pub ask-made : (w′ v v′ : List ℕ) (t′ : Tables) (said : Said) (account : Account) (s′ : BuddySettings) (a : Account)
+        → (p && q) ≡ true → s′ ≡ buddyIn s → a ≡ accountIn w → out said account t′ ≡ askOf s′ a size mask t
+        → w′ ≡ accountOut account w → v′ ≡ saidOut said v → Leaves (linkedAsk s w size mask t) w′ t′ v v′
+    unfolding linkedAsk
+    ask-made w′ v v′ t′ said account s′ a right es ea r f g =
+        let o : rightOk s w ≡ true = both true right in
+        leaves-made (linkedAsk s w size mask t) w w′ v v′ t′ said account
+        (ap (leftBy w) r ∙ (λ j. leftBy w (askOf (es j) (ea j) size mask t)) ∙ sym (rw o refl)) f g
+
+    -- one is not: 1 is told, and nothing changes
+    pub ask-bad : (v v′ : List ℕ) → (p && q) ≡ false → v′ ≡ saidOut (Paper.refusal 1 []) v → Leaves (linkedAsk s w size mask t) w t v v′
+    unfolding linkedAsk
+    ask-bad v v′ wrong g = let o : rightOk s w ≡ false = both false wrong in leaves-bad (linkedAsk s w size mask t) w v v′ t (sym (rw o refl)) g
+
+  -- z is the test of the outcome
+  module _ (what memory mapping : ℕ) (t : Tables) (z : Bool) (ez : z ≡ outcomeOk what mapping) where
+    all : (x : Bool) → ((p && q) && z) ≡ x → (rightOk s w && outcomeOk what mapping) ≡ x
+    all x e = (λ j. both (p && q) refl j && sym ez j) ∙ e
+
+    -- all three are right
+    pub deliver-made : (w′ v v′ : List ℕ) (t′ : Tables) (said : Said) (account : Account) (s′ : BuddySettings) (a : Account) (o : Outcome)
+        → ((p && q) && z) ≡ true → s′ ≡ buddyIn s → a ≡ accountIn w → o ≡ outcomeIn what memory mapping → out said account t′ ≡ deliverOf s′ a o t
+        → w′ ≡ accountOut account w → v′ ≡ saidOut said v → Leaves (linkedDeliver s w what memory mapping t) w′ t′ v v′
+    unfolding linkedDeliver
+    deliver-made w′ v v′ t′ said account s′ a o right es ea eo r f g =
+        let k : (rightOk s w && outcomeOk what mapping) ≡ true = all true right in
+        leaves-made (linkedDeliver s w what memory mapping t) w w′ v v′ t′ said account
+        (ap (leftBy w) r ∙ (λ j. leftBy w (deliverOf (es j) (ea j) (eo j) t)) ∙ sym (rw k refl)) f g
+
+    -- one is not
+    pub deliver-bad : (v v′ : List ℕ) → ((p && q) && z) ≡ false → v′ ≡ saidOut (Paper.refusal 1 []) v → Leaves (linkedDeliver s w what memory mapping t) w t v v′
+    unfolding linkedDeliver
+    deliver-bad v v′ wrong g =
+        let k : (rightOk s w && outcomeOk what mapping) ≡ false = all false wrong in
+        leaves-bad (linkedDeliver s w what memory mapping t) w v v′ t (sym (rw k refl)) g
+
+  module _ (b : Block) (t : Tables) (list : List ℕ) where
+    -- both are right; the list is left as the return left it
+    pub return-made : (w′ v v′ : List ℕ) (t′ : Tables) (list′ : List ℕ) (said : Said) (account : Account) (s′ : BuddySettings) (a : Account)
+        → (p && q) ≡ true → s′ ≡ buddyIn s → a ≡ accountIn w → listed said account t′ list′ ≡ returnOf s′ a b t list
+        → w′ ≡ accountOut account w → v′ ≡ saidOut said v → Leaves (linkedReturn s w b t list) w′ (listing t′ list′) v v′
+    unfolding linkedReturn
+    return-made w′ v v′ t′ list′ said account s′ a right es ea r f g =
+        let o : rightOk s w ≡ true = both true right in
+        leaves-made (linkedReturn s w b t list) w w′ v v′ (listing t′ list′) said account
+        (ap (leftListed w) r ∙ (λ j. leftListed w (returnOf (es j) (ea j) b t list)) ∙ sym (rw o refl)) f g
+
+    -- one is not
+    pub return-bad : (v v′ : List ℕ) → (p && q) ≡ false → v′ ≡ saidOut (Paper.refusal 1 []) v → Leaves (linkedReturn s w b t list) w (listing t list) v v′
+    unfolding linkedReturn
+    return-bad v v′ wrong g =
+        let o : rightOk s w ≡ false = both false wrong in
+        leaves-bad (linkedReturn s w b t list) w v v′ (listing t list) (sym (rw o refl)) g

@@ -1,0 +1,164 @@
+// A free list's calls for programs in other languages: numbers and slices of words alone. specs/Calls says what each leaves.
+ghost use mathlib.Core.Path.{_≡_};
+ghost use Rattle.freelist_rules.specs.Tables.{tables};
+ghost use Rattle.wire.specs.Wire.{saidOut};
+ghost use Rattle.linked_list.specs.Calls.{listing, linkedSetUp, linkedAsk, linkedDeliver, linkedReturn, linkedCleanUp};
+use counter::Block;
+
+// How many words a free list's settings are; wire's specs have the same name.
+const LIST_WORDS: usize = 9;
+
+#[no_mangle]
+pub extern "C" fn tibrezkam_list_set_up(
+    settings: &[u64],
+    head: &mut [u64],
+    loans: &[u64],
+    chunks: &[u64],
+    regions: &mut [u64],
+    index: &mut [u64],
+    answer: &mut [u64],
+)
+    ensures { λ _. ⌜ tables (now (head .exit)) (now (loans .entry)) (now (chunks .entry)) (now (regions .exit)) (now (index .exit)) ≡ linkedSetUp (now (settings .entry)) (tables (now (head .entry)) (now (loans .entry)) (now (chunks .entry)) (now (regions .entry)) (now (index .entry))) .tables ⌝ }
+    ensures { λ _. ⌜ now (answer .exit) ≡ saidOut (linkedSetUp (now (settings .entry)) (tables (now (head .entry)) (now (loans .entry)) (now (chunks .entry)) (now (regions .entry)) (now (index .entry))) .said) (now (answer .entry)) ⌝ }
+{
+    if wire::is_settings(settings, LIST_WORDS) {
+        let s = wire::read_free_list(settings);
+        let r = freelist::set_up(s, head, loans, chunks, regions, index);
+        wire::tell_set_up(answer, r);
+    } else {
+        wire::tell_bad(answer);
+    }
+}
+
+#[no_mangle]
+pub extern "C" fn tibrezkam_list_ask(
+    settings: &[u64],
+    account: &mut [u64],
+    size: u64,
+    mask: u64,
+    head: &mut [u64],
+    loans: &mut [u64],
+    chunks: &[u64],
+    regions: &mut [u64],
+    index: &mut [u64],
+    answer: &mut [u64],
+)
+    ensures { λ _. ⌜ now (account .exit) ≡ linkedAsk (now (settings .entry)) (now (account .entry)) size mask (tables (now (head .entry)) (now (loans .entry)) (now (chunks .entry)) (now (regions .entry)) (now (index .entry))) .account ⌝ }
+    ensures { λ _. ⌜ tables (now (head .exit)) (now (loans .exit)) (now (chunks .entry)) (now (regions .exit)) (now (index .exit)) ≡ linkedAsk (now (settings .entry)) (now (account .entry)) size mask (tables (now (head .entry)) (now (loans .entry)) (now (chunks .entry)) (now (regions .entry)) (now (index .entry))) .tables ⌝ }
+    ensures { λ _. ⌜ now (answer .exit) ≡ saidOut (linkedAsk (now (settings .entry)) (now (account .entry)) size mask (tables (now (head .entry)) (now (loans .entry)) (now (chunks .entry)) (now (regions .entry)) (now (index .entry))) .said) (now (answer .entry)) ⌝ }
+{
+    if wire::is_settings(settings, LIST_WORDS) & wire::is_account(account) {
+        let s = wire::read_free_list(settings);
+        let a = wire::read_account(account);
+        let r = freelist::ask(s, a, size, mask, head, loans, chunks, regions, index);
+        let after = r.account;
+        wire::put_account(account, after);
+        let said = r.answer;
+        wire::tell_asked(answer, said);
+    } else {
+        wire::tell_bad(answer);
+    }
+}
+
+#[no_mangle]
+pub extern "C" fn tibrezkam_list_deliver(
+    settings: &[u64],
+    account: &mut [u64],
+    what: u64,
+    memory: u64,
+    mapping: u64,
+    head: &mut [u64],
+    loans: &mut [u64],
+    chunks: &mut [u64],
+    regions: &mut [u64],
+    index: &mut [u64],
+    answer: &mut [u64],
+)
+    ensures { λ _. ⌜ now (account .exit) ≡ linkedDeliver (now (settings .entry)) (now (account .entry)) what memory mapping (tables (now (head .entry)) (now (loans .entry)) (now (chunks .entry)) (now (regions .entry)) (now (index .entry))) .account ⌝ }
+    ensures { λ _. ⌜ tables (now (head .exit)) (now (loans .exit)) (now (chunks .exit)) (now (regions .exit)) (now (index .exit)) ≡ linkedDeliver (now (settings .entry)) (now (account .entry)) what memory mapping (tables (now (head .entry)) (now (loans .entry)) (now (chunks .entry)) (now (regions .entry)) (now (index .entry))) .tables ⌝ }
+    ensures { λ _. ⌜ now (answer .exit) ≡ saidOut (linkedDeliver (now (settings .entry)) (now (account .entry)) what memory mapping (tables (now (head .entry)) (now (loans .entry)) (now (chunks .entry)) (now (regions .entry)) (now (index .entry))) .said) (now (answer .entry)) ⌝ }
+{
+    if wire::is_settings(settings, LIST_WORDS)
+        & wire::is_account(account)
+        & wire::is_outcome(what, mapping)
+    {
+        let s = wire::read_free_list(settings);
+        let a = wire::read_account(account);
+        let o = wire::read_outcome(what, memory, mapping);
+        let r = freelist::deliver(s, a, o, head, loans, chunks, regions, index);
+        let after = r.account;
+        wire::put_account(account, after);
+        let said = r.answer;
+        wire::tell_delivered(answer, said);
+    } else {
+        wire::tell_bad(answer);
+    }
+}
+
+#[no_mangle]
+pub extern "C" fn tibrezkam_list_return(
+    settings: &[u64],
+    account: &mut [u64],
+    serial: u64,
+    chunk: u64,
+    offset: u64,
+    size: u64,
+    head: &mut [u64],
+    loans: &mut [u64],
+    chunks: &mut [u64],
+    regions: &mut [u64],
+    index: &mut [u64],
+    list: &mut [u64],
+    answer: &mut [u64],
+)
+    ensures { λ _. ⌜ now (account .exit) ≡ linkedReturn (now (settings .entry)) (now (account .entry)) (record { serial = serial; chunk = chunk; offset = offset; size = size }) (tables (now (head .entry)) (now (loans .entry)) (now (chunks .entry)) (now (regions .entry)) (now (index .entry))) (now (list .entry)) .account ⌝ }
+    ensures { λ _. ⌜ listing (tables (now (head .exit)) (now (loans .exit)) (now (chunks .exit)) (now (regions .exit)) (now (index .exit))) (now (list .exit)) ≡ linkedReturn (now (settings .entry)) (now (account .entry)) (record { serial = serial; chunk = chunk; offset = offset; size = size }) (tables (now (head .entry)) (now (loans .entry)) (now (chunks .entry)) (now (regions .entry)) (now (index .entry))) (now (list .entry)) .tables ⌝ }
+    ensures { λ _. ⌜ now (answer .exit) ≡ saidOut (linkedReturn (now (settings .entry)) (now (account .entry)) (record { serial = serial; chunk = chunk; offset = offset; size = size }) (tables (now (head .entry)) (now (loans .entry)) (now (chunks .entry)) (now (regions .entry)) (now (index .entry))) (now (list .entry)) .said) (now (answer .entry)) ⌝ }
+{
+    if wire::is_settings(settings, LIST_WORDS) & wire::is_account(account) {
+        let s = wire::read_free_list(settings);
+        let a = wire::read_account(account);
+        let b = Block {
+            serial: serial,
+            chunk: chunk,
+            offset: offset,
+            size: size,
+        };
+        let r = freelist::return_block(s, a, b, head, loans, chunks, regions, index, list);
+        let after = r.account;
+        wire::put_account(account, after);
+        let said = r.answer;
+        wire::tell_released(answer, said);
+    } else {
+        wire::tell_bad(answer);
+    }
+}
+
+#[no_mangle]
+pub extern "C" fn tibrezkam_list_clean_up(
+    settings: &[u64],
+    account: &mut [u64],
+    head: &mut [u64],
+    loans: &[u64],
+    chunks: &mut [u64],
+    regions: &mut [u64],
+    index: &[u64],
+    list: &mut [u64],
+    answer: &mut [u64],
+)
+    ensures { λ _. ⌜ now (account .exit) ≡ linkedCleanUp (now (settings .entry)) (now (account .entry)) (tables (now (head .entry)) (now (loans .entry)) (now (chunks .entry)) (now (regions .entry)) (now (index .entry))) (now (list .entry)) .account ⌝ }
+    ensures { λ _. ⌜ listing (tables (now (head .exit)) (now (loans .entry)) (now (chunks .exit)) (now (regions .exit)) (now (index .entry))) (now (list .exit)) ≡ linkedCleanUp (now (settings .entry)) (now (account .entry)) (tables (now (head .entry)) (now (loans .entry)) (now (chunks .entry)) (now (regions .entry)) (now (index .entry))) (now (list .entry)) .tables ⌝ }
+    ensures { λ _. ⌜ now (answer .exit) ≡ saidOut (linkedCleanUp (now (settings .entry)) (now (account .entry)) (tables (now (head .entry)) (now (loans .entry)) (now (chunks .entry)) (now (regions .entry)) (now (index .entry))) (now (list .entry)) .said) (now (answer .entry)) ⌝ }
+{
+    if wire::is_settings(settings, LIST_WORDS) & wire::is_account(account) {
+        let s = wire::read_free_list(settings);
+        let a = wire::read_account(account);
+        let r = freelist::clean_up(s, a, head, loans, chunks, regions, index, list);
+        let after = r.account;
+        wire::put_account(account, after);
+        let said = r.answer;
+        wire::tell_released(answer, said);
+    } else {
+        wire::tell_bad(answer);
+    }
+}

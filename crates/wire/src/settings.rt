@@ -1,0 +1,70 @@
+// A store's settings, read from words.
+ghost use mathlib.Core.Path.{_≡_};
+ghost use mathlib.Core.Bool.{true};
+ghost use Prim.Native.Nat.{_≤_};
+ghost use Rattle.wire.specs.Wire.{narrowMost, narrowOk, listWords, buddyWords, storeIn, listIn, buddyIn, settingsOk};
+use counter::BuddySettings;
+use counter::FreeListSettings;
+use counter::StoreSettings;
+
+// The greatest number of a field of 32 bits.
+const NARROW_MOST: u64 = 4_294_967_295;
+
+// Whether word i is a number of 32 bits.
+pub fn is_narrow(w: &[u64], i: usize) -> bool
+    ensures { λ r. ⌜ r ≡ narrowOk (now (w .entry)) i ⌝ }
+{
+    words::word(w, i) <= NARROW_MOST
+}
+
+pub fn narrow(n: u64) -> u32
+    requires { ⌜ n ≤ narrowMost ⌝ }
+    ensures { λ r. ⌜ r ≡ n ⌝ }
+{
+    n as u32
+}
+
+// Whether there are n words, and number, memory type and properties are of 32 bits.
+pub fn is_settings(w: &[u64], n: usize) -> bool
+    ensures { λ r. ⌜ r ≡ settingsOk n (now (w .entry)) ⌝ }
+{
+    (w.len() == n) & (is_narrow(w, 0) & (is_narrow(w, 1) & is_narrow(w, 2)))
+}
+
+fn read_store(w: &[u64], n: usize) -> StoreSettings
+    requires { ⌜ settingsOk n (now w) ≡ true ⌝ }
+    ensures { λ r. ⌜ r ≡ storeIn (now (w .entry)) ⌝ }
+{
+    StoreSettings {
+        number: narrow(words::word(w, 0)),
+        kind: narrow(words::word(w, 1)),
+        properties: narrow(words::word(w, 2)),
+        heap: words::word(w, 3) as usize,
+        atom: words::word(w, 4),
+        loans: words::word(w, 5) as usize,
+        chunks: words::word(w, 6) as usize,
+    }
+}
+
+pub fn read_free_list(w: &[u64]) -> FreeListSettings
+    requires { ⌜ settingsOk listWords (now w) ≡ true ⌝ }
+    ensures { λ r. ⌜ r ≡ listIn (now (w .entry)) ⌝ }
+{
+    FreeListSettings {
+        store: read_store(w, 9),
+        start: words::word(w, 7),
+        last: words::word(w, 8),
+    }
+}
+
+pub fn read_buddy(w: &[u64]) -> BuddySettings
+    requires { ⌜ settingsOk buddyWords (now w) ≡ true ⌝ }
+    ensures { λ r. ⌜ r ≡ buddyIn (now (w .entry)) ⌝ }
+{
+    BuddySettings {
+        store: read_store(w, 10),
+        minimal: words::word(w, 7),
+        initial: words::word(w, 8),
+        pairs: words::word(w, 9) as usize,
+    }
+}
