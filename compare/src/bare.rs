@@ -1,5 +1,5 @@
-//! A store of the crate with nothing around it, to be timed: no refusals of document 01, and no
-//! look at what the crate does.
+//! A store and a ranking of the crate with nothing around them, to be timed: no refusals of document
+//! 01, and no look at what the crate does.
 
 use crate::{
     account::Account,
@@ -7,6 +7,8 @@ use crate::{
     engine::{CrateBlock, Engine},
     settings::Settings,
     tape::Outcome,
+    usage::MemoryForUsage,
+    MemoryPropertyFlags, MemoryType,
 };
 
 /// An engine of the crate, and an account whose device always gives memory.
@@ -47,5 +49,21 @@ impl BareBlock {
     /// Chunk, offset and size.
     pub fn place(&self) -> (u64, u64, u64) {
         self.0.place()
+    }
+}
+
+/// Memory types as the crate takes them.
+pub struct BareTypes(Vec<MemoryType>);
+
+impl BareTypes {
+    /// The types of these property words.
+    pub fn new(words: &[u8]) -> BareTypes {
+        let props = words.iter().map(|&word| MemoryPropertyFlags::from_bits_truncate(word));
+        BareTypes(props.map(|props| MemoryType { heap: 0, props }).collect())
+    }
+
+    /// The crate's ranking of them for all usages.
+    pub fn rank(&self) -> impl Sized {
+        MemoryForUsage::new(&self.0)
     }
 }

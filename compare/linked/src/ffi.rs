@@ -38,6 +38,12 @@ pub struct Engine {
     ),
 }
 
+/// The engines of one set of archives.
+pub struct Engines {
+    pub list: &'static Engine,
+    pub buddy: &'static Engine,
+}
+
 macro_rules! engine {
     ($engine:ident: $set_up:ident, $ask:ident, $deliver:ident, $take_back:ident) => {
         #[rustfmt::skip]
@@ -65,7 +71,7 @@ macro_rules! engine {
             );
         }
 
-        pub static $engine: Engine =
+        static $engine: Engine =
             Engine { set_up: $set_up, ask: $ask, deliver: $deliver, take_back: $take_back };
     };
 }
@@ -83,6 +89,26 @@ engine!(
     tibrezkam_buddy_return
 );
 
+// The same of the copies for timing, whose test of soundness says yes to all.
+#[cfg(feature = "timing")]
+engine!(
+    UNTESTED_LIST: untested3_list_set_up,
+    untested3_list_ask,
+    untested3_list_deliver,
+    untested3_list_return
+);
+#[cfg(feature = "timing")]
+engine!(
+    UNTESTED_BUDDY: untested3_buddy_set_up,
+    untested3_buddy_ask,
+    untested3_buddy_deliver,
+    untested3_buddy_return
+);
+
+pub static SHIPPED: Engines = Engines { list: &LIST, buddy: &BUDDY };
+#[cfg(feature = "timing")]
+pub static UNTESTED: Engines = Engines { list: &UNTESTED_LIST, buddy: &UNTESTED_BUDDY };
+
 // A free list's only.
 #[rustfmt::skip]
 extern "C" {
@@ -91,6 +117,14 @@ extern "C" {
         head: Lent, _: usize, loans: Lent, _: usize, chunks: Lent, _: usize,
         regions: Lent, _: usize, index: Lent, _: usize, list: Lent, _: usize,
         answer: Lent, _: usize,
+    );
+}
+
+// The ranking, which is of no store.
+#[rustfmt::skip]
+extern "C" {
+    fn tibrezkam_rank(
+        types: *const u32, _: usize, rows: Lent, _: usize, answer: Lent, _: usize,
     );
 }
 
@@ -190,6 +224,18 @@ pub fn clean_up(
             a.as_mut_ptr(), a.len(), b.as_mut_ptr(), b.len(), c.as_mut_ptr(), c.len(),
             d.as_mut_ptr(), d.len(), e.as_mut_ptr(), e.len(),
             list.as_mut_ptr(), list.len(), answer.as_mut_ptr(), answer.len(),
+        )
+    }
+}
+
+/// The ranking of memory types by their property words.
+#[rustfmt::skip]
+pub fn rank(types: &[u32], rows: &mut [u64], answer: &mut Answer) {
+    // As above.
+    unsafe {
+        tibrezkam_rank(
+            types.as_ptr(), types.len(), rows.as_mut_ptr(), rows.len(),
+            answer.as_mut_ptr(), answer.len(),
         )
     }
 }

@@ -1,6 +1,7 @@
-//! The project's stores as a Rust program links them, held against the crate.
+//! The project's stores and its ranking as a Rust program links them, held against the crate.
 
 pub mod account;
-mod ffi;
+pub mod ffi;
+pub mod ranking;
 pub mod shelf;
 pub mod store;

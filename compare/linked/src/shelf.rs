@@ -1,7 +1,7 @@
 //! Stores over one account, and their answers for a tape, as the oracle writes them.
 
 use {
-    crate::{account::Account, store::Store},
+    crate::{account::Account, ffi::SHIPPED, store::Store},
     compare::{
         counter::SETUP_REFUSED,
         shelf::read_headers,
@@ -67,7 +67,8 @@ impl Shelf {
         if ![word::HEAP, word::HEAP_SIZE, word::OBJECTS].into_iter().all(same) {
             return Err(1);
         }
-        let stores = headers.iter().map(Store::open).collect::<Result<_, _>>()?;
+        let stores = headers.iter().map(|header| Store::open(&SHIPPED, header));
+        let stores = stores.collect::<Result<_, _>>()?;
         let account = Account::new(&headers[0]).ok_or(1u64)?;
         Ok(Shelf { account, headers, stores, text: String::new(), records: 0 })
     }

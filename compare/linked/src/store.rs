@@ -3,7 +3,7 @@
 use {
     crate::{
         account::Account,
-        ffi::{self, Engine, OutcomeWords, Tables, BUDDY, LIST},
+        ffi::{self, Engine, Engines, OutcomeWords, Tables},
     },
     compare::{
         answer::{Answer, Order},
@@ -25,6 +25,10 @@ const COMMON: [usize; 7] = [
 const LIST_OWN: [usize; 2] = [word::LEAST, word::GREATEST];
 const BUDDY_OWN: [usize; 3] = [word::LEAST, word::GREATEST, word::PAIRS];
 
+/// Of both engines' tables the loans', and the word of its first loan that is the serial.
+const LOANS: usize = 1;
+const SERIAL: usize = 0;
+
 /// What an answer's words are before the call, so that one left unwritten shows.
 const UNWRITTEN: ffi::Answer = [u64::MAX; 6];
 
@@ -39,8 +43,8 @@ pub struct Store {
 
 impl Store {
     /// The store of a header, set up; else the number of the refusal.
-    pub fn open(header: &Header) -> Result<Store, u64> {
-        let mut store = Store::lent(header).ok_or(1u64)?;
+    pub fn open(engines: &Engines, header: &Header) -> Result<Store, u64> {
+        let mut store = Store::lent(engines, header).ok_or(1u64)?;
         match *store.set_up() {
             [0, 0, 0, 0, 0, 0] => Ok(store),
             [4, number, 0, 0, 0, 0] => Err(number),
@@ -49,16 +53,17 @@ impl Store {
     }
 
     /// Words for a store, before its set-up; none if the header isn't of an engine.
-    pub fn lent(header: &Header) -> Option<Store> {
+    pub fn lent(engines: &Engines, header: &Header) -> Option<Store> {
         // More than the greatest limits is refused, whatever the lengths.
         let limit = |at: usize, most: u64| header[at].min(most) as usize;
         let (loans, chunks) = (limit(word::LOANS, 512), limit(word::CHUNKS, 64));
         let (engine, own, tables): (_, &[usize], _) =
             match (header[word::ENGINE], header[word::PAIRS]) {
                 (1, pairs) => {
-                    (&BUDDY, &BUDDY_OWN, buddy_lengths(loans, chunks, pairs.min(256) as usize))
+                    let lengths = buddy_lengths(loans, chunks, pairs.min(256) as usize);
+                    (engines.buddy, &BUDDY_OWN, lengths)
                 }
-                (2, 0) => (&LIST, &LIST_OWN, list_lengths(loans, chunks)),
+                (2, 0) => (engines.list, &LIST_OWN, list_lengths(loans, chunks)),
                 _ => return None,
             };
         Some(Store {
@@ -117,11 +122,16 @@ impl Store {
         &self.answer
     }
 
-    /// For free lists only.
+    /// For free lists only, and always by the shipped archive.
     pub fn clean_up(&mut self, account: &mut Account) -> &ffi::Answer {
         let (account, tables) = (&mut account.words, &mut self.tables);
         ffi::clean_up(&self.settings, account, tables, &mut self.list, &mut self.answer);
         &self.answer
+    }
+
+    /// Writes over the first loan's serial, with which no store is sound.
+    pub fn tear(&mut self) {
+        self.tables[LOANS][SERIAL] = u64::MAX;
     }
 
     /// The last answer as the oracle writes it. Refusals are written by number, for ours may

@@ -15,12 +15,12 @@ use {
     },
 };
 
-const USAGES: u8 = 64;
-const TYPES: usize = 32;
+pub const USAGES: u8 = 64;
+pub const TYPES: usize = 32;
 const PROPERTY_WORDS: u64 = 64;
 
 /// One usage's row: the mask, and the types in their order.
-type Row = (u32, Vec<u32>);
+pub type Row = (u32, Vec<u32>);
 
 /// Document 01's worked types, and for some usages the mask and the order of the types.
 const WORKED_TYPES: [u8; 5] = [1, 6, 14, 7, 17];
@@ -72,7 +72,7 @@ fn check_program(program: &Path, words: &[u8]) -> Verdict {
 }
 
 /// A list of property words: any length, half of them with many ties, some outside the table.
-fn type_list(seed: u64, number: u64) -> Vec<u8> {
+pub fn type_list(seed: u64, number: u64) -> Vec<u8> {
     let mut random = Random::new(seed, number);
     let most = TYPES as u64;
     let length = if random.percent(2) { most + 1 } else { random.within(0..=most) };
@@ -91,9 +91,9 @@ fn is_allowed(words: &[u8]) -> bool {
     words.len() <= TYPES && words.iter().all(|&word| u64::from(word) < PROPERTY_WORDS)
 }
 
-/// The crate's rows. Its sort leaves the order of equal keys open, so they are put in order of
+/// The crate's rows, where 01's table allows the words. Its sort leaves the order of equal keys open, so they are put in order of
 /// number here; that its keys rise is not repaired but tested.
-fn by_crate(words: &[u8]) -> Option<Vec<Row>> {
+pub fn by_crate(words: &[u8]) -> Option<Vec<Row>> {
     if !is_allowed(words) {
         return None;
     }

@@ -5,6 +5,7 @@ use {
         counter,
         difference::Difference,
         generator,
+        parallel::share,
         plain::{self, FAULTS},
         recorded,
         runs::{verdict, with_smallest, Verdict},
@@ -14,11 +15,20 @@ use {
         io,
         path::Path,
         process::Command,
+        thread,
         time::{Duration, Instant},
     },
 };
 
-const TAPE: &str = "target/replay.tape";
+#[derive(Default)]
+struct Found {
+    /// Tapes replayed, of buddies and of free lists.
+    tapes: [u64; 2],
+    calls: u64,
+    /// How many tapes would notice each fault, had the program it.
+    noticed: [u64; FAULTS.len()],
+    differences: Vec<(u64, Difference)>,
+}
 
 /// Replays the recorded tapes and up to `count` random ones for each engine, within about `limit`.
 pub fn run(program: &Path, seed: u64, count: u64, limit: Duration) -> Verdict {
@@ -35,32 +45,64 @@ pub fn run(program: &Path, seed: u64, count: u64, limit: Duration) -> Verdict {
     for one in recorded::all() {
         differences.extend(hold(&format!("replay-{}", one.name), &one.tape));
     }
-    let mut tapes = Vec::new();
-    for number in (0..2 * count).take_while(|_| began.elapsed() < limit) {
+    let parts = share(2 * count, |found: &mut Found, number| {
+        if began.elapsed() >= limit {
+            return;
+        }
         let tape = generator::tape(seed, number);
-        differences.extend(hold(&format!("replay-random-{seed}-{number}"), &tape));
-        tapes.push(tape);
-    }
-    let (recorded, random) = (recorded::all().len(), tapes.len());
-    println!("{recorded} recorded and {random} random tapes replayed");
+        let difference = hold(&format!("replay-random-{seed}-{number}"), &tape);
+        found.differences.extend(difference.map(|difference| (number, difference)));
+        found.note(number, &tape);
+    });
+    let mut found = Found::sum(parts);
+    found.differences.sort_by_key(|(number, _)| *number);
+    differences.extend(found.differences.drain(..).map(|(_, difference)| difference));
+
+    let (recorded, [buddies, lists]) = (recorded::all().len(), found.tapes);
+    println!("{recorded} recorded and {} random tapes replayed", buddies + lists);
+    println!(
+        "of the random ones {buddies} of buddies, {lists} of free lists; {} calls",
+        found.calls
+    );
     println!("{} differences", differences.len());
-    print_faults(&tapes);
+    found.print_faults();
     verdict(&with_smallest(differences, hold))
 }
 
 /// What the program prints for a tape on its standard input.
 fn replay(program: &Path, tape: &[u8]) -> io::Result<String> {
-    fs::write(TAPE, tape)?;
-    let output = Command::new(program).stdin(File::open(TAPE)?).output()?;
+    // each thread has a tape of its own
+    let file = format!("target/replay-{:?}.tape", thread::current().id());
+    fs::write(&file, tape)?;
+    let output = Command::new(program).stdin(File::open(&file)?).output()?;
+    fs::remove_file(&file)?;
     Ok(String::from_utf8_lossy(&output.stdout).into())
 }
 
-/// How many of the tapes would notice each fault, had the program it.
-fn print_faults(tapes: &[Vec<u8>]) {
-    println!("{:<52}{:>8}", "fault that random tapes would notice", "tapes");
-    for (fault, what) in FAULTS {
-        let noticed =
-            tapes.iter().filter(|tape| counter::answers(tape) != plain::answers(tape, fault));
-        println!("{what:<52}{:>8}", noticed.count());
+impl Found {
+    fn note(&mut self, number: u64, tape: &[u8]) {
+        self.tapes[(number % 2) as usize] += 1;
+        let answers = counter::replay(tape, |_, _| self.calls += 1);
+        for (noticed, (fault, _)) in self.noticed.iter_mut().zip(FAULTS) {
+            *noticed += u64::from(answers != plain::answers(tape, fault));
+        }
+    }
+
+    fn sum(parts: Vec<Found>) -> Found {
+        let mut sum = Found::default();
+        for part in parts {
+            sum.tapes.iter_mut().zip(part.tapes).for_each(|(all, some)| *all += some);
+            sum.noticed.iter_mut().zip(part.noticed).for_each(|(all, some)| *all += some);
+            sum.calls += part.calls;
+            sum.differences.extend(part.differences);
+        }
+        sum
+    }
+
+    fn print_faults(&self) {
+        println!("{:<52}{:>8}", "fault that random tapes would notice", "tapes");
+        for (noticed, (_, what)) in self.noticed.iter().zip(FAULTS) {
+            println!("{what:<52}{noticed:>8}");
+        }
     }
 }

@@ -8,7 +8,7 @@ use Rattle.slab.specs.Slab.{inserted}
 use Rattle.slab.specs.declared.Taken.{Taken}
 use Rattle.store_rules.specs.Loans.{loanRow}
 use Rattle.store_rules.specs.declared.Loan.{Loan}
-use Rattle.book.specs.Book.{entryWords, vacatedAt, vacantAfterAt, firstOf, nextOf, takenOf, entered, enteredIndex}
+use Rattle.book_rules.specs.Book.{entryWords, vacatedAt, vacantAfterAt, firstOf, nextOf, takenOf, entered, enteredIndex}
 
 module _ (places : ℕ) (index : List ℕ) (t : Taken) where
   pub slab-read : (v : ℕ) → v ≡ getD index vacatedAt 0 → t ≡ inserted (record { places = places; vacant = v }) index vacantAfterAt entryWords → t ≡ takenOf places index

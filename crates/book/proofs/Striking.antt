@@ -5,7 +5,7 @@ use Prim.Native.Nat.{ℕ}
 use lib.ListN.{getD, set}
 use Rattle.words.specs.Words.{cellOf}
 use Rattle.store_rules.specs.Loans.{loanWords, sizeAt}
-use Rattle.book.specs.Book.{entryWords, vacatedAt, vacantAfterAt, nextOf, struck, struckIndex}
+use Rattle.book_rules.specs.Book.{entryWords, vacatedAt, vacantAfterAt, nextOf, struck, struckIndex}
 
 module _ (index : List ℕ) (at p : ℕ) where
   pub struck-loans : (loans x : List ℕ) → p ≡ getD index at 0 → x ≡ set loans (cellOf sizeAt loanWords p) 0 → x ≡ struck at index loans

@@ -2,7 +2,7 @@
 ghost use mathlib.Core.Path.{_≡_};
 ghost use Prim.Native.Nat.{_≤_, _<_};
 ghost use Rattle.counter.specs.Limits.{loansMost};
-ghost use Rattle.book.specs.Kept.{keptOk};
+ghost use Rattle.book_rules.specs.Kept.{keptOk};
 use crate::ENTRY_WORDS;
 use crate::VACANT_AFTER_AT;
 use crate::VACATED_AT;

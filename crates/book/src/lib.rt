@@ -13,7 +13,7 @@ ghost use Rattle.counter.specs.Limits.{loansMost};
 ghost use Rattle.words.specs.Words.{cellOf};
 ghost use Rattle.words.specs.Rows.{row, written};
 ghost use Rattle.store_rules.specs.Loans.{loanRow};
-ghost use Rattle.book.specs.Book.{entryWords, vacatedAt, vacantAfterAt, firstOf, nextOf, takenOf, entered, enteredIndex, wordTo, struck, struckIndex};
+ghost use Rattle.book_rules.specs.Book.{entryWords, vacatedAt, vacantAfterAt, firstOf, nextOf, takenOf, entered, enteredIndex, wordTo, struck, struckIndex};
 use slab::NOWHERE;
 use slab::Slab;
 use slab::Taken;

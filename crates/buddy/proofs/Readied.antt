@@ -45,7 +45,7 @@ use Rattle.buddy_ready.proofs.Backing.{backs-ready, gives-object}
 use Rattle.buddy_ready.proofs.Lending.{lends-ready, lends-rest}
 use Rattle.buddy_ready.proofs.Serving.{serves-ready}
 use Rattle.buddy_ready.proofs.Sizing.{Late, sized-ready, size-held, level-held}
-use Rattle.buddy.specs.Grows.{Grows}
+use Rattle.buddy_grow.specs.Grows.{Grows}
 
 -- ---- an ask
 

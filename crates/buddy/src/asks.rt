@@ -1,69 +1,13 @@
 // An ask: a block, an order, or a refusal.
 ghost use mathlib.Core.Path.{_≡_};
-ghost use mathlib.Core.Bool.{true};
-ghost use mathlib.Core.List.{[]};
-ghost use Prim.Native.Nat.{_^_, _<_};
-ghost use lib.Dec.{eqb};
-ghost use Rattle.rounding.specs.Masks.{Ones};
-ghost use Rattle.counter.specs.InTable.{BuddyIn};
-ghost use Rattle.counter.specs.Limits.{alignBits};
-ghost use Rattle.counter.specs.Paper as Paper;
-ghost use Rattle.counter.specs.Paper.{numberOf, askSaid};
+ghost use Rattle.counter.specs.Paper.{askSaid};
 ghost use Rattle.store_rules.specs.Outcomes.{out};
 ghost use Rattle.buddy_stores.specs.Tables.{tables};
-ghost use Rattle.buddy_outcomes.specs.Ask.{sizeFor, grownFor, grownTables, deniedTables, askOf};
-ghost use Rattle.buddy.specs.Grows.{Grows};
+ghost use Rattle.buddy_outcomes.specs.Ask.{askOf};
 use buddy_decide::Plan;
-use buddy_stores::LEVELS_AT;
 use counter::Account;
 use counter::Asked;
 use counter::BuddySettings;
-use counter::Refusal;
-use rounding::Raised;
-
-// The size that is looked for, where a word holds it.
-pub fn size_of(s: BuddySettings, size: u64, mask: u64) -> u64
-    requires { ⌜ BuddyIn s × Ones alignBits mask × (sizeFor s size mask < 2 ^ 64) ⌝ }
-    ensures { λ r. ⌜ r ≡ sizeFor s size mask ⌝ }
-{
-    let raised = buddy_decide::size_for(s, size, mask);
-    match raised {
-        Raised::To(z) => z,
-        Raised::Overflow => 0,
-    }
-}
-
-// The levels grow to hold the ask.
-pub fn grow_for(s: BuddySettings, size: u64, mask: u64, head: &mut [u64], tree: &mut [u64])
-    requires { ⌜ Grows s size mask (now head) ⌝ }
-    ensures { λ _. ⌜ tables (now (head .exit)) [] [] [] (now (tree .exit)) ≡ grownTables s (grownFor s size mask (tables (now (head .entry)) [] [] [] [])) (tables (now (head .entry)) [] [] [] (now (tree .entry))) ⌝ }
-{
-    let z = size_of(s, size, mask);
-    let levels = words::word(head, LEVELS_AT);
-    let level = rounding::level(z, s.minimal) as u64;
-    let top = if levels <= level { level + 1 } else { levels };
-    buddy_place::grow(s, top, head, tree);
-}
-
-// 9 leaves the levels grown as the ask needs, any other refusal leaves all as it was.
-fn refuse(
-    s: BuddySettings,
-    a: Account,
-    size: u64,
-    mask: u64,
-    refusal: Refusal,
-    head: &mut [u64],
-    tree: &mut [u64],
-) -> Asked
-    requires { ⌜ (eqb (numberOf refusal) 9 ≡ true → Grows s size mask (now head)) ⌝ }
-    ensures { λ r. ⌜ out (askSaid (r .answer)) (r .account) (tables (now (head .exit)) [] [] [] (now (tree .exit))) ≡ out (Paper.refusal (numberOf refusal) []) a (deniedTables s size mask (numberOf refusal) (tables (now (head .entry)) [] [] [] (now (tree .entry)))) ⌝ }
-{
-    if refusal.number() == 9 {
-        grow_for(s, size, mask, head, tree);
-        return store::refuse_ask(a, refusal);
-    }
-    store::refuse_ask(a, refusal)
-}
 
 pub fn ask(
     s: BuddySettings,
@@ -80,9 +24,9 @@ pub fn ask(
 {
     let plan = buddy_plan::plan_ask(s, a, size, mask, head, loans, chunks, index, tree);
     match plan {
-        Plan::Refuse(refusal) => refuse(s, a, size, mask, refusal, head, tree),
+        Plan::Refuse(refusal) => buddy_grow::refuse(s, a, size, mask, refusal, head, tree),
         Plan::Take(t) => {
-            let l = buddy_place::lend(
+            let l = buddy_lend::lend(
                 s,
                 t.size,
                 t.level as usize,
@@ -95,7 +39,7 @@ pub fn ask(
             store::answer_block(a, l)
         }
         Plan::Buy(z) => {
-            grow_for(s, size, mask, head, tree);
+            buddy_grow::grow_for(s, size, mask, head, tree);
             store::answer_order(s.store, a, size, mask, z)
         }
     }

@@ -8,7 +8,7 @@ ghost use Rattle.buddy_stores.specs.Tables.{tables};
 ghost use Rattle.buddy_outcomes.specs.Ask.{levelFor};
 ghost use Rattle.buddy_outcomes.specs.Deliver.{asOrdered, carryFate, deliverOf};
 ghost use Rattle.buddy_ready.specs.Ready.{Serves};
-ghost use Rattle.buddy.specs.Grows.{Grows};
+ghost use Rattle.buddy_grow.specs.Grows.{Grows};
 use counter::Account;
 use counter::BuddySettings;
 use counter::Delivered;
@@ -34,11 +34,11 @@ fn keep_chunk(
 {
     let ask = k.ask;
     let order = k.order;
-    crate::asks::grow_for(s, ask.size, ask.mask, head, tree);
-    let size = crate::asks::size_of(s, ask.size, ask.mask);
+    buddy_grow::grow_for(s, ask.size, ask.mask, head, tree);
+    let size = buddy_grow::size_of(s, ask.size, ask.mask);
     let level = rounding::level(size, s.minimal) as usize;
-    let account = store::charged(s.store, a, order.size);
-    let l = buddy_place::serve(
+    let account = store_accounts::charged(s.store, a, order.size);
+    let l = buddy_serve::serve(
         s,
         size,
         level,
@@ -66,7 +66,7 @@ fn lose(
     ensures { λ r. ⌜ out (deliverSaid (r .answer)) (r .account) (tables (now (head .exit)) [] [] [] (now (tree .exit))) ≡ carryFate s a k (tables (now (head .entry)) [] [] [] (now (tree .entry))) (Delivery.lost (numberOf (l .refusal)) (l .charged) (freeOf (l .free))) ⌝ }
 {
     let ask = k.ask;
-    crate::asks::grow_for(s, ask.size, ask.mask, head, tree);
+    buddy_grow::grow_for(s, ask.size, ask.mask, head, tree);
     store::lose_order(s.store, a, k, l)
 }
 

@@ -1,47 +1,14 @@
-// A return: the block is taken back, and its chunk goes where that was all of it.
+// A return: the gate and its test, and then it is carried out.
 ghost use mathlib.Core.Path.{_≡_};
-ghost use mathlib.Core.Bool.{true};
-ghost use Prim.Native.Nat.{_+_, _≤_, _<_};
-ghost use lib.ListN.{length};
-ghost use Rattle.counter.specs.Limits.{objectsMost};
 ghost use Rattle.counter.specs.Paper.{releaseSaid};
 ghost use Rattle.store_rules.specs.Outcomes.{listed};
 ghost use Rattle.buddy_stores.specs.Tables.{tables};
-ghost use Rattle.buddy_outcomes.specs.Return.{climbFor, releasedBy, returnOf};
-ghost use Rattle.buddy_ready.specs.Ready.{Backs};
-use buddy_plan::Back;
-use buddy_stores::CHUNK_SIZE_AT;
-use buddy_stores::CHUNK_WORDS;
-use buddy_stores::MEMORY_AT;
+ghost use Rattle.buddy_outcomes.specs.Return.{returnOf};
 use counter::Account;
 use counter::Block;
 use counter::BuddySettings;
 use counter::Released;
-
-// The loan that the word at `at` of the index leads to.
-fn carry_return(
-    s: BuddySettings,
-    a: Account,
-    b: Block,
-    at: usize,
-    head: &[u64],
-    loans: &mut [u64],
-    chunks: &mut [u64],
-    index: &mut [u64],
-    tree: &mut [u64],
-    list: &mut [u64],
-) -> Released
-    requires { ⌜ Backs s b at (tables (now head) (now loans) (now chunks) (now index) (now tree)) × (climbFor s b at (tables (now head) (now loans) (now chunks) (now index) (now tree)) .freed ≡ true → a .objects + 1 ≤ objectsMost) × (0 < length (now list)) ⌝ }
-    ensures { λ r. ⌜ listed (releaseSaid (r .answer)) (r .account) (tables (now (head .entry)) (now (loans .exit)) (now (chunks .exit)) (now (index .exit)) (now (tree .exit))) (now (list .exit)) ≡ releasedBy s a b at (tables (now (head .entry)) (now (loans .entry)) (now (chunks .entry)) (now (index .entry)) (now (tree .entry))) (now (list .entry)) ⌝ }
-{
-    let memory = words::cell(chunks, MEMORY_AT, CHUNK_WORDS, b.chunk as usize);
-    let bytes = words::cell(chunks, CHUNK_SIZE_AT, CHUNK_WORDS, b.chunk as usize);
-    if buddy_back::take_back(s, b, at, head, loans, chunks, index, tree) {
-        words::put(list, 0, memory);
-        return store::settle(s.store, a, 1, bytes);
-    }
-    store::settle(s.store, a, 0, 0)
-}
+use returning::Back;
 
 // A block comes back. The memory number of its chunk, where that goes, then stands at the front of `list`.
 pub fn return_block(
@@ -62,6 +29,17 @@ pub fn return_block(
     let plan = buddy_plan::plan_return(s, a, b, long, head, loans, chunks, index, tree);
     match plan {
         Back::Refuse(refusal) => store::refuse_return(a, refusal),
-        Back::From(at) => carry_return(s, a, b, at, head, loans, chunks, index, tree, list),
+        Back::From(at) => buddy_settle::carry_return(
+            s,
+            a,
+            b,
+            at,
+            head,
+            loans,
+            chunks,
+            index,
+            tree,
+            list,
+        ),
     }
 }

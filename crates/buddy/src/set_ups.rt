@@ -39,7 +39,7 @@ fn fresh_tree(s: BuddySettings, tree: &mut [u64])
     ensures { λ _. ⌜ now (tree .exit) ≡ set (freshLevels s 0 (initialLevels s) (now (tree .entry))) (chunksFrom s) nowhere ⌝ }
 {
     let levels = rounding::level(s.initial, s.minimal) as usize;
-    buddy_place::fresh_levels(s, 0, levels, tree);
+    buddy_grow::fresh_levels(s, 0, levels, tree);
     words::put(tree, buddy_shape::chunks_from(s.pairs), NOWHERE);
 }
 

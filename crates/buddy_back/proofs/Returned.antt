@@ -5,12 +5,12 @@ use mathlib.Core.List.{List, []}
 use Prim.Native.Nat.{ℕ, _+_, _-_, _*_}
 use lib.ListN.{getD, set}
 use Rattle.words.specs.Words.{cellOf}
-use Rattle.rounding.specs.Raising.{levelOf}
+use Rattle.rounding_rules.specs.Raising.{levelOf}
 use Rattle.counter.specs.Limits.{levelsMost}
 use Rattle.counter.specs.declared.answers.Block.{Block}
 use Rattle.counter.specs.declared.settings.BuddySettings.{BuddySettings}
-use Rattle.book.specs.Book.{struck, struckIndex}
-use Rattle.buddy_levels.specs.Level.{levelWords}
+use Rattle.book_rules.specs.Book.{struck, struckIndex}
+use Rattle.buddy_levels_rules.specs.Level.{levelWords}
 use Rattle.buddy_stores.specs.Tables.{Tables, tables, levelsAt, chunkWords, chunkSizeAt, afterAt, placeWords, nodesFrom}
 use Rattle.buddy_stores.specs.Moves.{Climbed, climbed}
 use Rattle.buddy_outcomes.specs.Return.{climbFor, vacatedTree, givenTables}

@@ -12,13 +12,11 @@ use Rattle.counter.specs.declared.answers.Block.{Block}
 use Rattle.store_rules.specs.Views.{View, among, loansLess, Differ}
 use Rattle.store_rules.specs.declared.Chunk.{Chunk}
 use Rattle.store_rules.specs.declared.Loan.{Loan}
-use Rattle.store_rules.proofs.Lessening.{those, some-of, those-mem, those-yes, mem-those, those-same, those-twice, those-all, some-where, some-yes, less-those}
-pub use Rattle.store_rules.proofs.Lessening.{among-mem, less-none, less-next, less-mem, less-same}
+use Rattle.store_rules.proofs.Lessening.{those, some-of, those-mem, those-yes, mem-those, those-same, those-twice, those-all, some-where, some-yes, less-none, less-next, less-mem, less-same}
 use Rattle.buddy_trees.specs.Trees.{Tree, free, loan, split, Piece, Wf, Taken, Has, prune, Kept}
 use Rattle.buddy_trees.proofs.Prunes.{prune-wf, prune-has}
 use Rattle.buddy_chunks.specs.Chunks.{pieceOf, piecesIn, highOf, treeIn, viewFrom, Standing, lies, stay, atOnce}
 use Rattle.buddy_chunks.proofs.Canonical.{tree-is}
-use Rattle.buddy_chunks.proofs.Onces.{Once, once-those}
 use Rattle.buddy_chunks.proofs.Pieces.{piece-mem}
 
 -- ---- a chunk in which a loan lies
@@ -68,13 +66,6 @@ stay-stay ks ls cs f =
     ∙ those-twice (lies ks) (lies ls) cs
     ∙ those-same _ _ cs (λ c m. same-test (lies ls c && lies ks c) (lies ks c) (and-right (lies ls c) (lies ks c)) (λ e. and-both _ _ (lies-more ks ls c f e) e))
     ∙ sym (stay-those ks cs)
-
--- no loan and no chunk that is left stands twice, where none did
-pub once-less : (bs : List Block) (ls : List Loan) → Once ls → Once (loansLess bs ls)
-once-less bs ls o = subst Once (sym (less-those bs ls)) (once-those _ ls o)
-
-pub once-stay : (ls : List Loan) (cs : List Chunk) → Once cs → Once (stay ls cs)
-once-stay ls cs o = subst Once (sym (stay-those ls cs)) (once-those (lies ls) cs o)
 
 -- ---- all at once
 

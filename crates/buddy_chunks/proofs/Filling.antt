@@ -20,8 +20,7 @@ use Rattle.buddy_trees.proofs.Bytes.{bytes-suc}
 use Rattle.buddy_trees.proofs.Fills.{has-apart}
 use Rattle.buddy_chunks.specs.Chunks.{before, from, freeOf, pieceOf, piecesIn, highOf, treeIn, freeIn, viewFrom, Standing}
 use Rattle.buddy_chunks.proofs.Canonical.{before-those, from-those, holds-left, holds-right}
-pub use Rattle.buddy_chunks.proofs.Onces.{Once}
-use Rattle.buddy_chunks.proofs.Onces.{once-those, total-parts}
+use Rattle.buddy_chunks.proofs.Onces.{Once, once-those, total-parts}
 use Rattle.buddy_chunks.proofs.Pieces.{onPieces, piece-mem, pieces-once, loaned-pieces}
 
 -- ---- a node

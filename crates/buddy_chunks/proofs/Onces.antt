@@ -1,13 +1,12 @@
 -- Lists with no element twice, and sums parted by a test. Assumes nothing.
-use mathlib.Core.Path.{_≡_, refl, ap}
+use mathlib.Core.Path.{_≡_, refl, sym, subst}
 use mathlib.Core.Bool.{Bool, true, false, cond, not}
-use mathlib.Core.Logic.{inl, inr, ⊎-elim}
-use mathlib.Core.List.{List, [], _∷_, map, List·Memᴰ, List·Memᴰ·cases-cons, List·Memᴰ·not-nil}
+use mathlib.Core.List.{List, [], _∷_, map, List·Memᴰ, List·Memᴰ·head, List·Memᴰ·tail}
 use Prim.Native.Nat.{ℕ, _+_}
 use native.Mathlib.Omega.{arith}
-use Rattle.lists.specs.Members.{Mem, Distinct}
-use Rattle.lists.proofs.Members.{not-mem}
-use Rattle.store_rules.specs.Views.{total}
+use Rattle.lists.specs.Members.{Distinct}
+use Rattle.store_rules.specs.Views.{Differ, total}
+use Rattle.store_rules.proofs.Keyed.{not-key}
 use Rattle.store_rules.proofs.Lessening.{those, those-mem}
 
 module _ {A : Type 0} where
@@ -16,14 +15,13 @@ module _ {A : Type 0} where
   Once [] = Unit {0}
   Once (a ∷ xs) = (List·Memᴰ a xs → ⊥) × Once xs
 
-  mem-key : (key : A → ℕ) (a : A) (xs : List A) → List·Memᴰ a xs → Mem (key a) (map key xs)
-  mem-key key a [] m = absurd (List·Memᴰ·not-nil m)
-  mem-key key a (b ∷ xs) m = ⊎-elim (λ e. inl (ap key e)) (λ k. inr (mem-key key a xs k)) (List·Memᴰ·cases-cons m)
-
-  -- such is a list whose elements have different keys
-  pub once-by : (key : A → ℕ) (xs : List A) → Distinct (map key xs) → Once xs
-  once-by key [] d = tt
-  once-by key (a ∷ xs) d = ((λ m. not-mem (key a) (map key xs) (d .0) (mem-key key a xs m)), once-by key xs (d .1))
+  -- and where equal keys are those of one element, such a list has different keys
+  pub distinct-by : (key : A → ℕ) (xs : List A) → Once xs → Differ key xs → Distinct (map key xs)
+  distinct-by key [] o d = tt
+  distinct-by key (a ∷ xs) o d = (
+    not-key key (key a) xs (λ b m e. o .0 (subst (λ (c : A). List·Memᴰ c xs) (sym (d a b (List·Memᴰ·head refl) (List·Memᴰ·tail m) e)) m)),
+    distinct-by key xs (o .1) (λ x y p q. d x y (List·Memᴰ·tail p) (List·Memᴰ·tail q)),
+  )
 
   -- what is picked of it by a test is such a list too
   pub once-those : (p : A → Bool) (xs : List A) → Once xs → Once (those p xs)

@@ -5,7 +5,7 @@ use mathlib.Core.List.{List, [], _∷_, List·Memᴰ, List·Memᴰ·head, List·
 use Prim.Native.Nat.{ℕ, zero, suc, _+_, _*_, _-_, _/_, _≤_, _<_}
 use native.Mathlib.Nat.{lt-of-mul-lt-mul-right, zero-mul}
 use native.Mathlib.Omega.{arith}
-use Rattle.rounding.proofs.Raising.{whole}
+use Rattle.rounding_rules.proofs.Raising.{whole}
 use Rattle.store_rules.specs.Views.{region}
 use Rattle.store_rules.specs.declared.Chunk.{Chunk}
 use Rattle.store_rules.specs.declared.Loan.{Loan}

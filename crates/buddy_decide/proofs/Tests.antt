@@ -8,32 +8,32 @@ use lib.Dec.{ltb}
 use lib.ListN.{getD}
 use borrow.Author.Tests.{lt-ltb, le-ltb}
 use Rattle.lists.proofs.Bools.{and-both}
-use Rattle.rounding.specs.Raising.{levelOf, raised}
-use Rattle.rounding.specs.declared.Raised.{Raised}
-use Rattle.rounding.specs.declared.Raised.the-variants.{To, Overflow}
-use Rattle.rounding.proofs.Masks.{power-top}
-use Rattle.rounding.proofs.Raising.{raised-is, raised-not}
+use Rattle.rounding_rules.specs.Raising.{levelOf, raised}
+use Rattle.rounding_rules.specs.declared.Raised.{Raised}
+use Rattle.rounding_rules.specs.declared.Raised.the-variants.{To, Overflow}
+use Rattle.rounding_rules.proofs.Masks.{power-top}
+use Rattle.rounding_rules.proofs.Raising.{raised-is, raised-not}
 use Rattle.counter.specs.Gate.{first}
 use Rattle.counter.specs.InTable.{BuddyIn}
-use Rattle.counter.specs.Limits.{levelsMost, minimalBits}
+use Rattle.counter.specs.Limits.{levelsMost, minimalBits, spent}
 use Rattle.counter.specs.Table.{alignmentOk}
 use Rattle.counter.specs.declared.account.Heap.{Heap}
 use Rattle.counter.specs.declared.settings.BuddySettings.{BuddySettings}
 use Rattle.heap.specs.Heap.{bearsOk}
 use Rattle.slab.specs.declared.Taken.{Taken}
 use Rattle.store_rules.specs.Orders.{Plan, deny, take, buy}
-use Rattle.book.specs.Book.{takenOf}
+use Rattle.book_rules.specs.Book.{takenOf}
 use Rattle.buddy_trees.specs.Trees.{bytes}
 use Rattle.buddy_shape.specs.Seen.{read, looked}
 use Rattle.buddy_shape.proofs.Shape.{node-bytes-most}
 use Rattle.buddy_stores.specs.Tables.{Tables, tables, givenAt, levelsAt, placesAt, chunkPlacesAt}
-use Rattle.buddy_outcomes.specs.Ask.{Found, at, nowhere, spent, sizeFor, levelFor, searchFrom, foundAt, foundFor, fitsAt, sizeOk, pairsRoom, chunkSpot, roomAt, roomOk, countAt, countOk, objectsOk, orderAt, lateAt, plannedAt, decideAsk}
+use Rattle.buddy_outcomes.specs.Ask.{Found, at, nowhere, sizeFor, levelFor, searchFrom, foundAt, foundFor, fitsAt, sizeOk, pairsRoom, chunkSpot, roomAt, roomOk, countAt, countOk, objectsOk, orderAt, lateAt, plannedAt, decideAsk}
 use Rattle.buddy_outcomes.proofs.Rounds.{level-low}
 use Rattle.buddy_outcomes.proofs.Searches.{search-at}
 use Rattle.buddy_decide.specs.Plans.{Sized, NoTake}
 use Rattle.buddy_decide.specs.declared.deciding.Plan as Decided
 use Rattle.buddy_decide.specs.declared.deciding.Plan.the-variants.{Refuse, Take, Buy}
-use Rattle.buddy_decide.proofs.Reading.{pairs-read}
+use Rattle.buddy_seek.proofs.Reading.{pairs-read}
 
 -- the size is below that of level 32
 module _ (s : BuddySettings) (size b : ℕ) (e : b ≡ bytes (s .minimal) levelsMost) where

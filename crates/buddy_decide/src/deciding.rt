@@ -5,15 +5,15 @@ ghost use mathlib.Core.List.{[], _∷_};
 ghost use Prim.Native.Nat.{_≤_, _<_};
 ghost use lib.Dec.{ltb};
 ghost use lib.ListN.{getD};
-ghost use Rattle.rounding.specs.Raising.{levelOf};
+ghost use Rattle.rounding_rules.specs.Raising.{levelOf};
 ghost use Rattle.counter.specs.Gate.{first};
 ghost use Rattle.counter.specs.InTable.{BuddyIn};
-ghost use Rattle.counter.specs.Limits.{levelsMost};
-ghost use Rattle.book.specs.Book.{takenOf};
+ghost use Rattle.counter.specs.Limits.{levelsMost, spent};
+ghost use Rattle.book_rules.specs.Book.{takenOf};
 ghost use Rattle.buddy_stores.specs.Tables.{tables, givenAt, levelsAt, placesAt};
-ghost use Rattle.buddy_outcomes.specs.Ask.{nowhere, at, spent, levelFor, sizeFor, foundAt, fitsAt, roomAt, lateAt, orderAt, plannedAt, decideAsk};
+ghost use Rattle.buddy_outcomes.specs.Ask.{nowhere, at, levelFor, sizeFor, foundAt, fitsAt, roomAt, lateAt, orderAt, plannedAt, decideAsk};
 ghost use Rattle.buddy_decide.specs.Plans.{planOf, Sized, NoTake};
-use crate::seeking::Found;
+use buddy_seek::Found;
 use buddy_stores::CHUNK_PLACES_AT;
 use buddy_stores::GIVEN_AT;
 use buddy_stores::LEVELS_AT;
@@ -22,7 +22,7 @@ use counter::BuddySettings;
 use counter::Heap;
 use counter::LEVELS_MOST;
 use counter::Refusal;
-use rounding::Raised;
+use rounding_rules::Raised;
 
 // A block of this size and level, from the head pair of the level `from`.
 pub struct Taking {
@@ -65,7 +65,7 @@ fn decide_take(
     if !has_place(s, head, index) {
         return Plan::Refuse(Refusal::Full);
     }
-    if !crate::seeking::has_pairs(s.pairs, level, from - level, levels, tree) {
+    if !buddy_seek::has_pairs(s.pairs, level, from - level, levels, tree) {
         return Plan::Refuse(Refusal::Full);
     }
     if words::word(head, GIVEN_AT) == u64::MAX {
@@ -86,9 +86,9 @@ fn has_room(s: BuddySettings, level: u64, head: &[u64], index: &[u64], tree: &[u
     let levels = words::word(head, LEVELS_AT);
     let own = s.store;
     let top = if levels <= level { level + 1 } else { levels };
-    let spot = crate::seeking::chunk_spot(s.pairs, words::word(head, CHUNK_PLACES_AT), tree);
+    let spot = buddy_seek::chunk_spot(s.pairs, words::word(head, CHUNK_PLACES_AT), tree);
     let vacant = spot.place < own.chunks as u64;
-    let pairs = crate::seeking::has_pairs(s.pairs, level, top - level, levels, tree);
+    let pairs = buddy_seek::has_pairs(s.pairs, level, top - level, levels, tree);
     has_place(s, head, index) & (vacant & pairs)
 }
 
@@ -139,7 +139,7 @@ fn decide_sized(
     }
     let level = rounding::level(size, s.minimal) as u64;
     let levels = words::word(head, LEVELS_AT);
-    let found = crate::seeking::seek(s.minimal, s.pairs, level, levels, tree);
+    let found = buddy_seek::seek(s.minimal, s.pairs, level, levels, tree);
     match found {
         Found::At(_, from) => decide_take(s, size, level, from, head, index, tree),
         Found::Order(order) => decide_buy(s, h, objects, level, order, head, index, tree),
@@ -166,7 +166,7 @@ pub fn decide(
     if size == 0 {
         return Plan::Refuse(Refusal::Size);
     }
-    let raised = crate::asks::size_for(s, size, mask);
+    let raised = buddy_seek::size_for(s, size, mask);
     match raised {
         Raised::To(z) => decide_sized(s, h, objects, z, head, index, tree),
         Raised::Overflow => Plan::Refuse(Refusal::Size),

@@ -42,7 +42,6 @@ use Rattle.buddy_stores.specs.Tables.{Tables, chunkSizeIn, chunkPlacesIn, memor
 use Rattle.buddy_stores.specs.Test.{soundOk}
 use Rattle.buddy_stores.specs.Views.{chunksIn}
 use Rattle.buddy_outcomes.specs.Gate.{lentOk, heldCount, heldBytes, accountOk}
-use Rattle.buddy_outcomes.specs.Ask as Ask
 use Rattle.buddy_outcomes.specs.Ask.{decideAsk, carryAsk, planAsk, askOf}
 use Rattle.buddy_outcomes.specs.Deliver as Deliver
 use Rattle.buddy_outcomes.specs.Deliver.{stillOk, deliverGateOf, carryFate, decideDeliver, planDeliver, carryDeliver, deliverOf}

@@ -1,7 +1,7 @@
 -- Blocks handed back to a buddy store end as an engine's have to: by the set of them. Assumes nothing.
 use mathlib.Core.Path.{_≡_, refl, sym, ap, subst, _∙_}
 use mathlib.Core.Bool.{true}
-use mathlib.Core.Logic.{⊎-elim, _↔_}
+use mathlib.Core.Logic.{_↔_}
 use mathlib.Core.List.{List, [], _∷_, List·Memᴰ, List·Memᴰ·head}
 use Prim.Native.Nat.{ℕ, _≤_}
 use lib.ListN.{length}
@@ -21,10 +21,10 @@ use Rattle.buddy_stores.specs.Tables.{Tables, chunkPlacesIn}
 use Rattle.buddy_stores.specs.Views.{loansIn, viewOf}
 use Rattle.buddy_stores.proofs.Named.{has-loan}
 use Rattle.buddy_outcomes.specs.Gate.{heldCount, heldBytes, accountOk, gateOf}
-use Rattle.buddy_outcomes.specs.Return.{returnOf}
+use Rattle.buddy_outcomes.specs.Return.{returnOf, givenTables}
 use Rattle.buddy_outcomes.proofs.Ended.{return-told, return-view}
 use Rattle.buddy_outcomes.proofs.Passing.{gate-passed}
-use Rattle.buddy_engine.specs.Shape.{asBuddy, buddyShape}
+use Rattle.buddy_engine.specs.Shape.{asBuddy, buddyShape, countsOf}
 
 module _ (s : BuddySettings) (a : Account) (b : Block) (t : Tables) (list : List ℕ) (passes : gateOf s a t true ≡ pass)
     (lent : List·Memᴰ (loanOf b) (loansIn t)) (long : s .store .chunks ≤ length list) where
@@ -38,7 +38,7 @@ module _ (s : BuddySettings) (a : Account) (b : Block) (t : Tables) (list : List
 
 -- every order of returns ends alike
 pub ends : Ends buddyShape
-unfolding accountOk
+unfolding accountOk givenTables
 ends =
     record {
       taken = λ s a b t list passes lent long.
@@ -49,6 +49,7 @@ ends =
             account = h .account;
             goes = h .goes;
           };
+      rest-stays = λ s a b t list passes lent long. ap countsOf (return-told s a b (asBuddy t) list passes lent long .tables);
       none = λ s a t passes.
           let p = gate-passed s a (asBuddy t) true (sym passes) in
           at-once-none (s .minimal) (viewOf s (asBuddy t)) (has-loan s (asBuddy t) (p .lent .settings) (p .sound)) refl;

@@ -1,19 +1,25 @@
 -- The buddy stays sound and filled as an engine has to, and lends good blocks. Assumes nothing.
-use mathlib.Core.Path.{_≡_, refl, sym}
+use mathlib.Core.Path.{_≡_, refl, sym, ap, _∙_}
 use mathlib.Core.Bool.{Bool, true, false, cond}
 use mathlib.Core.List.{[]}
 use Rattle.counter.specs.Gate.{pass}
+use Rattle.counter.specs.InTable.{BuddyIn}
 use Rattle.counter.specs.Paper as Paper
 use Rattle.counter.specs.declared.account.Account.{Account}
 use Rattle.counter.specs.declared.settings.BuddySettings.{BuddySettings}
-use Rattle.store_rules.specs.Views.{Filled}
+use Rattle.store_rules.specs.Views.{Filled, Differ, Apart}
+use Rattle.store_rules.specs.declared.Chunk.{Chunk}
+use Rattle.store_rules.specs.declared.Loan.{Loan}
 use Rattle.store_rules.proofs.Said.{not-refused}
 use Rattle.engines.specs.Keeps.{Keeps, Lends}
 use Rattle.buddy_chunks.proofs.Filling.{filled}
+use Rattle.buddy_chunks.proofs.Onces.{distinct-by}
+use Rattle.buddy_stores.specs.Sound.{Sound}
 use Rattle.buddy_stores.specs.Tables.{Tables}
 use Rattle.buddy_stores.specs.Views.{loansIn, chunksIn, viewOf}
 use Rattle.buddy_stores.proofs.Named.{standing}
 use Rattle.buddy_stores.proofs.Onces.{loans-once, chunks-once}
+use Rattle.buddy_stores.proofs.Viewed.{chunkAt, seen-held}
 use Rattle.buddy_stores.proofs.Walks.{minimal-pos}
 use Rattle.buddy_outcomes.specs.Gate.{gateOf}
 use Rattle.buddy_outcomes.specs.SetUp.{setUp, freshTables, fitOk, setUpOf}
@@ -42,6 +48,23 @@ fills s a t passes =
     let fit = p .lent .settings in
     filled (s .minimal) (minimal-pos s fit) (loansIn t) (chunksIn t) (standing s t fit (p .sound)) (loans-once s t fit (p .sound)) (chunks-once t)
 
+-- no serial, chunk number or memory number stands for two
+apart : (s : BuddySettings) (t : Tables) → BuddyIn s → Sound s t → Apart (viewOf s t)
+apart s t fit sound =
+    let stands = standing s t fit sound in
+    record {
+      serials = distinct-by (λ (l : Loan). l .serial) (loansIn t) (loans-once s t fit sound) (stands .serials);
+      numbers = distinct-by (λ (c : Chunk). c .number) (chunksIn t) (chunks-once t) (stands .numbers);
+      memories = distinct-by (λ (c : Chunk). c .memory) (chunksIn t) (chunks-once t) memories-differ;
+    }
+  where
+    memories-differ : Differ (λ (c : Chunk). c .memory) (chunksIn t)
+    memories-differ c d m k e =
+        let v = seen-held t c m in
+        let w = seen-held t d k in
+        let same = sound .memories-differ (c .number) (d .number) (v .0) (w .0) (sym (ap (λ (x : Chunk). x .memory) (v .1)) ∙ e ∙ ap (λ (x : Chunk). x .memory) (w .1)) in
+        v .1 ∙ ap (chunkAt t) same ∙ sym (w .1)
+
 -- the buddy stays sound, passes its tests again, and is filled
 pub keeps : Keeps buddyShape
 keeps =
@@ -57,6 +80,8 @@ keeps =
       other-again = λ s a t typed passes c list. absurd c;
       passed-sound = λ s a t passes. gate-passed s a (asBuddy t) true (sym passes) .sound;
       filled = λ s a t passes. fills s a (asBuddy t) passes;
+      apart = λ s a t passes. let p = gate-passed s a (asBuddy t) true (sym passes) in apart s (asBuddy t) (p .lent .settings) (p .sound);
+      loans-seen = λ s t l. ((λ m. m), (λ m. m));
     }
 
 -- the buddy lends good blocks, and orders a chunk exactly when none that is held has room

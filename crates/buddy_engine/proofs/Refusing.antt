@@ -2,21 +2,25 @@
 -- tables too. Assumes nothing.
 use mathlib.Core.Path.{_≡_, refl, ap, _∙_}
 use mathlib.Core.Bool.{Bool, true, _&&_}
+use mathlib.Core.Logic.{_↔_, Iff·trans}
 use mathlib.Core.List.{List, []}
 use Prim.Native.Nat.{ℕ, _≤_, _<_}
 use native.Mathlib.Omega.{arith}
 use lib.ListN.{getD}
 use borrow.Author.Tests.{eqb-true, ne-eqb}
 use Rattle.lists.proofs.Bools.{and-left, all-each}
-use Rattle.counter.specs.Gate.{refuse}
+use Rattle.counter.specs.Gate.{pass, refuse}
 use Rattle.counter.specs.Paper as Paper
+use Rattle.counter.specs.Reasons.{Clear}
 use Rattle.counter.specs.declared.account.Account.{Account}
 use Rattle.counter.specs.declared.answers.Block.{Block}
 use Rattle.counter.specs.declared.answers.Outcome.{Outcome}
 use Rattle.counter.specs.declared.settings.BuddySettings.{BuddySettings}
+use Rattle.counter.proofs.Reasoned.{clear-first, given-alike, clear-alike}
 use Rattle.store_rules.specs.Outcomes.{Out, out, listed, listOk}
-use Rattle.store_rules.specs.Tests.{noOrder, orderFor}
+use Rattle.store_rules.specs.Tests.{noOrder, orderFor, gateRow}
 use Rattle.engines.specs.Refuses.{Refuses}
+use Rattle.engines.specs.Rows.{gateRows, keptRows, askRows, deliverRows, returnRows}
 use Rattle.engines.specs.Shapes.{Lent, Call, setsUp, asks, delivers, returns, others, does, Marked, lentList}
 use Rattle.engines.proofs.Shutting.{shut}
 use Rattle.buddy_stores.specs.Tables.{Tables, mark, markAt}
@@ -25,11 +29,14 @@ use Rattle.buddy_stores.specs.Test.{soundRow, soundOk}
 use Rattle.buddy_outcomes.specs.Gate.{lentOk, accountOk, gateOf}
 use Rattle.buddy_outcomes.specs.Ask.{grownFor, deniedTables, carryAsk, planAsk, askOf}
 use Rattle.buddy_outcomes.specs.Deliver.{stillOk, deliverGateOf, planDeliver, carryDeliver, deliverOf}
+use Rattle.buddy_outcomes.specs.Refusals.{gateReasons, keptReasons, askReasons, deliverReasons, returnReasons}
 use Rattle.buddy_outcomes.specs.Return.{planReturn, carryReturn, returnOf}
-use Rattle.buddy_outcomes.proofs.Denied.{deliver-refused, deliver-lost}
+use Rattle.buddy_outcomes.proofs.Denied.{kept-decided, deliver-refused, deliver-lost}
+use Rattle.buddy_outcomes.proofs.Gated.{gate-decided}
 use Rattle.buddy_outcomes.proofs.Lendings.{grown-view}
 use Rattle.buddy_outcomes.proofs.Refused.{set-up-refused, ask-refused, return-refused, set-up-leaves, ask-leaves, ask-leaves-grown, deliver-leaves, return-leaves}
 use Rattle.buddy_engine.specs.Shape.{asBuddy, begunAs, outAs, listedAs, buddyShape}
+use Rattle.buddy_engine.proofs.Rowed.{gate-alike, ask-alike, kept-alike, deliver-alike, return-alike}
 
 -- ---- tables without the mark
 
@@ -75,15 +82,36 @@ foreign s a t (delivers x) f m =
 foreign s a t (returns b list) f m = let r = return-shut s a (asBuddy t) m b list in (r .0, ap listedAs (r .1), r .2, r .3)
 foreign s a t (others c list) f m = absurd c
 
+-- ---- the tests 1 to 4
+
+gate-clear : (s : BuddySettings) (a : Account) (t : Lent) → (gateOf s a (asBuddy t) true ≡ pass) ↔ Clear (gateRows buddyShape s a t)
+unfolding gateOf
+gate-clear s a t =
+    let u = asBuddy t in
+    Iff·trans (clear-first (gateRow (lentOk s a u && true) (noOrder (a .order)) (soundOk s u) (accountOk s a u)) (gateReasons s a u) (gate-decided s a u))
+    (clear-alike (gateReasons s a u) (gateRows buddyShape s a t) (gate-alike s t a))
+
+deliver-clear : (s : BuddySettings) (a : Account) (t : Lent) → (deliverGateOf s a (asBuddy t) ≡ pass) ↔ Clear (keptRows buddyShape s a t)
+unfolding deliverGateOf
+deliver-clear s a t =
+    let u = asBuddy t in
+    Iff·trans (clear-first (gateRow (lentOk s a u) (orderFor (s .store .number) (a .order)) (soundOk s u && stillOk s a u (a .order)) (accountOk s a u)) (keptReasons s a u) (kept-decided s a u))
+    (clear-alike (keptReasons s a u) (keptRows buddyShape s a t) (kept-alike s t a))
+
 -- the buddy refuses as an engine has to
 pub refuses : Refuses buddyShape
 refuses =
     record {
       set-up-refused = λ s t n. set-up-refused s (asBuddy t) n;
-      ask-refused = λ s a size mask t n. ask-refused s a size mask (asBuddy t) n;
-      deliver-refused = λ s a o t n. deliver-refused s a o (asBuddy t) n;
-      return-refused = λ s a b t list n. return-refused s a b (asBuddy t) list n;
+      ask-refused = λ s a size mask t n.
+          Iff·trans (ask-refused s a size mask (asBuddy t) n) (given-alike (askReasons s a size mask (asBuddy t)) (askRows buddyShape s a size mask t) (ask-alike s t a size mask) n);
+      deliver-refused = λ s a o t n.
+          Iff·trans (deliver-refused s a o (asBuddy t) n) (given-alike (deliverReasons s a o (asBuddy t)) (deliverRows buddyShape s a o t) (deliver-alike s t a o) n);
+      return-refused = λ s a b t list n.
+          Iff·trans (return-refused s a b (asBuddy t) list n) (given-alike (returnReasons s a b (asBuddy t) list) (returnRows buddyShape s a b t list) (return-alike s t a b list) n);
       other-refused = λ s a c t list n. absurd c;
+      gate-clear = gate-clear;
+      deliver-clear = deliver-clear;
       set-up-leaves = λ s t n back e. ap begunAs (set-up-leaves s (asBuddy t) n back e);
       ask-leaves = λ s a size mask t n back e x. ap outAs (ask-leaves s a size mask (asBuddy t) n back e x);
       deliver-leaves = λ s a o t n back e x y. ap outAs (deliver-leaves s a o (asBuddy t) n back e x y);

@@ -1,18 +1,19 @@
 -- The buddy's calls and tables as those of an engine. Assumes nothing: these are definitions.
 use mathlib.Core.Bool.{true}
-use Rattle.counter.specs.Reasons.{none}
+use Prim.Native.Nat.{ℕ}
+use Rattle.counter.specs.InTable.{BuddyIn}
 use Rattle.counter.specs.declared.settings.BuddySettings.{BuddySettings}
 use Rattle.store_rules.specs.Delivery.{buddy}
 use Rattle.store_rules.specs.Outcomes.{Out, out, Listed, listed}
 use Rattle.engines.specs.Shapes.{Lent, Begun, Shape}
 use Rattle.buddy_chunks.specs.Chunks.{atOnce}
 use Rattle.buddy_stores.specs.Sound.{Sound}
-use Rattle.buddy_stores.specs.Tables.{Tables, tables, mark, givenIn}
+use Rattle.buddy_stores.specs.Tables.{Tables, tables, Lengths, mark, givenIn, levelsIn}
 use Rattle.buddy_stores.specs.Views.{loansIn, viewOf}
 use Rattle.buddy_outcomes.specs.Gate.{gateOf}
-use Rattle.buddy_outcomes.specs.Ask.{askOf}
+use Rattle.buddy_outcomes.specs.Ask.{orderFor, askOf}
 use Rattle.buddy_outcomes.specs.Deliver.{deliverGateOf, deliverOf}
-use Rattle.buddy_outcomes.specs.Refusals.{Needed, setUpReasons, askReasons, deliverReasons, returnReasons, gateReasons}
+use Rattle.buddy_outcomes.specs.Refusals.{InTable, SizeOff, Needed, PairsOut}
 use Rattle.buddy_outcomes.specs.Return.{returnOf}
 use Rattle.buddy_outcomes.specs.SetUp.{SetUp, setUpOf}
 
@@ -32,6 +33,14 @@ outAs r = out (r .said) (r .account) (asLent (r .tables))
 abbrev pub listedAs : Listed Tables → Listed Lent
 listedAs r = listed (r .said) (r .account) (asLent (r .tables)) (r .list)
 
+-- serials given, and levels now
+pub record Counts : Type 0 where
+  pub given : ℕ
+  pub levels : ℕ
+
+abbrev pub countsOf : Tables → Counts
+countsOf t = record { given = givenIn t; levels = levelsIn t }
+
 -- a buddy has no call of its own
 abbrev pub buddyShape : Shape
 buddyShape =
@@ -49,15 +58,17 @@ buddyShape =
       given = λ t. givenIn (asBuddy t);
       loans = λ t. loansIn (asBuddy t);
       view = λ s t. viewOf s (asBuddy t);
+      Rest = Counts;
+      rest = λ s t. countsOf (asBuddy t);
       Sound = λ s t. Sound s (asBuddy t);
       Needed = λ s size mask t. Needed s size mask (asBuddy t);
+      orderSize = λ s size mask t. orderFor s size mask (asBuddy t);
+      Fits = λ s t. BuddyIn s × Lengths s (asBuddy t);
+      InTable = λ s a t. InTable s a (asBuddy t);
+      SizeOff = λ s size mask. SizeOff s size mask;
+      Roomless = λ s size mask t. PairsOut s size mask (asBuddy t);
+      Numberless = λ s t. ⊥;
       gate = λ s a t. gateOf s a (asBuddy t) true;
       deliverGate = λ s a t. deliverGateOf s a (asBuddy t);
-      setUpReasons = λ s t. setUpReasons s (asBuddy t);
-      askReasons = λ s a size mask t. askReasons s a size mask (asBuddy t);
-      deliverReasons = λ s a o t. deliverReasons s a o (asBuddy t);
-      returnReasons = λ s a b t list. returnReasons s a b (asBuddy t) list;
-      otherReasons = λ s a c t list. none;
-      gateReasons = λ s a t list. gateReasons s a (asBuddy t) list;
       atOnce = λ s bs t. atOnce (s .minimal) bs (viewOf s (asBuddy t));
     }

@@ -9,7 +9,7 @@ use lib.Dec.{eqb}
 use lib.ListN.{length}
 use borrow.Author.Tests.{lt-ltb, ne-eqb}
 use Rattle.lists.proofs.Bools.{and-both, same?}
-use Rattle.rounding.proofs.Masks.{power-top}
+use Rattle.rounding_rules.proofs.Masks.{power-top}
 use Rattle.counter.specs.Account.{heapAt}
 use Rattle.counter.specs.Gate.{Verdict, pass, refuse}
 use Rattle.counter.specs.InTable.{BuddyIn}
@@ -20,7 +20,7 @@ use Rattle.counter.specs.declared.account.Heap.{Heap}
 use Rattle.counter.specs.declared.settings.BuddySettings.{BuddySettings}
 use Rattle.store_rules.specs.Loans.{loanWords}
 use Rattle.store_rules.specs.Tests.{noOrder, coversOk}
-use Rattle.book.specs.Book.{indexWords}
+use Rattle.book_rules.specs.Book.{indexWords}
 use Rattle.buddy_shape.proofs.Shape.{node-bytes-most}
 use Rattle.buddy_stores.specs.Tables.{Tables, tables, headWords, chunkWords, chunkPlacesIn, chunkSizeIn, heldIn, highIn, nodesFrom, lengthsOk}
 use Rattle.buddy_stores.specs.Sound.{Sound}

@@ -100,7 +100,7 @@ pub fn is_covered(h: Heap, objects: u32, head: &[u64], chunks: &[u64]) -> bool
     ensures { λ r. ⌜ r ≡ coversOk h objects (heldCount (tables (now (head .entry)) [] (now (chunks .entry)) [] []) (getD (now (head .entry)) chunkPlacesAt 0)) (heldBytes (tables (now (head .entry)) [] (now (chunks .entry)) [] []) (getD (now (head .entry)) chunkPlacesAt 0)) ⌝ }
 {
     let n = words::word(head, CHUNK_PLACES_AT);
-    store::covers(h, objects, held_count(chunks, n), held_bytes(chunks, n))
+    store_accounts::covers(h, objects, held_count(chunks, n), held_bytes(chunks, n))
 }
 
 // Tests 3 and 4: the store is sound, and the account covers it.
@@ -144,7 +144,7 @@ pub fn gate(
         return Gate::Shut(Refusal::Setup);
     }
     let order = a.order;
-    if !store::no_order(order) {
+    if !store_accounts::no_order(order) {
         return Gate::Shut(Refusal::Order);
     }
     let own = s.store;

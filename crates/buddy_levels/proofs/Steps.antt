@@ -9,9 +9,9 @@ use lib.ListN.{getD, set}
 use borrow.Author.Tests.{eq-eqb, ne-eqb}
 use Rattle.slab.specs.Slab.{nowhere, inserted}
 use Rattle.slab.specs.declared.Taken.{Taken}
-use Rattle.ring.specs.Ring.{alone}
+use Rattle.ring_rules.specs.Ring.{alone}
 use Rattle.buddy_rules.specs.Levels.{sideBy, sideOf}
-use Rattle.buddy_levels.specs.Level.{
+use Rattle.buddy_levels_rules.specs.Level.{
   ringAt,
   usedAt,
   vacatedAt,

@@ -11,13 +11,13 @@ use Rattle.lists.proofs.Bools.{or-left, not-yes, not-no}
 use Rattle.words.specs.Words.{cellOf}
 use Rattle.words.specs.Rows.{row}
 use Rattle.words.proofs.Records.{cell-row}
-use Rattle.rounding.specs.Raising.{levelOf}
+use Rattle.rounding_rules.specs.Raising.{levelOf}
 use Rattle.counter.specs.Limits.{levelsMost}
 use Rattle.slab.specs.Slab.{nowhere}
 use Rattle.store_rules.specs.Loans.{loanWords, sizeAt, loanRow}
 use Rattle.store_rules.specs.declared.Loan.{Loan}
 use Rattle.buddy_rules.specs.Nodes.{Ent}
-use Rattle.buddy_levels.specs.Level.{levelWords, usedAt, pairIn}
+use Rattle.buddy_levels_rules.specs.Level.{levelWords, usedAt, pairIn}
 use Rattle.buddy_stores.specs.Tables.{chunkWords, chunkSizeAt, placeWords, levelAfter}
 use Rattle.buddy_stores.specs.Test.{every, leadsOk, pairOk, loanOk}
 use Rattle.buddy_stores.proofs.Tests.{every-stop, every-next}

@@ -4,7 +4,7 @@ use mathlib.Core.Path.{_≡_, refl}
 use Prim.Native.Nat.{ℕ, _+_}
 use lib.ListN.{getD}
 use Rattle.counter.specs.declared.settings.BuddySettings.{BuddySettings}
-use Rattle.buddy_levels.specs.Level.{usedAt}
+use Rattle.buddy_levels_rules.specs.Level.{usedAt}
 use Rattle.buddy_stores.specs.Tables.{Tables, levelsIn, placesIn, chunkPlacesIn, levelAfter, levelFrom}
 use Rattle.buddy_stores.specs.Test.{every, leadsOk, pairOk, loanOk}
 use Rattle.buddy_stores.proofs.Tests.{every-same}

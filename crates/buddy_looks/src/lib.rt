@@ -5,7 +5,7 @@ ghost use Prim.Native.Nat.{_+_, _≤_, _<_};
 ghost use lib.ListN.{getD};
 ghost use Rattle.counter.specs.Limits.{levelsMost, pairsMost, loansMost, chunksMost};
 ghost use Rattle.slab.specs.Slab.{nowhere};
-ghost use Rattle.buddy_levels.specs.Level.{usedAt};
+ghost use Rattle.buddy_levels_rules.specs.Level.{usedAt};
 ghost use Rattle.buddy_stores.specs.Tables.{levelAfter};
 ghost use Rattle.buddy_stores.specs.Test.{every, leadsOk, pairOk, loanOk};
 ghost use Rattle.buddy_shape.specs.Seen.{read, seen, looked};

@@ -12,7 +12,7 @@ use Rattle.lists.proofs.Bools.{and-left, and-right, not-yes, not-no, told}
 use Rattle.counter.specs.Limits.{levelsMost, pairsMost}
 use Rattle.slab.specs.Slab.{nowhere}
 use Rattle.buddy_rules.specs.Nodes.{other, word}
-use Rattle.buddy_levels.specs.Level.{baseMost, entOf, levelWords, pairCell, sideAt, leftAt, rightAt, upAt, spotIn, dropped, backed, added}
+use Rattle.buddy_levels_rules.specs.Level.{baseMost, entOf, levelWords, pairCell, sideAt, leftAt, rightAt, upAt, spotIn, dropped, backed, added}
 use Rattle.buddy_stores.specs.Tables.{levelAfter}
 use Rattle.buddy_stores.specs.Moves.{sideIn, climbed, worded, splitDown}
 use Rattle.buddy_trees.specs.Trees.{up}

@@ -4,7 +4,7 @@ ghost use lib.ListN.{set};
 ghost use Prim.Native.Nat.{_+_, _*_, _/_, _≤_, _<_};
 ghost use Rattle.counter.specs.Limits.{levelsMost, pairsMost, loansMost};
 ghost use Rattle.buddy_rules.specs.Nodes.{other, word};
-ghost use Rattle.buddy_levels.specs.Level.{baseMost, entOf, pairCell, sideAt};
+ghost use Rattle.buddy_levels_rules.specs.Level.{baseMost, entOf, pairCell, sideAt};
 ghost use Rattle.buddy_stores.specs.Tables.{levelAfter};
 ghost use Rattle.buddy_stores.specs.Moves.{sideIn, climbed, worded, splitDown};
 ghost use Rattle.buddy_moves.specs.Roomy.{Roomy};

@@ -20,7 +20,7 @@ use Rattle.counter.specs.declared.answers.Outcome.{Outcome}
 use Rattle.counter.specs.declared.settings.BuddySettings.{BuddySettings}
 use Rattle.store_rules.specs.Delivery.{Fate, kept, lost, buddy, fateOf, deliveryOk}
 use Rattle.store_rules.specs.Loans.{loanWords}
-use Rattle.store_rules.specs.Outcomes.{Out, out}
+use Rattle.store_rules.specs.Outcomes.{Out, out, chargedAccount}
 use Rattle.store_rules.specs.Views.{GoodBlock}
 use Rattle.store_rules.specs.declared.Chunk.{Chunk}
 use Rattle.store_rules.specs.declared.Loan.{Loan}
@@ -56,6 +56,7 @@ pub record Came (s : BuddySettings) (a : Account) (o : Outcome) (t : Tables) (se
   pub offset-is : offset ≡ 0
   pub len-is : len ≡ sizeFor s (order .ask .size) (order .ask .mask)
   pub left : deliverOf s a o t .tables ≡ servedTables s (order .ask .size) (order .ask .mask) memory (order .order .size) (asOrdered s order t)
+  pub charged : deliverOf s a o t .account ≡ chargedAccount (s .store) a (order .order .size)
 
 module _ (s : BuddySettings) (a : Account) (o : Outcome) (t : Tables) (serial chunk offset len : ℕ) (q : deliverOf s a o t .said ≡ Paper.block serial chunk offset len) where
   tells : (r : Out Tables) → deliverOf s a o t ≡ r → r .said ≡ Paper.block serial chunk offset len
@@ -81,6 +82,7 @@ module _ (s : BuddySettings) (a : Account) (o : Outcome) (t : Tables) (serial ch
         offset-is = sym (b .2);
         len-is = sym (b .3);
         left = ap (λ (x : Out Tables). x .tables) r;
+        charged = ap (λ (x : Out Tables). x .account) r;
       }
 
   came-by : (v : Verdict) → deliverGateOf s a t ≡ v → (ord : OpenOrder) → a .order ≡ ord

@@ -6,7 +6,7 @@ use Prim.Native.Nat.{ℕ}
 use lib.Dec.{ltb}
 use Rattle.counter.specs.Gate.{pass, Row, first}
 use Rattle.counter.specs.InTable.{BuddyIn}
-use Rattle.counter.specs.Limits.{levelsMost}
+use Rattle.counter.specs.Limits.{levelsMost, spent}
 use Rattle.counter.specs.Reasons.{Clear, Decides}
 use Rattle.counter.specs.Table.{alignmentOk}
 use Rattle.counter.specs.declared.account.Heap.{Heap}
@@ -20,7 +20,7 @@ use Rattle.store_rules.proofs.Tested.{off-and, off-where, off-less, off-some, b
 use Rattle.buddy_trees.specs.Trees.{bytes}
 use Rattle.buddy_stores.specs.Sound.{Sound}
 use Rattle.buddy_stores.specs.Tables.{Tables, Lengths, givenIn}
-use Rattle.buddy_outcomes.specs.Ask.{nowhere, spent, needs, sizeFor, foundFor, orderFor, sizeOk, countOk, objectsOk, askRow, planned, decideAsk}
+use Rattle.buddy_outcomes.specs.Ask.{nowhere, needs, sizeFor, foundFor, orderFor, sizeOk, countOk, objectsOk, askRow, planned, decideAsk}
 use Rattle.buddy_outcomes.specs.Refusals.{SizeOff, Needed, Spent, NoObject, askTests}
 use Rattle.buddy_outcomes.proofs.Fitted.{needs-when}
 use Rattle.buddy_outcomes.proofs.Plans.{planned-buy}

@@ -9,7 +9,7 @@ use Rattle.counter.specs.declared.account.KeptOrder.{KeptOrder}
 use Rattle.counter.specs.declared.account.OpenOrder.the-variants.{Kept}
 use Rattle.counter.specs.declared.answers.Outcome.{Outcome}
 use Rattle.counter.specs.declared.settings.BuddySettings.{BuddySettings}
-use Rattle.store_rules.specs.Outcomes.{Out}
+use Rattle.store_rules.specs.Outcomes.{Out, chargedAccount}
 use Rattle.store_rules.specs.Views.{GoodBlock}
 use Rattle.store_rules.specs.declared.Chunk.{Chunk}
 use Rattle.buddy_stores.specs.Tables.{Tables, givenIn}
@@ -46,8 +46,9 @@ module _ (s : BuddySettings) (a : Account) (size mask : ℕ) (t : Tables) (seria
 -- ---- a delivery
 
 module _ (s : BuddySettings) (a : Account) (o : Outcome) (t : Tables) (serial chunk offset len : ℕ) (q : deliverOf s a o t .said ≡ Paper.block serial chunk offset len) where
-  -- a delivery answered by a block: the block is good for the ask that was kept
+  -- a delivery answered by a block: the block is good for the ask that was kept, and the account is charged
   pub deliver-block : (k : KeptOrder) × (a .order ≡ Kept k) × GoodBlock (s .store .atom) (k .ask .size) (k .ask .mask) (givenIn t) (loansIn t) (chunksIn (deliverOf s a o t .tables)) serial chunk offset len
+      × (deliverOf s a o t .account ≡ chargedAccount (s .store) a (k .order .size))
   deliver-block =
       let v = deliver-came s a o t serial chunk offset len q in
       let k = v .order in
@@ -56,6 +57,7 @@ module _ (s : BuddySettings) (a : Account) (o : Outcome) (t : Tables) (serial ch
         v .ordered,
         subst (λ (u : Tables). GoodBlock (s .store .atom) (k .ask .size) (k .ask .mask) (givenIn t) (loansIn t) (chunksIn u) serial chunk offset len) (sym (v .left))
             (good-as _ _ _ _ serial chunk offset len (v .serial-is) (v .chunk-is) (v .offset-is) (v .len-is) g),
+        v .charged,
       )
 
   -- it is as long as 01 says, and begins at a multiple of its own size

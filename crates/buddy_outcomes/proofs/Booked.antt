@@ -12,7 +12,7 @@ use lib.Seq.{getD-set-same, getD-set-other}
 use borrow.Author.Tests.{eq-eqb, ne-eqb, lt-ltb, le-ltb, ltb-true}
 use Rattle.lists.proofs.Bools.{told, and-left, same?, lt-or-le}
 use Rattle.words.specs.Words.{cellOf}
-use Rattle.rounding.specs.Raising.{levelOf}
+use Rattle.rounding_rules.specs.Raising.{levelOf}
 use Rattle.counter.specs.InTable.{BuddyIn}
 use Rattle.counter.specs.Limits.{levelsMost}
 use Rattle.counter.specs.declared.settings.BuddySettings.{BuddySettings}
@@ -21,15 +21,15 @@ use Rattle.slab.specs.declared.Slab.{Slab}
 use Rattle.slab.proofs.Places.{parted-same}
 use Rattle.store_rules.specs.Loans.{loan, loanWords, sizeAt}
 use Rattle.store_rules.specs.declared.Loan.{Loan}
-use Rattle.book.specs.Book.{takenOf, entered, enteredIndex}
-use Rattle.book.proofs.Keeps.{BookChained, BookParted, entered-long, entered-wide, taken-where, entered-chained, entered-parted}
+use Rattle.book_rules.specs.Book.{takenOf, entered, enteredIndex}
+use Rattle.book_rules.proofs.Keeps.{BookChained, BookParted, entered-long, entered-wide, taken-where, entered-chained, entered-parted}
 use Rattle.buddy_trees.specs.Trees.{Tree, bytes}
 use Rattle.buddy_trees.proofs.Bytes.{bytes-pos}
 use Rattle.buddy_rules.specs.Nodes as Nodes
 use Rattle.buddy_rules.specs.Stores.{with}
 use Rattle.buddy_rules.specs.Stores as Stores
-use Rattle.buddy_levels.specs.Level.{part}
-use Rattle.buddy_levels.proofs.Ops.{levelOps}
+use Rattle.buddy_levels_rules.specs.Level.{part}
+use Rattle.buddy_levels_rules.proofs.Ops.{levelOps}
 use Rattle.buddy_stores.specs.Tables.{Tables, tables, Lengths, mark, markAt, givenAt, levelsAt, placesAt, chunkPlacesAt, givenIn, levelsIn, placesIn, chunkPlacesIn, memoryIn, chunkSizeIn, chunksFrom, placeAt, topAt, afterAt, placeWords, nodesFrom, loanCell, loanIn, liveIn, heldIn, highIn, topIn, vacantChunk, chunkAfter, chunkSlab, initialLevels}
 use Rattle.buddy_stores.specs.Moves.{Cut}
 use Rattle.buddy_stores.specs.Sound.{Sound}

@@ -12,7 +12,7 @@ use lib.Seq.{getD-set-same, getD-set-other, drop-set-add, take-set-le}
 use borrow.Author.Tests.{le-ltb}
 use Rattle.lists.proofs.Bools.{true-false, lt-or-le}
 use Rattle.words.specs.Words.{cellOf}
-use Rattle.rounding.specs.Raising.{levelOf}
+use Rattle.rounding_rules.specs.Raising.{levelOf}
 use Rattle.counter.specs.InTable.{BuddyIn}
 use Rattle.counter.specs.Limits.{levelsMost}
 use Rattle.counter.specs.declared.settings.BuddySettings.{BuddySettings}
@@ -20,17 +20,17 @@ use Rattle.slab.specs.Slab.{nowhere, Parted}
 use Rattle.slab.specs.declared.Slab.{Slab}
 use Rattle.slab.specs.declared.Taken.{Taken}
 use Rattle.slab.proofs.Places.{parted-fresh, parted-same}
-use Rattle.book.specs.Book.{vacatedAt, indexWords, firstOf}
-use Rattle.book.proofs.Keeps.{BookChained, BookParted, fresh-chained}
+use Rattle.book_rules.specs.Book.{vacatedAt, indexWords, firstOf}
+use Rattle.book_rules.proofs.Keeps.{BookChained, BookParted, fresh-chained}
 use Rattle.buddy_trees.specs.Trees.{Tree, free}
 use Rattle.buddy_rules.specs.Nodes.{Ent}
 use Rattle.buddy_rules.specs.Stores.{Store, grownTo}
 use Rattle.buddy_rules.specs.Stores as Stores
 use Rattle.buddy_rules.proofs.Made.{empty-sound, grown-sound}
-use Rattle.buddy_levels.specs.Level.{levelWords, ringHead, spotIn, freshLevel, part, pairIn}
-use Rattle.buddy_levels.proofs.Fresh.{fresh-length, fresh-head, fresh-spot, fresh-none, fresh-good}
-use Rattle.buddy_levels.proofs.Ops.{levelOps}
-use Rattle.buddy_levels.proofs.Parts.{part-length, part-head, part-spot}
+use Rattle.buddy_levels_rules.specs.Level.{levelWords, ringHead, spotIn, freshLevel, part, pairIn}
+use Rattle.buddy_levels_rules.proofs.Fresh.{fresh-length, fresh-head, fresh-spot, fresh-none, fresh-good}
+use Rattle.buddy_levels_rules.proofs.Ops.{levelOps}
+use Rattle.buddy_levels_rules.proofs.Parts.{part-length, part-head, part-spot}
 use Rattle.buddy_stores.specs.Tables.{Tables, tables, Lengths, markAt, givenAt, levelsAt, placesAt, chunkPlacesAt, givenIn, levelsIn, placesIn, chunkPlacesIn, levelFrom, chunksFrom, placeAt, topAt, placeWords, nodesFrom, loanIn, liveIn, heldIn, highIn, topIn, vacantChunk, chunkAfter, chunkSlab, vacantLoan, loanAfter, initialLevels}
 use Rattle.buddy_stores.specs.Sound.{Sound}
 use Rattle.buddy_stores.proofs.Abstract.{storeOf, levels-in, sound-store, Sizes, store-trees}

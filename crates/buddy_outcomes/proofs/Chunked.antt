@@ -13,7 +13,7 @@ use borrow.Author.Tests.{eq-eqb, ne-eqb, lt-ltb, le-ltb}
 use Rattle.lists.specs.Members.{Below, headOr}
 use Rattle.lists.proofs.Bools.{same?}
 use Rattle.words.specs.Words.{cellOf}
-use Rattle.rounding.specs.Raising.{levelOf}
+use Rattle.rounding_rules.specs.Raising.{levelOf}
 use Rattle.counter.specs.InTable.{BuddyIn}
 use Rattle.counter.specs.Limits.{levelsMost}
 use Rattle.counter.specs.declared.settings.BuddySettings.{BuddySettings}
@@ -21,11 +21,11 @@ use Rattle.slab.specs.Slab.{nowhere, linkAt, inserted, Chain, Parted, changed}
 use Rattle.slab.specs.declared.Slab.{Slab}
 use Rattle.slab.specs.declared.Taken.{Taken}
 use Rattle.slab.proofs.Places.{parted-same, insert-first, insert-next, insert-last, inserted-parted, changed-here, changed-other}
-use Rattle.book.proofs.Keeps.{BookChained, BookParted}
+use Rattle.book_rules.proofs.Keeps.{BookChained, BookParted}
 use Rattle.buddy_trees.specs.Trees.{bytes}
 use Rattle.buddy_trees.proofs.Bytes.{bytes-pos}
 use Rattle.buddy_rules.specs.Stores.{with}
-use Rattle.buddy_levels.specs.Level.{spotIn, part}
+use Rattle.buddy_levels_rules.specs.Level.{spotIn, part}
 use Rattle.buddy_stores.specs.Tables.{Tables, tables, Lengths, markAt, givenAt, levelsAt, placesAt, chunkPlacesAt, memoryAt, chunkSizeAt, chunkWords, givenIn, levelsIn, placesIn, chunkPlacesIn, memoryIn, chunkSizeIn, levelFrom, chunksFrom, placeAt, topAt, afterAt, placeWords, nodesFrom, loanIn, liveIn, loanCell, heldIn, highIn, topIn, vacantChunk, chunkAfter, chunkSlab, initialLevels}
 use Rattle.buddy_stores.specs.Sound.{Sound}
 use Rattle.buddy_stores.proofs.Walks.{minimal-pos, level-bytes}

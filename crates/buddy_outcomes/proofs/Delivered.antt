@@ -30,9 +30,9 @@ use Rattle.slab.specs.declared.Slab.{Slab}
 use Rattle.store_rules.specs.Delivery.{buddy, holds, suits, deliveryOk, mapped, fateOf}
 use Rattle.store_rules.specs.Tests.{orderFor, gateRow}
 use Rattle.store_rules.proofs.Refused.{leads-buy}
-use Rattle.book.specs.Book.{takenOf}
+use Rattle.book_rules.specs.Book.{takenOf}
 use Rattle.buddy_trees.specs.Trees.{bytes}
-use Rattle.buddy_levels.specs.Level.{spotIn, ringHead}
+use Rattle.buddy_levels_rules.specs.Level.{spotIn, ringHead}
 use Rattle.buddy_stores.specs.Tables.{Tables, Lengths, levelsIn, placesIn, chunkPlacesIn, heldIn, memoryIn, levelFrom, placeAt, afterAt, placeWords, memories}
 use Rattle.buddy_stores.specs.Sound.{Sound}
 use Rattle.buddy_stores.specs.Test.{soundOk}

@@ -10,7 +10,7 @@ use Rattle.counter.specs.Account.{heapAt}
 use Rattle.counter.specs.Gate.{Verdict, pass, refuse, Row, first}
 use Rattle.counter.specs.InTable.{BuddyIn}
 use Rattle.counter.specs.Paper as Paper
-use Rattle.counter.specs.Reasons.{Given, Clear, Decides}
+use Rattle.counter.specs.Reasons.{none, reason, Given, Clear, Decides}
 use Rattle.counter.specs.declared.account.Account.{Account}
 use Rattle.counter.specs.declared.account.KeptOrder.{KeptOrder}
 use Rattle.counter.specs.declared.account.OpenOrder.{OpenOrder}
@@ -18,11 +18,11 @@ use Rattle.counter.specs.declared.account.OpenOrder.the-variants.{Nothing, Kept
 use Rattle.counter.specs.declared.answers.Outcome.{Outcome}
 use Rattle.counter.specs.declared.settings.BuddySettings.{BuddySettings}
 use Rattle.counter.proofs.Gates.{passed}
-use Rattle.counter.proofs.Reasoned.{given-first}
+use Rattle.counter.proofs.Reasoned.{given-first, decides-then}
 use Rattle.store_rules.specs.Delivery.{Fate, kept, lost, buddy, fateOf, deliveryOk}
 use Rattle.store_rules.specs.Orders.{buy, orderFrom, leadsTo}
 use Rattle.store_rules.specs.Outcomes.{out}
-use Rattle.store_rules.specs.Refusals.{lostFor}
+use Rattle.store_rules.specs.Refusals.{UnwelcomeTo, DeviceOut, HostOut, lostFor}
 use Rattle.store_rules.specs.Tests.{orderFor, gateRow}
 use Rattle.store_rules.proofs.Refused.{fails, none-for, is-same-order, leads-buy}
 use Rattle.store_rules.proofs.Said.{not-refused, said-number, said-back, Tells, tells-refused, tells-passed}
@@ -37,7 +37,7 @@ use Rattle.buddy_outcomes.specs.Ask.{decideAsk}
 use Rattle.buddy_outcomes.specs.Ask as A
 use Rattle.buddy_outcomes.specs.Deliver.{stillOk, deliverGateOf, asOrdered, carryFate, decideDeliver, planDeliver, carryDeliver, deliverOf}
 use Rattle.buddy_outcomes.specs.Deliver as D
-use Rattle.buddy_outcomes.specs.Refusals.{Needed, askTests, Leads, deliverReasons}
+use Rattle.buddy_outcomes.specs.Refusals.{Needed, askTests, Leads, keptReasons, deliverReasons}
 use Rattle.buddy_outcomes.proofs.Asked.{ask-buys}
 use Rattle.buddy_outcomes.proofs.Gated.{in-table, short}
 
@@ -86,23 +86,13 @@ unfolding carryFate
 tells-fate s a k t (kept m) n = tells-passed (carryFate s a k t (kept m) .said) n refl
 tells-fate s a k t (lost m c back) n = tells-refused m n back
 
-module _ (s : BuddySettings) (a : Account) (o : Outcome) (t : Tables) where
+module _ (s : BuddySettings) (a : Account) (t : Tables) where
   abbrev held : List ℕ
   held = memories t (chunkPlacesIn t)
 
   abbrev gates : Row
   gates =
       gateRow (lentOk s a t) (orderFor (s .store .number) (a .order)) (soundOk s t && stillOk s a t (a .order)) (accountOk s a t)
-
-  abbrev deliverRow : Row
-  deliverRow = gates ++ ((welcomeOk held o (a .order), 13) ∷ fateRow o)
-
-  -- a delivery says what the row of its tests comes to
-  deliver-tells : (n : ℕ) → Tells (deliverOf s a o t .said) (first deliverRow) n
-  unfolding deliverOf planDeliver deliverGateOf carryDeliver
-  deliver-tells n =
-      arrival-tells buddy o held (s .store .number) (λ (p : D.Arrival). carryDeliver s a t p .said) n (λ m. tells-refused m n []) (λ k f. tells-fate s a k t f n) gates (a .order)
-      (λ e. passed gates e .1 .0)
 
   -- 3: the store is sound and the kept ask leads to the order
   leads : BuddyIn s → Lengths s t → ((soundOk s t && stillOk s a t (a .order)) ≡ true) ↔ (Sound s t × Leads s a t)
@@ -134,8 +124,9 @@ module _ (s : BuddySettings) (a : Account) (o : Outcome) (t : Tables) where
           ∙ ap (leadsTo (s .store) (k .order)) (bought (w .0) k z .1 (l .clear, l .needed, refl))
           ∙ is-same-order (k .order) (orderFrom (s .store) z) (l .same))
 
-  deliver-decided : Decides deliverRow (deliverReasons s a o t)
-  deliver-decided = (
+  -- 1 to 4
+  pub kept-decided : Decides gates (keptReasons s a t)
+  kept-decided = (
     refl,
     fails (lentOk s a t) (in-table s a t .0) (in-table s a t .1),
     (λ e. (
@@ -144,20 +135,28 @@ module _ (s : BuddySettings) (a : Account) (o : Outcome) (t : Tables) where
       (λ _. (
         refl,
         (let i = in-table s a t .0 e in let w = leads (i .settings) (i .lengths) in fails (soundOk s t && stillOk s a t (a .order)) (w .0) (w .1)),
-        (λ _. (
-          refl,
-          short s a t,
-          (λ _. (
-            refl,
-            unwelcomed a held o,
-            (λ _. (refl, device-out o, (λ _. (refl, host-out o, (λ _. tt))))),
-          )),
-        )),
+        (λ _. (refl, short s a t, (λ _. tt))),
       )),
     )),
   )
 
+  module _ (o : Outcome) where
+    abbrev deliverRow : Row
+    deliverRow = gates ++ ((welcomeOk held o (a .order), 13) ∷ fateRow o)
+
+    -- a delivery says what the row of its tests comes to
+    deliver-tells : (n : ℕ) → Tells (deliverOf s a o t .said) (first deliverRow) n
+    unfolding deliverOf planDeliver deliverGateOf carryDeliver
+    deliver-tells n =
+        arrival-tells buddy o held (s .store .number) (λ (p : D.Arrival). carryDeliver s a t p .said) n (λ m. tells-refused m n []) (λ k f. tells-fate s a k t f n) gates (a .order)
+        (λ e. passed gates e .1 .0)
+
+    deliver-decided : Decides deliverRow (deliverReasons s a o t)
+    deliver-decided =
+        decides-then gates (keptReasons s a t) ((welcomeOk held o (a .order), 13) ∷ fateRow o) (reason (UnwelcomeTo a held o) 13 (reason (DeviceOut o) 11 (reason (HostOut o) 12 none))) kept-decided
+        (λ _. (refl, unwelcomed a held o, (λ _. (refl, device-out o, (λ _. (refl, host-out o, (λ _. tt)))))))
+
 -- a delivery is refused with n exactly when n is the number of the first of its rows, 1 to 4, 13, 11, 12, whose words hold
 pub deliver-refused : (s : BuddySettings) (a : Account) (o : Outcome) (t : Tables) (n : ℕ) → ((back : List ℕ) × (deliverOf s a o t .said ≡ Paper.refusal n back)) ↔ Given (deliverReasons s a o t) n
 deliver-refused s a o t n =
-    Iff·trans (deliver-tells s a o t n) (given-first (deliverRow s a o t) (deliverReasons s a o t) (deliver-decided s a o t) n)
+    Iff·trans (deliver-tells s a t o n) (given-first (deliverRow s a t o) (deliverReasons s a o t) (deliver-decided s a t o) n)

@@ -26,7 +26,7 @@ use Rattle.store_rules.specs.declared.Chunk.{Chunk}
 use Rattle.store_rules.specs.declared.Loan.{Loan}
 use Rattle.store_rules.proofs.Going.{none-go}
 use Rattle.store_rules.proofs.Placed.{earlier, later, loans-with, loans-less}
-use Rattle.book.specs.Book.{struck}
+use Rattle.book_rules.specs.Book.{struck}
 use Rattle.buddy_chunks.specs.Chunks.{viewFrom, lies, stay, atOnce}
 use Rattle.buddy_chunks.proofs.Ending.{lies-mem}
 use Rattle.buddy_chunks.proofs.Onces.{Once}

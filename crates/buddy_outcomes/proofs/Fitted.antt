@@ -9,7 +9,7 @@ use native.Mathlib.Nat.{mul-mod-left, mul-le-mul-right}
 use native.Mathlib.Omega.{arith}
 use lib.Pow.{pow-pos}
 use Rattle.lists.proofs.Bools.{told, true-false, lt-or-le}
-use Rattle.rounding.proofs.Raising.{whole}
+use Rattle.rounding_rules.proofs.Raising.{whole}
 use Rattle.words.proofs.Records.{cell-row}
 use Rattle.counter.specs.Account.{heapAt}
 use Rattle.counter.specs.Gate.{Verdict, pass, refuse}
@@ -34,8 +34,8 @@ use Rattle.buddy_rules.specs.Stores.{cutLoan}
 use Rattle.buddy_rules.specs.Stores as Stores
 use Rattle.buddy_rules.proofs.Frames.{rep-loan}
 use Rattle.buddy_rules.proofs.Fitting.{up-add, fits-some, lent-held, lent-inside, lent-aligned, lent-apart}
-use Rattle.buddy_levels.specs.Level.{ringHead}
-use Rattle.buddy_levels.proofs.Ops.{levelOps}
+use Rattle.buddy_levels_rules.specs.Level.{ringHead}
+use Rattle.buddy_levels_rules.proofs.Ops.{levelOps}
 use Rattle.buddy_stores.specs.Tables.{Tables, Lengths, levelsIn, levelFrom, chunkSizeIn, loanCell, liveIn, loanIn, heldIn, highIn, topIn}
 use Rattle.buddy_stores.specs.Sound.{Sound}
 use Rattle.buddy_stores.specs.Views.{loansIn, viewOf}

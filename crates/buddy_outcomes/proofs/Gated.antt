@@ -25,7 +25,7 @@ use Rattle.buddy_stores.specs.Tables.{Tables, lengthsOk, chunkPlacesIn}
 use Rattle.buddy_stores.specs.Test.{soundOk}
 use Rattle.buddy_stores.proofs.Decides.{tables-yes, tables-all}
 use Rattle.buddy_outcomes.specs.Gate.{lentOk, heldCount, heldBytes, accountOk}
-use Rattle.buddy_outcomes.specs.Refusals.{InTable, WithList, Short}
+use Rattle.buddy_outcomes.specs.Refusals.{InTable, WithList, Short, gateReasons, listReasons}
 use Rattle.buddy_outcomes.proofs.Passing.{lent-in, are-lengths}
 
 -- ---- 1
@@ -92,12 +92,10 @@ module _ (s : BuddySettings) (a : Account) (t : Tables) where
     )),
   )
 
-  pub list-decided : (list : List ℕ) → Decides (gateRow (lentOk s a t && listOk (s .store) list) (noOrder (a .order)) (soundOk s t) (accountOk s a t))
-      (reason (WithList s a t list → ⊥) 1 (reason (OrderOpen a) 2 (reason (Sound s t → ⊥) 3 (reason (Short s a t) 4 none))))
+  pub list-decided : (list : List ℕ) → Decides (gateRow (lentOk s a t && listOk (s .store) list) (noOrder (a .order)) (soundOk s t) (accountOk s a t)) (listReasons s a t list)
   list-decided list = decided (lentOk s a t && listOk (s .store) list) (with-list list) (λ (i : WithList s a t list). i .0 .settings)
 
-  pub gate-decided : Decides (gateRow (lentOk s a t && true) (noOrder (a .order)) (soundOk s t) (accountOk s a t))
-      (reason (InTable s a t → ⊥) 1 (reason (OrderOpen a) 2 (reason (Sound s t → ⊥) 3 (reason (Short s a t) 4 none))))
+  pub gate-decided : Decides (gateRow (lentOk s a t && true) (noOrder (a .order)) (soundOk s t) (accountOk s a t)) (gateReasons s a t)
   gate-decided =
       decided (lentOk s a t && true)
       ((λ e. in-table s a t .0 (and-left (lentOk s a t) true e)), (λ w. and-both (lentOk s a t) true (in-table s a t .1 w) refl))

@@ -13,7 +13,7 @@ use borrow.Author.Tests.{eq-eqb, ne-eqb, ltb-true}
 use Rattle.lists.proofs.Bools.{same?, true-false, and-left, and-right, not-yes}
 use Rattle.words.specs.Words.{cellOf}
 use Rattle.words.proofs.Records.{cell-row}
-use Rattle.rounding.specs.Raising.{levelOf}
+use Rattle.rounding_rules.specs.Raising.{levelOf}
 use Rattle.counter.specs.Limits.{levelsMost}
 use Rattle.counter.specs.InTable.{BuddyIn}
 use Rattle.counter.specs.declared.answers.Block.{Block}
@@ -21,17 +21,17 @@ use Rattle.counter.specs.declared.settings.BuddySettings.{BuddySettings}
 use Rattle.slab.specs.Slab.{nowhere}
 use Rattle.store_rules.specs.Loans.{loanWords, serialAt, sizeAt}
 use Rattle.store_rules.specs.declared.Loan.{Loan}
-use Rattle.book.specs.Book.{serialOf, wordTo, struck, struckIndex}
-use Rattle.book.proofs.Changed.{vacant-now}
-use Rattle.book.proofs.Keeps.{BookChained, BookParted, freeIn, struck-long, struck-wide, struck-chained, struck-parted}
+use Rattle.book_rules.specs.Book.{serialOf, wordTo, struck, struckIndex}
+use Rattle.book_rules.proofs.Changed.{vacant-now}
+use Rattle.book_rules.proofs.Keeps.{BookChained, BookParted, freeIn, struck-long, struck-wide, struck-chained, struck-parted}
 use Rattle.buddy_trees.specs.Trees.{Tree, remove, bytes}
 use Rattle.buddy_rules.specs.Nodes as Nodes
 use Rattle.buddy_rules.specs.Returns.{Out}
 use Rattle.buddy_rules.specs.Stores.{with, climbs, returned}
 use Rattle.buddy_rules.specs.Stores as Stores
 use Rattle.buddy_rules.proofs.Returned.{returned-sound}
-use Rattle.buddy_levels.specs.Level.{part}
-use Rattle.buddy_levels.proofs.Ops.{levelOps}
+use Rattle.buddy_levels_rules.specs.Level.{part}
+use Rattle.buddy_levels_rules.proofs.Ops.{levelOps}
 use Rattle.buddy_stores.specs.Tables.{Tables, Lengths, givenIn, levelsIn, placesIn, chunkPlacesIn, memoryIn, chunkSizeIn, chunksFrom, nodesFrom, loanCell, loanIn, liveIn, heldIn, highIn, topIn, vacantChunk}
 use Rattle.buddy_stores.specs.Sound.{Sound}
 use Rattle.buddy_stores.specs.Moves.{Climbed, climbed}
@@ -246,11 +246,6 @@ module _ (s : BuddySettings) (t : Tables) (fit : BuddyIn s) (lengths : Lengths s
               let unit : ℕ → ℕ = λ d. d % (s .store .atom + 1) in
               (ap unit (cell-left f 2 j (omega arith) (z .0)) ∙ u .0, ap unit (cell-left f sizeAt j (omega arith) (z .0)) ∙ u .1);
         }
-
-    pub given-store : Agree (s .minimal) (levelOps (s .pairs) small) (returned (s .minimal) (levelOps (s .pairs) small) (storeOf s small t) (getD (t .index) (wordFor s b t) 0))
-        (storeOf s small (givenTables s b (wordFor s b t) t))
-    unfolding givenTables
-    given-store = agrees (r .freed) refl
 
   few-pairs : s .pairs ≤ 2 ^ 32
   few-pairs = omega (arith, fit .pairs-most)

@@ -30,9 +30,9 @@ use Rattle.store_rules.specs.Loans.{loan, loanWords, sizeAt}
 use Rattle.store_rules.specs.Orders.{Plan, deny, take, buy}
 use Rattle.store_rules.specs.Outcomes.{Listed, listed, listOk}
 use Rattle.store_rules.specs.declared.Loan.{Loan}
-use Rattle.book.specs.Book.{takenOf, entered, serialOf, struck}
-use Rattle.book.proofs.Decides.{serial-once}
-use Rattle.book.proofs.Keeps.{BookParted, freeIn, taken-where}
+use Rattle.book_rules.specs.Book.{takenOf, entered, serialOf, struck}
+use Rattle.book_rules.proofs.Decides.{serial-once}
+use Rattle.book_rules.proofs.Keeps.{BookParted, freeIn, taken-where}
 use Rattle.buddy_stores.specs.Tables.{Tables, Lengths, mark, markAt, givenAt, levelsAt, placesAt, headWords, givenIn, placesIn, chunkPlacesIn, loanCell, liveIn, chainStart, chainNext, memories}
 use Rattle.buddy_stores.specs.Moves.{Cut}
 use Rattle.buddy_stores.specs.Sound.{Sound}
@@ -41,7 +41,7 @@ use Rattle.buddy_outcomes.specs.Ask as Ask
 use Rattle.buddy_outcomes.specs.Ask.{grownFor, decideAsk, grownTables, bookedTables, takenTables, deniedTables, carryAsk, planAsk, askOf}
 use Rattle.buddy_outcomes.specs.Deliver as Deliver
 use Rattle.buddy_outcomes.specs.Deliver.{deliverGateOf, chunkTables, servedTables, carryFate, decideDeliver, planDeliver, carryDeliver, deliverOf}
-use Rattle.buddy_outcomes.specs.Refusals.{Stale, gateReasons}
+use Rattle.buddy_outcomes.specs.Refusals.{Stale, listReasons}
 use Rattle.buddy_outcomes.specs.Return.{wordFor, onLoanOk, givenTables, releasedBy, returnOf}
 use Rattle.buddy_outcomes.proofs.Booked.{lower}
 use Rattle.buddy_outcomes.proofs.Changed.{grown-lengths}
@@ -306,8 +306,8 @@ module _ (s : BuddySettings) (a : Account) (b : Block) (t : Tables) (list : List
           absurd (g .away (getD (t .index) (wordFor s b t) 0) (Back.live s t fit lengths (p .sound) b on) (Back.says s t fit lengths (p .sound) b on .serial))
 
   -- with nothing changed: as 7, or as one of the earlier rows 1 to 4
-  pub gone-refused : Gone (b .serial) t → (n : ℕ) × (returnOf s a b t list ≡ listed (Paper.refusal n []) a t list) × ((n ≡ 7) ⊎ Given (gateReasons s a t list) n)
+  pub gone-refused : Gone (b .serial) t → (n : ℕ) × (returnOf s a b t list ≡ listed (Paper.refusal n []) a t list) × ((n ≡ 7) ⊎ Given (listReasons s a t list) n)
   gone-refused g =
       let r = gone-denied g in
-      let c = given-then (gateReasons s a t list) (reason (Stale b t) 7 none) (r .0) (return-refused s a b t list (r .0) .0 (ap (λ (x : Listed Tables). x .said) (r .1))) in
+      let c = given-then (listReasons s a t list) (reason (Stale b t) 7 none) (r .0) (return-refused s a b t list (r .0) .0 (ap (λ (x : Listed Tables). x .said) (r .1))) in
       (r .0, r .1, ⊎-elim (λ e. inr e) (λ e. ⊎-elim (λ z. inl (z .1)) (λ z. absurd (z .1)) e) c)

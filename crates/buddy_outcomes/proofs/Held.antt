@@ -18,7 +18,7 @@ use Rattle.counter.specs.declared.account.Account.{Account}
 use Rattle.counter.specs.declared.answers.Block.{Block}
 use Rattle.counter.specs.declared.settings.BuddySettings.{BuddySettings}
 use Rattle.store_rules.specs.Tests.{coversOk}
-use Rattle.book.specs.Book.{takenOf}
+use Rattle.book_rules.specs.Book.{takenOf}
 use Rattle.buddy_trees.specs.Trees.{bytes}
 use Rattle.buddy_stores.specs.Tables.{Tables, Lengths, chunkWords, chunkSizeAt, givenAt, levelsAt, placesAt, chunkPlacesAt, givenIn, levelsIn, placesIn, chunkPlacesIn, chunkSizeIn, heldIn}
 use Rattle.buddy_stores.specs.Moves.{Cut}

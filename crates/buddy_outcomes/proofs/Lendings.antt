@@ -9,7 +9,7 @@ use lib.ListN.{getD, set}
 use lib.Seq.{getD-set-other}
 use Rattle.words.specs.Words.{cellOf}
 use Rattle.words.proofs.Records.{cell-row}
-use Rattle.rounding.proofs.Raising.{whole}
+use Rattle.rounding_rules.proofs.Raising.{whole}
 use Rattle.counter.specs.Account.{heapAt}
 use Rattle.counter.specs.Gate.{Verdict, pass, refuse}
 use Rattle.counter.specs.InTable.{BuddyIn}
@@ -23,7 +23,7 @@ use Rattle.store_rules.specs.Outcomes.{Out, out, blockSaid}
 use Rattle.store_rules.specs.Views.{chunk, GoodBlock}
 use Rattle.store_rules.specs.declared.Chunk.{Chunk}
 use Rattle.store_rules.specs.declared.Loan.{Loan}
-use Rattle.book.specs.Book.{takenOf, serialOf}
+use Rattle.book_rules.specs.Book.{takenOf, serialOf}
 use Rattle.buddy_rules.specs.Levels.{baseOf}
 use Rattle.buddy_stores.specs.Tables.{Tables, Lengths, givenAt, levelsAt, placesAt, chunkPlacesAt, memoryAt, chunkSizeAt, chunkWords, givenIn, placesIn, chunkPlacesIn}
 use Rattle.buddy_stores.specs.Moves.{Cut}

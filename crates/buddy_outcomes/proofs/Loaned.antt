@@ -16,15 +16,16 @@ use Rattle.counter.specs.declared.answers.Block.{Block}
 use Rattle.counter.specs.declared.settings.BuddySettings.{BuddySettings}
 use Rattle.slab.specs.Slab.{nowhere}
 use Rattle.store_rules.specs.Loans.{loanWords, serialAt, sizeAt, loanRow, loan}
+use Rattle.store_rules.specs.Views.{sameLoan}
 use Rattle.store_rules.specs.declared.Loan.{Loan}
 use Rattle.store_rules.proofs.Loaned.{loan-is, same-self}
-use Rattle.book.specs.Book.{indexWords, serialOf, wordTo}
-use Rattle.book.proofs.Falling.{falling-most}
-use Rattle.book.proofs.Keeps.{freeIn, found}
-use Rattle.book.proofs.Uses.{leads-used}
+use Rattle.book_rules.specs.Book.{indexWords, serialOf, wordTo}
+use Rattle.book_rules.proofs.Falling.{falling-most}
+use Rattle.book_rules.proofs.Keeps.{freeIn, found}
+use Rattle.book_rules.proofs.Uses.{leads-used}
 use Rattle.buddy_stores.specs.Tables.{Tables, Lengths, givenIn, placesIn, loanCell, liveIn, chainStart, chainNext}
 use Rattle.buddy_stores.specs.Sound.{Sound}
-use Rattle.buddy_outcomes.specs.Return.{wordFor, sameLoan, onLoanOk}
+use Rattle.buddy_outcomes.specs.Return.{wordFor, onLoanOk}
 
 -- a place of a live loan is one in use, in the book's words, and back
 pub live-used : (t : Tables) (k : ℕ) → liveIn t k ≡ true → (k < placesIn t) × (freeIn (t .loans) k ≡ false)

@@ -7,6 +7,7 @@ use native.Mathlib.Omega.{arith}
 use lib.Dec.{ltb}
 use borrow.Author.Tests.{ltb-true}
 use Rattle.lists.proofs.Bools.{true-false, and-left, and-right}
+use Rattle.counter.specs.Limits.{spent}
 use Rattle.counter.specs.Gate.{Verdict, refuse, pass, first}
 use Rattle.counter.specs.Table.{alignmentOk}
 use Rattle.counter.specs.declared.account.Heap.{Heap}
@@ -16,7 +17,7 @@ use Rattle.heap.specs.Heap.{bearsOk}
 use Rattle.store_rules.specs.Orders.{Plan, deny, take, buy}
 use Rattle.buddy_trees.specs.Trees.{bytes}
 use Rattle.buddy_stores.specs.Tables.{Tables, givenIn}
-use Rattle.buddy_outcomes.specs.Ask.{spent, Found, nowhere, at, grownFor, foundFor, orderFor, sizeOk, roomOk, countOk, objectsOk, askRow, planned, decideAsk}
+use Rattle.buddy_outcomes.specs.Ask.{Found, nowhere, at, grownFor, foundFor, orderFor, sizeOk, roomOk, countOk, objectsOk, askRow, planned, decideAsk}
 
 -- ---- no plan is two
 

@@ -14,7 +14,7 @@ use Rattle.counter.specs.Account.{heapAt}
 use Rattle.counter.specs.Gate.{Verdict, pass, refuse, Row, first}
 use Rattle.counter.specs.InTable.{BuddyIn}
 use Rattle.counter.specs.Paper as Paper
-use Rattle.counter.specs.Reasons.{Reasons, none, reason, Given, Decides}
+use Rattle.counter.specs.Reasons.{none, reason, Given, Decides}
 use Rattle.counter.specs.Table.{buddyOk}
 use Rattle.counter.specs.declared.account.Account.{Account}
 use Rattle.counter.specs.declared.account.KeptOrder.{KeptOrder}
@@ -29,7 +29,6 @@ use Rattle.store_rules.specs.Delivery.{Fate, kept, lost, buddy, fateOf, deliver
 use Rattle.store_rules.specs.Loans.{loanWords, sizeAt, loanRow, loan}
 use Rattle.store_rules.specs.Orders.{Plan, deny, take, buy}
 use Rattle.store_rules.specs.Outcomes.{out, listed, listOk, releasedAccount}
-use Rattle.store_rules.specs.Refusals.{OrderOpen}
 use Rattle.store_rules.specs.Tests.{noOrder, gateRow}
 use Rattle.store_rules.specs.declared.Loan.{Loan}
 use Rattle.store_rules.proofs.Refused.{fails}
@@ -46,7 +45,7 @@ use Rattle.buddy_outcomes.specs.Deliver as D
 use Rattle.buddy_outcomes.specs.Return.{wordFor, onLoanOk, releasedBy, climbFor, givenTables, decideReturn, planReturn, carryReturn, returnOf}
 use Rattle.buddy_outcomes.specs.Return as R
 use Rattle.buddy_outcomes.specs.SetUp.{setUp, fitOk, setUpOf, freshTables}
-use Rattle.buddy_outcomes.specs.Refusals.{InTable, WithList, Short, Stale, askTests, askReasons, returnReasons, setUpReasons}
+use Rattle.buddy_outcomes.specs.Refusals.{Stale, gateReasons, listReasons, askTests, askReasons, returnReasons, setUpReasons}
 use Rattle.buddy_outcomes.proofs.Gated.{gate-decided, list-decided}
 use Rattle.buddy_outcomes.proofs.Asked.{ask-decided}
 use Rattle.buddy_outcomes.proofs.Loaned.{on-loan-is, is-on-loan}
@@ -138,11 +137,8 @@ pub return-refused : (s : BuddySettings) (a : Account) (b : Block) (t : Tables) 
 unfolding returnOf carryReturn planReturn decideReturn gateOf
 return-refused s a b t list n =
     Iff·trans (subst (λ (v : Verdict). Says (returnOf s a b t list .said) v n) (sym (first-then gate tests)) (by (first gate) (onLoanOk s b t)))
-    (given-first (gate ++ tests) (returnReasons s a b t list) (decides-then gate early tests (reason (Stale b t) 7 none) (list-decided s a t list) later) n)
+    (given-first (gate ++ tests) (returnReasons s a b t list) (decides-then gate (listReasons s a t list) tests (reason (Stale b t) 7 none) (list-decided s a t list) later) n)
   where
-    early : Reasons
-    early = reason (WithList s a t list → ⊥) 1 (reason (OrderOpen a) 2 (reason (Sound s t → ⊥) 3 (reason (Short s a t) 4 none)))
-
     gate : Row
     gate = gateFor s a t (listOk (s .store) list)
 
@@ -164,11 +160,8 @@ pub ask-refused : (s : BuddySettings) (a : Account) (size mask : ℕ) (t : Table
 unfolding askOf carryAsk planAsk decideAsk gateOf
 ask-refused s a size mask t n =
     Iff·trans (subst (λ (v : Verdict). Says (askOf s a size mask t .said) v n) (sym (first-then gate tests)) (by (first gate) (foundFor s size mask t) (first tests)))
-    (given-first (gate ++ tests) (askReasons s a size mask t) (decides-then gate early tests (askTests s (heapAt a (s .store .heap)) (a .objects) size mask t) (gate-decided s a t) later) n)
+    (given-first (gate ++ tests) (askReasons s a size mask t) (decides-then gate (gateReasons s a t) tests (askTests s (heapAt a (s .store .heap)) (a .objects) size mask t) (gate-decided s a t) later) n)
   where
-    early : Reasons
-    early = reason (InTable s a t → ⊥) 1 (reason (OrderOpen a) 2 (reason (Sound s t → ⊥) 3 (reason (Short s a t) 4 none)))
-
     gate : Row
     gate = gateFor s a t true
 

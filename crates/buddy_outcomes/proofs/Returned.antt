@@ -20,7 +20,7 @@ use Rattle.buddy_outcomes.specs.Gate.{gateOf}
 use Rattle.buddy_outcomes.specs.Return as Return
 use Rattle.buddy_outcomes.specs.Return.{wordFor, onLoanOk, climbFor, givenTables, releasedBy, decideReturn, planReturn, carryReturn, returnOf}
 use Rattle.buddy_outcomes.proofs.Passing.{Passed, gate-passed}
-use Rattle.buddy_outcomes.proofs.Loaned.{on-loan-is, is-on-loan}
+use Rattle.buddy_outcomes.proofs.Loaned.{is-on-loan}
 use Rattle.buddy_outcomes.proofs.Given.{given-sound}
 
 -- what a return comes to
@@ -52,10 +52,6 @@ module _ (s : BuddySettings) (a : Account) (b : Block) (t : Tables) (list : List
       go _ (denied n) = sound
       go _ (takes p on) = rw (given-tables (wordFor s b t)) (given-sound s t (p .lent .settings) (p .lent .lengths) (p .sound) b on)
 
-  -- 7: "no loan has this serial, chunk, offset and size", where the tests before it hold
-  abbrev pub NoLoan : Type 0
-  NoLoan = (k : ℕ) → liveIn t k ≡ true → row loanRow k (t .loans) ≡ loan (b .serial) (b .chunk) (b .offset) (b .size) → ⊥
-
   module _ (gate : gateOf s a t (listOk (s .store) list) ≡ pass) where
     went : Passed s a t (listOk (s .store) list)
     went = gate-passed s a t (listOk (s .store) list) (sym gate)
@@ -63,15 +59,6 @@ module _ (s : BuddySettings) (a : Account) (b : Block) (t : Tables) (list : List
     answer : returnOf s a b t list ≡ carryReturn s a b t list (decideReturn s b t)
     unfolding returnOf planReturn
     answer = ap (λ (v : Verdict). carryReturn s a b t list (Return.gated v (decideReturn s b t))) gate
-
-    pub stale-refused : NoLoan → returnOf s a b t list ≡ listed (Paper.refusal 7 []) a t list
-    unfolding carryReturn decideReturn
-    stale-refused none =
-        let p = went in
-        ⊎-elim
-        (λ e. let o = on-loan-is s t (p .lent .settings) (p .lent .lengths) (p .sound) b e in absurd (none _ (o .0) (o .1)))
-        (λ e. answer ∙ rw e refl)
-        (told (onLoanOk s b t))
 
     pub held-taken : (k : ℕ) → liveIn t k ≡ true → row loanRow k (t .loans) ≡ loan (b .serial) (b .chunk) (b .offset) (b .size) → returnOf s a b t list ≡ releasedBy s a b (wordFor s b t) t list
     unfolding carryReturn decideReturn

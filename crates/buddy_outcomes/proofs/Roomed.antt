@@ -19,9 +19,9 @@ use Rattle.slab.specs.declared.Slab.{Slab}
 use Rattle.slab.proofs.Decides.{chained-long}
 use Rattle.slab.proofs.Places.{insert-last}
 use Rattle.store_rules.proofs.Tested.{off-and, off-where, off-room}
-use Rattle.book.specs.Book.{entryWords, vacantAfterAt, takenOf}
+use Rattle.book_rules.specs.Book.{entryWords, vacantAfterAt, takenOf}
 use Rattle.buddy_rules.specs.Nodes.{Ent}
-use Rattle.buddy_levels.specs.Level.{usedAt, offAt, pairWords, fieldAt, entOf, ringHead, slabIn, spotIn, vacantIn, noPair}
+use Rattle.buddy_levels_rules.specs.Level.{usedAt, offAt, pairWords, fieldAt, entOf, ringHead, slabIn, spotIn, vacantIn, noPair}
 use Rattle.buddy_stores.specs.Sound.{Sound}
 use Rattle.buddy_stores.specs.Tables.{Tables, Lengths, levelsIn, placesIn, chunkPlacesIn, levelFrom, pairsIn, liveIn, heldIn, placeAt, afterAt, placeWords, vacantChunk, chunkSlab, vacantLoan, loanSlab}
 use Rattle.buddy_outcomes.specs.Ask as Ask

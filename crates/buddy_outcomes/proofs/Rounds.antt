@@ -10,12 +10,12 @@ use lib.Dec.{ltb}
 use lib.Pow.{pow-add, pow-lt, pow-mono}
 use borrow.Author.Tests.{ltb-true}
 use Rattle.lists.proofs.Bools.{and-left, and-right, lt-or-le}
-use Rattle.rounding.specs.Masks.{Ones, Power}
-use Rattle.rounding.specs.Raising.{upTo, bits, powerUp}
-use Rattle.rounding.proofs.Levels.{level-logs, level-doubles}
-use Rattle.rounding.proofs.Masks.{ones-size}
-use Rattle.rounding.proofs.Powers.{log-lt, log-le, power-multiple, bits-zero, bits-suc}
-use Rattle.rounding.proofs.Raising.{up-enough, up-multiple}
+use Rattle.rounding_rules.specs.Masks.{Ones, Power}
+use Rattle.rounding_rules.specs.Raising.{upTo, bits, powerUp}
+use Rattle.rounding_rules.proofs.Levels.{level-logs, level-doubles}
+use Rattle.rounding_rules.proofs.Masks.{ones-size}
+use Rattle.rounding_rules.proofs.Powers.{log-lt, log-le, power-multiple, bits-zero, bits-suc}
+use Rattle.rounding_rules.proofs.Raising.{up-enough, up-multiple}
 use Rattle.counter.specs.InTable.{BuddyIn}
 use Rattle.counter.specs.Limits.{levelsMost}
 use Rattle.counter.specs.Table.{alignmentOk}

@@ -7,13 +7,13 @@ use native.Mathlib.Nat.{zero-mod}
 use native.Mathlib.Omega.{arith}
 use lib.Dec.{eqb}
 use lib.ListN.{length, getD}
-use Rattle.rounding.specs.Raising.{levelOf}
+use Rattle.rounding_rules.specs.Raising.{levelOf}
 use Rattle.counter.specs.InTable.{BuddyIn}
 use Rattle.counter.specs.Limits.{levelsMost}
 use Rattle.counter.specs.declared.settings.BuddySettings.{BuddySettings}
 use Rattle.slab.specs.Slab.{nowhere}
 use Rattle.slab.specs.declared.Taken.{Taken}
-use Rattle.book.specs.Book.{takenOf}
+use Rattle.book_rules.specs.Book.{takenOf}
 use Rattle.buddy_trees.specs.Trees.{Tree, free, bytes, up, spine}
 use Rattle.buddy_rules.specs.Nodes.{L, nodeOf}
 use Rattle.buddy_rules.specs.Nodes as Nodes
@@ -22,9 +22,9 @@ use Rattle.buddy_rules.specs.Stores.{with, newLoan, delivered}
 use Rattle.buddy_rules.specs.Stores as Stores
 use Rattle.buddy_rules.proofs.Fitting.{up-add}
 use Rattle.buddy_rules.proofs.Made.{delivered-sound}
-use Rattle.buddy_levels.specs.Level.{ringHead, spotIn, part}
-use Rattle.buddy_levels.proofs.Ops.{levelOps}
-use Rattle.buddy_levels.proofs.Parts.{part-good, part-spot}
+use Rattle.buddy_levels_rules.specs.Level.{ringHead, spotIn, part}
+use Rattle.buddy_levels_rules.proofs.Ops.{levelOps}
+use Rattle.buddy_levels_rules.proofs.Parts.{part-good, part-spot}
 use Rattle.buddy_stores.specs.Tables.{Tables, Lengths, levelsIn, placesIn, memoryIn, levelFrom, chunksFrom, loanIn, liveIn, heldIn, highIn, topIn}
 use Rattle.buddy_stores.specs.Moves.{Cut, splitDown}
 use Rattle.buddy_stores.specs.Sound.{Sound}

@@ -10,15 +10,15 @@ use lib.Dec.{eqb, ltb}
 use lib.ListN.{length}
 use borrow.Author.Tests.{eq-eqb, ne-eqb, le-ltb}
 use Rattle.lists.proofs.Bools.{same?}
-use Rattle.rounding.specs.Raising.{levelOf}
-use Rattle.rounding.proofs.Raising.{whole}
+use Rattle.rounding_rules.specs.Raising.{levelOf}
+use Rattle.rounding_rules.proofs.Raising.{whole}
 use Rattle.counter.specs.InTable.{BuddyIn}
 use Rattle.counter.specs.Table.{alignmentOk}
 use Rattle.counter.specs.declared.settings.BuddySettings.{BuddySettings}
 use Rattle.slab.specs.Slab.{nowhere}
 use Rattle.store_rules.specs.Loans.{sizeAt}
-use Rattle.book.specs.Book.{takenOf}
-use Rattle.book.proofs.Keeps.{taken-where}
+use Rattle.book_rules.specs.Book.{takenOf}
+use Rattle.book_rules.proofs.Keeps.{taken-where}
 use Rattle.buddy_trees.specs.Trees.{Tree, free, bytes, up, spine, plant}
 use Rattle.buddy_rules.specs.Nodes.{Ent}
 use Rattle.buddy_rules.specs.Nodes as Nodes
@@ -28,9 +28,9 @@ use Rattle.buddy_rules.specs.Stores.{with, cutLoan, lent}
 use Rattle.buddy_rules.specs.Stores as Stores
 use Rattle.buddy_rules.proofs.Fitting.{up-add, lent-aligned}
 use Rattle.buddy_rules.proofs.Made.{lent-sound}
-use Rattle.buddy_levels.specs.Level.{ringHead, spotIn, acquired, part}
-use Rattle.buddy_levels.proofs.Ops.{levelOps}
-use Rattle.buddy_levels.proofs.Parts.{part-head, part-spot}
+use Rattle.buddy_levels_rules.specs.Level.{ringHead, spotIn, acquired, part}
+use Rattle.buddy_levels_rules.proofs.Ops.{levelOps}
+use Rattle.buddy_levels_rules.proofs.Parts.{part-head, part-spot}
 use Rattle.buddy_stores.specs.Tables.{Tables, Lengths, levelsIn, placesIn, levelFrom, loanCell, loanIn, liveIn, heldIn, highIn, topIn}
 use Rattle.buddy_stores.specs.Moves.{Cut, splitDown, readyNode}
 use Rattle.buddy_stores.specs.Sound.{Sound}

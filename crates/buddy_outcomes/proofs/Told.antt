@@ -50,11 +50,6 @@ module _ (s : BuddySettings) (a : Account) (size mask : ℕ) (t : Tables) (gate 
   full-first eight = answer (refuse 8) (rw (five, six, eight) refl)
 
   module _ (eight : roomOk s size mask t found ≡ true) (ten : countOk s (heapAt a (s .store .heap)) size mask t found ≡ true) where
-    -- an ask for which no device object remains is refused as 9, and leaves the levels grown as it needs and nothing else changed
-    pub nine-grown : objectsOk (a .objects) found ≡ false → askOf s a size mask t ≡ out (Paper.refusal 9 []) a (grownTables s (grownFor s size mask t) t)
-    unfolding carryAsk deniedTables
-    nine-grown nine = answer (refuse 9) (rw (five, six, eight, ten, nine) refl)
-
     module _ (nine : objectsOk (a .objects) found ≡ true) where
       passing : first (askRow s (heapAt a (s .store .heap)) (a .objects) size mask t found) ≡ pass
       passing = rw (five, six, eight, ten, nine) refl

@@ -12,13 +12,13 @@ use lib.Seq.{getD-set-same, getD-set-other, drop-set-add, take-set-le}
 use borrow.Author.Tests.{eq-eqb, ne-eqb}
 use Rattle.lists.proofs.Bools.{same?, true-false}
 use Rattle.words.specs.Words.{cellOf}
-use Rattle.rounding.specs.Raising.{levelOf}
+use Rattle.rounding_rules.specs.Raising.{levelOf}
 use Rattle.counter.specs.Limits.{levelsMost}
 use Rattle.counter.specs.declared.settings.BuddySettings.{BuddySettings}
 use Rattle.slab.specs.Slab.{linkAt, removed, removedLinks, Parted, changed}
 use Rattle.slab.proofs.Places.{parted-same, removed-parted, vacant-set}
 use Rattle.buddy_rules.specs.Stores.{with}
-use Rattle.buddy_levels.specs.Level.{levelWords, part}
+use Rattle.buddy_levels_rules.specs.Level.{levelWords, part}
 use Rattle.buddy_stores.specs.Tables.{Tables, tables, Lengths, chunkWords, memoryAt, chunkSizeAt, chunkPlacesIn, memoryIn, chunkSizeIn, chunksFrom, placeAt, topAt, afterAt, placeWords, heldIn, highIn, topIn, vacantChunk, chunkAfter, chunkSlab}
 use Rattle.buddy_stores.proofs.Abstract.{levels-in}
 use Rattle.buddy_outcomes.specs.Return.{vacatedTree}

@@ -9,7 +9,7 @@ use Rattle.words.specs.Words.{cellOf}
 use Rattle.words.specs.Rows.{written}
 use Rattle.store_rules.specs.Loans.{loanRow, loanWords}
 use Rattle.store_rules.specs.declared.Loan.{Loan}
-use Rattle.book.proofs.Changed.{by-words}
+use Rattle.book_rules.proofs.Changed.{by-words}
 
 module _ (loans : List ℕ) (n p : ℕ) (l : Loan) (long : length loans ≡ loanWords * n) (room : p < n) where
   abbrev one : List ℕ

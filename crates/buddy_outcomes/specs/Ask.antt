@@ -2,13 +2,13 @@
 -- definitions.
 use mathlib.Core.Bool.{Bool, true, false, cond, _&&_, _||_, not}
 use mathlib.Core.List.{List, [], _∷_}
-use Prim.Native.Nat.{ℕ, zero, suc, _+_, _-_, _^_, max}
+use Prim.Native.Nat.{ℕ, zero, suc, _+_, _-_, max}
 use lib.Dec.{eqb, leb, ltb}
 use lib.ListN.{set}
-use Rattle.rounding.specs.Raising.{upTo, powerUp, levelOf}
+use Rattle.rounding_rules.specs.Raising.{upTo, powerUp, levelOf}
 use Rattle.counter.specs.Account.{heapAt}
 use Rattle.counter.specs.Gate.{Verdict, pass, refuse, Row, first}
-use Rattle.counter.specs.Limits.{levelsMost}
+use Rattle.counter.specs.Limits.{levelsMost, spent}
 use Rattle.counter.specs.Paper as Paper
 use Rattle.counter.specs.Table.{alignmentOk}
 use Rattle.counter.specs.declared.account.Account.{Account}
@@ -23,18 +23,14 @@ use Rattle.store_rules.specs.Loans.{loan}
 use Rattle.store_rules.specs.Orders.{Plan, deny, take, buy, orderFrom, keptFrom}
 use Rattle.store_rules.specs.Outcomes.{Out, out, withOrder, blockSaid}
 use Rattle.store_rules.specs.declared.Loan.{Loan}
-use Rattle.book.specs.Book.{takenOf, entered, enteredIndex}
+use Rattle.book_rules.specs.Book.{takenOf, entered, enteredIndex}
 use Rattle.buddy_trees.specs.Trees.{bytes}
 use Rattle.buddy_rules.specs.Nodes.{Ent}
 use Rattle.buddy_rules.specs.Levels.{baseOf}
-use Rattle.buddy_levels.specs.Level.{entOf, ringHead, spotIn, acquired, freshLevel}
+use Rattle.buddy_levels_rules.specs.Level.{entOf, ringHead, spotIn, acquired, freshLevel}
 use Rattle.buddy_stores.specs.Tables.{Tables, tables, givenAt, levelsAt, placesAt, givenIn, levelsIn, placesIn, levelFrom, placeAt, afterAt, placeWords, nodesFrom, chunkSlab}
 use Rattle.buddy_stores.specs.Moves.{Cut, splitDown, readyNode}
 use Rattle.buddy_outcomes.specs.Gate.{gateOf}
-
--- the last number that a count can have given
-abbrev pub spent : ℕ
-spent = 2 ^ 64 - 1
 
 -- ---- what is looked for
 

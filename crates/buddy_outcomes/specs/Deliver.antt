@@ -22,8 +22,8 @@ use Rattle.store_rules.specs.Orders.{leadsTo}
 use Rattle.store_rules.specs.Outcomes.{Out, out, chargedAccount, lostAccount, blockSaid}
 use Rattle.store_rules.specs.Tests.{orderFor, gateRow}
 use Rattle.store_rules.specs.declared.Loan.{Loan}
-use Rattle.book.specs.Book.{takenOf}
-use Rattle.buddy_levels.specs.Level.{spotIn}
+use Rattle.book_rules.specs.Book.{takenOf}
+use Rattle.buddy_levels_rules.specs.Level.{spotIn}
 use Rattle.buddy_stores.specs.Tables.{Tables, tables, chunkPlacesAt, chunkWords, memoryAt, chunkSizeAt, givenIn, levelsIn, placesIn, chunkPlacesIn, memories, levelFrom, chunksFrom, placeAt, topAt, placeWords}
 use Rattle.buddy_stores.specs.Moves.{splitDown}
 use Rattle.buddy_stores.specs.Test.{soundOk}

@@ -9,8 +9,8 @@ use lib.Dec.{ltb}
 use lib.ListN.{length, getD}
 use Rattle.counter.specs.Account.{value, heapAt, noHeap}
 use Rattle.counter.specs.InTable.{BuddyIn}
-use Rattle.counter.specs.Limits.{heapsMost, heapBytesMost, levelsMost}
-use Rattle.counter.specs.Reasons.{Reasons, none, reason, Clear}
+use Rattle.counter.specs.Limits.{heapsMost, heapBytesMost, levelsMost, spent}
+use Rattle.counter.specs.Reasons.{Reasons, none, reason, thereafter, Clear}
 use Rattle.counter.specs.declared.account.Account.{Account}
 use Rattle.counter.specs.declared.account.Heap.{Heap}
 use Rattle.counter.specs.declared.account.KeptOrder.{KeptOrder}
@@ -27,7 +27,7 @@ use Rattle.buddy_stores.specs.Sound.{Sound}
 use Rattle.buddy_stores.specs.Views.{viewOf}
 use Rattle.buddy_stores.specs.Tables.{Tables, Lengths, givenIn, levelsIn, placesIn, chunkPlacesIn, liveIn, loanCell, pairsIn, memories}
 use Rattle.buddy_outcomes.specs.Gate.{heldCount, heldBytes}
-use Rattle.buddy_outcomes.specs.Ask.{spent, sizeFor, levelFor, orderFor}
+use Rattle.buddy_outcomes.specs.Ask.{sizeFor, levelFor, orderFor}
 
 -- ---- 1
 
@@ -76,13 +76,16 @@ pub record Splits (s : BuddySettings) (size mask : ℕ) (t : Tables) (l : ℕ) :
   pub there : l < levelsIn t
   pub none : (j p : ℕ) → levelFor s size mask ≤ j → j ≤ l → 1 < pairsIn s t j p .tag → ⊥
 
--- "no loan place; or a chunk is needed and no chunk place is vacant; or a level that needs a new pair has none", by how many
--- are in use
+-- "a level that needs a new pair has none", by how many are in use
+abbrev pub PairsOut : BuddySettings → ℕ → ℕ → Tables → Type 0
+PairsOut s size mask t = (l : ℕ) × Splits s size mask t l × (s .pairs ≤ pairCount s t l (s .pairs))
+
+-- "no loan place; or a chunk is needed and no chunk place is vacant; or a level that needs a new pair has none"
 abbrev pub Full : BuddySettings → ℕ → ℕ → Tables → Type 0
 Full s size mask t =
     (s .store .loans ≤ liveCount t (placesIn t))
     ⊎ ((Needed s size mask t × (s .store .chunks ≤ heldCount t (chunkPlacesIn t)))
-    ⊎ ((l : ℕ) × Splits s size mask t l × (s .pairs ≤ pairCount s t l (s .pairs))))
+    ⊎ PairsOut s size mask t)
 
 -- "serials are spent; or a chunk is needed and heap used would pass 2^62, the 128-bit allocated total would overflow"
 abbrev pub Spent : BuddySettings → Heap → ℕ → ℕ → Tables → Type 0
@@ -94,6 +97,15 @@ Spent s h size mask t =
 abbrev pub NoObject : BuddySettings → ℕ → ℕ → ℕ → Tables → Type 0
 NoObject s objects size mask t = Needed s size mask t × (objects ≡ 0)
 
+-- 1 to 4 of a call that is lent no list, and of one that is
+abbrev pub gateReasons : BuddySettings → Account → Tables → Reasons
+gateReasons s a t =
+    reason (InTable s a t → ⊥) 1 (reason (OrderOpen a) 2 (reason (Sound s t → ⊥) 3 (reason (Short s a t) 4 none)))
+
+abbrev pub listReasons : BuddySettings → Account → Tables → List ℕ → Reasons
+listReasons s a t list =
+    reason (WithList s a t list → ⊥) 1 (reason (OrderOpen a) 2 (reason (Sound s t → ⊥) 3 (reason (Short s a t) 4 none)))
+
 -- "5, 6, 8, 10, 9 for an ask"
 abbrev pub askTests : BuddySettings → Heap → ℕ → ℕ → ℕ → Tables → Reasons
 askTests s h objects size mask t =
@@ -102,10 +114,7 @@ askTests s h objects size mask t =
     (reason (Full s size mask t) 8 (reason (Spent s h size mask t) 10 (reason (NoObject s objects size mask t) 9 none))))
 
 abbrev pub askReasons : BuddySettings → Account → ℕ → ℕ → Tables → Reasons
-askReasons s a size mask t =
-    reason (InTable s a t → ⊥) 1
-    (reason (OrderOpen a) 2
-    (reason (Sound s t → ⊥) 3 (reason (Short s a t) 4 (askTests s (heapAt a (s .store .heap)) (a .objects) size mask t))))
+askReasons s a size mask t = thereafter (gateReasons s a t) (askTests s (heapAt a (s .store .heap)) (a .objects) size mask t)
 
 -- 3 on a delivery: "tests 5 to 10 on the kept ask" lead "to that order": none of them speaks, a chunk is needed, and this
 -- is the order for it
@@ -116,18 +125,17 @@ pub record Leads (s : BuddySettings) (a : Account) (t : Tables) : Type 0 where
   pub needed : Needed s (kept .ask .size) (kept .ask .mask) t
   pub same : kept .order ≡ orderFrom (s .store) (orderFor s (kept .ask .size) (kept .ask .mask) t)
 
+-- 1 to 4 of a delivery
+abbrev pub keptReasons : BuddySettings → Account → Tables → Reasons
+keptReasons s a t =
+    reason (InTable s a t → ⊥) 1
+    (reason (NoneFor (s .store .number) a) 2 (reason (Sound s t × Leads s a t → ⊥) 3 (reason (Short s a t) 4 none)))
+
 -- "13, 11, 12 for a delivery"
 abbrev pub deliverReasons : BuddySettings → Account → Outcome → Tables → Reasons
 deliverReasons s a o t =
-    reason (InTable s a t → ⊥) 1
-    (reason (NoneFor (s .store .number) a) 2
-    (reason (Sound s t × Leads s a t → ⊥) 3
-    (reason (Short s a t) 4 (reason (UnwelcomeTo a (memories t (chunkPlacesIn t)) o) 13 (reason (DeviceOut o) 11 (reason (HostOut o) 12 none))))))
-
--- 1 to 4 of a call that is lent a list
-abbrev pub gateReasons : BuddySettings → Account → Tables → List ℕ → Reasons
-gateReasons s a t list =
-    reason (WithList s a t list → ⊥) 1 (reason (OrderOpen a) 2 (reason (Sound s t → ⊥) 3 (reason (Short s a t) 4 none)))
+    thereafter (keptReasons s a t)
+    (reason (UnwelcomeTo a (memories t (chunkPlacesIn t)) o) 13 (reason (DeviceOut o) 11 (reason (HostOut o) 12 none)))
 
 -- ---- 7
 
@@ -138,9 +146,7 @@ Stale b t =
 
 -- "7 for a return"
 abbrev pub returnReasons : BuddySettings → Account → Block → Tables → List ℕ → Reasons
-returnReasons s a b t list =
-    reason (WithList s a t list → ⊥) 1
-    (reason (OrderOpen a) 2 (reason (Sound s t → ⊥) 3 (reason (Short s a t) 4 (reason (Stale b t) 7 none))))
+returnReasons s a b t list = thereafter (listReasons s a t list) (reason (Stale b t) 7 none)
 
 -- "Set-up and ranking test only 1"
 abbrev pub setUpReasons : BuddySettings → Tables → Reasons

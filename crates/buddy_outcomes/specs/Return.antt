@@ -1,35 +1,30 @@
 -- What a return to a buddy store says and leaves. 01, "buddy.rs", and test 7. Assumes nothing: these are definitions.
-use mathlib.Core.Bool.{Bool, cond, _&&_, not}
+use mathlib.Core.Bool.{Bool, cond}
 use mathlib.Core.List.{List, [], _∷_}
 use Prim.Native.Nat.{ℕ, _+_, _-_}
-use lib.Dec.{eqb}
 use lib.ListN.{getD, set}
 use lib.Seq.{sets}
 use Rattle.words.specs.Words.{cellOf}
-use Rattle.words.specs.Rows.{row}
-use Rattle.rounding.specs.Raising.{levelOf}
-use Rattle.counter.specs.Gate.{Verdict, pass, refuse}
+use Rattle.rounding_rules.specs.Raising.{levelOf}
 use Rattle.counter.specs.Paper as Paper
 use Rattle.counter.specs.declared.account.Account.{Account}
 use Rattle.counter.specs.declared.answers.Block.{Block}
 use Rattle.counter.specs.declared.settings.BuddySettings.{BuddySettings}
-use Rattle.slab.specs.Slab.{nowhere}
-use Rattle.store_rules.specs.Loans.{loanRow}
 use Rattle.store_rules.specs.Outcomes.{Listed, listed, listOk, releasedAccount}
-pub use Rattle.store_rules.specs.Views.{sameLoan}
-use Rattle.book.specs.Book.{wordTo, struck, struckIndex}
+use Rattle.book_rules.specs.Book.{struck, struckIndex}
+use Rattle.book_rules.specs.Returns as Returns
+pub use Rattle.book_rules.specs.Returns.{Plan, deny, back, decided, gated}
 use Rattle.buddy_stores.specs.Tables.{Tables, tables, chunkWords, chunkSizeAt, levelsIn, placesIn, memoryIn, chunkSizeIn, chunksFrom, placeAt, afterAt, placeWords, nodesFrom}
 use Rattle.buddy_stores.specs.Moves.{Climbed, climbed}
 use Rattle.buddy_outcomes.specs.Gate.{gateOf}
 
 -- the word of the index that leads to the loan with the block's serial, and the loan's place
 abbrev pub wordFor : BuddySettings → Block → Tables → ℕ
-wordFor s b t = wordTo (t .loans) (t .index) (s .store .loans) (placesIn t) (b .serial)
+wordFor s b t = Returns.wordFor (t .loans) (t .index) (s .store .loans) (placesIn t) b
 
 -- 7: "no loan has this serial, chunk, offset and size"
 unfoldable pub onLoanOk : BuddySettings → Block → Tables → Bool
-onLoanOk s b t =
-    not (eqb (wordFor s b t) nowhere) && sameLoan b (row loanRow (getD (t .index) (wordFor s b t) 0) (t .loans))
+onLoanOk s b t = Returns.onLoanOk (t .loans) (t .index) (s .store .loans) (placesIn t) b
 
 -- the climb from the node of the loan that the word w leads to
 abbrev pub climbFor : BuddySettings → Block → ℕ → Tables → Climbed
@@ -51,16 +46,8 @@ givenTables s b w t =
 
 -- ---- the call
 
-pub data Plan : Type 0 where
-  deny : ℕ → Plan
-  back : ℕ → Plan
-
 unfoldable pub decideReturn : BuddySettings → Block → Tables → Plan
-decideReturn s b t = cond (onLoanOk s b t) (back (wordFor s b t)) (deny 7)
-
-abbrev pub gated : Verdict → Plan → Plan
-gated (refuse n) p = deny n
-gated pass p = p
+decideReturn s b t = decided (onLoanOk s b t) (wordFor s b t)
 
 unfoldable pub planReturn : BuddySettings → Account → Block → Tables → Bool → Plan
 planReturn s a b t list = gated (gateOf s a t list) (decideReturn s b t)

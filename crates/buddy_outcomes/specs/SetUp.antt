@@ -8,7 +8,7 @@ use Rattle.counter.specs.Paper as Paper
 use Rattle.counter.specs.Table.{buddyOk}
 use Rattle.counter.specs.declared.settings.BuddySettings.{BuddySettings}
 use Rattle.slab.specs.Slab.{nowhere}
-use Rattle.book.specs.Book.{indexWords}
+use Rattle.book_rules.specs.Book.{indexWords}
 use Rattle.buddy_stores.specs.Tables.{Tables, tables, mark, lengthsOk, chunksFrom, initialLevels}
 use Rattle.buddy_outcomes.specs.Ask.{freshLevels}
 

@@ -1,4 +1,4 @@
--- An ask's plan is what follows the gate. Assumes nothing.
+-- An ask's and a return's plan are what follows the gate. Assumes nothing.
 use mathlib.Core.Path.{_≡_, refl, sym, ap, _∙_}
 use mathlib.Core.Bool.{Bool, true, _&&_}
 use mathlib.Core.List.{List, [], _∷_}
@@ -9,12 +9,15 @@ use Rattle.counter.specs.Gate.{Verdict, pass, refuse, first}
 use Rattle.counter.specs.Table.{alignmentOk}
 use Rattle.counter.specs.declared.account.Account.{Account}
 use Rattle.counter.specs.declared.account.Heap.{Heap}
+use Rattle.counter.specs.declared.answers.Block.{Block}
 use Rattle.counter.specs.declared.settings.BuddySettings.{BuddySettings}
 use Rattle.store_rules.specs.Orders.{Plan, deny}
-use Rattle.book.specs.Book.{takenOf}
+use Rattle.book_rules.specs.Book.{takenOf}
+use Rattle.book_rules.specs.Returns as Returns
 use Rattle.buddy_stores.specs.Tables.{Tables, tables, placesIn}
 use Rattle.buddy_outcomes.specs.Gate.{gateOf}
-use Rattle.buddy_decide.proofs.Reading.{pairs-read}
+use Rattle.buddy_outcomes.specs.Return.{onLoanOk, decideReturn, planReturn}
+use Rattle.buddy_seek.proofs.Reading.{pairs-read}
 use Rattle.buddy_outcomes.specs.Ask.{Found, nowhere, at, levelFor, fromFor, foundFor, sizeOk, pairsRoom, chunkSpot, roomOk, countOk, objectsOk, planned, decideAsk, planAsk}
 
 module _ (s : BuddySettings) (a : Account) (t : Tables) where
@@ -55,3 +58,15 @@ unfolding planAsk
 ask-go s a size mask head loans chunks index tree h p g k e =
     e ∙ ap (λ (x : Heap). decideAsk s x (a .objects) size mask (tables head [] [] index tree)) k
     ∙ ask-few s (heapAt a (s .store .heap)) (a .objects) size mask (tables head loans chunks index tree) ∙ rw (sym g) refl
+
+-- ---- a return
+
+module _ (s : BuddySettings) (a : Account) (b : Block) (t : Tables) (list : Bool) where
+  pub return-shut : (n : ℕ) → refuse n ≡ gateOf s a t list → Returns.deny n ≡ planReturn s a b t list
+  unfolding planReturn
+  return-shut n e = rw (sym e) refl
+
+  pub return-go : (places : ℕ) (p : Returns.Plan) → pass ≡ gateOf s a t list → places ≡ placesIn t
+      → p ≡ Returns.decideReturn (t .loans) (t .index) (s .store .loans) places b → p ≡ planReturn s a b t list
+  unfolding planReturn decideReturn onLoanOk
+  return-go places p e f d = d ∙ ap (λ (n : ℕ). Returns.decideReturn (t .loans) (t .index) (s .store .loans) n b) f ∙ rw (sym e) refl

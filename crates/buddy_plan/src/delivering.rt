@@ -49,7 +49,7 @@ fn is_still(
     match plan {
         Plan::Refuse(_) => false,
         Plan::Take(_) => false,
-        Plan::Buy(z) => store::same_order(order, store::order_from(s.store, z)),
+        Plan::Buy(z) => store_accounts::same_order(order, store_accounts::order_from(s.store, z)),
     }
 }
 
@@ -97,7 +97,7 @@ fn gate_delivery(
     }
     let own = s.store;
     let order = a.order;
-    if !store::is_open_for(own.number, order) {
+    if !store_accounts::is_open_for(own.number, order) {
         return Gate::Shut(Refusal::Order);
     }
     let h = a.heap(own.heap);

@@ -15,10 +15,10 @@ use Rattle.buddy_trees.specs.Trees.{up}
 use Rattle.buddy_rules.specs.Nodes.{Ent}
 use Rattle.buddy_rules.specs.Levels.{sideOf}
 use Rattle.buddy_rules.proofs.Climbs.{node-pair}
-use Rattle.buddy_levels.specs.Level.{ringHead, acquired, part}
-use Rattle.buddy_levels.proofs.Cells.{pair-used}
-use Rattle.buddy_levels.proofs.Ops.{levelOps}
-use Rattle.buddy_levels.proofs.Rings.{head-mem}
+use Rattle.buddy_levels_rules.specs.Level.{ringHead, acquired, part}
+use Rattle.buddy_levels_rules.proofs.Cells.{pair-used}
+use Rattle.buddy_levels_rules.proofs.Ops.{levelOps}
+use Rattle.buddy_levels_rules.proofs.Rings.{head-mem}
 use Rattle.buddy_stores.specs.Tables.{Tables, tables, Lengths, levelsIn, levelFrom, pairsIn, highIn}
 use Rattle.buddy_stores.specs.Moves.{readyNode}
 use Rattle.buddy_stores.specs.Sound.{Sound}

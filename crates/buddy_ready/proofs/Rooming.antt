@@ -12,8 +12,8 @@ use Rattle.buddy_trees.specs.Trees.{up}
 use Rattle.buddy_trees.proofs.Bytes.{up-le}
 use Rattle.buddy_rules.specs.Nodes.{L, nodeOf}
 use Rattle.buddy_rules.proofs.Climbs.{node-pair}
-use Rattle.buddy_levels.specs.Level.{spotIn, added, Good, part}
-use Rattle.buddy_levels.proofs.Parts.{part-good, part-spot, part-added}
+use Rattle.buddy_levels_rules.specs.Level.{spotIn, added, Good, part}
+use Rattle.buddy_levels_rules.proofs.Parts.{part-good, part-spot, part-added}
 use Rattle.buddy_stores.specs.Tables.{levelFrom}
 use Rattle.buddy_stores.specs.Moves.{worded}
 use Rattle.buddy_stores.proofs.Worded.{Short, Fits, within-left, worded-left}

@@ -5,7 +5,7 @@ use mathlib.Core.List.{List}
 use Prim.Native.Nat.{ℕ, _-_, _≤_, _<_}
 use native.Mathlib.Omega.{arith}
 use Rattle.counter.specs.InTable.{BuddyIn}
-use Rattle.counter.specs.Limits.{levelsMost}
+use Rattle.counter.specs.Limits.{levelsMost, spent}
 use Rattle.counter.specs.declared.account.Heap.{Heap}
 use Rattle.counter.specs.declared.settings.BuddySettings.{BuddySettings}
 use Rattle.slab.specs.Slab.{nowhere}
@@ -16,7 +16,7 @@ use Rattle.buddy_stores.specs.Tables.{Tables, Lengths, givenIn, levelsIn}
 use Rattle.buddy_stores.specs.Sound.{Sound}
 use Rattle.buddy_stores.proofs.Splitting.{tree-short}
 use Rattle.buddy_moves.specs.Roomy.{Roomy}
-use Rattle.buddy_outcomes.specs.Ask.{spent, levelFor, grownFor, chunkSpot, decideAsk, grownTables}
+use Rattle.buddy_outcomes.specs.Ask.{levelFor, grownFor, chunkSpot, decideAsk, grownTables}
 use Rattle.buddy_outcomes.specs.Deliver.{chunkTables}
 use Rattle.buddy_outcomes.proofs.Changed.{few-pairs, grown-lengths, grown-given}
 use Rattle.buddy_outcomes.proofs.Chunked.{chunked, chunked-lengths, chunked-level}

@@ -4,9 +4,6 @@ use mathlib.Core.Path.{_≡_}
 use mathlib.Core.Bool.{true}
 use Prim.Native.Nat.{ℕ, _^_, _≤_, _<_}
 use native.Mathlib.Omega.{arith}
-use Rattle.rounding.specs.Raising.{raised}
-use Rattle.rounding.specs.declared.Raised.the-variants.{To}
-use Rattle.rounding.proofs.Raising.{raised-to}
 use Rattle.counter.specs.InTable.{BuddyIn}
 use Rattle.counter.specs.Limits.{levelsMost}
 use Rattle.counter.specs.Table.{alignmentOk}
@@ -24,9 +21,6 @@ use Rattle.buddy_outcomes.proofs.Rounds.{size-low, level-low}
 module _ (s : BuddySettings) (fit : BuddyIn s) (size mask : ℕ) (sized : sizeOk s size mask ≡ true) where
   pub size-held : sizeFor s size mask < 2 ^ 64
   size-held = omega (arith, size-low s fit size mask sized)
-
-  pub size-raised : raised (sizeFor s size mask) ≡ To (sizeFor s size mask)
-  size-raised = raised-to size-held
 
   pub level-held : levelFor s size mask < levelsMost
   level-held = level-low s fit size mask sized

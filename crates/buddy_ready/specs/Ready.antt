@@ -2,18 +2,18 @@
 -- that a passed gate and a decided call give it. Assumes nothing: these are definitions.
 use Prim.Native.Nat.{ℕ, _-_, _^_, _≤_, _<_}
 use lib.ListN.{getD}
-use Rattle.rounding.specs.Raising.{levelOf}
+use Rattle.rounding_rules.specs.Raising.{levelOf}
 use Rattle.counter.specs.InTable.{BuddyIn}
-use Rattle.counter.specs.Limits.{levelsMost, pairsMost, loansMost, chunksMost}
+use Rattle.counter.specs.Limits.{levelsMost, pairsMost, loansMost, chunksMost, spent}
 use Rattle.counter.specs.declared.answers.Block.{Block}
 use Rattle.counter.specs.declared.settings.BuddySettings.{BuddySettings}
 use Rattle.slab.specs.Slab.{nowhere}
-use Rattle.book.specs.Book.{takenOf}
-use Rattle.buddy_levels.specs.Level.{ringHead, spotIn, acquired}
+use Rattle.book_rules.specs.Book.{takenOf}
+use Rattle.buddy_levels_rules.specs.Level.{ringHead, spotIn, acquired}
 use Rattle.buddy_stores.specs.Tables.{Tables, givenIn, levelsIn, placesIn, levelFrom}
 use Rattle.buddy_stores.specs.Moves.{readyNode}
 use Rattle.buddy_moves.specs.Roomy.{Roomy}
-use Rattle.buddy_outcomes.specs.Ask.{spent, chunkSpot, headEnt, loanAt}
+use Rattle.buddy_outcomes.specs.Ask.{chunkSpot, headEnt, loanAt}
 use Rattle.buddy_outcomes.specs.Deliver.{chunkTables}
 
 -- the next loan can be entered

@@ -121,10 +121,3 @@ module _ (u : ℕ) (O : Ops) (K : ℕ → Loan) where
       → Has u l 0 t (record { at = x; lev = lev; who = k + 1 }) → l ≤ lev + f → climb O W f lev (K k .node) ≡ give u O W l w 0 x
   climb-give pu W c l w x lev k f t g y v r h e =
       reached pu W c l nowhere w 0 x lev k f (lev + f - l) t g y v r h (omega arith) ∙ next-top O (give u O W l w 0 x) (lev + f - l) l
-
-  pub climbed : 0 < u → (W : ℕ → O .Lv) (c l w x lev k f : ℕ) (t : Tree) → ((i : ℕ) → i < l → O .Good (W i)) → ((i p : ℕ) → i < l → 0 < entries O W i p .tag → 2 * p + 1 < nowhere) → Wf l t → Rep u (entries O W) K c l 0 nowhere w t
-      → Has u l 0 t (record { at = x; lev = lev; who = k + 1 }) → l ≤ lev + f
-      → (climb O W f lev (K k .node) .freed ≡ give u O W l w 0 x .freed) × ((i : ℕ) → climb O W f lev (K k .node) .levels i ≡ give u O W l w 0 x .levels i)
-  climbed pu W c l w x lev k f t g y v r h e =
-      let z = climb-give pu W c l w x lev k f t g y v r h e in
-      (ap (λ r. r .freed) z, λ i. ap (λ r. r .levels i) z)

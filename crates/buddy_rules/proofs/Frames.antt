@@ -2,7 +2,7 @@
 use mathlib.Core.Path.{_≡_, refl, sym, ap, _∙_}
 use mathlib.Core.Bool.{Bool, true, false}
 use mathlib.Core.Logic.{_⊎_, inl, inr, ⊎-elim}
-use Prim.Native.Nat.{ℕ, zero, suc, _+_, _*_, _≤_, _<_}
+use Prim.Native.Nat.{ℕ, zero, suc, _+_, _≤_, _<_}
 use native.Mathlib.Omega.{arith}
 use lib.Dec.{eqb}
 use borrow.Author.Tests.{ne-eqb}
@@ -12,7 +12,7 @@ use Rattle.buddy_trees.proofs.Bytes.{bytes-suc, bytes-pos}
 use Rattle.buddy_trees.proofs.Fills.{has-in}
 use Rattle.buddy_trees.proofs.Canon.{canon}
 use Rattle.buddy_trees.proofs.Prunes.{prune-wf, prune-has}
-use Rattle.buddy_rules.specs.Nodes.{Ent, Loan, Side, L, R, other, nodeOf, word, place, isFree, tagOf, base, Inside, None, Rep, Keep, Loc, Local}
+use Rattle.buddy_rules.specs.Nodes.{Ent, Loan, Side, L, R, other, nodeOf, place, isFree, tagOf, base, Inside, None, Rep, Keep, Loc, Local}
 
 tag-pos : (a b : Bool) → 0 < tagOf a b
 tag-pos true b = omega arith
@@ -154,46 +154,6 @@ module _ (u : ℕ) where
   rep-loan E K c (suc l) o n w (split a b) y k r (inr h) e =
       let i = rep-loan E K c l (o + bytes u l) (nodeOf (place w) R) (E l (place w) .right) b y k (r .twin) h e in
       (i .0, i .1, i .2, (λ z. absurd (omega (arith, has-in u l (o + bytes u l) b y h .2))))
-
-  -- and where it is not, it is a side of a pair in use, whose word leads back to it
-  pub record Leaf (E : ℕ → ℕ → Ent) (c x lev n k : ℕ) : Type 0 where
-    pub p : ℕ
-    pub s : Side
-    pub node : n ≡ nodeOf p s
-    pub used : 0 < E lev p .tag
-    pub chunk : E lev p .chunk ≡ c
-    pub at : x ≡ base u s (E lev p .off) lev
-    pub holds : word s (E lev p) ≡ 2 * k + 1
-
-  leaf-of : (E : ℕ → ℕ → Ent) (K : ℕ → Loan) (c l o w : ℕ) (s : Side) (t : Tree) (y : Piece) (k : ℕ)
-      → 0 < E l (place w) .tag → E l (place w) .chunk ≡ c → E l (place w) .off ≡ o
-      → Rep u E K c l (base u s o l) (nodeOf (place w) s) (word s (E l (place w))) t → Has u l (base u s o l) t y → y .who ≡ k + 1
-      → (y .lev < l → Leaf E c (y .at) (y .lev) (K k .node) k) → Leaf E c (y .at) (y .lev) (K k .node) k
-  leaf-of E K c l o w s free y k ht hc ho r h e f = absurd h
-  leaf-of E K c l o w s (loan j) y k ht hc ho r h e f =
-      let i : k ≡ j = omega (arith, h .2) in
-      rw (h .1) (record {
-        p = place w;
-        s = s;
-        node = ap (λ d. d .node) (ap K i ∙ r .1);
-        used = ht;
-        chunk = hc;
-        at = h .0 ∙ ap (λ z. base u s z l) (sym ho);
-        holds = r .0 ∙ rw i;
-      })
-  leaf-of E K c zero o w s (split a b) y k ht hc ho r h e f = absurd h
-  leaf-of E K c (suc l) o w s (split a b) y k ht hc ho r h e f = f (⊎-elim (λ i. omega (arith, has-in u l (base u s o (suc l)) a y i .2)) (λ i. omega (arith, has-in u l (base u s o (suc l) + bytes u l) b y i .2)) h)
-
-  pub rep-leaf : (E : ℕ → ℕ → Ent) (K : ℕ → Loan) (c l o n w : ℕ) (t : Tree) (y : Piece) (k : ℕ) → Rep u E K c l o n w t → Has u l o t y → y .who ≡ k + 1 → y .lev < l → Leaf E c (y .at) (y .lev) (K k .node) k
-  rep-leaf E K c l o n w free y k r h e j = absurd h
-  rep-leaf E K c l o n w (loan i) y k r h e j = absurd (omega (arith, h .1))
-  rep-leaf E K c zero o n w (split a b) y k r h e j = absurd h
-  rep-leaf E K c (suc l) o n w (split a b) y k r (inl h) e j =
-      leaf-of E K c l o w L a y k (rw (r .tag) (tag-pos (isFree a) (isFree b))) (r .chunk) (r .off) (r .this) h e
-      (rep-leaf E K c l o (nodeOf (place w) L) (E l (place w) .left) a y k (r .this) h e)
-  rep-leaf E K c (suc l) o n w (split a b) y k r (inr h) e j =
-      leaf-of E K c l o w R b y k (rw (r .tag) (tag-pos (isFree a) (isFree b))) (r .chunk) (r .off) (r .twin) h e
-      (rep-leaf E K c l (o + bytes u l) (nodeOf (place w) R) (E l (place w) .right) b y k (r .twin) h e)
 
   -- a loan that is not there is removed by doing nothing
   pub remove-absent : (k l o : ℕ) (t : Tree) → 0 < u → Wf l t → ((y : Piece) → Has u l o t y → y .who ≡ k + 1 → ⊥) → remove k t ≡ t

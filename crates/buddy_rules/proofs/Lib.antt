@@ -12,4 +12,3 @@ pub mod Uses
 pub mod Returned
 pub mod Made
 pub mod Fitting
-pub mod Closed

@@ -1,21 +1,20 @@
--- A return in a sound store leaves it sound, without that loan, and the order of returns does not matter. Assumes nothing.
+-- A return in a sound store leaves it sound, without that loan. Assumes nothing.
 use mathlib.Core.Path.{_≡_, refl, sym, ap, _∙_}
-use mathlib.Core.Bool.{Bool, true, false, cond, _||_}
+use mathlib.Core.Bool.{true, false, cond}
 use mathlib.Core.Logic.{_⊎_, inl, inr, ⊎-elim}
-use mathlib.Core.List.{List, [], _∷_}
 use Prim.Native.Nat.{ℕ, _+_, _-_, _<_}
 use native.Mathlib.Omega.{arith}
 use lib.Dec.{eqb}
 use borrow.Author.Tests.{eq-eqb, ne-eqb}
 use Rattle.lists.proofs.Bools.{same?, told, true-false}
 use Rattle.slab.specs.Slab.{nowhere}
-use Rattle.buddy_trees.specs.Trees.{Tree, free, loan, split, Piece, Wf, Has, bytes, prune, remove, returns, marked}
+use Rattle.buddy_trees.specs.Trees.{Tree, free, Piece, Wf, Has, bytes, remove}
 use Rattle.buddy_trees.proofs.Fills.{has-in}
-use Rattle.buddy_trees.proofs.Prunes.{prune-wf, prune-has, prune-same, returns-set}
-use Rattle.buddy_rules.specs.Nodes.{isFree, Rep}
+use Rattle.buddy_trees.proofs.Prunes.{prune-wf, prune-has}
+use Rattle.buddy_rules.specs.Nodes.{Rep}
 use Rattle.buddy_rules.specs.Levels.{Ops}
 use Rattle.buddy_rules.specs.Returns.{entries, Out, give}
-use Rattle.buddy_rules.specs.Stores.{with, piece, Store, Sound, climbs, returned, returnedAll}
+use Rattle.buddy_rules.specs.Stores.{with, piece, Store, Sound, climbs, returned}
 use Rattle.buddy_rules.proofs.Frames.{frame, local-keep, rep-zero, rep-loan, remove-absent}
 use Rattle.buddy_rules.proofs.Gave.{Done, gave}
 use Rattle.buddy_rules.proofs.Climbs.{climb-give}
@@ -166,103 +165,3 @@ module _ (u : ℕ) (O : Ops) (some : 0 < u) where
     has = new-has s T S k lv;
     is-live = new-live s T S k lv;
   }
-
-  -- a chunk that is still held keeps its record
-  pub still-held : (s : Store u O) (T : ℕ → Tree) → Sound u O s T → (k : ℕ) → s .live k ≡ true → (b : ℕ) → (remove k (T b) ≡ free → ⊥) → (returned u O s k .high b ≡ s .high b) × (returned u O s k .top b ≡ s .top b)
-  unfolding returned
-  still-held s T S k lv b n = ⊎-elim (λ z. (z .0, z .1)) (λ z. absurd (n (gone-at s T S k lv b (z .2) (z .3)))) (chunk-cases s T S k lv b)
-
--- ---- returns one after another
-
-pub free? : (t : Tree) → (t ≡ free) ⊎ (t ≡ free → ⊥)
-free? free = inl refl
-free? (loan k) = inr (λ e. true-false true refl (ap isFree (sym e)))
-free? (split a b) = inr (λ e. true-false true refl (ap isFree (sym e)))
-
-returns-free : (ks : List ℕ) → returns ks free ≡ free
-unfolding returns
-returns-free [] = refl
-returns-free (k ∷ ks) = returns-free ks
-
--- different loans, all live
-abbrev pub NotIn : ℕ → List ℕ → Type 0
-NotIn k [] = Unit {0}
-NotIn k (j ∷ js) = (j ≡ k → ⊥) × NotIn k js
-
-abbrev pub AllLive : (ℕ → Bool) → List ℕ → Type 0
-AllLive f [] = Unit {0}
-AllLive f (k ∷ ks) = (f k ≡ true) × NotIn k ks × AllLive f ks
-
-still : (f : ℕ → Bool) (k : ℕ) (ks : List ℕ) → NotIn k ks → AllLive f ks → AllLive (with f k false) ks
-still f k [] n a = tt
-still f k (j ∷ js) n a = (rw (ne-eqb j k (n .0)) (a .0), a .1, still f k js (n .1) (a .2))
-
-eqb-swap : (j k : ℕ) → eqb j k ≡ eqb k j
-eqb-swap j k = ⊎-elim (λ e. eq-eqb j k e ∙ sym (eq-eqb k j (sym e))) (λ n. ne-eqb j k n ∙ sym (ne-eqb k j (λ e. n (sym e)))) (same? j k)
-
-module _ (u : ℕ) (O : Ops) (some : 0 < u) where
-  -- any different loans come back one after another, and none is refused
-  pub sound-all : (s : Store u O) (T : ℕ → Tree) (ks : List ℕ) → Sound u O s T → AllLive (s .live) ks → Sound u O (returnedAll u O s ks) (λ b. returns ks (T b))
-  unfolding returnedAll returns returned
-  sound-all s T [] S a = S
-  sound-all s T (k ∷ ks) S a = sound-all (returned u O s k) (λ b. remove k (T b)) ks (returned-sound u O some s T S k (a .0)) (still (s .live) k ks (a .1) (a .2))
-
-  pub live-all : (s : Store u O) (ks : List ℕ) (j : ℕ) → returnedAll u O s ks .live j ≡ cond (marked ks j) false (s .live j)
-  unfolding returnedAll marked returned
-  live-all s [] j = refl
-  live-all s (k ∷ ks) j = live-all (returned u O s k) ks j ∙ rw (eqb-swap j k) (by (eqb k j) (marked ks j))
-    where
-      by : (b m : Bool) → cond m false (cond b false (s .live j)) ≡ cond (b || m) false (s .live j)
-      by true true = refl
-      by true false = refl
-      by false m = refl
-
-  pub loans-all : (s : Store u O) (ks : List ℕ) → returnedAll u O s ks .loans ≡ s .loans
-  unfolding returnedAll returned
-  loans-all s [] = refl
-  loans-all s (k ∷ ks) = loans-all (returned u O s k) ks
-
-  pub held-all : (s : Store u O) (T : ℕ → Tree) (ks : List ℕ) → Sound u O s T → AllLive (s .live) ks → (b : ℕ) → (returns ks (T b) ≡ free → ⊥) → (returnedAll u O s ks .high b ≡ s .high b) × (returnedAll u O s ks .top b ≡ s .top b)
-  unfolding returnedAll returns returned
-  held-all s T [] S a b n = (refl, refl)
-  held-all s T (k ∷ ks) S a b n =
-      let h = still-held u O some s T S k (a .0) b (λ e. n (ap (returns ks) e ∙ returns-free ks)) in
-      let r = held-all (returned u O s k) (λ b. remove k (T b)) ks (returned-sound u O some s T S k (a .0)) (still (s .live) k ks (a .1) (a .2)) b n in
-      (r .0 ∙ h .0, r .1 ∙ h .1)
-
-  chunks-same : (s : Store u O) (T : ℕ → Tree) (ks js : List ℕ) → Sound u O s T → AllLive (s .live) ks → AllLive (s .live) js → (b : ℕ) → returns ks (T b) ≡ returns js (T b)
-      → (returnedAll u O s ks .high b ≡ returnedAll u O s js .high b) × (returnedAll u O s ks .top b ≡ returnedAll u O s js .top b)
-  chunks-same s T ks js S a c b e = ⊎-elim
-      (λ f.
-      let x = sound-all s T ks S a .held b f in
-      let y = sound-all s T js S c .held b (sym e ∙ f) in
-      (x .0 ∙ sym (y .0), x .1 ∙ sym (y .1)))
-      (λ n.
-      let x = held-all s T ks S a b n in
-      let y = held-all s T js S c b (λ f. n (e ∙ f)) in
-      (x .0 ∙ sym (y .0), x .1 ∙ sym (y .1)))
-      (free? (returns ks (T b)))
-
-  -- two orders of the same loans end alike
-  pub record Same (s : Store u O) (T : ℕ → Tree) (ks js : List ℕ) : Type 0 where
-    pub one : Sound u O (returnedAll u O s ks) (λ b. returns ks (T b))
-    pub two : Sound u O (returnedAll u O s js) (λ b. returns js (T b))
-    pub trees : (b : ℕ) → returns ks (T b) ≡ returns js (T b)
-    pub live : (k : ℕ) → returnedAll u O s ks .live k ≡ returnedAll u O s js .live k
-    pub loans : returnedAll u O s ks .loans ≡ returnedAll u O s js .loans
-    pub chunks : (b : ℕ) → (returnedAll u O s ks .high b ≡ returnedAll u O s js .high b) × (returnedAll u O s ks .top b ≡ returnedAll u O s js .top b)
-    pub left : (b : ℕ) → returns ks (T b) ≡ prune (marked ks) (T b)
-
-  -- so the order of returns does not matter, only their set
-  pub any-order : (s : Store u O) (T : ℕ → Tree) (ks js : List ℕ) → Sound u O s T → AllLive (s .live) ks → AllLive (s .live) js → ((k : ℕ) → marked ks k ≡ marked js k) → Same s T ks js
-  any-order s T ks js S a b e =
-      let t : (c : ℕ) → returns ks (T c) ≡ returns js (T c) = λ c. returns-set ks (s .high c) (T c) (S .wf c) ∙ prune-same (marked ks) (marked js) (T c) e ∙ sym (returns-set js (s .high c) (T c) (S .wf c)) in
-      record {
-        one = sound-all s T ks S a;
-        two = sound-all s T js S b;
-        trees = t;
-        live = λ k. live-all s ks k ∙ ap (λ m. cond m false (s .live k)) (e k) ∙ sym (live-all s js k);
-        loans = loans-all s ks ∙ sym (loans-all s js);
-        chunks = λ c. chunks-same s T ks js S a b c (t c);
-        left = λ c. returns-set ks (s .high c) (T c) (S .wf c);
-      }

@@ -2,7 +2,6 @@
 -- to it. 01, "buddy.rs" and "Sound". Assumes nothing: these are definitions.
 use mathlib.Core.Path.{_≡_}
 use mathlib.Core.Bool.{Bool, true, false, cond}
-use mathlib.Core.List.{List, [], _∷_}
 use Prim.Native.Nat.{ℕ, suc, _+_, _-_, _*_, _≤_, _<_}
 use lib.Dec.{eqb}
 use Rattle.slab.specs.Slab.{nowhere}
@@ -65,10 +64,6 @@ module _ (u : ℕ) (O : Ops) where
         high = with (s .high) c (cond (r .freed) 0 (s .high c));
         top = with (s .top) c (cond (r .freed) 0 (s .top c));
       }
-
-  unfoldable pub returnedAll : Store → List ℕ → Store
-  returnedAll s [] = s
-  returnedAll s (k ∷ ks) = returnedAll (returned s k) ks
 
   -- ---- a loan
 

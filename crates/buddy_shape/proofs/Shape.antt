@@ -6,7 +6,7 @@ use native.Mathlib.Nat.{mul-le-mul-left, mul-le-mul}
 use lib.Pow.{shl-exact, pow-mono}
 use Rattle.counter.specs.Limits.{levelsMost, pairsMost, minimalBits}
 use Rattle.buddy_trees.specs.Trees.{bytes}
-use Rattle.buddy_levels.specs.Level.{baseMost, levelWords}
+use Rattle.buddy_levels_rules.specs.Level.{baseMost, levelWords}
 use Rattle.buddy_stores.specs.Tables.{levelAfter}
 
 pub level-low : (pairs l : ℕ) → pairs ≤ pairsMost → l ≤ levelsMost → levelAfter pairs l ≤ baseMost

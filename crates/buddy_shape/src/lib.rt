@@ -3,7 +3,7 @@ ghost use mathlib.Core.Path.{_≡_};
 ghost use Prim.Native.Nat.{_+_, _*_, _^_, _≤_, _<_};
 ghost use Rattle.counter.specs.Limits.{levelsMost, pairsMost, chunksMost, minimalBits};
 ghost use Rattle.buddy_trees.specs.Trees.{bytes};
-ghost use Rattle.buddy_levels.specs.Level.{baseMost, levelWords};
+ghost use Rattle.buddy_levels_rules.specs.Level.{baseMost, levelWords};
 ghost use Rattle.buddy_stores.specs.Tables.{levelAfter, placeWords};
 use buddy_levels::HEADER_WORDS;
 use buddy_levels::PAIR_WORDS;

@@ -20,12 +20,12 @@ use Rattle.buddy_rules.specs.Stores as Stores
 use Rattle.buddy_rules.specs.Returns.{entries}
 use Rattle.buddy_rules.proofs.Frames.{frame}
 use Rattle.buddy_rules.proofs.Sides.{not-taken}
-use Rattle.buddy_rules.proofs.Returned.{free?}
-use Rattle.buddy_levels.specs.Level.{levelWords, Good, part, pairIn}
-use Rattle.buddy_levels.proofs.Ops.{levelOps}
-use Rattle.buddy_levels.proofs.Cells.{tagged-used}
-use Rattle.buddy_levels.proofs.Rings.{used-below}
-use Rattle.buddy_levels.proofs.Parts.{part-length, part-pair, part-good}
+use Rattle.buddy_trees.proofs.Canon.{free?}
+use Rattle.buddy_levels_rules.specs.Level.{levelWords, Good, part, pairIn}
+use Rattle.buddy_levels_rules.proofs.Ops.{levelOps}
+use Rattle.buddy_levels_rules.proofs.Cells.{tagged-used}
+use Rattle.buddy_levels_rules.proofs.Rings.{used-below}
+use Rattle.buddy_levels_rules.proofs.Parts.{part-length, part-pair, part-good}
 use Rattle.buddy_stores.specs.Tables.{Tables, Lengths, levelsIn, chunkSizeIn, levelFrom, chunksFrom, pairsIn, loanCell, loanIn, liveIn, heldIn, highIn, topIn, initialLevels}
 use Rattle.buddy_stores.specs.Sound.{Sound, Trees}
 use Rattle.buddy_stores.proofs.Walks.{minimal-pos}

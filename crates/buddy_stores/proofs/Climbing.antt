@@ -23,11 +23,11 @@ use Rattle.buddy_rules.proofs.Frames.{rep-taken}
 use Rattle.buddy_rules.proofs.Sides.{tag-one, tag-ready, tag-any, NodeBy, to-side, not-free, has-taken}
 use Rattle.buddy_rules.proofs.Puts.{put-other}
 use Rattle.buddy_rules.proofs.Climbs.{node-pair, node-side}
-use Rattle.buddy_levels.specs.Level.{entOf, pairIn, dropped, backed, Good, part}
-use Rattle.buddy_levels.proofs.Ops.{levelOps}
-use Rattle.buddy_levels.proofs.Cells.{pair-used, tagged-used}
-use Rattle.buddy_levels.proofs.Parts.{part-pair, part-good, part-dropped, part-backed}
-use Rattle.buddy_levels.proofs.Within.{Within}
+use Rattle.buddy_levels_rules.specs.Level.{entOf, pairIn, dropped, backed, Good, part}
+use Rattle.buddy_levels_rules.proofs.Ops.{levelOps}
+use Rattle.buddy_levels_rules.proofs.Cells.{pair-used, tagged-used}
+use Rattle.buddy_levels_rules.proofs.Parts.{part-pair, part-good, part-dropped, part-backed}
+use Rattle.buddy_levels_rules.proofs.Within.{Within}
 use Rattle.buddy_stores.specs.Tables.{Tables, Lengths, levelsIn, levelFrom, chunksFrom, loanIn, liveIn, highIn, topIn}
 use Rattle.buddy_stores.specs.Sound.{Sound}
 use Rattle.buddy_stores.specs.Moves.{sideIn, Climbed, climbed}

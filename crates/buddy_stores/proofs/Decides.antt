@@ -15,11 +15,11 @@ use Rattle.slab.specs.Slab.{nowhere}
 use Rattle.slab.specs.Test.{partedOk}
 use Rattle.slab.proofs.Decides.{decides-yes, decides-all}
 use Rattle.store_rules.specs.Loans.{sizeAt}
-use Rattle.book.specs.Book.{serialOf}
-use Rattle.book.proofs.Decides.{chains-yes, chains-all}
-use Rattle.buddy_levels.specs.Level.{usedAt, Good}
-use Rattle.buddy_levels.specs.Test.{goodOk}
-use Rattle.buddy_levels.proofs.Decides.{good-yes, good-all}
+use Rattle.book_rules.specs.Book.{serialOf}
+use Rattle.book_rules.proofs.Decides.{chains-yes, chains-all}
+use Rattle.buddy_levels_rules.specs.Level.{usedAt, Good}
+use Rattle.buddy_levels_rules.specs.Test.{goodOk}
+use Rattle.buddy_levels_rules.proofs.Decides.{good-yes, good-all}
 use Rattle.buddy_stores.specs.Tables.{Tables, mark, markAt, givenIn, levelsIn, placesIn, chunkPlacesIn, memoryIn, levelFrom, pairsIn, loanCell, loanIn, liveIn, heldIn, vacantChunk, chunkAfter, chunkSlab, vacantLoan, loanAfter, loanSlab, chainStart, chainNext, initialLevels}
 use Rattle.buddy_stores.specs.Sound.{Sound}
 use Rattle.buddy_stores.specs.Test.{every, memoriesOk, unitsOk, soundRow, soundOk}

@@ -10,23 +10,22 @@ use lib.Dec.{eqb, ltb}
 use borrow.Author.Tests.{ltb-true}
 use Rattle.lists.proofs.Bools.{and-left, and-right, not-yes}
 use Rattle.words.proofs.Records.{cell-row}
-use Rattle.rounding.specs.Raising.{levelOf}
+use Rattle.rounding_rules.specs.Raising.{levelOf}
 use Rattle.counter.specs.InTable.{BuddyIn}
 use Rattle.counter.specs.declared.settings.BuddySettings.{BuddySettings}
 use Rattle.slab.specs.Slab.{nowhere}
 use Rattle.store_rules.specs.Loans.{loanWords, serialAt, sizeAt}
 use Rattle.store_rules.specs.declared.Chunk.{Chunk}
 use Rattle.store_rules.specs.declared.Loan.{Loan}
-use Rattle.book.specs.Book.{serialOf}
-use Rattle.book.proofs.Decides.{serial-once}
+use Rattle.book_rules.specs.Book.{serialOf}
+use Rattle.book_rules.proofs.Decides.{serial-once}
 use Rattle.buddy_trees.specs.Trees.{Tree, free, loan, split, Taken, Apart, Wf, Piece, Has, bytes}
-use Rattle.buddy_trees.proofs.Canon.{taken-loan}
+use Rattle.buddy_trees.proofs.Canon.{taken-loan, has-who}
 use Rattle.buddy_chunks.specs.Chunks.{treeOf, pieceOf, piecesIn, highOf, treeIn, Standing, lies}
 use Rattle.buddy_chunks.proofs.Canonical.{tree-is}
 use Rattle.buddy_chunks.proofs.Ending.{lies-mem}
 use Rattle.buddy_chunks.proofs.Pieces.{piece-mem}
 use Rattle.buddy_rules.specs.Stores.{piece}
-use Rattle.buddy_rules.proofs.Closed.{has-who}
 use Rattle.buddy_rules.proofs.Frames.{rep-loan}
 use Rattle.buddy_stores.specs.Tables.{Tables, givenIn, placesIn, chunkSizeIn, pairsIn, loanCell, loanIn, liveIn, heldIn, highIn, topIn, vacantLoan, chainStart, chainNext}
 use Rattle.buddy_stores.specs.Sound.{Sound}
@@ -88,10 +87,6 @@ module _ (f : ℕ → ℕ) where
     under-has zero o (split a b) x y h p q r = absurd h
     under-has (suc l) o (split a b) x y (inl h) p q r = inl (under-has l o a x y h p q r)
     under-has (suc l) o (split a b) x y (inr h) p q r = inr (under-has l (o + bytes u l) b x y h p q r)
-
-    -- so the loans of the tree with other names are those of the tree, by them
-    pub named-has : (l o : ℕ) (t : Tree) (y : Piece) → Has u l o (named t) y ↔ Under l o t y
-    named-has l o t y = (has-under l o t y, λ w. under-has l o t (w .0) y (w .1) (w .2) (w .3) (w .4))
 
 -- ---- the trees of a sound store
 

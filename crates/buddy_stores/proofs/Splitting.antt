@@ -21,12 +21,12 @@ use Rattle.buddy_rules.specs.Lends.{Grown, grow, loanNode, headNode, lend}
 use Rattle.buddy_rules.specs.Stores.{headEnt}
 use Rattle.buddy_rules.proofs.Grown.{grow-above}
 use Rattle.buddy_rules.proofs.Climbs.{node-pair, node-side}
-use Rattle.buddy_levels.specs.Level.{usedAt, leftAt, sideAt, pairCell, entOf, pairIn, ringHead, spotIn, acquired, added, Good, part}
-use Rattle.buddy_levels.proofs.Ops.{levelOps}
-use Rattle.buddy_levels.proofs.Cells.{pair-used}
-use Rattle.buddy_levels.proofs.Rings.{used-below, head-mem}
-use Rattle.buddy_levels.proofs.Parts.{part-ent, part-pair, part-good, part-spot, part-head, part-added, part-acquired}
-use Rattle.buddy_levels.proofs.Within.{Within}
+use Rattle.buddy_levels_rules.specs.Level.{usedAt, leftAt, sideAt, pairCell, entOf, pairIn, ringHead, spotIn, acquired, added, Good, part}
+use Rattle.buddy_levels_rules.proofs.Ops.{levelOps}
+use Rattle.buddy_levels_rules.proofs.Cells.{pair-used}
+use Rattle.buddy_levels_rules.proofs.Rings.{used-below, head-mem}
+use Rattle.buddy_levels_rules.proofs.Parts.{part-ent, part-pair, part-good, part-spot, part-head, part-added, part-acquired}
+use Rattle.buddy_levels_rules.proofs.Within.{Within}
 use Rattle.buddy_stores.specs.Tables.{Tables, Lengths, levelsIn, levelFrom, chunksFrom, treeWords}
 use Rattle.buddy_stores.specs.Sound.{Sound}
 use Rattle.buddy_stores.specs.Moves.{sideIn, Cut, worded, splitDown, readyNode}
@@ -169,17 +169,6 @@ module _ (s : BuddySettings) (small : s .pairs ≤ 2 ^ 32) where
 
       levels : (i : ℕ) → i < levelsMost → part (s .pairs) i (splitDown (s .pairs) lev c 0 k nowhere (suc d) t .tree) ≡ chain s small lev c 0 k W nowhere (suc d) .levels i
       levels i l = ⊎-elim (X .below i) (λ j. same i l j ∙ a i l ∙ sym (chain-above s small lev c 0 k W nowhere (suc d) i j)) (lt-or-le i (up (suc d) lev))
-
-  pub grown-is : (t : Tables) → BuddyIn s → Lengths s t → Sound s t → (lev d c k : ℕ) → up d lev < levelsIn t
-      → ((i : ℕ) → lev ≤ i → i ≤ up d lev → levelOps (s .pairs) small .Room (part (s .pairs) i (t .tree)))
-      → let O = levelOps (s .pairs) small in
-      let W = storeOf s small t .levels in
-      let r = splitDown (s .pairs) lev c 0 k nowhere (suc d) (t .tree) in
-      (r .node ≡ nodeOf (O .spot (W lev)) L) × ((i : ℕ) → i < levelsMost → part (s .pairs) i (r .tree) ≡ grow (s .minimal) O W lev c 0 k nowhere (suc d) .levels i)
-      × ((i : ℕ) → chunksFrom s ≤ i → getD (r .tree) i 0 ≡ getD (t .tree) i 0) × (length (r .tree) ≡ length (t .tree))
-  grown-is t fit len S lev d c k h room =
-      grown-in (t .tree) (λ (i : ℕ). part (s .pairs) i (t .tree)) fit (len .tree) (λ i j. refl) lev d c k (omega (arith, S .levels-most))
-      (λ i j b. part-good (s .pairs) i (t .tree) .0 (S .good i (omega arith))) room
 
   -- ---- the head's ready side at level i
 

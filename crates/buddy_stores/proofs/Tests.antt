@@ -14,7 +14,7 @@ use Rattle.buddy_trees.specs.Trees.{bytes}
 use Rattle.buddy_rules.specs.Nodes.{nodeOf, word}
 use Rattle.buddy_rules.specs.Levels.{sideBy}
 use Rattle.buddy_rules.proofs.Climbs.{node-pair, node-side, node-some}
-use Rattle.buddy_levels.specs.Level.{usedAt}
+use Rattle.buddy_levels_rules.specs.Level.{usedAt}
 use Rattle.buddy_stores.specs.Tables.{Tables, levelsIn, placesIn, chunkPlacesIn, chunkSizeIn, levelFrom, pairsIn, loanIn, liveIn, heldIn, highIn, topIn, initialLevels}
 use Rattle.buddy_stores.specs.Test.{every, nodeOk, chunkOk, leadsOk, pairOk, loanOk, treesOk}
 use Rattle.buddy_stores.proofs.Leads.{Leads}

@@ -9,8 +9,8 @@ use lib.Dec.{eqb}
 use lib.Pow.{pow-pos, pow-lt, pow-mono, shl-lt}
 use borrow.Author.Tests.{eqb-true, eq-eqb, ne-eqb}
 use Rattle.lists.proofs.Bools.{true-false, and-left, and-right, and-both, not-yes, same?}
-use Rattle.rounding.specs.Raising.{levelOf}
-use Rattle.rounding.proofs.Levels.{level-is}
+use Rattle.rounding_rules.specs.Raising.{levelOf}
+use Rattle.rounding_rules.proofs.Levels.{level-is}
 use Rattle.counter.specs.Limits.{levelsMost}
 use Rattle.counter.specs.InTable.{BuddyIn}
 use Rattle.counter.specs.declared.settings.BuddySettings.{BuddySettings}

@@ -12,11 +12,11 @@ use Rattle.counter.specs.Limits.{levelsMost}
 use Rattle.counter.specs.declared.settings.BuddySettings.{BuddySettings}
 use Rattle.slab.specs.Slab.{nowhere}
 use Rattle.buddy_rules.specs.Levels.{sideOf}
-use Rattle.buddy_levels.specs.Level.{ringAt, usedAt, vacatedAt, tagAt, chunkAt, offAt, leftAt, rightAt, nextAt, prevAt, upAt, sideAt, pairCell, entOf, ringHead, spotIn, leaves, acquired, added, part}
-use Rattle.buddy_levels.proofs.Stores.{puts, stored}
-use Rattle.buddy_levels.proofs.Rows.{added-puts}
-use Rattle.buddy_levels.proofs.Sides.{side-in}
-use Rattle.buddy_levels.proofs.Within.{Within, within}
+use Rattle.buddy_levels_rules.specs.Level.{ringAt, usedAt, vacatedAt, tagAt, chunkAt, offAt, leftAt, rightAt, nextAt, prevAt, upAt, sideAt, pairCell, entOf, ringHead, spotIn, leaves, acquired, added, part}
+use Rattle.buddy_levels_rules.proofs.Stores.{puts, stored}
+use Rattle.buddy_levels_rules.proofs.Rows.{added-puts}
+use Rattle.buddy_levels_rules.proofs.Sides.{side-in}
+use Rattle.buddy_levels_rules.proofs.Within.{Within, within}
 use Rattle.buddy_stores.specs.Tables.{levelFrom, chunksFrom}
 use Rattle.buddy_stores.specs.Moves.{sideIn, worded}
 use Rattle.buddy_stores.proofs.Abstract.{levels-in}

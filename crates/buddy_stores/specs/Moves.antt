@@ -8,7 +8,7 @@ use Rattle.slab.specs.Slab.{nowhere}
 use Rattle.buddy_trees.specs.Trees.{up}
 use Rattle.buddy_rules.specs.Nodes.{Side, L, nodeOf, other, word}
 use Rattle.buddy_rules.specs.Levels.{sideBy, sideOf}
-use Rattle.buddy_levels.specs.Level.{sideAt, pairCell, entOf, ringHead, spotIn, dropped, backed, added}
+use Rattle.buddy_levels_rules.specs.Level.{sideAt, pairCell, entOf, ringHead, spotIn, dropped, backed, added}
 use Rattle.buddy_stores.specs.Tables.{levelAfter}
 
 -- the side of node n

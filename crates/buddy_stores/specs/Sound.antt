@@ -6,12 +6,12 @@ use lib.ListN.{getD}
 use Rattle.counter.specs.Limits.{levelsMost}
 use Rattle.counter.specs.declared.settings.BuddySettings.{BuddySettings}
 use Rattle.slab.specs.Slab.{nowhere, Parted}
-use Rattle.book.specs.Book.{serialOf}
-use Rattle.book.specs.Chains.{Chained}
+use Rattle.book_rules.specs.Book.{serialOf}
+use Rattle.book_rules.specs.Chains.{Chained}
 use Rattle.buddy_trees.specs.Trees.{Tree, Taken, Piece, Wf, Has, bytes}
 use Rattle.buddy_rules.specs.Nodes.{Rep}
 use Rattle.buddy_rules.specs.Stores.{piece}
-use Rattle.buddy_levels.specs.Level.{Good}
+use Rattle.buddy_levels_rules.specs.Level.{Good}
 use Rattle.buddy_stores.specs.Tables.{Tables, mark, markAt, givenIn, levelsIn, placesIn, memoryIn, chunkSizeIn, levelFrom, pairsIn, loanCell, loanIn, liveIn, heldIn, highIn, topIn, vacantChunk, chunkAfter, chunkSlab, vacantLoan, loanAfter, loanSlab, chainStart, chainNext, initialLevels}
 use Rattle.store_rules.specs.Loans.{sizeAt}
 

@@ -8,15 +8,15 @@ use lib.Dec.{eqb, ltb}
 use lib.ListN.{length, getD}
 use Rattle.lists.specs.Tests.{all}
 use Rattle.words.specs.Words.{cellOf}
-use Rattle.rounding.specs.Raising.{levelOf}
+use Rattle.rounding_rules.specs.Raising.{levelOf}
 use Rattle.counter.specs.Limits.{levelsMost}
 use Rattle.counter.specs.declared.settings.BuddySettings.{BuddySettings}
 use Rattle.slab.specs.Slab.{vacantAt, linkAt}
 use Rattle.slab.specs.declared.Slab.{Slab}
 use Rattle.store_rules.specs.Loans.{loanWords, sizeAt}
-use Rattle.book.specs.Book.{indexWords, entryWords, vacantAfterAt, firstOf, nextOf, slabOf}
+use Rattle.book_rules.specs.Book.{indexWords, entryWords, vacantAfterAt, firstOf, nextOf, slabOf}
 use Rattle.buddy_rules.specs.Nodes.{Ent, Loan}
-use Rattle.buddy_levels.specs.Level.{levelWords, pairIn}
+use Rattle.buddy_levels_rules.specs.Level.{levelWords, pairIn}
 
 pub record Tables : Type 0 where
   pub head : List ℕ

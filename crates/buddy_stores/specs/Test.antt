@@ -10,15 +10,15 @@ use Rattle.store_rules.specs.Loans.{sizeAt}
 use Rattle.buddy_trees.specs.Trees.{bytes}
 use Rattle.buddy_rules.specs.Nodes.{Ent, L, R, nodeOf, word, place, tagOf}
 use Rattle.buddy_rules.specs.Levels.{sideBy}
-use Rattle.buddy_levels.specs.Level.{usedAt}
+use Rattle.buddy_levels_rules.specs.Level.{usedAt}
 use Rattle.buddy_stores.specs.Tables.{Tables, mark, markAt, givenIn, memoryIn, vacantLoan, loanAfter, loanSlab, chainStart, chainNext, vacantChunk, chunkAfter, chunkSlab, levelsIn, placesIn, chunkPlacesIn, chunkSizeIn, levelFrom, pairsIn, loanCell, loanIn, liveIn, heldIn, highIn, topIn, initialLevels}
 use lib.ListN.{getD}
 use Rattle.lists.specs.Tests.{all}
 use Rattle.counter.specs.Limits.{levelsMost}
 use Rattle.slab.specs.Test.{partedOk}
-use Rattle.book.specs.Book.{serialOf}
-use Rattle.book.specs.Chains.{chainsOk}
-use Rattle.buddy_levels.specs.Test.{goodOk}
+use Rattle.book_rules.specs.Book.{serialOf}
+use Rattle.book_rules.specs.Chains.{chainsOk}
+use Rattle.buddy_levels_rules.specs.Test.{goodOk}
 
 -- p holds of each number below n
 abbrev pub every : (ℕ → Bool) → ℕ → Bool

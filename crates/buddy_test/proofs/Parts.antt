@@ -10,7 +10,7 @@ use borrow.Author.Tests.{lt-ltb}
 use Rattle.words.specs.Words.{cellOf}
 use Rattle.words.specs.Rows.{row}
 use Rattle.words.proofs.Records.{cell-row}
-use Rattle.rounding.proofs.Masks.{masked}
+use Rattle.rounding_rules.proofs.Masks.{masked}
 use Rattle.counter.specs.InTable.{BuddyIn}
 use Rattle.counter.specs.Limits.{levelsMost}
 use Rattle.counter.specs.declared.settings.BuddySettings.{BuddySettings}
@@ -18,8 +18,8 @@ use Rattle.slab.specs.Slab.{vacantAt, linkAt}
 use Rattle.slab.specs.Test.{partedOk}
 use Rattle.store_rules.specs.Loans.{loanWords, sizeAt, loanRow}
 use Rattle.store_rules.specs.declared.Loan.{Loan}
-use Rattle.buddy_levels.specs.Level.{levelWords}
-use Rattle.buddy_levels.specs.Test.{goodOk}
+use Rattle.buddy_levels_rules.specs.Level.{levelWords}
+use Rattle.buddy_levels_rules.specs.Test.{goodOk}
 use Rattle.buddy_shape.specs.Seen.{seen, looked}
 use Rattle.buddy_stores.specs.Tables.{mark, markAt, levelsAt, initialLevels, levelAfter, chunkWords, chunkSizeAt, placeWords, afterAt, vacantChunk, chunkAfter, chunkSlab}
 use Rattle.buddy_stores.specs.Test.{unitsOk}

@@ -6,7 +6,7 @@ use Prim.Native.Nat.{ℕ, _+_}
 use lib.ListN.{getD}
 use Rattle.lists.proofs.Bools.{not-yes, not-no}
 use Rattle.counter.specs.declared.settings.BuddySettings.{BuddySettings}
-use Rattle.buddy_levels.specs.Level.{usedAt}
+use Rattle.buddy_levels_rules.specs.Level.{usedAt}
 use Rattle.buddy_shape.specs.Seen.{read, seen, looked}
 use Rattle.buddy_stores.specs.Tables.{Tables, levelsIn, placesIn, chunkPlacesIn, levelAfter}
 use Rattle.buddy_stores.specs.Test.{every, chunkOk, pairOk, loanOk, treesOk}

@@ -14,12 +14,12 @@ use Rattle.counter.specs.InTable.{BuddyIn}
 use Rattle.counter.specs.Limits.{levelsMost, loansMost, chunksMost}
 use Rattle.counter.specs.declared.settings.BuddySettings.{BuddySettings}
 use Rattle.slab.specs.Test.{partedOk}
-use Rattle.book.specs.Book.{serialOf}
-use Rattle.book.specs.Chains.{chainsOk}
-use Rattle.book.specs.Kept.{keptOk}
-use Rattle.book.proofs.Keeping.{kept-most}
-use Rattle.buddy_levels.specs.Level.{usedAt}
-use Rattle.buddy_levels.specs.Test.{goodOk}
+use Rattle.book_rules.specs.Book.{serialOf}
+use Rattle.book_rules.specs.Chains.{chainsOk}
+use Rattle.book_rules.specs.Kept.{keptOk}
+use Rattle.book_rules.proofs.Keeping.{kept-most}
+use Rattle.buddy_levels_rules.specs.Level.{usedAt}
+use Rattle.buddy_levels_rules.specs.Test.{goodOk}
 use Rattle.buddy_shape.specs.Seen.{read, seen, looked}
 use Rattle.buddy_stores.specs.Tables.{Tables, tables, mark, markAt, givenIn, levelsIn, placesIn, chunkPlacesIn, levelAfter, vacantLoan, loanAfter, loanSlab, chainStart, chainNext, vacantChunk, chunkAfter, chunkSlab, initialLevels}
 use Rattle.buddy_stores.specs.Test.{every, memoriesOk, treesOk, unitsOk, soundOk}

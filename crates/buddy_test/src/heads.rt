@@ -8,7 +8,7 @@ ghost use lib.ListN.{getD};
 ghost use Rattle.counter.specs.InTable.{BuddyIn};
 ghost use Rattle.counter.specs.Limits.{levelsMost, pairsMost, loansMost};
 ghost use Rattle.slab.specs.Test.{partedOk};
-ghost use Rattle.buddy_levels.specs.Test.{goodOk};
+ghost use Rattle.buddy_levels_rules.specs.Test.{goodOk};
 ghost use Rattle.buddy_stores.specs.Tables.{mark, markAt, levelsAt, initialLevels, levelAfter, vacantChunk, chunkAfter, chunkSlab};
 ghost use Rattle.buddy_stores.specs.Test.{every, unitsOk};
 ghost use Rattle.buddy_shape.specs.Seen.{seen, looked};

@@ -7,7 +7,7 @@ ghost use Rattle.counter.specs.InTable.{BuddyIn};
 ghost use Rattle.counter.specs.Limits.{levelsMost, loansMost, chunksMost};
 ghost use Prim.Native.Nat.{_+_, _≤_, _<_};
 ghost use lib.ListN.{getD};
-ghost use Rattle.buddy_levels.specs.Level.{usedAt};
+ghost use Rattle.buddy_levels_rules.specs.Level.{usedAt};
 ghost use Rattle.buddy_stores.specs.Tables.{tables, levelAfter};
 ghost use Rattle.buddy_stores.specs.Test.{treesOk, soundOk};
 ghost use Rattle.buddy_shape.specs.Seen.{seen};

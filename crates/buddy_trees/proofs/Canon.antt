@@ -1,5 +1,5 @@
 -- A node that is not free has a loan, and the loans decide the tree. Assumes nothing.
-use mathlib.Core.Path.{_≡_, refl, ap, ap₂}
+use mathlib.Core.Path.{_≡_, refl, ap, ap₂, subst}
 use mathlib.Core.Logic.{_⊎_, inl, inr}
 use Prim.Native.Nat.{ℕ, zero, suc, _+_, _<_}
 use native.Mathlib.Omega.{arith}
@@ -14,6 +14,11 @@ apart-taken free (split c d) p = inr tt
 apart-taken (loan k) b p = inl tt
 apart-taken (split c d) b p = inl tt
 
+pub free? : (t : Tree) → (t ≡ free) ⊎ (t ≡ free → ⊥)
+free? free = inl refl
+free? (loan k) = inr (λ e. subst Taken e tt)
+free? (split a b) = inr (λ e. subst Taken e tt)
+
 module _ (u : ℕ) where
   -- a node that is not free has a loan
   pub taken-loan : (l o : ℕ) (t : Tree) → Wf l t → Taken t → (y : Piece) × Has u l o t y
@@ -26,13 +31,13 @@ module _ (u : ℕ) where
       go f g (inl h) = let r = f h in (r .0, inl (r .1))
       go f g (inr h) = let r = g h in (r .0, inr (r .1))
 
-  pub some-loan : (l o : ℕ) (t : Tree) → Wf l t → (t ≡ free → ⊥) → (y : Piece) × Has u l o t y
-  some-loan l o t w n = taken-loan l o t w (taken t n)
-    where
-      taken : (t : Tree) → (t ≡ free → ⊥) → Taken t
-      taken free n = absurd (n refl)
-      taken (loan k) n = tt
-      taken (split a b) n = tt
+  -- a tree's loans have numbers
+  pub has-who : (l o : ℕ) (t : Tree) (y : Piece) → Has u l o t y → (k : ℕ) × (y .who ≡ k + 1)
+  has-who l o free y h = absurd h
+  has-who l o (loan k) y h = (k, h .2)
+  has-who zero o (split a b) y h = absurd h
+  has-who (suc l) o (split a b) y (inl h) = has-who l o a y h
+  has-who (suc l) o (split a b) y (inr h) = has-who l (o + bytes u l) b y h
 
   -- a split node's loan is below its level
   pub split-low : (l o : ℕ) (a b : Tree) (y : Piece) → Has u l o (split a b) y → y .lev < l

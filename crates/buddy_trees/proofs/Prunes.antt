@@ -1,44 +1,11 @@
--- Loans given back: the form is kept, the other loans stay, and the order does not matter. Assumes nothing.
-use mathlib.Core.Path.{_≡_, refl, sym, ap, ap₂, _∙_}
-use mathlib.Core.Bool.{Bool, true, false, cond, _||_, or-comm}
+-- Loans given back: the form is kept, and the other loans stay. Assumes nothing.
+use mathlib.Core.Path.{_≡_, refl, ap, _∙_}
+use mathlib.Core.Bool.{Bool, true, false, cond}
 use mathlib.Core.Logic.{_⊎_, inl, inr, ⊎-elim, _↔_}
-use mathlib.Core.List.{List, [], _∷_}
 use Prim.Native.Nat.{ℕ, zero, suc, _+_}
 use native.Mathlib.Omega.{arith}
-use lib.Dec.{eqb}
 use Rattle.lists.proofs.Bools.{true-false}
-use Rattle.buddy_trees.specs.Trees.{Tree, free, loan, split, Apart, Wf, bytes, Piece, Has, merge, prune, remove, returns, marked, Kept}
-
--- ---- in any order
-
-pub prune-merge : (p : ℕ → Bool) (a b : Tree) → prune p (merge a b) ≡ merge (prune p a) (prune p b)
-prune-merge p free free = refl
-prune-merge p free (loan k) = refl
-prune-merge p free (split c d) = refl
-prune-merge p (loan k) b = refl
-prune-merge p (split c d) b = refl
-
--- one set after another is both
-pub prune-prune : (p q : ℕ → Bool) (t : Tree) → prune p (prune q t) ≡ prune (λ k. q k || p k) t
-prune-prune p q free = refl
-prune-prune p q (loan k) = go (q k)
-  where
-    go : (b : Bool) → prune p (cond b free (loan k)) ≡ cond (b || p k) free (loan k)
-    go true = refl
-    go false = refl
-prune-prune p q (split a b) = prune-merge p (prune q a) (prune q b) ∙ ap₂ merge (prune-prune p q a) (prune-prune p q b)
-
-pub prune-same : (p q : ℕ → Bool) (t : Tree) → ((k : ℕ) → p k ≡ q k) → prune p t ≡ prune q t
-prune-same p q free e = refl
-prune-same p q (loan k) e = ap (λ (b : Bool). cond b free (loan k)) (e k)
-prune-same p q (split a b) e = ap₂ merge (prune-same p q a e) (prune-same p q b e)
-
--- so of two loans either may be given back first
-pub remove-swap : (j k : ℕ) (t : Tree) → remove j (remove k t) ≡ remove k (remove j t)
-remove-swap j k t =
-    prune-prune (eqb j) (eqb k) t
-    ∙ prune-same (λ i. eqb k i || eqb j i) (λ i. eqb j i || eqb k i) t (λ i. or-comm (eqb k i) (eqb j i))
-    ∙ sym (prune-prune (eqb k) (eqb j) t)
+use Rattle.buddy_trees.specs.Trees.{Tree, free, loan, split, Wf, bytes, Piece, Has, merge, prune, Kept}
 
 -- ---- the form is kept
 
@@ -58,25 +25,6 @@ prune-wf p l (loan k) w = go (p k)
     go false = tt
 prune-wf p zero (split a b) w = absurd w
 prune-wf p (suc l) (split a b) w = merge-wf l (prune p a) (prune p b) (prune-wf p l a (w .1)) (prune-wf p l b (w .2))
-
-merge-apart : (a b : Tree) → Apart a b → merge a b ≡ split a b
-merge-apart free free p = absurd p
-merge-apart free (loan k) p = refl
-merge-apart free (split c d) p = refl
-merge-apart (loan k) b p = refl
-merge-apart (split c d) b p = refl
-
-prune-none : (l : ℕ) (t : Tree) → Wf l t → prune (λ i. false) t ≡ t
-prune-none l free w = refl
-prune-none l (loan k) w = refl
-prune-none zero (split a b) w = absurd w
-prune-none (suc l) (split a b) w = ap₂ merge (prune-none l a (w .1)) (prune-none l b (w .2)) ∙ merge-apart a b (w .0)
-
--- a list of returns, in whatever order, comes to the set of them at once
-pub returns-set : (ks : List ℕ) (l : ℕ) (t : Tree) → Wf l t → returns ks t ≡ prune (marked ks) t
-unfolding returns marked
-returns-set [] l t w = sym (prune-none l t w)
-returns-set (k ∷ ks) l t w = returns-set ks l (remove k t) (prune-wf (eqb k) l t w) ∙ prune-prune (marked ks) (eqb k) t
 
 -- ---- what is left of the loans
 

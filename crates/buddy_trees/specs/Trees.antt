@@ -1,7 +1,7 @@
 -- A buddy store's chunk as a tree of nodes, a node of level l being minimal x 2^l bytes long. 01, "buddy.rs": "A node is
 -- free, on loan, or split into a pair, and a pair is its two nodes". Assumes nothing: these are definitions.
 use mathlib.Core.Path.{_≡_}
-use mathlib.Core.Bool.{Bool, false, cond, _||_}
+use mathlib.Core.Bool.{Bool, false, cond}
 use mathlib.Core.Logic.{_⊎_, _↔_}
 use mathlib.Core.List.{List, [], _∷_, _++_}
 use Prim.Native.Nat.{ℕ, zero, suc, _+_, _*_, _^_, _≤_}
@@ -110,16 +110,6 @@ prune p (split a b) = merge (prune p a) (prune p b)
 
 abbrev pub remove : ℕ → Tree → Tree
 remove k t = prune (eqb k) t
-
--- those of a list are given back, one after the other
-unfoldable pub returns : List ℕ → Tree → Tree
-returns [] t = t
-returns (k ∷ ks) t = returns ks (remove k t)
-
--- whether it is one of the list
-unfoldable pub marked : List ℕ → ℕ → Bool
-marked [] i = false
-marked (k ∷ ks) i = eqb k i || marked ks i
 
 -- p does not mark the loan
 abbrev pub Kept : (ℕ → Bool) → Piece → Type 0

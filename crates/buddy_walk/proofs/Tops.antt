@@ -9,8 +9,8 @@ use lib.Pow.{pow-mono}
 use borrow.Author.Tests.{eq-eqb, ne-eqb, lt-ltb, leb-true}
 use Rattle.lists.proofs.Bools.{true-false, and-right}
 use Rattle.words.specs.Words.{cellOf}
-use Rattle.rounding.specs.Raising.{levelOf}
-use Rattle.rounding.proofs.Masks.{power-top}
+use Rattle.rounding_rules.specs.Raising.{levelOf}
+use Rattle.rounding_rules.proofs.Masks.{power-top}
 use Rattle.counter.specs.InTable.{BuddyIn}
 use Rattle.counter.specs.Limits.{levelsMost, loansMost}
 use Rattle.counter.specs.declared.settings.BuddySettings.{BuddySettings}

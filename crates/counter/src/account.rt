@@ -1,7 +1,7 @@
 // The account that several stores share, carried from call to call by value.
 ghost use mathlib.Core.Path.{_≡_};
-ghost use Rattle.counter.specs.Account.{heapAt, settledOf, noHeap};
-ghost use Rattle.counter.specs.Table.{heapsOk, heapOk};
+ghost use Rattle.counter.specs.Account.{heapAt, settledOf};
+ghost use Rattle.counter.specs.Table.{heapsOk};
 use crate::limits::HEAP_BYTES_MOST;
 use crate::limits::HEAPS;
 

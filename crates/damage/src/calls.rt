@@ -1,94 +1,21 @@
 // One call, made on the tables that a row of words holds.
-use crate::image::CHUNKS_AT;
-use crate::image::HEAD_AT;
-use crate::image::INDEX_AT;
-use crate::image::LIST_AT;
-use crate::image::LOANS_AT;
-use crate::image::OWN_AT;
-use crate::image::OWN_ROOM;
-use crate::image::ROOM;
-use crate::image::keep;
-use crate::image::lent_words;
-use crate::image::load;
-use crate::image::table_from;
 use counter::Account;
-use counter::AskAnswer;
-use counter::DeliverAnswer;
-use counter::Refused;
-use counter::ReleaseAnswer;
 use counter::SetUpAnswer;
-use reel::Answer;
+use damage_parts::CHUNKS_AT;
+use damage_parts::Done;
+use damage_parts::HEAD_AT;
+use damage_parts::INDEX_AT;
+use damage_parts::LIST_AT;
+use damage_parts::LOANS_AT;
+use damage_parts::OWN_AT;
+use damage_parts::OWN_ROOM;
+use damage_parts::keep_all;
+use damage_parts::lent_words;
+use damage_parts::load;
+use damage_parts::table_from;
+use damage_parts::told;
 use reel::Settings;
-use reel::Taken;
 use tape::Record;
-
-// The account after a call, and the refusal's number, 0 where there is none.
-pub struct Done {
-    pub account: Account,
-    pub refusal: u32,
-}
-
-fn number(r: Refused) -> u32 {
-    let refusal = r.refusal;
-    refusal.number()
-}
-
-fn ask_refusal(answer: AskAnswer) -> u32 {
-    match answer {
-        AskAnswer::Refused(r) => number(r),
-        _ => 0,
-    }
-}
-
-fn deliver_refusal(answer: DeliverAnswer) -> u32 {
-    match answer {
-        DeliverAnswer::Refused(r) => number(r),
-        _ => 0,
-    }
-}
-
-fn release_refusal(answer: ReleaseAnswer) -> u32 {
-    match answer {
-        ReleaseAnswer::Refused(r) => number(r),
-        _ => 0,
-    }
-}
-
-fn refusal(answer: Answer) -> u32 {
-    match answer {
-        Answer::Asked(asked) => ask_refusal(asked),
-        Answer::Delivered(delivered) => deliver_refusal(delivered),
-        Answer::Released(released) => release_refusal(released),
-        Answer::Nothing => 0,
-    }
-}
-
-fn told(taken: Taken) -> Done {
-    let after = taken.account;
-    let answer = taken.answer;
-    Done {
-        account: after,
-        refusal: refusal(answer),
-    }
-}
-
-fn keep_all(
-    image: &mut [u64],
-    head: &[u64; ROOM],
-    loans: &[u64; ROOM],
-    chunks: &[u64; ROOM],
-    index: &[u64; ROOM],
-    list: &[u64; ROOM],
-    own: &[u64; OWN_ROOM],
-    own_words: usize,
-) {
-    keep(image, HEAD_AT, head, ROOM);
-    keep(image, LOANS_AT, loans, ROOM);
-    keep(image, CHUNKS_AT, chunks, ROOM);
-    keep(image, INDEX_AT, index, ROOM);
-    keep(image, LIST_AT, list, ROOM);
-    keep(image, OWN_AT, own, own_words);
-}
 
 // A record's call. The tables are taken out of the row, lent at their own lengths, and put back after it.
 pub fn run(s: Settings, a: Account, call: Record, image: &mut [u64]) -> Done {
@@ -105,7 +32,7 @@ pub fn run(s: Settings, a: Account, call: Record, image: &mut [u64]) -> Done {
     let mut list = table_from(image, LIST_AT);
     let mut own = [0u64; OWN_ROOM];
     load(&mut own, image, OWN_AT, own_end);
-    let taken = reel::take(
+    let taken = reel_calls::take(
         s,
         a,
         call,
@@ -142,7 +69,7 @@ pub fn set_up(s: Settings, image: &mut [u64]) -> bool {
     let list = table_from(image, LIST_AT);
     let mut own = [0u64; OWN_ROOM];
     load(&mut own, image, OWN_AT, own_end);
-    let answer = reel::set_up(
+    let answer = reel_calls::set_up(
         s,
         &mut head[..head_end],
         &loans[..loans_end],

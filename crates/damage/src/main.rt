@@ -2,27 +2,24 @@
 // is left: each is answered, and a refusal leaves every word of the tables and of the release list as it was, and the account
 // too, but for what 01 lists: 11 and 12 close the order, and 9, 11 and 12 leave a buddy store's levels as the ask raised them.
 // Each argument names a tape; without arguments the tape is standard input.
-mod accounts;
 mod calls;
 mod history;
-mod image;
-mod lines;
 mod trials;
 
 use crate::calls::set_up;
 use crate::history::replay;
-use crate::image::ROW_MOST;
-use crate::image::fits;
-use crate::lines::print_not_reached;
-use crate::lines::print_not_set_up;
-use crate::lines::print_too_large;
-use crate::lines::print_unsound;
-use crate::lines::print_verdict;
-use crate::trials::Tally;
 use crate::trials::case_of;
 use crate::trials::is_sound;
 use crate::trials::try_tables;
 use counter::Account;
+use damage_parts::ROW_MOST;
+use damage_parts::Tally;
+use damage_parts::fits;
+use damage_parts::print_not_reached;
+use damage_parts::print_not_set_up;
+use damage_parts::print_too_large;
+use damage_parts::print_unsound;
+use damage_parts::print_verdict;
 use libc::STDIN_FILENO;
 use reel::Settings;
 use tape::Header;

@@ -5,9 +5,9 @@ use mathlib.Core.Bool.{false}
 use mathlib.Core.List.{List, [], _∷_, _++_, map}
 use Prim.Native.Nat.{ℕ}
 use lib.ListN.{take, replicate}
-use Rattle.rounding.specs.Masks.{onesOk, powerOk}
-use Rattle.rounding.specs.Raising.{upTo, downTo, bits, powerUp}
-use Rattle.rounding.specs.Growth.{ceilDiv, grown, doubled}
+use Rattle.rounding_rules.specs.Masks.{onesOk, powerOk}
+use Rattle.rounding_rules.specs.Raising.{upTo, downTo, bits, powerUp}
+use Rattle.rounding_rules.specs.Growth.{ceilDiv, grown, doubled}
 use Rattle.counter.specs.Paper as Paper
 use Rattle.counter.specs.Table.{alignmentOk, storeOk, freeListOk, heapsUpto}
 use Rattle.counter.specs.declared.account.OpenOrder.the-variants.{Nothing}
@@ -19,8 +19,8 @@ use Rattle.store_rules.specs.Delivery.{deliveryOk}
 use Rattle.store_rules.specs.Loans.{loansOf}
 use Rattle.store_rules.specs.Outcomes.{out, listed, chargedAccount, releasedAccount}
 use Rattle.store_rules.specs.Tests.{coversOk}
-use Rattle.book.specs.Book.{entered, enteredIndex, seekIn, wordTo, struck, struckIndex}
-use Rattle.book.specs.Chains.{linkOk, leftAfter, leftOf, chainsOk}
+use Rattle.book_rules.specs.Book.{entered, enteredIndex, seekIn, wordTo, struck, struckIndex}
+use Rattle.book_rules.specs.Chains.{linkOk, leftAfter, leftOf, chainsOk}
 use Rattle.freelist_rules.specs.Walk.{fillsOk, sizedOk, chunkOk, loanOk}
 use Rattle.freelist_rules.specs.Place.{fitsIn, findFrom, cutOff}
 use Rattle.freelist_rules.specs.Join.{insert}

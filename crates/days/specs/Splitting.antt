@@ -5,8 +5,8 @@ use mathlib.Core.List.{List, [], _∷_, map}
 use Prim.Native.Nat.{ℕ, _+_, _^_}
 use lib.Count.{trailingZeros}
 use lib.ListN.{replicate}
-use Rattle.rounding.specs.Masks.{onesOk, powerOk}
-use Rattle.rounding.specs.Raising.{upTo, bits, powerUp, levelOf}
+use Rattle.rounding_rules.specs.Masks.{onesOk, powerOk}
+use Rattle.rounding_rules.specs.Raising.{upTo, bits, powerUp, levelOf}
 use Rattle.counter.specs.Paper as Paper
 use Rattle.counter.specs.Table.{alignmentOk, storeOk, buddyOk, heapsUpto}
 use Rattle.counter.specs.declared.account.Account.{Account}
@@ -15,17 +15,17 @@ use Rattle.counter.specs.declared.settings.BuddySettings.{BuddySettings}
 use Rattle.heap.specs.Heap.{plusOf, chargedOf, releasedOf, bearsOk, agreesOk}
 use Rattle.slab.specs.Slab.{inserted}
 use Rattle.slab.specs.Test.{partedOk, leads, vacancies}
-use Rattle.ring.specs.Ring.{unlinked, linked}
-use Rattle.ring.specs.Test.{metAfter, ringLength}
+use Rattle.ring_rules.specs.Ring.{unlinked, linked}
+use Rattle.ring_rules.specs.Test.{metAfter, ringLength}
 use Rattle.store_rules.specs.Delivery.{deliveryOk}
 use Rattle.store_rules.specs.Outcomes.{Out, Listed, chargedAccount, releasedAccount}
 use Rattle.store_rules.specs.Tests.{coversOk}
-use Rattle.book.specs.Book.{entered, enteredIndex, seekIn, wordTo, struck, struckIndex}
-use Rattle.book.specs.Chains.{chainsOk, leftOf, leftAfter, linkOk}
+use Rattle.book_rules.specs.Book.{entered, enteredIndex, seekIn, wordTo, struck, struckIndex}
+use Rattle.book_rules.specs.Chains.{chainsOk, leftOf, leftAfter, linkOk}
 use Rattle.buddy_trees.specs.Trees.{bytes}
-use Rattle.buddy_levels.specs.Level.{dropped, backed, acquired, added, freshLevel}
-use Rattle.buddy_levels.specs.Level as Level
-use Rattle.buddy_levels.specs.Test.{along, goodOk}
+use Rattle.buddy_levels_rules.specs.Level.{dropped, backed, acquired, added, freshLevel}
+use Rattle.buddy_levels_rules.specs.Level as Level
+use Rattle.buddy_levels_rules.specs.Test.{along, goodOk}
 use Rattle.buddy_stores.specs.Tables.{Tables, tables, lengthsOk, treeWords, memories}
 use Rattle.buddy_stores.specs.Test.{leafOk, entryOk, nodeOk, chunkOk, leadsOk, pairOk, loanOk, treesOk, memoriesOk, unitsOk, soundOk}
 use Rattle.buddy_stores.specs.Moves.{climbed, worded, splitDown}

@@ -6,6 +6,7 @@ use mathlib.Core.List.{List, [], _∷_, List·Memᴰ, List·Permᴰ}
 use Prim.Native.Nat.{ℕ, _+_, _-_, _≤_, _<_}
 use native.Mathlib.Omega.{arith}
 use lib.ListN.{length}
+use Rattle.lists.specs.Members.{Distinct}
 use Rattle.counter.specs.Account.{Typed}
 use Rattle.counter.specs.Gate.{pass}
 use Rattle.counter.specs.Paper.{Said}
@@ -13,6 +14,7 @@ use Rattle.counter.specs.Paper as Paper
 use Rattle.store_rules.specs.Outcomes.{releasedAccount}
 use Rattle.store_rules.specs.Views.{View, All, sizes}
 use Rattle.store_rules.specs.declared.Chunk.{Chunk}
+use Rattle.store_rules.proofs.Going.{told-once}
 use Rattle.store_rules.proofs.Permuted.{perm-mem, perm-apart}
 use Rattle.engines.specs.Ends.{Lot}
 use Rattle.engines.specs.Engines.{Engine}
@@ -37,6 +39,10 @@ module _ (K : Type 0) (E : K → Engine) (w : State) (i : ℕ) (e : K) (s : E e 
   pub end-view : E e .shape .view s (storeAt (run K E w (handing K E i e s ps)) i) ≡ E e .shape .atOnce s (blocksOf ps) (storeAt w i)
   end-view = all .view
 
+  -- and its counts are as they were
+  pub end-rest : E e .shape .rest s (storeAt (run K E w (handing K E i e s ps)) i) ≡ E e .shape .rest s (storeAt w i)
+  end-rest = all .rest
+
   -- heap used and totals, and the objects: less the chunks that are held no more
   pub end-account : run K E w (handing K E i e s ps) .account ≡ releasedAccount (E e .shape .store s) (w .account)
       (length (E e .shape .view s (storeAt w i) .chunks) - length (E e .shape .atOnce s (blocksOf ps) (storeAt w i) .chunks))
@@ -51,6 +57,12 @@ module _ (K : Type 0) (E : K → Engine) (w : State) (i : ℕ) (e : K) (s : E e 
   -- as many as there are of those
   pub end-count : length (toldIn K E w (handing K E i e s ps)) + length (E e .shape .atOnce s (blocksOf ps) (storeAt w i) .chunks) ≡ length (E e .shape .view s (storeAt w i) .chunks)
   end-count = omega (arith, all .goes .count, ap (λ (v : View). length (v .chunks)) end-view)
+
+  -- and none of them twice
+  pub end-once : Distinct (toldIn K E w (handing K E i e s ps))
+  end-once =
+      told-once (E e .shape .view s (storeAt w i) .chunks) (E e .shape .view s (storeAt (run K E w (handing K E i e s ps)) i) .chunks) (toldIn K E w (handing K E i e s ps)) (all .goes)
+      (E e .keeps .apart s (w .account) (storeAt w i) passes .memories)
 
   -- the other stores are as they were
   pub end-others : (j : ℕ) → (j ≡ i → ⊥) → storeAt (run K E w (handing K E i e s ps)) j ≡ storeAt w j

@@ -63,6 +63,7 @@ module _ (K : Type 0) (E : K → Engine) (i : ℕ) (e : K) (s : E e .shape .Sett
     pub view : held (after w ps) ≡ E e .shape .atOnce s (blocksOf ps) (storeAt w i)
     pub goes : Go (held w .chunks) (held (after w ps) .chunks) (toldIn K E w (handing K E i e s ps))
     pub account : after w ps .account ≡ less w (held (after w ps))
+    pub rest : E e .shape .rest s (storeAt (after w ps) i) ≡ E e .shape .rest s (storeAt w i)
 
   -- the memory numbers told are those of the chunks that the named end has no more
   pub handed-told : (w : State) (ps : List Slip) → Handed w ps → (m : ℕ) → List·Memᴰ m (toldIn K E w (handing K E i e s ps))
@@ -125,6 +126,11 @@ module _ (K : Type 0) (E : K → Engine) (i : ℕ) (e : K) (s : E e .shape .Sett
         ap (E e .shape .atOnce s (blocksOf ps)) now
         ∙ E e .ends .next s (w .account) (p .0) (blocksOf ps) (storeAt w i) (p .1) (r .passes) lot long
 
+    next-rest : E e .shape .rest s (storeAt (step K E w v) i) ≡ E e .shape .rest s (storeAt w i)
+    next-rest =
+        ap (E e .shape .rest s) now
+        ∙ E e .ends .rest-stays s (w .account) (p .0) (storeAt w i) (p .1) (r .passes) (lot .lent (p .0) (List·Memᴰ·head refl)) long
+
     -- its release and those after it are one
     both-accounts : Handed (step K E w v) ps → after (step K E w v) ps .account ≡ less w (held (after (step K E w v) ps))
     both-accounts h =
@@ -150,6 +156,7 @@ module _ (K : Type 0) (E : K → Engine) (i : ℕ) (e : K) (s : E e .shape .Sett
         view = sym (E e .ends .none s (w .account) (storeAt w i) (r .passes));
         goes = none-go (held w .chunks);
         account = unchanged w r;
+        rest = refl;
       }
   hand w (p ∷ ps) r lot l =
       let long = l p (List·Memᴰ·head refl) in
@@ -160,4 +167,5 @@ module _ (K : Type 0) (E : K → Engine) (i : ℕ) (e : K) (s : E e .shape .Sett
         view = later .view ∙ next-end w r p ps lot long;
         goes = both-go _ _ _ _ _ (next-goes w r p ps lot long) (later .goes);
         account = both-accounts w r p ps lot long later;
+        rest = later .rest ∙ next-rest w r p ps lot long;
       }

@@ -1,11 +1,10 @@
 -- What a call at one store does to the tables of each. Assumes nothing.
-use mathlib.Core.Path.{_≡_, refl, sym, _∙_}
-use mathlib.Core.List.{List, [], _∷_}
+use mathlib.Core.Path.{_≡_, sym}
 use Prim.Native.Nat.{ℕ, _<_}
 use lib.ListN.{length, length-set}
 use lib.Seq.{getD-set-same, getD-set-other}
 use Rattle.engines.specs.Engines.{Engine}
-use Rattle.engines.specs.Histories.{State, storeAt, Visit, done, step, run}
+use Rattle.engines.specs.Histories.{State, storeAt, Visit, done, step}
 use Rattle.engines.specs.Shapes.{noTables}
 
 module _ (K : Type 0) (E : K → Engine) where
@@ -21,8 +20,3 @@ module _ (K : Type 0) (E : K → Engine) where
     -- and the others have theirs
     pub store-other : (i : ℕ) → (v .at ≡ i → ⊥) → storeAt (step K E w v) i ≡ storeAt w i
     store-other i n = getD-set-other (w .stores) (v .at) i (done K E w v .tables) noTables (λ e. n (sym e))
-
-  -- over a history there stay as many
-  pub stores-run : (w : State) (vs : List (Visit K E)) → length (run K E w vs .stores) ≡ length (w .stores)
-  stores-run w [] = refl
-  stores-run w (v ∷ vs) = stores-run (step K E w v) vs ∙ stores-stay w v

@@ -37,6 +37,9 @@ pub record Taken (E : Shape) (s : E .Settings) (a : Account) (b : Block) (t : Le
 pub record Ends (E : Shape) : Type 0 where
   pub taken : (s : E .Settings) (a : Account) (b : Block) (t : Lent) (list : List ℕ) → E .gate s a t ≡ pass → List·Memᴰ (loanOf b) (E .loans t)
       → E .store s .chunks ≤ length list → Taken E s a b t (E .return s a b t list)
+  -- the counts stay
+  pub rest-stays : (s : E .Settings) (a : Account) (b : Block) (t : Lent) (list : List ℕ) → E .gate s a t ≡ pass → List·Memᴰ (loanOf b) (E .loans t)
+      → E .store s .chunks ≤ length list → E .rest s (E .return s a b t list .tables) ≡ E .rest s t
   -- the end that is named: where nothing comes back nothing changes; and it may be reached block by block
   pub none : (s : E .Settings) (a : Account) (t : Lent) → E .gate s a t ≡ pass → E .atOnce s [] t ≡ E .view s t
   pub next : (s : E .Settings) (a : Account) (b : Block) (bs : List Block) (t : Lent) (list : List ℕ) → E .gate s a t ≡ pass → Lot E (b ∷ bs) t

@@ -3,7 +3,7 @@
 use mathlib.Core.Path.{_≡_}
 use mathlib.Core.Bool.{true}
 use mathlib.Core.Logic.{_↔_}
-use mathlib.Core.List.{List, []}
+use mathlib.Core.List.{List, List·Memᴰ}
 use Prim.Native.Nat.{ℕ}
 use Rattle.counter.specs.Account.{Typed}
 use Rattle.counter.specs.Gate.{pass}
@@ -14,8 +14,10 @@ use Rattle.counter.specs.declared.account.OpenOrder.the-variants.{Kept}
 use Rattle.counter.specs.declared.answers.Block.{Block}
 use Rattle.counter.specs.declared.answers.Outcome.{Outcome}
 use Rattle.store_rules.specs.Orders.{orderFrom}
+use Rattle.store_rules.specs.Outcomes.{chargedAccount}
 use Rattle.store_rules.specs.Tests.{noOrder}
-use Rattle.store_rules.specs.Views.{Filled, GoodBlock}
+use Rattle.store_rules.specs.Views.{Filled, Apart, GoodBlock}
+use Rattle.store_rules.specs.declared.Loan.{Loan}
 use Rattle.engines.specs.Shapes.{Lent, Shape}
 
 pub record Keeps (E : Shape) : Type 0 where
@@ -36,6 +38,10 @@ pub record Keeps (E : Shape) : Type 0 where
   -- the tests passed: the store is sound, and blocks on loan and free pieces fill each held chunk
   pub passed-sound : (s : E .Settings) (a : Account) (t : Lent) → E .gate s a t ≡ pass → E .Sound s t
   pub filled : (s : E .Settings) (a : Account) (t : Lent) → E .gate s a t ≡ pass → Filled (E .view s t)
+  -- no serial, chunk number or memory number stands for two
+  pub apart : (s : E .Settings) (a : Account) (t : Lent) → E .gate s a t ≡ pass → Apart (E .view s t)
+  -- what a user sees on loan are the loans
+  pub loans-seen : (s : E .Settings) (t : Lent) (l : Loan) → List·Memᴰ l (E .view s t .loans) ↔ List·Memᴰ l (E .loans t)
 
 pub record Lends (E : Shape) : Type 0 where
   -- a block that answers an ask, and one that answers a delivery, for the ask that was kept
@@ -44,6 +50,7 @@ pub record Lends (E : Shape) : Type 0 where
   pub deliver-block : (s : E .Settings) (a : Account) (o : Outcome) (t : Lent) (serial chunk offset len : ℕ) → E .deliver s a o t .said ≡ Paper.block serial chunk offset len
       → (k : KeptOrder) × (a .order ≡ Kept k)
       × GoodBlock (E .store s .atom) (k .ask .size) (k .ask .mask) (E .given t) (E .loans t) (E .view s (E .deliver s a o t .tables) .chunks) serial chunk offset len
+      × (E .deliver s a o t .account ≡ chargedAccount (E .store s) a (k .order .size))
   -- on an ask that is not refused an order is given exactly when no held chunk has a fitting free place
   pub orders-when : (s : E .Settings) (a : Account) (size mask : ℕ) (t : Lent) → ((n : ℕ) (back : List ℕ) → E .ask s a size mask t .said ≡ Paper.refusal n back → ⊥)
       → ((z : ℕ) × (E .ask s a size mask t .said ≡ Paper.orderOf (orderFrom (E .store s) z))) ↔ E .Needed s size mask t

@@ -1,4 +1,5 @@
 pub mod Shapes
+pub mod Rows
 pub mod Refuses
 pub mod Keeps
 pub mod Serials

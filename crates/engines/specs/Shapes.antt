@@ -6,7 +6,6 @@ use Prim.Native.Nat.{ℕ}
 use lib.ListN.{getD}
 use Rattle.counter.specs.Gate.{Verdict}
 use Rattle.counter.specs.Paper.{Said}
-use Rattle.counter.specs.Reasons.{Reasons}
 use Rattle.counter.specs.declared.account.Account.{Account}
 use Rattle.counter.specs.declared.answers.Block.{Block}
 use Rattle.counter.specs.declared.answers.Outcome.{Outcome}
@@ -61,19 +60,25 @@ pub record Shape : Type 1 where
   pub given : Lent → ℕ
   pub loans : Lent → List Loan
   pub view : Settings → Lent → View
-  -- ---- when they are sound, and when no held chunk has a fitting free place for a size and a mask
+  -- and its counts beside these, which returns leave: of a free list serials and chunk numbers given and the chunk size, of a
+  -- buddy serials given and levels
+  pub Rest : Type 0
+  pub rest : Settings → Lent → Rest
+  -- ---- when they are sound, and when no held chunk has a fitting free place for a size and a mask; how long the chunk is that
+  -- is ordered then
   pub Sound : Settings → Lent → Type 0
   pub Needed : Settings → ℕ → ℕ → Lent → Type 0
+  pub orderSize : Settings → ℕ → ℕ → Lent → ℕ
+  -- ---- the words of 01's rows that are an engine's own; the rest is said once, in Rows. 1: settings and tables at set-up, and
+  -- these and the account at any other call; 6: the size; 8 and 10: what it may run out of besides
+  pub Fits : Settings → Lent → Type 0
+  pub InTable : Settings → Account → Lent → Type 0
+  pub SizeOff : Settings → ℕ → ℕ → Type 0
+  pub Roomless : Settings → ℕ → ℕ → Lent → Type 0
+  pub Numberless : Settings → Lent → Type 0
   -- ---- the tests 1 to 4 of an ask, and of a delivery
   pub gate : Settings → Account → Lent → Verdict
   pub deliverGate : Settings → Account → Lent → Verdict
-  -- ---- 01's rows for each call, in the paper's words; gateReasons are the rows 1 to 4 of a call that is lent a list
-  pub setUpReasons : Settings → Lent → Reasons
-  pub askReasons : Settings → Account → ℕ → ℕ → Lent → Reasons
-  pub deliverReasons : Settings → Account → Outcome → Lent → Reasons
-  pub returnReasons : Settings → Account → Block → Lent → List ℕ → Reasons
-  pub otherReasons : Settings → Account → Own → Lent → List ℕ → Reasons
-  pub gateReasons : Settings → Account → Lent → List ℕ → Reasons
   -- ---- several blocks come back: the end that 01's rules give
   pub atOnce : Settings → List Block → Lent → View
 

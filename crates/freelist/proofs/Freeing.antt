@@ -17,7 +17,7 @@ use Rattle.freelist_rules.specs.Release.{staying, leaving, remaining, memoriesO
 use Rattle.freelist_rules.specs.Tables.{Tables, tables, chunksAt, countAt, storeOf, laidRegions}
 use Rattle.store_rules.specs.declared.Chunk.{Chunk}
 use Rattle.store_rules.specs.declared.Region.{Region}
-use Rattle.freelist_release.specs.Releasable.{Releasable}
+use Rattle.freelist_marks.specs.Releasable.{Releasable}
 use Rattle.freelist_outcomes.specs.Return.{releasedTables, releaseOf}
 use Rattle.freelist.specs.Frees.{Frees}
 

@@ -15,7 +15,7 @@ use Rattle.counter.specs.Table.{freeListOk}
 use Rattle.counter.specs.declared.settings.FreeListSettings.{FreeListSettings}
 use Rattle.counter.proofs.Tables.{free-list-yes}
 use Rattle.slab.specs.Slab.{nowhere}
-use Rattle.book.specs.Book.{indexWords}
+use Rattle.book_rules.specs.Book.{indexWords}
 use Rattle.freelist_rules.specs.Tables.{Tables, tables, mark, markAt, givenAt, madeAt, chunkSizeAt, placesAt, chunksAt, headWords, countAt, lengthsOk}
 use Rattle.freelist_outcomes.specs.SetUp.{SetUp, setUp, freshHead, freshTables, fitOk, setUpOf}
 use Rattle.freelist_rules.proofs.Fits.{lengths-are}

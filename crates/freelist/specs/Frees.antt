@@ -15,7 +15,7 @@ use Rattle.freelist_rules.specs.Join.{insert}
 use Rattle.freelist_rules.specs.Release.{leaving}
 use Rattle.freelist_rules.specs.Tables.{chunksAt, countAt, laidRegions, regionsOf}
 use Rattle.store_rules.specs.declared.Chunk.{Chunk}
-use Rattle.freelist_release.specs.Releasable.{Releasable}
+use Rattle.freelist_marks.specs.Releasable.{Releasable}
 
 -- the chunks that a head and a table of chunks hold
 abbrev pub chunksOf : List ℕ → List ℕ → List Chunk

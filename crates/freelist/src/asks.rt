@@ -23,7 +23,7 @@ pub fn ask(
 ) -> Asked
     ensures { λ r. ⌜ out (askSaid (r .answer)) (r .account) (tables (now (head .exit)) (now (loans .exit)) (now (chunks .entry)) (now (regions .exit)) (now (index .exit))) ≡ askOf s a size mask (tables (now (head .entry)) (now (loans .entry)) (now (chunks .entry)) (now (regions .entry)) (now (index .entry))) ⌝ }
 {
-    let plan = freelist_gate::plan_ask(s, a, size, mask, head, loans, chunks, regions, index);
+    let plan = freelist_plan::plan_ask(s, a, size, mask, head, loans, chunks, regions, index);
     match plan {
         Plan::Refuse(refusal) => store::refuse_ask(a, refusal),
         Plan::Take(i) => {

@@ -33,7 +33,7 @@ fn keep_chunk(
     let order = k.order;
     let own = s.store;
     let i = freelist_regions::region_count(s, regions);
-    let account = store::charged(own, a, order.size);
+    let account = store_accounts::charged(own, a, order.size);
     freelist_place::add_chunk(s, memory, order.size, head, chunks, regions);
     let l = freelist_place::lend(s, ask.size, ask.mask, i, head, loans, regions, index);
     store::deliver_block(account, l)
@@ -51,7 +51,7 @@ pub fn deliver(
 ) -> Delivered
     ensures { λ r. ⌜ out (deliverSaid (r .answer)) (r .account) (tables (now (head .exit)) (now (loans .exit)) (now (chunks .exit)) (now (regions .exit)) (now (index .exit))) ≡ deliverOf s a o (tables (now (head .entry)) (now (loans .entry)) (now (chunks .entry)) (now (regions .entry)) (now (index .entry))) ⌝ }
 {
-    let coming = freelist_gate::plan_deliver(s, a, o, head, loans, chunks, regions, index);
+    let coming = freelist_plan::plan_deliver(s, a, o, head, loans, chunks, regions, index);
     match coming {
         Coming::Refuse(r) => store::refuse_delivery(a, r),
         Coming::Keep(c) => {

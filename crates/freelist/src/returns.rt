@@ -13,8 +13,8 @@ use counter::Block;
 use counter::FreeListSettings;
 use counter::Gate;
 use counter::Released;
-use freelist_gate::Back;
 use freelist_rules::CHUNKS_AT;
+use returning::Back;
 
 // Wholly free chunks go; `spare` keeps that of the last region.
 fn let_go(
@@ -74,7 +74,7 @@ pub fn return_block(
 {
     let own = s.store;
     let long = own.chunks <= list.len();
-    let plan = freelist_gate::plan_return(s, a, b, long, head, loans, chunks, regions, index);
+    let plan = freelist_plan::plan_return(s, a, b, long, head, loans, chunks, regions, index);
     match plan {
         Back::Refuse(refusal) => store::refuse_return(a, refusal),
         Back::From(at) => carry_return(s, a, b, at, head, loans, chunks, regions, index, list),

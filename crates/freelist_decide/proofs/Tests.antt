@@ -7,19 +7,20 @@ use native.Mathlib.Omega.{arith}
 use lib.Dec.{ltb}
 use lib.ListN.{getD}
 use borrow.Author.Tests.{lt-ltb, le-ltb}
-use Rattle.rounding.specs.Growth.{grown}
+use Rattle.rounding_rules.specs.Growth.{grown}
 use Rattle.counter.specs.Gate.{Verdict, pass, refuse, first}
 use Rattle.counter.specs.Table.{alignmentOk}
 use Rattle.counter.specs.declared.account.Heap.{Heap}
 use Rattle.counter.specs.declared.settings.FreeListSettings.{FreeListSettings}
 use Rattle.heap.specs.Heap.{bearsOk}
 use Rattle.store_rules.specs.Orders.{Plan, deny, take, buy}
-use Rattle.book.specs.Book.{takenOf}
+use Rattle.book_rules.specs.Book.{takenOf}
 use Rattle.freelist_rules.specs.Records.{regionRow}
 use Rattle.freelist_rules.specs.Place.{Found, nowhere, at, find, sizeFor, maskFor}
 use Rattle.freelist_rules.specs.Tables.{Tables, tables, givenAt, madeAt, chunkSizeAt, placesAt, chunksAt, countAt, storeOf}
-use Rattle.freelist_outcomes.specs.Ask.{spent, sizeOk, roomOk, countOk, objectsOk, lateRow, planned, foundFor, decideAsk}
+use Rattle.freelist_outcomes.specs.Ask.{sizeOk, roomOk, countOk, objectsOk, lateRow, planned, foundFor, decideAsk}
 use Rattle.words.specs.Rows.{rows}
+use Rattle.counter.specs.Limits.{spent}
 
 module _ (s : FreeListSettings) (head index : List ℕ) where
   abbrev now : Tables

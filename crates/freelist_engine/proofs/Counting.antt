@@ -22,7 +22,7 @@ use Rattle.engines.specs.Serials.{Gone, Counted, Counts}
 use Rattle.engines.specs.Shapes.{Lent, Call, setsUp, does}
 use Rattle.freelist_rules.specs.Records.{Store}
 use Rattle.freelist_rules.specs.Tables.{Tables, placesIn, storeOf}
-use Rattle.freelist_rules.proofs.AnyOrder.{loanOf, returned-is}
+use Rattle.freelist_rules.proofs.Blocks.{loanOf, returned-is}
 use Rattle.freelist_rules.proofs.Giving.{those-yes}
 use Rattle.freelist_rules.proofs.NeverAgain as Rules
 use Rattle.freelist_rules.proofs.Ordered.{ordered-in, ordered-out}

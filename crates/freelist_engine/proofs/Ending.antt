@@ -19,9 +19,11 @@ use Rattle.engines.specs.Ends.{Lot, Ends}
 use Rattle.engines.specs.Shapes.{Lent}
 use Rattle.freelist_rules.specs.AtOnce.{atOnce}
 use Rattle.freelist_rules.specs.Records.{Store}
-use Rattle.freelist_rules.specs.Steps.{returned, returnedAll}
+use Rattle.freelist_rules.specs.Place.{Found, nowhere, at}
+use Rattle.freelist_rules.specs.Seek.{seek}
+use Rattle.freelist_rules.specs.Steps.{takenBack, returned, returnedAll}
 use Rattle.freelist_rules.specs.Tables.{Tables, placesIn, storeOf}
-use Rattle.freelist_rules.proofs.AnyOrder.{OnLoan, returned-is, left-on-loan, perm-mem}
+use Rattle.freelist_rules.proofs.Blocks.{OnLoan, returned-is, left-on-loan, perm-mem}
 use Rattle.freelist_rules.proofs.AtOnce.{returned-at-once, at-once-same}
 use Rattle.freelist_rules.proofs.Ordered.{ordered-in, ordered-out}
 use Rattle.freelist_outcomes.specs.Gate.{gateOf}
@@ -29,7 +31,7 @@ use Rattle.freelist_outcomes.specs.Return.{returnOf}
 use Rattle.freelist_outcomes.proofs.Accounts.{account-is}
 use Rattle.freelist_outcomes.proofs.Passing.{Passed, gate-passed}
 use Rattle.freelist_outcomes.proofs.Sounds.{return-sound}
-use Rattle.freelist_engine.specs.Shape.{asList, seen, listShape}
+use Rattle.freelist_engine.specs.Shape.{asList, seen, listShape, countsOf}
 use Rattle.freelist_engine.proofs.Handing.{Handed, return-handed}
 
 -- a loan stands in the tables exactly when it stands in the store that they hold
@@ -76,6 +78,12 @@ module _ (s : FreeListSettings) (a : Account) (b : Block) (t : Tables) (list : L
       back : List·Memᴰ l (loansOf (placesIn t) (t .loans)) × (l ≡ loanOf b → ⊥) → List·Memᴰ l (loansOf (placesIn after) (after .loans))
       back w = loan-here s after l (one .1 (loan-there s t l (w .0), w .1))
 
+-- ---- the counts
+
+back-counts : (t : Store) (f : Found) → countsOf (takenBack t f) ≡ countsOf t
+back-counts t nowhere = refl
+back-counts t (at i) = refl
+
 -- ---- the others after it
 
 next : (s : FreeListSettings) (a : Account) (b : Block) (bs : List Block) (t : Lent) (list : List ℕ) → gateOf s a (asList t) true ≡ pass → Lot listShape (b ∷ bs) t → s .store .chunks ≤ length list
@@ -106,6 +114,9 @@ list-ends =
             account = h .account;
             goes = h .goes;
           };
+      rest-stays = λ s a b t list passes lent long.
+          let v = storeOf s (asList t) in
+          ap countsOf (return-handed s a b (asList t) list passes (loan-there s (asList t) (loanOf b) lent) long .store) ∙ back-counts v (seek b (v .loans));
       none = λ s a t passes. refl;
       next = λ s a b bs t list passes lot long. ap seen (next s a b bs t list passes lot long);
       same = λ s a bs cs t passes lot e. ap seen (at-once-same bs cs (storeOf s (asList t)) (λ b. (perm-mem b (Permᴰ·symm e), perm-mem b e)));

@@ -22,7 +22,7 @@ use Rattle.freelist_rules.specs.Release.{leaving, left, memoriesOf, bytesOf}
 use Rattle.freelist_rules.specs.Sound.{Sound}
 use Rattle.freelist_rules.specs.Steps.{released, returned}
 use Rattle.freelist_rules.specs.Tables.{Tables, storeOf}
-use Rattle.freelist_rules.proofs.AnyOrder.{loanOf}
+use Rattle.freelist_rules.proofs.Blocks.{loanOf}
 use Rattle.freelist_rules.proofs.Fits.{lengths-are, chunks-length}
 use Rattle.freelist_rules.proofs.GivesBack.{gone-bytes, gone-count, gone-memories}
 use Rattle.freelist_rules.proofs.Releases.{remaining-in, in-remaining}

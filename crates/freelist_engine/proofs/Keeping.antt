@@ -1,8 +1,10 @@
 -- The free list stays sound and filled as an engine has to, and lends good blocks. Assumes nothing.
 use mathlib.Core.Path.{_≡_, refl, sym, ap, subst, _∙_}
 use mathlib.Core.Bool.{true}
+use mathlib.Core.Logic.{_↔_, ⊎-elim}
 use mathlib.Core.List.{List, [], List·Memᴰ}
-use Prim.Native.Nat.{ℕ, _+_, _≤_}
+use Prim.Native.Nat.{ℕ, suc, _+_, _≤_}
+use native.Mathlib.Omega.{arith}
 use Rattle.counter.specs.Account.{Typed}
 use Rattle.counter.specs.Gate.{pass}
 use Rattle.counter.specs.Paper as Paper
@@ -15,15 +17,19 @@ use Rattle.counter.specs.declared.answers.Outcome.the-variants as O
 use Rattle.counter.specs.declared.settings.FreeListSettings.{FreeListSettings}
 use Rattle.store_rules.specs.Loans.{loansOf}
 use Rattle.store_rules.specs.Outcomes.{Out}
-use Rattle.store_rules.specs.Views.{GoodBlock}
+use Rattle.store_rules.specs.Views.{Differ, Apart, GoodBlock}
 use Rattle.store_rules.specs.declared.Chunk.{Chunk}
 use Rattle.store_rules.specs.declared.Loan.{Loan}
 use Rattle.engines.specs.Keeps.{Keeps, Lends}
+use Rattle.freelist_rules.specs.Pieces.{lo, hi, piece}
 use Rattle.freelist_rules.specs.Records.{Store}
+use Rattle.freelist_rules.specs.Sound.{Sound}
 use Rattle.freelist_rules.specs.Steps.{delivered}
 use Rattle.freelist_rules.specs.Tables.{Tables, placesIn, storeOf, SoundTables}
+use Rattle.freelist_rules.proofs.Base.{rising-apart}
+use Rattle.freelist_rules.proofs.Decides.{differ-distinct}
 use Rattle.freelist_rules.proofs.Fits.{lengths-are}
-use Rattle.freelist_rules.proofs.Ordered.{ordered-in}
+use Rattle.freelist_rules.proofs.Ordered.{ordered-in, ordered-out}
 use Rattle.freelist_outcomes.specs.Gate.{gateOf}
 use Rattle.freelist_outcomes.specs.Ask.{raisedFor, askOf}
 use Rattle.freelist_outcomes.specs.Blocks.{Good}
@@ -37,7 +43,7 @@ use Rattle.freelist_outcomes.proofs.Fitted.{refusal-block, orders-when}
 use Rattle.freelist_outcomes.proofs.Passing.{gate-passed}
 use Rattle.freelist_outcomes.proofs.Sounds.{set-up-sound, ask-sound, deliver-sound, return-sound, clean-up-sound}
 use Rattle.freelist_outcomes.proofs.Taken.{taken-store}
-use Rattle.freelist_engine.specs.Shape.{OwnCall, cleansUp, asList, ownOf, listShape}
+use Rattle.freelist_engine.specs.Shape.{OwnCall, cleansUp, asList, ownOf, seen, listShape}
 use Rattle.freelist_engine.proofs.Stepping.{givenOf}
 
 -- ---- a call that only a free list has
@@ -47,6 +53,27 @@ own-sound s a cleansUp t list sound = clean-up-sound s a t list sound
 
 own-again : (s : FreeListSettings) (a : Account) (t : Tables) → Typed a → gateOf s a t true ≡ pass → (c : OwnCall) (list : List ℕ) → gateOf s (ownOf s a c t list .account) (ownOf s a c t list .tables) true ≡ pass
 own-again s a t typed passes cleansUp list = clean-up-again s a t typed passes list
+
+-- ---- what is seen
+
+-- no serial, chunk number or memory number stands for two
+apart : (s : FreeListSettings) (v : Store) → Sound s v → Apart (seen v)
+apart s v sound =
+    record {
+      serials = differ-distinct (λ (l : Loan). l .serial) (λ (l : Loan). lo (piece l)) (λ (l : Loan). hi (piece l)) 0 0 (v .loans) (sound .loans-rise) (sound .serials-differ);
+      numbers = differ-distinct (λ (c : Chunk). c .number) (λ (c : Chunk). c .number) (λ (c : Chunk). suc (c .number)) 0 1 (v .chunks) (sound .chunks-rise) numbers-differ;
+      memories = differ-distinct (λ (c : Chunk). c .memory) (λ (c : Chunk). c .number) (λ (c : Chunk). suc (c .number)) 0 1 (v .chunks) (sound .chunks-rise) (sound .memories-differ);
+    }
+  where
+    numbers-differ : Differ (λ (c : Chunk). c .number) (v .chunks)
+    numbers-differ c d m k e =
+        ⊎-elim (λ q. q) (⊎-elim (λ h. absurd (omega (arith, h, e))) (λ h. absurd (omega (arith, h, e))))
+        (rising-apart (λ (x : Chunk). x .number) (λ (x : Chunk). suc (x .number)) 0 1 (v .chunks) (sound .chunks-rise) c d m k)
+
+-- the loans by chunk and place are the loans
+seen-loans : (s : FreeListSettings) (t : Tables) (l : Loan) → List·Memᴰ l (storeOf s t .loans) ↔ List·Memᴰ l (loansOf (placesIn t) (t .loans))
+unfolding storeOf
+seen-loans s t l = (ordered-out l (loansOf (placesIn t) (t .loans)), ordered-in l (loansOf (placesIn t) (t .loans)))
 
 -- the free list stays sound, passes its tests again, and is filled
 pub list-keeps : Keeps listShape
@@ -63,6 +90,8 @@ list-keeps =
       other-again = λ s a t typed passes c list. own-again s a (asList t) typed passes c list;
       passed-sound = λ s a t passes. gate-passed s a (asList t) true (sym passes) .sound;
       filled = λ s a t passes. gate-passed s a (asList t) true (sym passes) .sound .store .fills;
+      apart = λ s a t passes. apart s (storeOf s (asList t)) (gate-passed s a (asList t) true (sym passes) .sound .store);
+      loans-seen = λ s t. seen-loans s (asList t);
     }
 
 -- ---- new blocks
@@ -120,6 +149,6 @@ list-lends =
           let d = deliver-block s a o (asList t) serial number offset len e in
           let v = delivered s (d .memory .number) (d .kept .order .size) (storeOf s (asList t)) in
           let cs = deliver-chunks s a o (asList t) (d .kept) (d .memory) (d .ordered) (d .made) serial number offset len (deliverOf s a o (asList t)) (deliver-comes s a o (asList t)) e in
-          (d .kept, d .ordered, good-block s (d .kept .ask .size) (d .kept .ask .mask) (asList t) v _ serial number offset len refl refl cs (d .good));
+          (d .kept, d .ordered, good-block s (d .kept .ask .size) (d .kept .ask .mask) (asList t) v _ serial number offset len refl refl cs (d .good), d .charged);
       orders-when = λ s a size mask t f. orders-when s a size mask (asList t) f;
     }

@@ -1,4 +1,5 @@
 -- The free list is an engine.
+pub mod Rowed
 pub mod Refusing
 pub mod Stepping
 pub mod Counting

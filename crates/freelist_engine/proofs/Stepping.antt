@@ -19,7 +19,7 @@ use Rattle.freelist_rules.specs.Records.{Store}
 use Rattle.freelist_rules.specs.Steps.{lent, raised, delivered, released, takenBack, returned}
 use Rattle.freelist_rules.specs.Seek.{seek}
 use Rattle.freelist_rules.specs.Tables.{Tables, mark, markAt, givenAt, storeOf}
-use Rattle.freelist_rules.proofs.AnyOrder.{returned-is}
+use Rattle.freelist_rules.proofs.Blocks.{returned-is}
 use Rattle.freelist_rules.proofs.Fits.{lengths-are}
 use Rattle.freelist_rules.proofs.NeverAgain as Rules
 use Rattle.freelist_rules.proofs.NeverAgain.{Calls, stop, then}

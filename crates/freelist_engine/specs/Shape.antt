@@ -1,8 +1,10 @@
 -- The free list's calls and tables as those of an engine. Assumes nothing: these are definitions.
 use mathlib.Core.Bool.{true}
 use mathlib.Core.List.{List}
-use Prim.Native.Nat.{ℕ}
+use Prim.Native.Nat.{ℕ, _≤_}
 use lib.ListN.{getD}
+use Rattle.counter.specs.InTable.{FreeListIn}
+use Rattle.counter.specs.Limits.{spent}
 use Rattle.counter.specs.declared.account.Account.{Account}
 use Rattle.counter.specs.declared.settings.FreeListSettings.{FreeListSettings}
 use Rattle.store_rules.specs.Delivery.{freeList}
@@ -12,11 +14,11 @@ use Rattle.store_rules.specs.Views.{View}
 use Rattle.engines.specs.Shapes.{Lent, Begun, Shape}
 use Rattle.freelist_rules.specs.AtOnce.{atOnce}
 use Rattle.freelist_rules.specs.Records.{Store}
-use Rattle.freelist_rules.specs.Tables.{Tables, tables, mark, givenAt, placesIn, storeOf, SoundTables}
+use Rattle.freelist_rules.specs.Tables.{Tables, tables, Lengths, mark, givenAt, placesIn, storeOf, SoundTables}
 use Rattle.freelist_outcomes.specs.Gate.{gateOf}
-use Rattle.freelist_outcomes.specs.Ask.{askOf}
+use Rattle.freelist_outcomes.specs.Ask.{raisedFor, askOf}
 use Rattle.freelist_outcomes.specs.Deliver.{deliverGateOf, deliverOf}
-use Rattle.freelist_outcomes.specs.Refusals.{Needed, setUpReasons, askReasons, deliverReasons, returnReasons, cleanUpReasons}
+use Rattle.freelist_outcomes.specs.Refusals.{InTable, SizeOff, Needed}
 use Rattle.freelist_outcomes.specs.Return.{returnOf, cleanUpOf}
 use Rattle.freelist_outcomes.specs.SetUp.{SetUp, setUpOf}
 
@@ -47,6 +49,15 @@ ownOf s a cleansUp t list = cleanUpOf s a t list
 abbrev pub seen : Store → View
 seen v = record { loans = v .loans; chunks = v .chunks; free = v .regions }
 
+-- serials and chunk numbers given, and the chunk size now
+pub record Counts : Type 0 where
+  pub given : ℕ
+  pub made : ℕ
+  pub size : ℕ
+
+abbrev pub countsOf : Store → Counts
+countsOf v = record { given = v .given; made = v .made; size = v .size }
+
 abbrev pub listShape : Shape
 listShape =
     record {
@@ -63,15 +74,17 @@ listShape =
       given = λ t. getD (t .head) givenAt 0;
       loans = λ t. loansOf (placesIn (asList t)) (t .loans);
       view = λ s t. seen (storeOf s (asList t));
+      Rest = Counts;
+      rest = λ s t. countsOf (storeOf s (asList t));
       Sound = λ s t. SoundTables s (asList t);
       Needed = λ s size mask t. Needed s size mask (asList t);
+      orderSize = λ s size mask t. raisedFor s size (asList t);
+      Fits = λ s t. FreeListIn s × Lengths s (asList t);
+      InTable = λ s a t. InTable s a (asList t);
+      SizeOff = λ s size mask. SizeOff s size;
+      Roomless = λ s size mask t. ⊥;
+      Numberless = λ s t. spent ≤ storeOf s (asList t) .made;
       gate = λ s a t. gateOf s a (asList t) true;
       deliverGate = λ s a t. deliverGateOf s a (asList t);
-      setUpReasons = λ s t. setUpReasons s (asList t);
-      askReasons = λ s a size mask t. askReasons s a size mask (asList t);
-      deliverReasons = λ s a o t. deliverReasons s a o (asList t);
-      returnReasons = λ s a b t list. returnReasons s a b (asList t) list;
-      otherReasons = λ s a c t list. cleanUpReasons s a (asList t) list;
-      gateReasons = λ s a t list. cleanUpReasons s a (asList t) list;
       atOnce = λ s bs t. seen (atOnce bs (storeOf s (asList t)));
     }

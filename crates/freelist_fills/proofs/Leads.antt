@@ -3,12 +3,12 @@ use mathlib.Core.Path.{_≡_, refl, sym, ap, _∙_}
 use mathlib.Core.Bool.{true, false, _&&_}
 use mathlib.Core.Logic.{_⊎_, inl, inr, ⊎-elim}
 use mathlib.Core.List.{List, [], _∷_, map}
-use Prim.Native.Nat.{ℕ, suc, _+_, _*_, _%_, _^_, _≤_, _<_}
+use Prim.Native.Nat.{ℕ, suc, _+_, _%_, _≤_, _<_}
 use native.Mathlib.Omega.{arith}
 use lib.Dec.{eqb, ltb}
 use lib.ListN.{length, getD}
 use borrow.Author.Tests.{ltb-true}
-use Rattle.counter.specs.Limits.{loansMost, chunksMost, chunkSizeMost}
+use Rattle.counter.specs.Limits.{loansMost, chunkSizeMost}
 use Rattle.lists.specs.Members.{Mem}
 use Rattle.lists.proofs.Bools.{and-left, and-right, told, same?, lt-or-le}
 use Rattle.distinct.specs.Order.{RisesFrom, Sorted}
@@ -26,10 +26,6 @@ use Rattle.freelist_fills.specs.Keys.{rankOf, homed, keyOf, keysFrom, le
 use Rattle.freelist_fills.proofs.Alike.{Alike, counted-alike, sorted-mem, map-alike}
 use Rattle.freelist_fills.proofs.Orders.{InOrder}
 use Rattle.freelist_fills.proofs.Numbers.{rank-order}
-
--- a key fits 64 bits
-pub keys-fit : chunksMost * chunkSizeMost * loansMost ≤ 2 ^ 64
-keys-fit = omega arith
 
 pub key-place : (r x p : ℕ) → p < loansMost → keyOf r x p % loansMost ≡ p
 unfolding keyOf

@@ -17,7 +17,7 @@ use Rattle.counter.specs.declared.account.Heap.{Heap}
 use Rattle.counter.specs.declared.settings.FreeListSettings.{FreeListSettings}
 use Rattle.store_rules.specs.Loans.{loanWords}
 use Rattle.store_rules.specs.Tests.{noOrder, coversOk}
-use Rattle.book.specs.Book.{indexWords}
+use Rattle.book_rules.specs.Book.{indexWords}
 use Rattle.freelist_rules.specs.Records.{chunkWords, chunkRow}
 use Rattle.freelist_rules.specs.Pieces.{total}
 use Rattle.freelist_rules.specs.Tables.{Tables, headWords, chunksAt, chunksIn, countAt, lengthsOk, storeOf, soundOk}

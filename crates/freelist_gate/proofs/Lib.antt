@@ -1,4 +1,1 @@
-pub mod Arrivals
 pub mod Gates
-pub mod Planned
-pub mod Stale

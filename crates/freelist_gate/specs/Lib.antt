@@ -1,3 +1,1 @@
-pub mod Backs
-pub mod Comings
 pub mod Gates

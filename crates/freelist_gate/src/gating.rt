@@ -86,7 +86,7 @@ pub fn is_covered(h: Heap, objects: u32, head: &[u64], chunks: &[u64]) -> bool
     ensures { λ r. ⌜ r ≡ coversOk h objects (getD (now (head .entry)) chunksAt 0) (total (λ c. c .size) (rows chunkRow (getD (now (head .entry)) chunksAt 0) (now (chunks .entry)))) ⌝ }
 {
     let k = words::word(head, CHUNKS_AT);
-    store::covers(h, objects, k, chunk_bytes(chunks, k as usize))
+    store_accounts::covers(h, objects, k, chunk_bytes(chunks, k as usize))
 }
 
 // Tests 3 and 4: the store is sound, and the account covers it.
@@ -130,7 +130,7 @@ pub fn gate(
         return Gate::Shut(Refusal::Setup);
     }
     let order = a.order;
-    if !store::no_order(order) {
+    if !store_accounts::no_order(order) {
         return Gate::Shut(Refusal::Order);
     }
     let own = s.store;

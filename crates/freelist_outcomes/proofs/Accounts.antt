@@ -16,7 +16,7 @@ use Rattle.store_rules.specs.Outcomes.{chargedAccount, lostAccount, releasedAcc
 use Rattle.store_rules.specs.Tests.{coversOk}
 use Rattle.store_rules.proofs.Accounts as Shared
 use Rattle.store_rules.proofs.Accounts.{released-covered, charged-covered, lost-covered}
-pub use Rattle.store_rules.proofs.Accounts.{settled-other, settled-own, settled-past, settled-either, settled-length, settled-heaps, own-in, covers-yes, covers-all, released-covers, left-covers, fewer-covers, charged-covers, lost-covers, back-covers}
+pub use Rattle.store_rules.proofs.Accounts.{covers-yes}
 use Rattle.freelist_rules.specs.Pieces.{total}
 use Rattle.freelist_rules.specs.Release.{bytesOf}
 use Rattle.freelist_rules.specs.Records.{Store}

@@ -4,14 +4,14 @@ use Prim.Native.Nat.{ℕ, _+_, _≤_}
 use native.Mathlib.Omega.{arith}
 use lib.ListN.{length, set}
 use lib.Seq.{getD-set-other}
-use Rattle.rounding.specs.Growth.{doubled}
-use Rattle.rounding.proofs.Growth.{grown-enough}
-use Rattle.rounding.proofs.Raising.{up-least}
+use Rattle.rounding_rules.specs.Growth.{doubled}
+use Rattle.rounding_rules.proofs.Growth.{grown-enough}
+use Rattle.rounding_rules.proofs.Raising.{up-least}
 use Rattle.counter.specs.InTable.{FreeListIn}
 use Rattle.counter.specs.declared.account.Account.{Account}
 use Rattle.counter.specs.declared.account.KeptOrder.{KeptOrder}
 use Rattle.counter.specs.declared.settings.FreeListSettings.{FreeListSettings}
-use Rattle.book.specs.Book.{takenOf}
+use Rattle.book_rules.specs.Book.{takenOf}
 use Rattle.freelist_rules.specs.Place.{find, sizeFor, maskFor}
 use Rattle.freelist_rules.specs.Pieces.{All}
 use Rattle.freelist_rules.specs.Steps.{delivered, lent}

@@ -15,14 +15,14 @@ use Rattle.words.proofs.Records.{rows-snoc, cell-row}
 use Rattle.counter.specs.Account.{value}
 use Rattle.counter.specs.Gate.{pass, Row, first}
 use Rattle.counter.specs.InTable.{FreeListIn}
-use Rattle.counter.specs.Limits.{heapBytesMost}
-use Rattle.counter.specs.Reasons.{reason, Given, Clear, Decides}
+use Rattle.counter.specs.Limits.{heapBytesMost, spent}
+use Rattle.counter.specs.Reasons.{reason, Clear, Decides}
 use Rattle.counter.specs.Reasons as Reasons
 use Rattle.counter.specs.Table.{alignmentOk}
 use Rattle.counter.specs.declared.account.Heap.{Heap}
 use Rattle.counter.specs.declared.settings.FreeListSettings.{FreeListSettings}
 use Rattle.counter.proofs.Gates.{passed}
-use Rattle.counter.proofs.Reasoned.{given-first, clear-first}
+use Rattle.counter.proofs.Reasoned.{clear-first}
 use Rattle.heap.specs.Heap.{bearsOk}
 use Rattle.slab.specs.Slab.{vacantAt}
 use Rattle.slab.specs.Slab as Slab
@@ -31,10 +31,10 @@ use Rattle.slab.proofs.Decides.{chained-long}
 use Rattle.slab.proofs.Places.{insert-last}
 use Rattle.slab.proofs.Steps.{vacancies-none, vacancies-more, vacancies-same}
 use Rattle.store_rules.specs.Loans.{loanWords, sizeAt, loanRow, onLoan, loansOf}
-use Rattle.store_rules.specs.Orders.{deny, take, buy}
+use Rattle.store_rules.specs.Orders.{take, buy}
 use Rattle.store_rules.proofs.Refused.{mask-off}
 use Rattle.store_rules.proofs.Tested.{off-and, off-where, off-less, off-within, off-some, off-room, bears-off}
-use Rattle.book.specs.Book.{entryWords, vacantAfterAt, slabOf, takenOf}
+use Rattle.book_rules.specs.Book.{entryWords, vacantAfterAt, slabOf, takenOf}
 use Rattle.freelist_rules.specs.Place.{Found, nowhere, at, sizeFor, maskFor, cut}
 use Rattle.freelist_rules.specs.Records.{Store}
 use Rattle.freelist_rules.specs.Steps.{noRegion}
@@ -50,9 +50,9 @@ use Rattle.freelist_rules.proofs.Meaning.{at-region, chunk-one}
 use Rattle.freelist_rules.proofs.Ordered.{ordered-length}
 use Rattle.freelist_rules.proofs.Orders.{order-when}
 use Rattle.freelist_rules.proofs.Search.{find-fits}
-use Rattle.freelist_outcomes.specs.Ask.{spent, foundFor, needs, raisedFor, sizeOk, roomOk, countOk, objectsOk, lateRow, askRow, planned, decideAsk}
+use Rattle.freelist_outcomes.specs.Ask.{foundFor, needs, raisedFor, sizeOk, roomOk, countOk, objectsOk, lateRow, askRow, planned, decideAsk}
 use Rattle.freelist_outcomes.specs.Refusals.{SizeOff, Fitting, Needed, Full, Spent, NoObject, askTests}
-use Rattle.freelist_outcomes.proofs.Plans.{planned-take, planned-buy, planned-deny, size-some}
+use Rattle.freelist_outcomes.proofs.Plans.{planned-take, planned-buy, size-some}
 
 -- ---- how many are on loan
 
@@ -202,12 +202,6 @@ module _ (s : FreeListSettings) (t : Tables) (fit : FreeListIn s) (sound : Sound
 
     passing : first tests ≡ pass → (alignmentOk mask ≡ true) × (0 < size)
     passing e = let w = passed tests e in (w .0, size-some s size (w .1 .0))
-
-    pub ask-denies : (n : ℕ) → (decideAsk s h objects size mask t ≡ deny n) ↔ Given (askTests s h objects size mask t) n
-    unfolding decideAsk
-    ask-denies n =
-        let g = given-first tests (askTests s h objects size mask t) ask-decided n in
-        ((λ e. g .0 (planned-deny s size n t found (first tests) e)), (λ w. ap (planned s size t found) (g .1 w)))
 
     pub ask-buys : (z : ℕ) → (decideAsk s h objects size mask t ≡ buy z) ↔ (Clear (askTests s h objects size mask t) × Needed s size mask t × (z ≡ raisedFor s size t))
     unfolding decideAsk

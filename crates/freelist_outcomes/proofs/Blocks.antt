@@ -7,7 +7,7 @@ use Prim.Native.Nat.{ℕ, _+_, _-_, _≤_, _<_}
 use native.Mathlib.Omega.{arith}
 use lib.ListN.{length, getD}
 use Rattle.lists.proofs.Bools.{lt-or-le}
-use Rattle.rounding.proofs.Raising.{down-close, up-close}
+use Rattle.rounding_rules.proofs.Raising.{down-close, up-close}
 use Rattle.counter.specs.Account.{heapAt}
 use Rattle.counter.specs.InTable.{FreeListIn}
 use Rattle.counter.specs.Paper as Paper

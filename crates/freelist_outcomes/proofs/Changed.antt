@@ -5,7 +5,7 @@ use mathlib.Core.Bool.{Bool}
 use mathlib.Core.List.{List, [], _∷_}
 use Prim.Native.Nat.{ℕ, _+_, _≤_, _<_}
 use native.Mathlib.Omega.{arith}
-use lib.ListN.{length, getD, set, length-append, length-set, length-replicate, getD-replicate}
+use lib.ListN.{length, getD, set, length-append, getD-replicate}
 use lib.Seq.{getD-set-same}
 use Rattle.words.specs.Rows.{rows, laid}
 use Rattle.words.proofs.Records.{length-laid, rows-laid}
@@ -14,8 +14,8 @@ use Rattle.counter.specs.declared.settings.FreeListSettings.{FreeListSettings}
 use Rattle.slab.specs.Slab.{nowhere, Parted}
 use Rattle.slab.proofs.Places.{parted-fresh}
 use Rattle.store_rules.specs.Loans.{loansOf}
-use Rattle.book.specs.Book.{vacatedAt, indexWords, firstOf}
-use Rattle.book.proofs.Keeps.{fresh-chained}
+use Rattle.book_rules.specs.Book.{vacatedAt, indexWords, firstOf}
+use Rattle.book_rules.proofs.Keeps.{fresh-chained}
 use Rattle.freelist_rules.specs.Records.{Store, chunk, chunkRow, regionRow}
 use Rattle.freelist_rules.specs.Pieces.{All}
 use Rattle.freelist_rules.specs.Place.{sizeFor}
@@ -48,17 +48,6 @@ six-words (a ∷ b ∷ c ∷ d ∷ e ∷ f ∷ g ∷ h) l = absurd (omega arith)
 
 module _ (s : FreeListSettings) (t : Tables) (fit : FreeListIn s) (lengths : Lengths s t) where
   -- ---- set-up
-
-  pub fresh-lengths : Lengths s (freshTables s t)
-  unfolding freshTables
-  fresh-lengths =
-      record {
-        head = refl;
-        loans = lengths .loans;
-        chunks = lengths .chunks;
-        regions = length-set (t .regions) (countAt s) 0 ∙ lengths .regions;
-        index = length-replicate (indexWords (s .store .loans)) nowhere;
-      }
 
   -- no region is counted
   fresh-count : regionsIn s (freshTables s t) ≡ 0
@@ -109,9 +98,6 @@ module _ (s : FreeListSettings) (t : Tables) (fit : FreeListIn s) (lengths : Len
     ordered-is : (z : ℕ) → orderedTables z t ≡ changed (getD (t .head) madeAt 0) z (chunksIn t) (t .chunks) (t .regions)
     unfolding orderedTables
     ordered-is z = ap (λ (h : List ℕ). tables (set h chunkSizeAt z) (t .loans) (t .chunks) (t .regions) (t .index)) (six-words (t .head) (lengths .head))
-
-    pub ordered-lengths : (z : ℕ) → Lengths s (orderedTables z t)
-    ordered-lengths z = rw (ordered-is z) (changed-lengths (getD (t .head) madeAt 0) z (chunksIn t) (t .chunks) (t .regions) refl refl)
 
     pub ordered-store : (z : ℕ) → storeOf s (orderedTables z t) ≡ raised z (storeOf s t)
     unfolding storeOf

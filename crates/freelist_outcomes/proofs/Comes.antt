@@ -36,7 +36,7 @@ use Rattle.store_rules.specs.Orders.{orderFrom, keptFrom, sameOrder, leadsTo}
 use Rattle.store_rules.specs.Outcomes.{Out, out, Listed, listed, listOk, withOrder, blockSaid}
 use Rattle.store_rules.specs.Tests.{orderFor, gateRow}
 use Rattle.store_rules.proofs.Tested.{gate-low}
-use Rattle.book.specs.Book.{takenOf}
+use Rattle.book_rules.specs.Book.{takenOf}
 use Rattle.freelist_rules.specs.Place.{nowhere, at}
 use Rattle.freelist_rules.specs.Pieces.{All}
 use Rattle.freelist_rules.specs.Tables.{Tables, Lengths, lengthsOk, placesIn, chunksIn, storeOf, soundOk, SoundTables}

@@ -7,7 +7,7 @@ use Prim.Native.Nat.{ℕ, _+_, _-_, _%_, _≤_, _<_}
 use native.Mathlib.Omega.{arith}
 use lib.ListN.{length, getD}
 use Rattle.lists.proofs.Bools.{true-false}
-use Rattle.rounding.proofs.Raising.{down-most}
+use Rattle.rounding_rules.proofs.Raising.{down-most}
 use Rattle.counter.specs.Account.{heapAt}
 use Rattle.counter.specs.Paper as Paper
 use Rattle.counter.specs.declared.account.Account.{Account}

@@ -26,7 +26,7 @@ use Rattle.store_rules.specs.declared.Chunk.{Chunk}
 use Rattle.freelist_rules.proofs.Fits.{lengths-are, are-lengths, chunks-length}
 use Rattle.freelist_rules.proofs.Tested.{tables-yes, tables-all}
 use Rattle.freelist_outcomes.specs.Gate.{lentOk, accountOk}
-use Rattle.freelist_outcomes.specs.Refusals.{InTable, WithList, Short, cleanUpReasons}
+use Rattle.freelist_outcomes.specs.Refusals.{InTable, WithList, Short, gateReasons, cleanUpReasons}
 
 -- ---- 1
 
@@ -95,8 +95,7 @@ module _ (s : FreeListSettings) (a : Account) (t : Tables) where
     )),
   )
 
-pub gate-decided : (s : FreeListSettings) (a : Account) (t : Tables) → Decides (gateRow (lentOk s a t && true) (noOrder (a .order)) (soundOk s t) (accountOk s a t))
-    (reason (InTable s a t → ⊥) 1 (reason (OrderOpen a) 2 (reason (SoundTables s t → ⊥) 3 (reason (Short s a t) 4 none))))
+pub gate-decided : (s : FreeListSettings) (a : Account) (t : Tables) → Decides (gateRow (lentOk s a t && true) (noOrder (a .order)) (soundOk s t) (accountOk s a t)) (gateReasons s a t)
 gate-decided s a t = decided s a t (lentOk s a t && true) w (λ (i : InTable s a t). i .settings)
   where
     w : ((lentOk s a t && true) ≡ true) ↔ InTable s a t

@@ -19,10 +19,10 @@ use Rattle.slab.specs.Slab.{nowhere, changed}
 use Rattle.slab.proofs.Places.{changed-here, changed-other}
 use Rattle.store_rules.specs.Loans.{loanWords, serialAt, sizeAt, loanRow, loansOf}
 use Rattle.store_rules.specs.declared.Loan.{Loan}
-use Rattle.book.specs.Book.{indexWords, serialOf, wordTo, struck, struckIndex}
-use Rattle.book.proofs.Changed.{serial-kept, vacant-now}
-use Rattle.book.proofs.Decides.{serial-once}
-use Rattle.book.proofs.Keeps.{BookChained, BookParted, freeIn, firstIn, nextIn, found, struck-long, struck-wide, struck-chained, struck-parted}
+use Rattle.book_rules.specs.Book.{indexWords, serialOf, wordTo, struck, struckIndex}
+use Rattle.book_rules.proofs.Changed.{serial-kept, vacant-now}
+use Rattle.book_rules.proofs.Decides.{serial-once}
+use Rattle.book_rules.proofs.Keeps.{BookChained, BookParted, freeIn, firstIn, nextIn, found, struck-long, struck-wide, struck-chained, struck-parted}
 use Rattle.freelist_rules.specs.Join.{insert}
 use Rattle.freelist_rules.specs.Pieces.{All}
 use Rattle.freelist_rules.specs.Seek.{sameLoan}
@@ -30,7 +30,7 @@ use Rattle.freelist_rules.specs.Sound.{Sound}
 use Rattle.freelist_rules.specs.Steps.{noLoan}
 use Rattle.freelist_rules.specs.Tables.{Tables, Lengths, SoundTables, RegionsFit, givenAt, placesIn, ordered, regionsMost, storeOf}
 use Rattle.store_rules.specs.declared.Region.{Region}
-use Rattle.freelist_rules.proofs.AnyOrder.{loanOf, loan-is, same-self}
+use Rattle.freelist_rules.proofs.Blocks.{loanOf, loan-is, same-self}
 use Rattle.freelist_rules.proofs.Base.{at-in}
 use Rattle.freelist_rules.proofs.Fits.{are-lengths, regions-fit, laid-long, laid-count, laid-regions}
 use Rattle.freelist_rules.proofs.Gaps.{LoansRise}

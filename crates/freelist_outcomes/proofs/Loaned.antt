@@ -7,7 +7,6 @@ use native.Mathlib.Omega.{arith}
 use lib.Dec.{eqb}
 use lib.ListN.{length, getD}
 use borrow.Author.Tests.{eqb-false}
-use Rattle.lists.specs.Members.{Distinct}
 use Rattle.lists.proofs.Bools.{and-left, and-right, not-yes}
 use Rattle.words.specs.Rows.{row, rows}
 use Rattle.words.proofs.Records.{length-rows, getD-rows, cell-row}
@@ -17,22 +16,18 @@ use Rattle.counter.specs.declared.settings.FreeListSettings.{FreeListSettings}
 use Rattle.slab.specs.Slab.{nowhere}
 use Rattle.store_rules.specs.Loans.{loanWords, sizeAt, loanRow, onLoan, loansOf}
 use Rattle.store_rules.specs.declared.Loan.{Loan}
-use Rattle.book.specs.Book.{serialOf}
+use Rattle.book_rules.specs.Book.{serialOf}
 use Rattle.freelist_rules.specs.Records.{region}
 use Rattle.freelist_rules.specs.Pieces.{piece}
-use Rattle.freelist_rules.specs.Place.{at}
-use Rattle.freelist_rules.specs.Seek.{sameLoan, seek}
+use Rattle.freelist_rules.specs.Seek.{sameLoan}
 use Rattle.freelist_rules.specs.Steps.{noLoan}
 use Rattle.freelist_rules.specs.Tables.{Tables, givenAt, placesIn, storeOf, vacantIn, SoundTables}
-use Rattle.freelist_rules.specs.Walk.{serials}
 use Rattle.freelist_rules.proofs.Base.{at-in}
-use Rattle.freelist_rules.proofs.Decides.{differ-distinct}
-use Rattle.freelist_rules.proofs.Gaps.{begins, stops}
 use Rattle.freelist_rules.proofs.Giving.{mem-at}
 use Rattle.freelist_rules.proofs.Ordered.{ordered-in, on-loan-in}
-use Rattle.freelist_rules.proofs.Search.{same-loan, seek-here}
+use Rattle.freelist_rules.proofs.Search.{same-loan}
 use Rattle.freelist_outcomes.specs.Return.{wordFor, onLoanOk}
-use Rattle.book.proofs.Uses.{leads-used}
+use Rattle.book_rules.proofs.Uses.{leads-used}
 
 -- ---- a place in use
 
@@ -78,10 +73,3 @@ module _ (s : FreeListSettings) (t : Tables) where
 
   pub block-piece : (b : Block) (w : Stands b) → piece (getD (storeOf s t .loans) (w .spot) noLoan) ≡ region (b .chunk) (b .offset) (b .offset + b .size)
   block-piece b w = let e = same-loan b (getD (storeOf s t .loans) (w .spot) noLoan) (w .same) in (λ i. region (e .1 i) (e .2 i) (e .2 i + e .3 i))
-
-  -- the search over the loans finds it
-  pub block-sought : SoundTables s t → (b : Block) (w : Stands b) → seek b (storeOf s t .loans) ≡ at (w .spot)
-  block-sought sound b w =
-      let ls = storeOf s t .loans in
-      let u : Distinct (serials ls) = differ-distinct (λ (l : Loan). l .serial) begins stops 0 0 ls (sound .store .loans-rise) (sound .store .serials-differ) in
-      seek-here b (w .spot) ls noLoan u (w .here) (w .same)

@@ -7,20 +7,20 @@ use lib.Dec.{leb, ltb}
 use lib.ListN.{getD}
 use borrow.Author.Tests.{ltb-true, leb-true}
 use Rattle.lists.proofs.Bools.{and-left, and-right}
+use Rattle.counter.specs.Limits.{spent}
 use Rattle.counter.specs.Account.{heapAt}
 use Rattle.counter.specs.Gate.{Verdict, pass, refuse, first, Held}
-use Rattle.counter.specs.Table.{alignmentOk}
 use Rattle.counter.specs.declared.account.Account.{Account}
 use Rattle.counter.specs.declared.account.Heap.{Heap}
 use Rattle.counter.specs.declared.settings.FreeListSettings.{FreeListSettings}
 use Rattle.counter.proofs.Gates.{passed}
 use Rattle.heap.specs.Heap.{bearsOk}
 use Rattle.store_rules.specs.Orders.{Plan, deny, take, buy}
-use Rattle.book.specs.Book.{takenOf}
+use Rattle.book_rules.specs.Book.{takenOf}
 use Rattle.freelist_rules.specs.Place.{Found, nowhere, at}
 use Rattle.freelist_rules.specs.Tables.{Tables, givenAt, madeAt, placesIn, chunksIn, storeOf}
 use Rattle.freelist_outcomes.specs.Gate.{gateOf}
-use Rattle.freelist_outcomes.specs.Ask.{spent, foundFor, raisedFor, sizeOk, roomOk, countOk, askRow, planned, decideAsk, gated, planAsk}
+use Rattle.freelist_outcomes.specs.Ask.{foundFor, raisedFor, sizeOk, roomOk, countOk, askRow, planned, decideAsk, gated, planAsk}
 use Rattle.freelist_outcomes.proofs.Passing.{Passed, gate-passed}
 
 -- ---- no plan is two
@@ -36,9 +36,6 @@ take-buy i z e = let q : _≡_ {A = ℕ} 0 1 = cc in absurd (omega arith)
 
 buy-take : {A : Type 0} (z i : ℕ) → _≡_ {A = Plan ℕ} (buy z) (take i) → A
 buy-take z i e = let q : _≡_ {A = ℕ} 0 1 = cc in absurd (omega arith)
-
-same-deny : (m n : ℕ) → _≡_ {A = Plan ℕ} (deny m) (deny n) → m ≡ n
-same-deny m n e = cc
 
 same-take : (i j : ℕ) → _≡_ {A = Plan ℕ} (take i) (take j) → i ≡ j
 same-take i j e = cc
@@ -59,12 +56,6 @@ planned-buy s size z t (at j) pass e = take-buy j z e
 planned-buy s size z t nowhere pass e = (refl, sym (same-buy (raisedFor s size t) z e), refl)
 planned-buy s size z t (at j) (refuse n) e = deny-buy n z e
 planned-buy s size z t nowhere (refuse n) e = deny-buy n z e
-
-pub planned-deny : (s : FreeListSettings) (size n : ℕ) (t : Tables) (f : Found) (v : Verdict) → planned s size t f v ≡ deny n → v ≡ refuse n
-planned-deny s size n t (at j) pass e = deny-take n j (sym e)
-planned-deny s size n t nowhere pass e = deny-buy n (raisedFor s size t) (sym e)
-planned-deny s size n t (at j) (refuse m) e = ap refuse (same-deny m n e)
-planned-deny s size n t nowhere (refuse m) e = ap refuse (same-deny m n e)
 
 pub size-some : (s : FreeListSettings) (size : ℕ) → sizeOk s size ≡ true → 0 < size
 unfolding sizeOk
@@ -92,10 +83,6 @@ module _ (s : FreeListSettings) (h : Heap) (objects size mask : ℕ) (t : Tables
       let f = foundFor s size mask t in
       let w = planned-buy s size z t f (first (askRow s h objects size mask t f)) e in
       (w .0, w .1, passed (askRow s h objects size mask t nowhere) (ap (λ (g : Found). first (askRow s h objects size mask t g)) (sym (w .0)) ∙ w .2))
-
-  -- an order is for the chunk size as the ask raises it, and its ask passed the tests of mask and size
-  pub buy-is : (z : ℕ) → decideAsk s h objects size mask t ≡ buy z → (z ≡ raisedFor s size t) × (alignmentOk mask ≡ true) × (sizeOk s size ≡ true)
-  buy-is z e = let w = buy-held z e in (w .1, w .2 .0, w .2 .1 .0)
 
 -- a chunk is needed: a chunk place is vacant, and a chunk number is left
 pub chunk-place : (s : FreeListSettings) (t : Tables) → roomOk s t nowhere ≡ true → chunksIn t < s .store .chunks

@@ -9,7 +9,7 @@ use Rattle.counter.specs.Account.{heapAt}
 use Rattle.counter.specs.Gate.{Verdict, pass, refuse, Row, first}
 use Rattle.counter.specs.InTable.{FreeListIn}
 use Rattle.counter.specs.Paper as Paper
-use Rattle.counter.specs.Reasons.{Reasons, none, reason, Given, Clear, Decides}
+use Rattle.counter.specs.Reasons.{none, reason, Given, Clear, Decides}
 use Rattle.counter.specs.Table.{freeListOk}
 use Rattle.counter.specs.declared.account.Account.{Account}
 use Rattle.counter.specs.declared.account.KeptOrder.{KeptOrder}
@@ -24,7 +24,7 @@ use Rattle.counter.proofs.Tables.{free-list-yes, free-list-all}
 use Rattle.store_rules.specs.Delivery.{Fate, kept, lost, freeList, fateOf}
 use Rattle.store_rules.specs.Orders.{Plan, deny, take, buy, orderFrom, leadsTo}
 use Rattle.store_rules.specs.Outcomes.{Out, out, listed, listOk}
-use Rattle.store_rules.specs.Refusals.{OrderOpen, lostFor}
+use Rattle.store_rules.specs.Refusals.{DeviceOut, HostOut, lostFor}
 use Rattle.store_rules.specs.Tests.{noOrder, orderFor, gateRow}
 use Rattle.store_rules.proofs.Refused.{fails, none-for, is-same-order, leads-buy}
 use Rattle.store_rules.proofs.Said.{not-refused, said-number, said-back, Says, says-refused, says-passed, Tells, tells-refused, tells-passed}
@@ -32,7 +32,7 @@ use Rattle.store_rules.proofs.Fates.{left, fateVerdict, fateRow, device-out, ho
 use Rattle.freelist_rules.specs.Place.{Found, nowhere, at}
 use Rattle.freelist_rules.specs.Tables.{Tables, lengthsOk, Lengths, storeOf, soundOk, SoundTables}
 use Rattle.freelist_rules.specs.Walk.{memories}
-use Rattle.freelist_rules.proofs.AnyOrder.{loanOf}
+use Rattle.freelist_rules.proofs.Blocks.{loanOf}
 use Rattle.freelist_rules.proofs.Fits.{lengths-are, are-lengths}
 use Rattle.freelist_rules.proofs.Tested.{tables-yes, tables-all}
 use Rattle.freelist_outcomes.specs.Gate.{lentOk, accountOk, gateOf}
@@ -43,7 +43,7 @@ use Rattle.freelist_outcomes.specs.Deliver as D
 use Rattle.freelist_outcomes.specs.Return.{wordFor, onLoanOk, releaseOf, decideReturn, planReturn, carryReturn, returnOf, carryCleanUp, cleanUpOf}
 use Rattle.freelist_outcomes.specs.Return as R
 use Rattle.freelist_outcomes.specs.SetUp.{setUp, fitOk, setUpOf, freshTables}
-use Rattle.freelist_outcomes.specs.Refusals.{InTable, Short, Needed, askTests, askReasons, Stale, returnReasons, Leads, deliverReasons, cleanUpReasons, setUpReasons}
+use Rattle.freelist_outcomes.specs.Refusals.{Needed, gateReasons, askTests, askReasons, Stale, returnReasons, Leads, keptReasons, Unwelcomed, deliverReasons, cleanUpReasons, setUpReasons}
 use Rattle.freelist_outcomes.proofs.Asked.{ask-decided, ask-buys}
 use Rattle.freelist_outcomes.proofs.Comes.{Arrival, early, fated, arrives}
 use Rattle.freelist_outcomes.proofs.Gated.{in-table, short, gate-decided, list-decided}
@@ -160,23 +160,13 @@ unfolding carryFate
 tells-fate s a k t (kept m) n = tells-passed (carryFate s a k t (kept m) .said) n refl
 tells-fate s a k t (lost m c back) n = tells-refused m n back
 
-module _ (s : FreeListSettings) (a : Account) (o : Outcome) (t : Tables) where
+module _ (s : FreeListSettings) (a : Account) (t : Tables) where
   abbrev held : List ℕ
   held = memories (storeOf s t .chunks)
 
   abbrev gates : Row
   gates =
       gateRow (lentOk s a t) (orderFor (s .store .number) (a .order)) (soundOk s t && stillOk s a t (a .order)) (accountOk s a t)
-
-  abbrev deliverRow : Row
-  deliverRow = gates ++ ((welcomeOk held o (a .order), 13) ∷ fateRow o)
-
-  -- a delivery says what the row of its tests comes to
-  deliver-tells : (n : ℕ) → Tells (deliverOf s a o t .said) (first deliverRow) n
-  unfolding deliverOf planDeliver deliverGateOf carryDeliver
-  deliver-tells n =
-      arrival-tells freeList o held (s .store .number) (λ (p : D.Arrival). carryDeliver s a t p .said) n (λ m. tells-refused m n []) (λ k f. tells-fate s a k t f n) gates (a .order)
-      (λ e. passed gates e .1 .0)
 
   leads : FreeListIn s → ((soundOk s t && stillOk s a t (a .order)) ≡ true) ↔ (SoundTables s t × Leads s a t)
   leads fit = (there, back)
@@ -207,8 +197,9 @@ module _ (s : FreeListSettings) (a : Account) (o : Outcome) (t : Tables) where
           ∙ ap (leadsTo (s .store) (k .order)) (bought (w .0) k z .1 (l .clear, l .needed, refl))
           ∙ is-same-order (k .order) (orderFrom (s .store) z) (l .same))
 
-  deliver-decided : Decides deliverRow (deliverReasons s a o t)
-  deliver-decided = (
+  -- 1 to 4
+  pub kept-decided : Decides gates (keptReasons s a t)
+  kept-decided = (
     refl,
     fails (lentOk s a t) (in-table s a t .0) (in-table s a t .1),
     (λ e. (
@@ -217,23 +208,31 @@ module _ (s : FreeListSettings) (a : Account) (o : Outcome) (t : Tables) where
       (λ _. (
         refl,
         (let w = leads (in-table s a t .0 e .settings) in fails (soundOk s t && stillOk s a t (a .order)) (w .0) (w .1)),
-        (λ _. (
-          refl,
-          short s a t,
-          (λ _. (
-            refl,
-            unwelcomed a held o,
-            (λ _. (refl, device-out o, (λ _. (refl, host-out o, (λ _. tt))))),
-          )),
-        )),
+        (λ _. (refl, short s a t, (λ _. tt))),
       )),
     )),
   )
 
+  module _ (o : Outcome) where
+    abbrev deliverRow : Row
+    deliverRow = gates ++ ((welcomeOk held o (a .order), 13) ∷ fateRow o)
+
+    -- a delivery says what the row of its tests comes to
+    deliver-tells : (n : ℕ) → Tells (deliverOf s a o t .said) (first deliverRow) n
+    unfolding deliverOf planDeliver deliverGateOf carryDeliver
+    deliver-tells n =
+        arrival-tells freeList o held (s .store .number) (λ (p : D.Arrival). carryDeliver s a t p .said) n (λ m. tells-refused m n []) (λ k f. tells-fate s a k t f n) gates (a .order)
+        (λ e. passed gates e .1 .0)
+
+    deliver-decided : Decides deliverRow (deliverReasons s a o t)
+    deliver-decided =
+        decides-then gates (keptReasons s a t) ((welcomeOk held o (a .order), 13) ∷ fateRow o) (reason (Unwelcomed s a o t) 13 (reason (DeviceOut o) 11 (reason (HostOut o) 12 none))) kept-decided
+        (λ _. (refl, unwelcomed a held o, (λ _. (refl, device-out o, (λ _. (refl, host-out o, (λ _. tt)))))))
+
 -- a delivery is refused with n exactly when n is the number of the first of its rows, 1 to 4, 13, 11, 12, whose words hold
 pub deliver-refused : (s : FreeListSettings) (a : Account) (o : Outcome) (t : Tables) (n : ℕ) → ((back : List ℕ) × (deliverOf s a o t .said ≡ Paper.refusal n back)) ↔ Given (deliverReasons s a o t) n
 deliver-refused s a o t n =
-    Iff·trans (deliver-tells s a o t n) (given-first (deliverRow s a o t) (deliverReasons s a o t) (deliver-decided s a o t) n)
+    Iff·trans (deliver-tells s a t o n) (given-first (deliverRow s a t o) (deliverReasons s a o t) (deliver-decided s a t o) n)
 
 -- ---- exactly when each number of an ask and of a return is given
 
@@ -250,11 +249,8 @@ pub ask-refused : (s : FreeListSettings) (a : Account) (size mask : ℕ) (t : Ta
 unfolding askOf carryAsk planAsk decideAsk gateOf
 ask-refused s a size mask t n =
     Iff·trans (subst (λ (v : Verdict). Says (askOf s a size mask t .said) v n) (sym (first-then gate tests)) (by (first gate) (foundFor s size mask t) (first tests)))
-    (given-first (gate ++ tests) (askReasons s a size mask t) (decides-then gate early tests (askTests s (heapAt a (s .store .heap)) (a .objects) size mask t) (gate-decided s a t) later) n)
+    (given-first (gate ++ tests) (askReasons s a size mask t) (decides-then gate (gateReasons s a t) tests (askTests s (heapAt a (s .store .heap)) (a .objects) size mask t) (gate-decided s a t) later) n)
   where
-    early : Reasons
-    early = reason (InTable s a t → ⊥) 1 (reason (OrderOpen a) 2 (reason (SoundTables s t → ⊥) 3 (reason (Short s a t) 4 none)))
-
     gate : Row
     gate = gateFor s a t true
 

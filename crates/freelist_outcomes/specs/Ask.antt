@@ -1,10 +1,11 @@
 -- What an ask says and leaves. 01, "freelist.rs", and the tests 5, 6, 8, 10 and 9. Assumes nothing: these are definitions.
 use mathlib.Core.Bool.{Bool, true, false, _&&_, _||_, not}
 use mathlib.Core.List.{[], _∷_}
-use Prim.Native.Nat.{ℕ, _+_, _-_, _^_}
+use Prim.Native.Nat.{ℕ, _+_}
 use lib.Dec.{leb, ltb}
 use lib.ListN.{set}
-use Rattle.rounding.specs.Growth.{grown}
+use Rattle.rounding_rules.specs.Growth.{grown}
+use Rattle.counter.specs.Limits.{spent}
 use Rattle.counter.specs.Account.{heapAt}
 use Rattle.counter.specs.Gate.{Verdict, pass, refuse, Row, first}
 use Rattle.counter.specs.Paper as Paper
@@ -17,16 +18,12 @@ use Rattle.heap.specs.Heap.{bearsOk}
 use Rattle.store_rules.specs.Orders.{Plan, deny, take, buy, orderFrom, keptFrom}
 use Rattle.store_rules.specs.Outcomes.{Out, out, withOrder, blockSaid}
 use Rattle.store_rules.specs.declared.Loan.{Loan}
-use Rattle.book.specs.Book.{takenOf, entered, enteredIndex}
+use Rattle.book_rules.specs.Book.{takenOf, entered, enteredIndex}
 use Rattle.freelist_rules.specs.Place.{sizeFor, maskFor, Found, nowhere, at, find, cutOff, lentLoan}
 use Rattle.freelist_rules.specs.Steps.{served}
 use Rattle.freelist_rules.specs.Tables.{Tables, tables, givenAt, chunkSizeAt, placesAt, placesIn, chunksIn, storeOf, laidRegions}
 use Rattle.store_rules.specs.declared.Region.{Region}
 use Rattle.freelist_outcomes.specs.Gate.{gateOf}
-
--- the last number that a count can have given
-abbrev pub spent : ℕ
-spent = 2 ^ 64 - 1
 
 -- which region serves
 abbrev pub foundFor : FreeListSettings → ℕ → ℕ → Tables → Found

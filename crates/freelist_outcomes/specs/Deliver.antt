@@ -4,7 +4,7 @@ use mathlib.Core.Bool.{Bool, false, _&&_}
 use mathlib.Core.List.{List, [], _∷_, _++_}
 use Prim.Native.Nat.{ℕ, _+_}
 use lib.ListN.{length, set}
-use Rattle.rounding.specs.Growth.{doubled}
+use Rattle.rounding_rules.specs.Growth.{doubled}
 use Rattle.words.specs.Rows.{laid}
 use Rattle.counter.specs.Account.{heapAt}
 use Rattle.counter.specs.Gate.{Verdict, first}

@@ -7,8 +7,8 @@ use Prim.Native.Nat.{ℕ, _+_, _%_, _^_, _≤_, _<_}
 use lib.ListN.{length, getD}
 use Rattle.counter.specs.Account.{value, heapAt, noHeap}
 use Rattle.counter.specs.InTable.{FreeListIn}
-use Rattle.counter.specs.Limits.{heapsMost, heapBytesMost}
-use Rattle.counter.specs.Reasons.{Reasons, none, reason, Clear}
+use Rattle.counter.specs.Limits.{heapsMost, heapBytesMost, spent}
+use Rattle.counter.specs.Reasons.{Reasons, none, reason, thereafter, Clear}
 use Rattle.counter.specs.declared.account.Account.{Account}
 use Rattle.counter.specs.declared.account.Heap.{Heap}
 use Rattle.counter.specs.declared.account.KeptOrder.{KeptOrder}
@@ -25,7 +25,7 @@ use Rattle.freelist_rules.specs.Tables.{Tables, Lengths, storeOf, SoundTables}
 use Rattle.freelist_rules.specs.Walk.{memories}
 use Rattle.store_rules.specs.declared.Chunk.{Chunk}
 use Rattle.store_rules.specs.declared.Region.{Region}
-use Rattle.freelist_outcomes.specs.Ask.{spent, raisedFor}
+use Rattle.freelist_outcomes.specs.Ask.{raisedFor}
 
 -- ---- 1
 
@@ -100,6 +100,15 @@ Stale s b t =
 
 -- ---- the tests of each call, in their order
 
+-- 1 to 4 of a call that is lent no list, and of one that is
+abbrev pub gateReasons : FreeListSettings → Account → Tables → Reasons
+gateReasons s a t =
+    reason (InTable s a t → ⊥) 1 (reason (OrderOpen a) 2 (reason (SoundTables s t → ⊥) 3 (reason (Short s a t) 4 none)))
+
+abbrev pub cleanUpReasons : FreeListSettings → Account → Tables → List ℕ → Reasons
+cleanUpReasons s a t list =
+    reason (WithList s a t list → ⊥) 1 (reason (OrderOpen a) 2 (reason (SoundTables s t → ⊥) 3 (reason (Short s a t) 4 none)))
+
 -- "5, 6, 8, 10, 9 for an ask"
 abbrev pub askTests : FreeListSettings → Heap → ℕ → ℕ → ℕ → Tables → Reasons
 askTests s h objects size mask t =
@@ -108,11 +117,7 @@ askTests s h objects size mask t =
     (reason (Full s size mask t) 8 (reason (Spent s h size mask t) 10 (reason (NoObject s objects size mask t) 9 none))))
 
 abbrev pub askReasons : FreeListSettings → Account → ℕ → ℕ → Tables → Reasons
-askReasons s a size mask t =
-    reason (InTable s a t → ⊥) 1
-    (reason (OrderOpen a) 2
-    (reason (SoundTables s t → ⊥) 3
-    (reason (Short s a t) 4 (askTests s (heapAt a (s .store .heap)) (a .objects) size mask t))))
+askReasons s a size mask t = thereafter (gateReasons s a t) (askTests s (heapAt a (s .store .heap)) (a .objects) size mask t)
 
 -- 3 on a delivery: "tests 5 to 10 on the kept ask" lead "to that order": none of them speaks, a chunk is needed, and this
 -- is the order for it
@@ -127,23 +132,20 @@ pub record Leads (s : FreeListSettings) (a : Account) (t : Tables) : Type 0 wher
 abbrev pub Unwelcomed : FreeListSettings → Account → Outcome → Tables → Type 0
 Unwelcomed s a o t = UnwelcomeTo a (memories (storeOf s t .chunks)) o
 
+-- 1 to 4 of a delivery
+abbrev pub keptReasons : FreeListSettings → Account → Tables → Reasons
+keptReasons s a t =
+    reason (InTable s a t → ⊥) 1
+    (reason (NoneFor (s .store .number) a) 2 (reason (SoundTables s t × Leads s a t → ⊥) 3 (reason (Short s a t) 4 none)))
+
 -- "13, 11, 12 for a delivery"
 abbrev pub deliverReasons : FreeListSettings → Account → Outcome → Tables → Reasons
 deliverReasons s a o t =
-    reason (InTable s a t → ⊥) 1
-    (reason (NoneFor (s .store .number) a) 2
-    (reason (SoundTables s t × Leads s a t → ⊥) 3
-    (reason (Short s a t) 4 (reason (Unwelcomed s a o t) 13 (reason (DeviceOut o) 11 (reason (HostOut o) 12 none))))))
+    thereafter (keptReasons s a t) (reason (Unwelcomed s a o t) 13 (reason (DeviceOut o) 11 (reason (HostOut o) 12 none)))
 
 -- "7 for a return"
 abbrev pub returnReasons : FreeListSettings → Account → Block → Tables → List ℕ → Reasons
-returnReasons s a b t list =
-    reason (WithList s a t list → ⊥) 1
-    (reason (OrderOpen a) 2 (reason (SoundTables s t → ⊥) 3 (reason (Short s a t) 4 (reason (Stale s b t) 7 none))))
-
-abbrev pub cleanUpReasons : FreeListSettings → Account → Tables → List ℕ → Reasons
-cleanUpReasons s a t list =
-    reason (WithList s a t list → ⊥) 1 (reason (OrderOpen a) 2 (reason (SoundTables s t → ⊥) 3 (reason (Short s a t) 4 none)))
+returnReasons s a b t list = thereafter (cleanUpReasons s a t list) (reason (Stale s b t) 7 none)
 
 -- "Set-up and ranking test only 1"
 abbrev pub setUpReasons : FreeListSettings → Tables → Reasons

@@ -1,36 +1,33 @@
 -- What a return and a clean-up say and leave. 01, "freelist.rs", and test 7. Assumes nothing: these are definitions.
-use mathlib.Core.Bool.{Bool, true, false, cond, _&&_, not}
+use mathlib.Core.Bool.{Bool, true, false}
 use mathlib.Core.List.{List, []}
 use Prim.Native.Nat.{ℕ, _+_}
-use lib.Dec.{eqb}
-use lib.ListN.{length, getD, set}
+use lib.ListN.{length, set}
 use lib.Seq.{sets}
-use Rattle.words.specs.Rows.{row, laid}
+use Rattle.words.specs.Rows.{laid}
 use Rattle.counter.specs.Gate.{Verdict, pass, refuse}
 use Rattle.counter.specs.Paper as Paper
 use Rattle.counter.specs.declared.account.Account.{Account}
 use Rattle.counter.specs.declared.answers.Block.{Block}
 use Rattle.counter.specs.declared.settings.FreeListSettings.{FreeListSettings}
-use Rattle.slab.specs.Slab.{nowhere}
-use Rattle.store_rules.specs.Loans.{loanRow}
 use Rattle.store_rules.specs.Outcomes.{Listed, listed, listOk, releasedAccount}
-use Rattle.book.specs.Book.{wordTo, struck, struckIndex}
+use Rattle.book_rules.specs.Book.{struck, struckIndex}
+use Rattle.book_rules.specs.Returns as Returns
+pub use Rattle.book_rules.specs.Returns.{Plan, deny, back, decided, gated}
 use Rattle.freelist_rules.specs.Records.{region, chunkRow}
 use Rattle.freelist_rules.specs.Join.{insert}
 use Rattle.freelist_rules.specs.Release.{staying, leaving, remaining, memoriesOf, bytesOf}
-use Rattle.freelist_rules.specs.Seek.{sameLoan}
 use Rattle.freelist_rules.specs.Tables.{Tables, tables, chunksAt, placesIn, storeOf, laidRegions}
 use Rattle.store_rules.specs.declared.Region.{Region}
 use Rattle.freelist_outcomes.specs.Gate.{gateOf}
 
 -- the word of the index that leads to the loan with the block's serial
 abbrev pub wordFor : FreeListSettings → Block → Tables → ℕ
-wordFor s b t = wordTo (t .loans) (t .index) (s .store .loans) (placesIn t) (b .serial)
+wordFor s b t = Returns.wordFor (t .loans) (t .index) (s .store .loans) (placesIn t) b
 
 -- 7: "no loan has this serial, chunk, offset and size"
 unfoldable pub onLoanOk : FreeListSettings → Block → Tables → Bool
-onLoanOk s b t =
-    not (eqb (wordFor s b t) nowhere) && sameLoan b (row loanRow (getD (t .index) (wordFor s b t) 0) (t .loans))
+onLoanOk s b t = Returns.onLoanOk (t .loans) (t .index) (s .store .loans) (placesIn t) b
 
 -- the loan that the word w leads to is struck out, and its bytes go back among the free regions
 unfoldable pub givenTables : FreeListSettings → Block → ℕ → Tables → Tables
@@ -67,17 +64,8 @@ releaseOf s a spare t list =
 
 -- ---- the calls
 
--- what a return comes to: a refusal, or the word that leads to the loan
-pub data Plan : Type 0 where
-  deny : ℕ → Plan
-  back : ℕ → Plan
-
 unfoldable pub decideReturn : FreeListSettings → Block → Tables → Plan
-decideReturn s b t = cond (onLoanOk s b t) (back (wordFor s b t)) (deny 7)
-
-abbrev pub gated : Verdict → Plan → Plan
-gated (refuse n) p = deny n
-gated pass p = p
+decideReturn s b t = decided (onLoanOk s b t) (wordFor s b t)
 
 unfoldable pub planReturn : FreeListSettings → Account → Block → Tables → Bool → Plan
 planReturn s a b t list = gated (gateOf s a t list) (decideReturn s b t)

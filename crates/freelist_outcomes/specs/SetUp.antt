@@ -8,7 +8,7 @@ use Rattle.counter.specs.Paper as Paper
 use Rattle.counter.specs.Table.{freeListOk}
 use Rattle.counter.specs.declared.settings.FreeListSettings.{FreeListSettings}
 use Rattle.slab.specs.Slab.{nowhere}
-use Rattle.book.specs.Book.{indexWords}
+use Rattle.book_rules.specs.Book.{indexWords}
 use Rattle.freelist_rules.specs.Tables.{Tables, tables, mark, countAt, lengthsOk}
 
 pub record SetUp : Type 0 where

@@ -5,7 +5,6 @@ use mathlib.Core.Logic.{_↔_}
 use mathlib.Core.List.{List, List·Memᴰ}
 use Prim.Native.Nat.{ℕ, _+_}
 use lib.ListN.{length, take, drop}
-use Rattle.counter.specs.Paper as Paper
 use Rattle.counter.specs.declared.settings.FreeListSettings.{FreeListSettings}
 pub use Rattle.store_rules.specs.Outcomes.{toFree}
 use Rattle.freelist_rules.specs.Tables.{Tables, storeOf}

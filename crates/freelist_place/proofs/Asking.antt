@@ -2,10 +2,10 @@
 use mathlib.Core.Path.{_≡_, refl, sym, ap, _∙_, subst}
 use Prim.Native.Nat.{ℕ, _+_, _-_, _^_, _≤_, _<_}
 use native.Mathlib.Omega.{arith}
-use Rattle.rounding.specs.Masks.{Ones}
-use Rattle.rounding.specs.Raising.{upTo, downTo}
-use Rattle.rounding.proofs.Masks.{ones-more, ones-top, join-ones}
-use Rattle.rounding.proofs.Raising.{down-enough, up-down}
+use Rattle.rounding_rules.specs.Masks.{Ones}
+use Rattle.rounding_rules.specs.Raising.{upTo, downTo}
+use Rattle.rounding_rules.proofs.Masks.{ones-more, ones-top, join-ones}
+use Rattle.rounding_rules.proofs.Raising.{down-enough, up-down}
 use Rattle.counter.specs.InTable.{FreeListIn}
 use Rattle.counter.specs.Limits.{alignBits, atomBits}
 use Rattle.counter.specs.declared.settings.FreeListSettings.{FreeListSettings}

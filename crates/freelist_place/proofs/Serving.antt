@@ -7,7 +7,7 @@ use Rattle.counter.specs.declared.settings.FreeListSettings.{FreeListSettings}
 use Rattle.words.specs.Rows.{row}
 use Rattle.words.proofs.Records.{getD-rows}
 use Rattle.store_rules.specs.declared.Loan.{Loan}
-use Rattle.book.specs.Book.{takenOf, entered, enteredIndex}
+use Rattle.book_rules.specs.Book.{takenOf, entered, enteredIndex}
 use Rattle.freelist_rules.specs.Records.{regionRow}
 use Rattle.freelist_rules.specs.Place.{sizeFor, maskFor, block, cutOff, lentLoan}
 use Rattle.freelist_rules.specs.Steps.{noRegion}

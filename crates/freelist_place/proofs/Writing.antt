@@ -4,12 +4,12 @@ use mathlib.Core.List.{List, [], _∷_, _++_}
 use Prim.Native.Nat.{ℕ, _+_, _*_, _≤_, _<_}
 use native.Mathlib.Omega.{arith}
 use lib.ListN.{length, getD, set}
-use Rattle.rounding.specs.Growth.{doubled}
+use Rattle.rounding_rules.specs.Growth.{doubled}
 use Rattle.words.specs.Rows.{rows, laid, written}
 use Rattle.words.proofs.Records.{appended}
 use Rattle.counter.specs.declared.answers.Block.{Block}
 use Rattle.counter.specs.declared.settings.FreeListSettings.{FreeListSettings}
-use Rattle.book.specs.Book.{struck, struckIndex}
+use Rattle.book_rules.specs.Book.{struck, struckIndex}
 use Rattle.freelist_rules.specs.Records.{region, chunk, chunkRow}
 use Rattle.freelist_rules.specs.Join.{insert}
 use Rattle.freelist_rules.specs.Tables.{Tables, tables, madeAt, chunkSizeAt, chunksAt, countAt, storeOf, laidRegions, regionsOf}

@@ -3,15 +3,14 @@ use mathlib.Core.Path.{_≡_}
 use mathlib.Core.List.{List}
 use Prim.Native.Nat.{ℕ, _+_, _*_, _^_, _≤_, _<_}
 use lib.ListN.{length, getD}
-use Rattle.rounding.specs.Masks.{Ones}
-use Rattle.counter.specs.Limits.{alignBits}
+use Rattle.rounding_rules.specs.Masks.{Ones}
+use Rattle.counter.specs.Limits.{alignBits, spent}
 use Rattle.counter.specs.declared.answers.Block.{Block}
 use Rattle.counter.specs.declared.settings.FreeListSettings.{FreeListSettings}
 use Rattle.freelist_rules.specs.Records.{chunkWords, region}
 use Rattle.freelist_rules.specs.Pieces.{lo, hi, Rising}
 use Rattle.freelist_rules.specs.Join.{insert}
 use Rattle.freelist_rules.specs.Tables.{givenAt, madeAt, chunksAt, regionsMost, countAt, regionsOf, RegionsFit}
-use Rattle.freelist_outcomes.specs.Ask.{spent}
 use Rattle.freelist_regions.specs.Order.{RegionsStand, LowPlace}
 
 -- region i can serve an ask of this size and mask

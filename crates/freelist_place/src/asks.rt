@@ -1,7 +1,7 @@
 // What an ask looks for, and the loan that a region gives.
 ghost use mathlib.Core.Path.{_≡_};
 ghost use Prim.Native.Nat.{_-_, _≤_};
-ghost use Rattle.rounding.specs.Masks.{Ones};
+ghost use Rattle.rounding_rules.specs.Masks.{Ones};
 ghost use Rattle.counter.specs.InTable.{FreeListIn};
 ghost use Rattle.counter.specs.Limits.{alignBits};
 ghost use Rattle.freelist_rules.specs.Place.{sizeFor, maskFor, block, lentLoan};

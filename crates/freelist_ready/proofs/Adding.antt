@@ -6,7 +6,7 @@ use Prim.Native.Nat.{ℕ, _+_, _≤_, _<_}
 use native.Mathlib.Omega.{arith}
 use lib.ListN.{length, getD, set, length-append}
 use lib.Seq.{getD-set-other}
-use Rattle.rounding.specs.Growth.{doubled}
+use Rattle.rounding_rules.specs.Growth.{doubled}
 use Rattle.counter.specs.InTable.{FreeListIn}
 use Rattle.counter.specs.declared.account.Heap.{Heap}
 use Rattle.counter.specs.declared.settings.FreeListSettings.{FreeListSettings}

@@ -17,7 +17,7 @@ use Rattle.freelist_rules.specs.Join.{insert}
 use Rattle.freelist_rules.specs.Tables.{Tables, lengthsOk, chunksIn, regionsIn, storeOf, SoundTables, RegionsFit}
 use Rattle.store_rules.specs.declared.Chunk.{Chunk}
 use Rattle.store_rules.specs.declared.Region.{Region}
-use Rattle.freelist_release.specs.Releasable.{Releasable}
+use Rattle.freelist_marks.specs.Releasable.{Releasable}
 use Rattle.freelist_release.proofs.Sounds.{releasable}
 use Rattle.freelist_outcomes.specs.Return.{wordFor, onLoanOk, givenTables, goneFrom}
 use Rattle.freelist_rules.proofs.Fits.{lengths-are, regions-fit, chunks-length, laid-fit, laid-regions}

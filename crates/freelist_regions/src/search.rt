@@ -1,6 +1,6 @@
 // The search for room, from the last region back.
 ghost use mathlib.Core.Path.{_≡_};
-ghost use Rattle.rounding.specs.Masks.{Ones};
+ghost use Rattle.rounding_rules.specs.Masks.{Ones};
 ghost use Rattle.words.specs.Rows.{rows};
 ghost use Rattle.freelist_rules.specs.Records.{regionRow};
 ghost use Rattle.freelist_rules.specs.Place.{fitsIn, find};

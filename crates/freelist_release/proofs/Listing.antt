@@ -18,7 +18,7 @@ use Rattle.store_rules.specs.declared.Region.{Region}
 use Rattle.freelist_rules.proofs.Releases.{covers-yes, wholly-where, left-where, where-left, going-in, leaving-in}
 use Rattle.freelist_rules.proofs.GivesBack.{memory-of, memory-in, in-memory}
 use Rattle.freelist_release.specs.Listed.{among, unlisted}
-use Rattle.freelist_release.specs.Releasable.{Releasable}
+use Rattle.freelist_marks.specs.Releasable.{Releasable}
 
 -- ---- one word looked at
 

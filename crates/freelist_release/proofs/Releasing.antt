@@ -13,7 +13,7 @@ use Rattle.freelist_rules.specs.Release.{staying, leaving, remaining, memoriesO
 use Rattle.store_rules.specs.declared.Chunk.{Chunk}
 use Rattle.store_rules.specs.declared.Region.{Region}
 use Rattle.freelist_release.specs.Listed.{unlisted}
-use Rattle.freelist_release.specs.Releasable.{Releasable}
+use Rattle.freelist_marks.specs.Releasable.{Releasable}
 use Rattle.freelist_rules.proofs.Listed.{sets-front, memories-length}
 use Rattle.freelist_release.proofs.Listing.{unlisted-remain}
 use Rattle.freelist_release.proofs.Staying.{all-stay, all-remain, none-of}

@@ -6,7 +6,7 @@ use Rattle.freelist_rules.specs.Records.{Store}
 use Rattle.freelist_rules.specs.Sound.{Sound}
 use Rattle.freelist_rules.proofs.Facts.{region-low}
 use Rattle.freelist_rules.proofs.GivesBack.{gone-count}
-use Rattle.freelist_release.specs.Releasable.{Releasable}
+use Rattle.freelist_marks.specs.Releasable.{Releasable}
 
 pub releasable : (s : FreeListSettings) (t : Store) → FreeListIn s → Sound s t → Releasable (t .chunks) (t .regions)
 releasable s t fit sound =

@@ -2,28 +2,17 @@
 use mathlib.Core.Path.{_≡_, refl, sym, ap, _∙_}
 use mathlib.Core.Bool.{Bool, true, false, cond, _&&_, not}
 use mathlib.Core.List.{List, [], _∷_, _++_}
-use Prim.Native.Nat.{ℕ, suc, _+_, _≤_, _<_}
-use native.Mathlib.Numerals.{add-one}
+use Prim.Native.Nat.{ℕ, _+_, _<_}
 use native.Mathlib.Omega.{arith}
 use lib.Dec.{eqb}
-use lib.ListN.{length, drop, length-append, length-drop}
-use lib.Seq.{drop-cons}
+use lib.ListN.{length, drop, length-append}
 use Rattle.words.specs.Rows.{Layout, row, rows}
-use Rattle.words.proofs.Records.{length-rows, getD-rows}
 use Rattle.freelist_rules.specs.Records.{regionRow}
 use Rattle.freelist_rules.specs.Release.{wholly, goes, staying, rotated, leaving, remaining}
 use Rattle.store_rules.specs.declared.Chunk.{Chunk}
 use Rattle.store_rules.specs.declared.Region.{Region}
+use Rattle.freelist_marks.proofs.Leaving.{row-next, goes-told, leaving-long}
 use Rattle.freelist_release.specs.Listed.{among, unlisted}
-use Rattle.freelist_release.proofs.Finding.{goes-by}
-use Rattle.freelist_release.proofs.Fronts.{length-rotated}
-
--- the records from i on, by the one at i
-pub row-next : {R : Type 0} (L : Layout R) (t : List ℕ) (n i : ℕ) → i < n → drop i (rows L n t) ≡ row L i t ∷ drop (i + 1) (rows L n t)
-row-next {R = R} L t n i h =
-    drop-cons (rows L n t) i (row L i t) (omega (arith, length-rows L n t))
-    ∙ ap (λ (r : R). r ∷ drop (suc i) (rows L n t)) (getD-rows L n i t (row L i t) h)
-    ∙ ap (λ (j : ℕ). row L i t ∷ drop j (rows L n t)) (sym (add-one i))
 
 -- ---- a region that goes, or does not, as code tests it
 
@@ -31,16 +20,13 @@ module _ (cs : List Chunk) (spare : Bool) (t : List ℕ) (n i : ℕ) (h : i < n)
   abbrev rest : List Region
   rest = drop (i + 1) (rows regionRow n t)
 
-  pub goes-told : goes cs spare (row regionRow i t) rest ≡ b
-  goes-told = sym (e ∙ goes-by cs spare (row regionRow i t) rest i n (omega (arith, length-drop (i + 1) (rows regionRow n t), length-rows regionRow n t)))
-
   pub staying-past : b ≡ true → staying cs spare (drop i (rows regionRow n t)) ≡ staying cs spare rest
   unfolding staying
-  staying-past q = ap (staying cs spare) (row-next regionRow t n i h) ∙ rw (goes-told ∙ q)
+  staying-past q = ap (staying cs spare) (row-next regionRow t n i h) ∙ rw (goes-told cs spare t n i h b e ∙ q)
 
   pub staying-more : b ≡ false → staying cs spare (drop i (rows regionRow n t)) ≡ row regionRow i t ∷ staying cs spare rest
   unfolding staying
-  staying-more q = ap (staying cs spare) (row-next regionRow t n i h) ∙ rw (goes-told ∙ q)
+  staying-more q = ap (staying cs spare) (row-next regionRow t n i h) ∙ rw (goes-told cs spare t n i h b e ∙ q)
 
 pub staying-end : (cs : List Chunk) (spare : Bool) → staying cs spare [] ≡ []
 unfolding staying
@@ -67,17 +53,6 @@ unlisted-end ms = refl
 -- ---- where none leaves
 
 module _ (cs : List Chunk) (spare : Bool) where
-  -- the walk loses none that it has marked
-  pub leaving-long : (marked rs : List Region) → length marked ≤ length (leaving cs spare marked rs)
-  unfolding leaving
-  leaving-long marked [] = omega arith
-  leaving-long marked (r ∷ rs) = go (goes cs spare r rs) (leaving-long (marked ++ (r ∷ [])) rs) (leaving-long (rotated marked) rs)
-    where
-      go : (b : Bool) → length (marked ++ (r ∷ [])) ≤ length (leaving cs spare (marked ++ (r ∷ [])) rs) → length (rotated marked) ≤ length (leaving cs spare (rotated marked) rs)
-          → length marked ≤ length (cond b (leaving cs spare (marked ++ (r ∷ [])) rs) (leaving cs spare (rotated marked) rs))
-      go true p q = omega (arith, p, length-append marked (r ∷ []))
-      go false p q = omega (arith, q, length-rotated marked)
-
   none-goes : (marked rs : List Region) → length (leaving cs spare marked rs) ≡ 0 → staying cs spare rs ≡ rs
   unfolding leaving staying
   none-goes marked [] e = refl
@@ -85,7 +60,7 @@ module _ (cs : List Chunk) (spare : Bool) where
     where
       go : (b : Bool) → (length (leaving cs spare (rotated marked) rs) ≡ 0 → staying cs spare rs ≡ rs)
           → length (cond b (leaving cs spare (marked ++ (r ∷ [])) rs) (leaving cs spare (rotated marked) rs)) ≡ 0 → cond b (staying cs spare rs) (r ∷ staying cs spare rs) ≡ r ∷ rs
-      go true ih z = absurd (omega (arith, z, leaving-long (marked ++ (r ∷ [])) rs, length-append marked (r ∷ [])))
+      go true ih z = absurd (omega (arith, z, leaving-long cs spare (marked ++ (r ∷ [])) rs, length-append marked (r ∷ [])))
       go false ih z = ap (λ (l : List Region). r ∷ l) (ih z)
 
   pub all-stay : (rs : List Region) → 0 ≡ length (leaving cs spare [] rs) → rs ≡ staying cs spare rs

@@ -1,7 +1,5 @@
 // Wholly free chunks of a free-list store released: out of its two tables, and into the list that the caller reads.
-mod chunks;
 mod keeps;
-mod marks;
 
 ghost use mathlib.Core.Path.{_≡_};
 ghost use mathlib.Core.List.{[]};
@@ -12,10 +10,10 @@ ghost use Rattle.words.specs.Rows.{rows, laid};
 ghost use Rattle.counter.specs.Limits.{loansMost, chunksMost};
 ghost use Rattle.freelist_rules.specs.Records.{chunkRow, chunkWords, regionRow, regionWords};
 ghost use Rattle.freelist_rules.specs.Release.{staying, leaving, remaining, memoriesOf, bytesOf};
-ghost use Rattle.freelist_release.specs.Releasable.{Releasable};
+ghost use Rattle.freelist_marks.specs.Releasable.{Releasable};
 use crate::keeps::keep_chunks;
 use crate::keeps::keep_regions;
-use crate::marks::mark;
+use freelist_marks::mark;
 
 // How many chunks went and of how many bytes; how many chunks and regions are left.
 pub struct Gone {

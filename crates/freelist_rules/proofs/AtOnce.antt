@@ -11,7 +11,6 @@ use Rattle.counter.specs.declared.settings.FreeListSettings.{FreeListSettings}
 use Rattle.lists.specs.Members.{Distinct}
 use Rattle.lists.proofs.Bools.{or-cases, or-left, or-right, same-test}
 use Rattle.store_rules.specs.declared.Loan.{Loan}
-pub use Rattle.store_rules.proofs.Lessening.{loans-less-in}
 use Rattle.store_rules.proofs.Lessening.{less-those, not-or, less-none, less-alike}
 use Rattle.freelist_rules.specs.Records.{Store}
 use Rattle.freelist_rules.specs.Sound.{Sound}
@@ -26,7 +25,7 @@ use Rattle.freelist_rules.proofs.Releases.{released-sound}
 use Rattle.freelist_rules.proofs.Giving.{those, those-mem, those-yes, mem-those, those-same, those-twice, some-where, some-yes, give, give-sound}
 use Rattle.freelist_rules.proofs.Settling.{lastOr, busy, stays, released-chunks}
 use Rattle.freelist_rules.proofs.Swaps.{release-return}
-use Rattle.freelist_rules.proofs.AnyOrder.{loanOf, same-self, OnLoan, returned-is, left-on-loan}
+use Rattle.freelist_rules.proofs.Blocks.{loanOf, same-self, OnLoan, returned-is, left-on-loan}
 
 -- ---- the loans left
 

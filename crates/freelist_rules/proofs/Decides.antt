@@ -3,7 +3,7 @@
 use mathlib.Core.Path.{_≡_, refl, sym, _∙_, ap}
 use mathlib.Core.Bool.{Bool, true, _&&_, not}
 use mathlib.Core.Logic.{_⊎_, inl, inr, ⊎-elim}
-use mathlib.Core.List.{List, [], _∷_, map, List·Memᴰ, List·Memᴰ·head, List·Memᴰ·tail, List·Memᴰ·cases-cons, List·Memᴰ·not-nil}
+use mathlib.Core.List.{List, [], _∷_, map, List·Memᴰ·head, List·Memᴰ·tail, List·Memᴰ·cases-cons, List·Memᴰ·not-nil}
 use Prim.Native.Nat.{ℕ, zero, suc, _+_, _*_, _^_, _≤_, _<_, min}
 use native.Mathlib.Nat.{mul-one, mul-comm, mul-assoc, pow-suc, pow-le-pow-right, le-mul-of-pos-right}
 use native.Mathlib.Omega.{arith}
@@ -15,6 +15,7 @@ use Rattle.lists.specs.Members.{NotIn, Distinct}
 use Rattle.lists.specs.Tests.{all}
 use Rattle.lists.proofs.Bools.{and-left, and-right, and-both, or-cases, or-right, all-each, each-all, lt-or-le}
 use Rattle.store_rules.specs.declared.Loan.{Loan}
+use Rattle.store_rules.proofs.Keyed.{not-key, distinct-differ}
 use Rattle.freelist_rules.specs.Records.{Store}
 use Rattle.freelist_rules.specs.Pieces.{loaned, free, held, Rising, All, Differ}
 use Rattle.freelist_rules.specs.Sound.{Units, Sized, Sound}
@@ -58,28 +59,10 @@ apart-all (x ∷ xs) d = and-both (apartFrom x xs) (apart xs) (from-all x xs (d 
 
 -- records whose keys are distinct differ by them, and records that rise and differ by their keys have distinct ones
 module _ {A : Type 0} (key : A → ℕ) where
-  key-not : (x : ℕ) (xs : List A) → NotIn x (map key xs) → (a : A) → List·Memᴰ a xs → x ≡ key a → ⊥
-  key-not x [] n a m e = List·Memᴰ·not-nil m
-  key-not x (b ∷ xs) n a m e = ⊎-elim (λ h. n .0 (e ∙ ap key h)) (λ h. key-not x xs (n .1) a h e) (List·Memᴰ·cases-cons m)
-
-  not-key : (x : ℕ) (xs : List A) → ((a : A) → List·Memᴰ a xs → x ≡ key a → ⊥) → NotIn x (map key xs)
-  not-key x [] f = tt
-  not-key x (b ∷ xs) f = (f b (List·Memᴰ·head refl), not-key x xs (λ a m. f a (List·Memᴰ·tail m)))
-
-  pub distinct-differ : (xs : List A) → Distinct (map key xs) → Differ key xs
-  distinct-differ [] d a b m k q = absurd (List·Memᴰ·not-nil m)
-  distinct-differ (c ∷ xs) d a b m k q = go (List·Memᴰ·cases-cons m) (List·Memᴰ·cases-cons k) (λ x y. distinct-differ xs (d .1) a b x y q)
-    where
-      go : (a ≡ c) ⊎ List·Memᴰ a xs → (b ≡ c) ⊎ List·Memᴰ b xs → (List·Memᴰ a xs → List·Memᴰ b xs → a ≡ b) → a ≡ b
-      go (inl x) (inl y) ih = x ∙ sym y
-      go (inl x) (inr y) ih = absurd (key-not (key c) xs (d .0) b y (ap key (sym x) ∙ q))
-      go (inr x) (inl y) ih = absurd (key-not (key c) xs (d .0) a x (ap key (sym y) ∙ sym q))
-      go (inr x) (inr y) ih = ih x y
-
   pub differ-distinct : (begin stop : A → ℕ) (g b : ℕ) (xs : List A) → Rising begin stop g b xs → Differ key xs → Distinct (map key xs)
   differ-distinct begin stop g b [] r d = tt
   differ-distinct begin stop g b (c ∷ xs) r d = (
-    not-key (key c) xs (λ x m e. omega (arith, ap begin (d c x (List·Memᴰ·head refl) (List·Memᴰ·tail m) e), rising-low begin stop g (g + stop c) xs (r .2) x m .0, r .1)),
+    not-key key (key c) xs (λ x m e. omega (arith, ap begin (d c x (List·Memᴰ·head refl) (List·Memᴰ·tail m) e), rising-low begin stop g (g + stop c) xs (r .2) x m .0, r .1)),
     differ-distinct begin stop g (g + stop c) xs (r .2) (λ x y p q. d x y (List·Memᴰ·tail p) (List·Memᴰ·tail q)),
   )
 

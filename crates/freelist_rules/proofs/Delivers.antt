@@ -10,8 +10,8 @@ use lib.ListN.{length}
 use lib.Pow.{pow-add}
 use borrow.Author.Tests.{le-leb}
 use Rattle.lists.proofs.Bools.{and-both, lt-or-le}
-use Rattle.rounding.specs.Growth.{grown, doubled}
-use Rattle.rounding.proofs.Growth.{grown-form, grown-least, doubled-form, doubled-least}
+use Rattle.rounding_rules.specs.Growth.{grown, doubled}
+use Rattle.rounding_rules.proofs.Growth.{grown-form, grown-least, doubled-form, doubled-least}
 use Rattle.counter.specs.InTable.{FreeListIn}
 use Rattle.counter.specs.declared.settings.FreeListSettings.{FreeListSettings}
 use Rattle.freelist_rules.specs.Records.{Store, region, chunk}

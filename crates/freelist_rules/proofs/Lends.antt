@@ -14,10 +14,10 @@ use Rattle.counter.specs.Table.{alignmentOk}
 use Rattle.counter.specs.declared.settings.FreeListSettings.{FreeListSettings}
 use Rattle.counter.proofs.Tables.{alignment-yes}
 use Rattle.lists.proofs.Bools.{and-left, and-right, told, lt-or-le}
-use Rattle.rounding.specs.Masks.{Ones}
-use Rattle.rounding.proofs.Masks.{ones-size}
-use Rattle.rounding.proofs.Powers.{log-le, power-multiple}
-use Rattle.rounding.proofs.Raising.{whole, down-enough, down-multiple, up-enough}
+use Rattle.rounding_rules.specs.Masks.{Ones}
+use Rattle.rounding_rules.proofs.Masks.{ones-size}
+use Rattle.rounding_rules.proofs.Powers.{log-le, power-multiple}
+use Rattle.rounding_rules.proofs.Raising.{whole, down-enough, down-multiple, up-enough}
 use Rattle.store_rules.specs.declared.Loan.{Loan}
 use Rattle.words.specs.Rows.{removeAt}
 use Rattle.freelist_rules.specs.Records.{Store, region}

@@ -18,11 +18,10 @@ pub mod Releases
 pub mod Giving
 pub mod Settling
 pub mod Swaps
-pub mod AnyOrder
+pub mod Blocks
 pub mod AtOnce
 pub mod GivesBack
 pub mod Listed
-pub mod Keeps
 pub mod Ordered
 pub mod Enters
 pub mod Tested

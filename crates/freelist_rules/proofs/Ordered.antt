@@ -10,7 +10,7 @@ use lib.ListN.{length}
 use borrow.Author.Tests.{lt-ltb, le-ltb}
 use Rattle.lists.proofs.Bools.{told, lt-or-le}
 use Rattle.store_rules.specs.declared.Loan.{Loan}
-pub use Rattle.store_rules.proofs.Placed.{on-loan-in, on-loan-out, on-loan-append, loan-place}
+pub use Rattle.store_rules.proofs.Placed.{on-loan-in, on-loan-append, loan-place}
 use Rattle.freelist_rules.specs.Pieces.{All}
 use Rattle.freelist_rules.specs.Place.{putLoan}
 use Rattle.freelist_rules.specs.Tables.{ordered}

@@ -12,8 +12,8 @@ use Rattle.counter.specs.Table.{alignmentOk}
 use Rattle.counter.specs.declared.settings.FreeListSettings.{FreeListSettings}
 use Rattle.counter.proofs.Tables.{alignment-yes}
 use Rattle.lists.proofs.Bools.{and-both, lt-or-le}
-use Rattle.rounding.specs.Raising.{downTo}
-use Rattle.rounding.proofs.Raising.{down-enough, down-multiple, down-most, down-same, up-least}
+use Rattle.rounding_rules.specs.Raising.{downTo}
+use Rattle.rounding_rules.proofs.Raising.{down-enough, down-multiple, down-most, down-same, up-least}
 use Rattle.freelist_rules.specs.Records.{Store}
 use Rattle.freelist_rules.specs.Pieces.{loaned}
 use Rattle.freelist_rules.specs.Sound.{Sound}

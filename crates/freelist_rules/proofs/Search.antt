@@ -1,23 +1,19 @@
--- What a loop that looks for a region, a loan or a loan's place finds, by index. Assumes nothing.
+-- What a loop that looks for a region or a loan finds, by index. Assumes nothing.
 use mathlib.Core.Path.{_≡_, refl, sym, _∙_, ap}
 use mathlib.Core.Bool.{true, false, cond}
-use mathlib.Core.Logic.{_⊎_, inl, inr, ⊎-elim}
+use mathlib.Core.Logic.{_⊎_, inl, inr}
 use mathlib.Core.List.{List, [], _∷_}
-use Prim.Native.Nat.{ℕ, zero, suc, _+_, _-_, _≤_, _<_}
+use Prim.Native.Nat.{ℕ, zero, suc, _+_, _-_, _<_}
 use native.Mathlib.Omega.{arith}
 use lib.ListN.{length, take, getD}
 use lib.Seq.{take-length}
-use borrow.Author.Tests.{lt-ltb, le-ltb}
 use Rattle.counter.specs.declared.answers.Block.{Block}
-use Rattle.lists.specs.Members.{NotIn, Distinct}
-use Rattle.lists.proofs.Bools.{told, same?}
+use Rattle.lists.proofs.Bools.{told}
 use Rattle.store_rules.specs.declared.Loan.{Loan}
-use Rattle.freelist_rules.specs.Place.{Found, nowhere, at, orElse, fitsIn, findFrom, find, spotFor}
+use Rattle.freelist_rules.specs.Place.{Found, nowhere, at, orElse, fitsIn, findFrom, find}
 pub use Rattle.store_rules.proofs.Loaned.{same-loan}
 use Rattle.freelist_rules.specs.Seek.{sameLoan, seekFrom, seek}
-use Rattle.freelist_rules.specs.Walk.{serials}
 use Rattle.store_rules.specs.declared.Region.{Region}
-use Rattle.freelist_rules.proofs.Gaps.{begins, stops, LoansRise}
 
 -- ---- a region, from the last back: before the turn at i the regions from i + 1 on are passed
 
@@ -93,80 +89,7 @@ module _ (mask n : ℕ) where
   pub find-nowhere : (rs : List Region) (d : Region) → find mask n rs ≡ nowhere → (m : ℕ) → m < length rs → fitsIn mask n (getD rs m d) ≡ false
   find-nowhere rs d e = let w : Told 0 rs d nowhere = rw e at (from-told 0 rs d) in w
 
--- ---- where a loan stands: those before it lie at or before x, the one there past it
-
-pub spot-at : (x i : ℕ) (ls : List Loan) (d : Loan) → i ≤ length ls → ((j : ℕ) → j < i → begins (getD ls j d) ≤ x) → (i < length ls → x < begins (getD ls i d)) → spotFor x ls ≡ i
-spot-at x zero [] d h f g = refl
-spot-at x (suc i) [] d h f g = absurd (omega arith)
-spot-at x zero (l ∷ ls) d h f g = let e : x < begins l = g (omega arith) in rw (lt-ltb x (begins l) e)
-spot-at x (suc i) (l ∷ ls) d h f g =
-    let e : begins l ≤ x = f 0 (omega arith) in
-    rw (le-ltb x (begins l) e)
-    (ap suc (spot-at x i ls d (omega arith) (λ j k. f (suc j) (omega arith)) (λ k. g (omega arith))))
-
--- loans that rise lie at or before x where the last of them does
-rise-all : (b i : ℕ) (ls : List Loan) (d : Loan) → LoansRise b ls → i < length ls → (j : ℕ) → j ≤ i → begins (getD ls j d) ≤ begins (getD ls i d)
-rise-all b i [] d r h j k = absurd (omega arith)
-rise-all b zero (l ∷ ls) d r h zero k = omega arith
-rise-all b zero (l ∷ ls) d r h (suc j) k = absurd (omega arith)
-rise-all b (suc i) (l ∷ ls) d r h zero k = omega (arith, r .1, rise-least (0 + stops l) i ls d (r .2) (omega arith))
-  where
-    rise-least : (b i : ℕ) (ls : List Loan) (d : Loan) → LoansRise b ls → i < length ls → b ≤ begins (getD ls i d)
-    rise-least b i [] d r h = absurd (omega arith)
-    rise-least b zero (l ∷ ls) d r h = r .0
-    rise-least b (suc i) (l ∷ ls) d r h = omega (arith, r .0, r .1, rise-least (0 + stops l) i ls d (r .2) (omega arith))
-rise-all b (suc i) (l ∷ ls) d r h (suc j) k = rise-all (0 + stops l) i ls d (r .2) (omega arith) j (omega arith)
-
--- so that of loans that rise the two neighbours tell
-pub spot-between : (x b i : ℕ) (ls : List Loan) (d : Loan) → LoansRise b ls → i ≤ length ls → (0 < i → begins (getD ls (i - 1) d) ≤ x) → (i < length ls → x < begins (getD ls i d)) → spotFor x ls ≡ i
-spot-between x b i ls d r h f g = spot-at x i ls d h (λ j k. omega (arith, f (omega arith), rise-all b (i - 1) ls d r (omega arith) j (omega arith))) g
-
 -- ---- the loan of a block
-
-pub seek-none : (b : Block) (ls : List Loan) (d : Loan) → ((i : ℕ) → i < length ls → sameLoan b (getD ls i d) ≡ false) → seek b ls ≡ nowhere
-unfolding seekFrom
-seek-none b ls d f = none′ 0 ls f
-  where
-    none′ : (j : ℕ) (ls : List Loan) → ((i : ℕ) → i < length ls → sameLoan b (getD ls i d) ≡ false) → seekFrom b j ls ≡ nowhere
-    none′ j [] f = refl
-    none′ j (l ∷ ls) f = rw (f 0 (omega arith)) (none′ (j + 1) ls (λ i h. f (suc i) (omega arith)))
-
--- the first that is the block
-pub seek-first : (b : Block) (i : ℕ) (ls : List Loan) (d : Loan) → i < length ls → ((j : ℕ) → j < i → sameLoan b (getD ls j d) ≡ false) → sameLoan b (getD ls i d) ≡ true → seek b ls ≡ at i
-unfolding seekFrom
-seek-first b i ls d h f e = let z : 0 + i ≡ i = omega arith in first′ 0 i ls h f e ∙ ap at z
-  where
-    first′ : (k i : ℕ) (ls : List Loan) → i < length ls → ((j : ℕ) → j < i → sameLoan b (getD ls j d) ≡ false) → sameLoan b (getD ls i d) ≡ true → seekFrom b k ls ≡ at (k + i)
-    first′ k i [] h f e = absurd (omega arith)
-    first′ k zero (l ∷ ls) h f e = let z : k ≡ k + 0 = omega arith in rw e (ap at z)
-    first′ k (suc i) (l ∷ ls) h f e =
-        let z : (k + 1) + i ≡ k + suc i = omega arith in
-        rw (f 0 (omega arith)) (first′ (k + 1) i ls (omega arith) (λ j g. f (suc j) (omega arith)) e ∙ ap at z)
-
--- of two places one has another serial
-not-at : (x i : ℕ) (ls : List Loan) (d : Loan) → NotIn x (serials ls) → i < length ls → x ≡ getD ls i d .serial → ⊥
-not-at x i [] d n h e = omega arith
-not-at x zero (l ∷ ls) d n h e = n .0 e
-not-at x (suc i) (l ∷ ls) d n h e = not-at x i ls d (n .1) (omega arith) e
-
-pub serial-once : (i j : ℕ) (ls : List Loan) (d : Loan) → Distinct (serials ls) → i < length ls → j < length ls → getD ls i d .serial ≡ getD ls j d .serial → i ≡ j
-serial-once i j [] d u h k e = absurd (omega arith)
-serial-once zero zero (l ∷ ls) d u h k e = refl
-serial-once zero (suc j) (l ∷ ls) d u h k e = absurd (not-at (l .serial) j ls d (u .0) (omega arith) e)
-serial-once (suc i) zero (l ∷ ls) d u h k e = absurd (not-at (l .serial) i ls d (u .0) (omega arith) (sym e))
-serial-once (suc i) (suc j) (l ∷ ls) d u h k e = ap suc (serial-once i j ls d (u .1) (omega arith) (omega arith) e)
-
-module _ (b : Block) (i : ℕ) (ls : List Loan) (d : Loan) (u : Distinct (serials ls)) (h : i < length ls) where
-  others : getD ls i d .serial ≡ b .serial → (j : ℕ) → j < length ls → (j ≡ i → ⊥) → sameLoan b (getD ls j d) ≡ false
-  others e j k n = ⊎-elim (λ q. absurd (n (serial-once j i ls d u k h (same-loan b (getD ls j d) q .0 ∙ sym e)))) (λ q. q) (told (sameLoan b (getD ls j d)))
-
-  -- the loan at i is the block
-  pub seek-here : sameLoan b (getD ls i d) ≡ true → seek b ls ≡ at i
-  seek-here e = seek-first b i ls d h (λ j k. others (same-loan b (getD ls i d) e .0) j (omega arith) (λ q. omega arith)) e
-
-  -- the loan at i has the block's serial, and is another
-  pub seek-other : getD ls i d .serial ≡ b .serial → sameLoan b (getD ls i d) ≡ false → seek b ls ≡ nowhere
-  seek-other e f = seek-none b ls d (λ j k. ⊎-elim (λ (q : j ≡ i). ap (λ (m : ℕ). sameLoan b (getD ls m d)) q ∙ f) (others e j k) (same? j i))
 
 -- what is found is the block
 pub seek-is : (b : Block) (i : ℕ) (ls : List Loan) (d : Loan) → seek b ls ≡ at i → (i < length ls) × (sameLoan b (getD ls i d) ≡ true)

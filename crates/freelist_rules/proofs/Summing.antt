@@ -9,7 +9,7 @@ use lib.ListN.{take}
 use Rattle.words.specs.Rows.{rows}
 use Rattle.words.proofs.Records.{take-rows}
 use Rattle.counter.specs.InTable.{FreeListIn}
-use Rattle.counter.specs.Limits.{chunksMost, chunkSizeMost}
+use Rattle.counter.specs.Limits.{chunkSizeMost}
 use Rattle.counter.specs.declared.settings.FreeListSettings.{FreeListSettings}
 use Rattle.freelist_rules.specs.Records.{chunkRow}
 use Rattle.freelist_rules.specs.Pieces.{total}
@@ -32,8 +32,3 @@ module _ (s : FreeListSettings) (t : Tables) (fit : FreeListIn s) (sound : Sound
   chunks-low k h =
       subst (λ (cs : List Chunk). total (λ (c : Chunk). c .size) cs ≤ k * chunkSizeMost) (take-rows chunkRow k (chunksIn t) (t .chunks) h)
       (total-front (λ (c : Chunk). c .size) chunkSizeMost k (rows chunkRow (chunksIn t) (t .chunks)) held-small)
-
-  -- of all of them
-  pub chunks-bytes : total (λ (c : Chunk). c .size) (storeOf s t .chunks) ≤ chunksMost * chunkSizeMost
-  unfolding storeOf
-  chunks-bytes = omega (arith, chunks-low (chunksIn t) (omega arith), sound .chunks-fit, fit .store .chunks-most)

@@ -1,4 +1,4 @@
--- Two returns, each with its release, end alike in either order. Assumes nothing.
+-- A return with its release: a release before it makes no difference, and the other loans are still on loan. Assumes nothing.
 use mathlib.Core.Path.{_≡_, refl, sym, _∙_, ap}
 use mathlib.Core.Bool.{Bool, true, false, cond, _&&_, not}
 use mathlib.Core.Logic.{_⊎_, inl, inr, ⊎-elim}
@@ -125,30 +125,6 @@ module _ (s : FreeListSettings) (t : Store) (fit : FreeListIn s) (sound : Sound 
       ∙ those-same _ _ (t .chunks) (λ c k. and-left-true _ _ (stayed s t fit sound l m (c .number)))
       ∙ sym (settled-chunks s t fit sound l m))
 
--- ---- two returns
-
-and-turn : (a b : Bool) → (a && b) ≡ (b && a)
-and-turn true true = refl
-and-turn true false = refl
-and-turn false true = refl
-and-turn false false = refl
-
 -- one that is not given back is still on loan
 pub still : (l d : Loan) (t : Store) → List·Memᴰ d (t .loans) → (d .serial ≡ l .serial → ⊥) → List·Memᴰ d (give l t .loans)
 still l d t m f = mem-those _ d (t .loans) m (ap not (ne-eqb (d .serial) (l .serial) f))
-
-module _ (s : FreeListSettings) (t : Store) (fit : FreeListIn s) (sound : Sound s t) (l d : Loan) (m : List·Memᴰ l (t .loans)) (k : List·Memᴰ d (t .loans)) (f : d .serial ≡ l .serial → ⊥) where
-  give-swap : give d (give l t) ≡ give l (give d t)
-  give-swap =
-      same-store s (give d (give l t)) fit (give-sound s (give l t) fit (give-sound s t fit sound l m) d (still l d t k f))
-      (give l (give d t))
-      (give-sound s (give d t) fit (give-sound s t fit sound d k) l (still d l t m (λ e. f (sym e))))
-      refl refl refl
-      (those-twice _ _ (t .loans) ∙ those-same _ _ (t .loans) (λ c q. and-turn (not (eqb (c .serial) (l .serial))) (not (eqb (c .serial) (d .serial)))) ∙ sym (those-twice _ _ (t .loans)))
-      refl
-
-  pub settled-swap : settled d (settled l t) ≡ settled l (settled d t)
-  settled-swap =
-      release-return s (give l t) fit (give-sound s t fit sound l m) d (still l d t k f)
-      ∙ ap (released true) give-swap
-      ∙ sym (release-return s (give d t) fit (give-sound s t fit sound d k) l (still d l t m (λ e. f (sym e))))

@@ -17,9 +17,9 @@ use Rattle.slab.specs.Test.{partedOk}
 use Rattle.slab.proofs.Decides.{decides-yes, decides-all}
 use Rattle.store_rules.specs.Loans.{loanWords, serialAt, sizeAt, loanRow, loansOf}
 use Rattle.store_rules.specs.declared.Loan.{Loan}
-use Rattle.book.specs.Book.{serialOf, slabOf}
-use Rattle.book.specs.Chains.{Chained}
-use Rattle.book.proofs.Decides.{chains-yes, chains-all, serial-once}
+use Rattle.book_rules.specs.Book.{serialOf, slabOf}
+use Rattle.book_rules.specs.Chains.{Chained}
+use Rattle.book_rules.proofs.Decides.{chains-yes, chains-all, serial-once}
 use Rattle.freelist_rules.specs.Pieces.{Differ}
 use Rattle.freelist_rules.specs.Walk.{allOk, sizedOk, chunkOk, loanOk, serials}
 use Rattle.freelist_rules.specs.Walk as Walk

@@ -15,7 +15,6 @@ use Rattle.freelist_rules.specs.Walk.{front, behind, within, inside, sam
 use Rattle.freelist_rules.specs.Rest.{rest, nextIs}
 use Rattle.store_rules.specs.declared.Chunk.{Chunk}
 use Rattle.store_rules.specs.declared.Region.{Region}
-use Rattle.freelist_rules.proofs.Base.{never}
 use Rattle.freelist_rules.proofs.Gaps.{within-le, within-rest}
 
 -- the first loan lies in chunk n
@@ -61,11 +60,6 @@ pub rest-region-left : (p : ℕ) (ls : List Loan) (r : Region) (rs : List Region
 unfolding rest
 rest-region-left p ls r rs = and-no (inside [] ls)
 
-pub rest-none : (p : ℕ) (ls : List Loan) (rs : List Region) → rest [] p ls rs ≡ true → (ls ≡ []) × (rs ≡ [])
-rest-none p [] [] e = (refl, refl)
-rest-none p [] (r ∷ rs) e = never (sym e ∙ rest-region-left p [] r rs)
-rest-none p (l ∷ ls) rs e = never (sym e ∙ rest-loan-left p l ls rs)
-
 -- ---- a loan of this chunk
 
 module _ (c : Chunk) (cs : List Chunk) (p : ℕ) (l : Loan) (ls : List Loan) (e : eqb (l .chunk) (c .number) ≡ true) where
@@ -91,10 +85,6 @@ module _ (c : Chunk) (cs : List Chunk) (p : ℕ) (l : Loan) (ls : List Loan) (e 
       (and-assoc (ltb 0 (l .size)) (within (l .offset + l .size) (c .size) (front (c .number) ls)) _
       ∙ ap (λ (b : Bool). ltb 0 (l .size) && b)
       (third (within (l .offset + l .size) (c .size) (front (c .number) ls)) (inside cs (behind (c .number) ls)) (same r (region (c .number) p (l .offset))) _))
-
-  -- past p, and no region is left
-  pub rest-gap-none : p < l .offset → rest (c ∷ cs) p (l ∷ ls) [] ≡ false
-  rest-gap-none h = rest-gap [] h ∙ and-no (ltb 0 (l .size))
 
   -- what fails for this loan fails
   loan-fails : (rs : List Region) → within p (c .size) (l ∷ front (c .number) ls) ≡ false → rest (c ∷ cs) p (l ∷ ls) rs ≡ false
@@ -145,10 +135,6 @@ module _ (c : Chunk) (cs : List Chunk) (p : ℕ) (ls : List Loan) (none : firstI
   rest-tail (r ∷ rs) h =
       rw (no-front, all-behind, le-leb p (c .size) (omega arith), lt-ltb p (c .size) h)
       (and-swap (inside cs ls) (same r (region (c .number) p (c .size))) _ ∙ ap (λ (b : Bool). same r (region (c .number) p (c .size)) && b) (rest-start cs ls rs))
-
-  -- and no region is left
-  pub rest-tail-none : p < c .size → rest (c ∷ cs) p ls [] ≡ false
-  rest-tail-none h = rest-tail [] h
 
   -- or p lies past it
   pub rest-over : (rs : List Region) → c .size < p → rest (c ∷ cs) p ls rs ≡ false

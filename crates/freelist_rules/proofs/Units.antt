@@ -9,7 +9,7 @@ use lib.Dec.{ltb}
 use Rattle.counter.specs.InTable.{FreeListIn}
 use Rattle.counter.specs.declared.settings.FreeListSettings.{FreeListSettings}
 use Rattle.lists.proofs.Bools.{told, lt-or-le}
-use Rattle.rounding.proofs.Raising.{whole}
+use Rattle.rounding_rules.proofs.Raising.{whole}
 use Rattle.store_rules.specs.declared.Loan.{Loan}
 use Rattle.freelist_rules.specs.Records.{region}
 use Rattle.freelist_rules.specs.Pieces.{All}

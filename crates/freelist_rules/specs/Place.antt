@@ -6,7 +6,7 @@ use mathlib.Core.List.{List, [], _∷_}
 use Prim.Native.Nat.{ℕ, suc, _-_, max}
 use lib.Dec.{leb, ltb}
 use lib.ListN.{getD, set}
-use Rattle.rounding.specs.Raising.{upTo, downTo}
+use Rattle.rounding_rules.specs.Raising.{upTo, downTo}
 use Rattle.words.specs.Rows.{insertAt, removeAt}
 use Rattle.counter.specs.declared.settings.FreeListSettings.{FreeListSettings}
 use Rattle.store_rules.specs.declared.Loan.{Loan}

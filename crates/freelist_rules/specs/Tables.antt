@@ -14,8 +14,8 @@ use Rattle.slab.specs.Slab.{vacantAt, linkAt, Parted}
 use Rattle.slab.specs.Test.{partedOk}
 use Rattle.store_rules.specs.Loans.{loanWords, sizeAt, loansOf}
 use Rattle.store_rules.specs.declared.Loan.{Loan}
-use Rattle.book.specs.Book.{entryWords, indexWords, vacantAfterAt, firstOf, nextOf, serialOf, slabOf}
-use Rattle.book.specs.Chains.{Chained, chainsOk}
+use Rattle.book_rules.specs.Book.{entryWords, indexWords, vacantAfterAt, firstOf, nextOf, serialOf, slabOf}
+use Rattle.book_rules.specs.Chains.{Chained, chainsOk}
 use Rattle.freelist_rules.specs.Records.{Store, chunkWords, regionWords, chunkRow, regionRow}
 use Rattle.freelist_rules.specs.Sound.{Sound}
 use Rattle.freelist_rules.specs.Walk.{allOk, sizedOk, numbersRise, chunkOk, loanOk, fillsOk, apart, memories}

@@ -21,9 +21,9 @@ use Rattle.slab.specs.Test.{partedOk}
 use Rattle.distinct.specs.Column.{column, columnFrom}
 use Rattle.store_rules.specs.Loans.{loanWords, sizeAt}
 use Rattle.store_rules.specs.declared.Loan.{Loan}
-use Rattle.rounding.proofs.Masks.{masked}
-use Rattle.book.specs.Book.{entryWords, vacatedAt, vacantAfterAt, firstOf, nextOf, serialOf}
-use Rattle.book.specs.Chains.{chainsOk}
+use Rattle.rounding_rules.proofs.Masks.{masked}
+use Rattle.book_rules.specs.Book.{entryWords, vacatedAt, vacantAfterAt, firstOf, nextOf, serialOf}
+use Rattle.book_rules.specs.Chains.{chainsOk}
 use Rattle.freelist_rules.specs.Records.{chunkRow}
 use Rattle.freelist_rules.specs.Pieces.{All}
 use Rattle.freelist_rules.specs.Tables.{tables, mark, markAt, givenAt, placesAt, chunksAt, regionsMost, partedIn}

@@ -21,7 +21,7 @@ use Rattle.engines.specs.Histories.{State, storeAt, run, saids, Slip, blocksOf,
 use Rattle.engines.proofs.AnyOrder as Of
 use Rattle.freelist_rules.specs.AtOnce as FreeList
 use Rattle.freelist_rules.specs.Tables.{storeOf}
-use Rattle.freelist_engine.specs.Shape.{asList, seen, listShape}
+use Rattle.freelist_engine.specs.Shape.{asList, seen, countsOf, listShape}
 use Rattle.buddy_chunks.specs.Chunks as Buddy
 use Rattle.buddy_stores.specs.Views.{viewOf}
 use Rattle.buddy_engine.specs.Shape.{asBuddy, buddyShape}
@@ -65,6 +65,12 @@ pub list-end : (w : State) (i : ℕ) (s : FreeListSettings) → i < length (w .s
     → (ps : List Slip) → Lot listShape (blocksOf ps) (storeAt w i) → All (λ (p : Slip). s .store .chunks ≤ length (p .1)) ps
     → seen (storeOf s (asList (storeAt (run Kind.Engine both w (handing Kind.Engine both i Kind.freeList s ps)) i))) ≡ seen (FreeList.atOnce (blocksOf ps) (storeOf s (asList (storeAt w i))))
 list-end w i s here typed passes ps lot long = Of.end-view Kind.Engine both w i Kind.freeList s here typed passes ps lot long
+
+-- and the counts of serials and chunk numbers given and the chunk size are as they were
+pub list-counts-end : (w : State) (i : ℕ) (s : FreeListSettings) → i < length (w .stores) → Typed (w .account) → listShape .gate s (w .account) (storeAt w i) ≡ pass
+    → (ps : List Slip) → Lot listShape (blocksOf ps) (storeAt w i) → All (λ (p : Slip). s .store .chunks ≤ length (p .1)) ps
+    → countsOf (storeOf s (asList (storeAt (run Kind.Engine both w (handing Kind.Engine both i Kind.freeList s ps)) i))) ≡ countsOf (storeOf s (asList (storeAt w i)))
+list-counts-end w i s here typed passes ps lot long = Of.end-rest Kind.Engine both w i Kind.freeList s here typed passes ps lot long
 
 -- a buddy's: the loans that are left, chunks held exactly where one of them lies, and of these the free pieces of the trees that
 -- the loans make

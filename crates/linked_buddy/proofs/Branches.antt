@@ -16,8 +16,8 @@ use Rattle.buddy_outcomes.specs.Ask.{askOf}
 use Rattle.buddy_outcomes.specs.Deliver.{deliverOf}
 use Rattle.buddy_outcomes.specs.Return.{returnOf}
 use Rattle.buddy_outcomes.specs.SetUp.{SetUp, setUp, setUpOf}
-use Rattle.wire.specs.Linked.{Left, left, untouched}
-use Rattle.wire.specs.Wire.{buddyWords, buddyIn, settingsOk, accountIn, accountOk, accountOut, outcomeIn, outcomeOk, saidOut}
+use Rattle.wire_rules.specs.Linked.{Left, left, untouched}
+use Rattle.wire_rules.specs.Wire.{buddyWords, buddyIn, settingsOk, accountIn, accountOk, accountOut, outcomeIn, outcomeOk, saidOut}
 use Rattle.linked_buddy.specs.Calls.{listing, rightOk, linkedSetUp, leftBy, leftListed, linkedAsk, linkedDeliver, linkedReturn}
 
 -- ---- set-up; v is the lent answer, v′ what is left in it

@@ -10,8 +10,8 @@ use Rattle.buddy_outcomes.specs.Ask.{askOf}
 use Rattle.buddy_outcomes.specs.Deliver.{deliverOf}
 use Rattle.buddy_outcomes.specs.Return.{returnOf}
 use Rattle.buddy_outcomes.specs.SetUp.{SetUp, setUp, setUpOf}
-use Rattle.wire.specs.Linked.{Left, left, lentRight}
-use Rattle.wire.specs.Wire.{buddyWords, buddyIn, settingsOk, accountIn, accountOk, outcomeIn, outcomeOk}
+use Rattle.wire_rules.specs.Linked.{Left, left, lentRight}
+use Rattle.wire_rules.specs.Wire.{buddyWords, buddyIn, settingsOk, accountIn, accountOk, outcomeIn, outcomeOk}
 
 -- the tables, and the lent list
 pub record Listing : Type 0 where

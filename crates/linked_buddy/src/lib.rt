@@ -1,12 +1,10 @@
 // A buddy's calls for programs in other languages: numbers and slices of words alone. specs/Calls says what each leaves.
 ghost use mathlib.Core.Path.{_≡_};
 ghost use Rattle.buddy_stores.specs.Tables.{tables};
-ghost use Rattle.wire.specs.Wire.{saidOut};
+ghost use Rattle.wire_rules.specs.Wire.{saidOut};
 ghost use Rattle.linked_buddy.specs.Calls.{listing, linkedSetUp, linkedAsk, linkedDeliver, linkedReturn};
 use counter::Block;
-
-// How many words a buddy's settings are; wire's specs have the same name.
-const BUDDY_WORDS: usize = 10;
+use wire::BUDDY_WORDS;
 
 #[no_mangle]
 pub extern "C" fn tibrezkam_buddy_set_up(
@@ -47,13 +45,13 @@ pub extern "C" fn tibrezkam_buddy_ask(
     ensures { λ _. ⌜ tables (now (head .exit)) (now (loans .exit)) (now (chunks .entry)) (now (index .exit)) (now (tree .exit)) ≡ linkedAsk (now (settings .entry)) (now (account .entry)) size mask (tables (now (head .entry)) (now (loans .entry)) (now (chunks .entry)) (now (index .entry)) (now (tree .entry))) .tables ⌝ }
     ensures { λ _. ⌜ now (answer .exit) ≡ saidOut (linkedAsk (now (settings .entry)) (now (account .entry)) size mask (tables (now (head .entry)) (now (loans .entry)) (now (chunks .entry)) (now (index .entry)) (now (tree .entry))) .said) (now (answer .entry)) ⌝ }
 {
-    if wire::is_settings(settings, BUDDY_WORDS) & wire::is_account(account) {
+    if wire::is_settings(settings, BUDDY_WORDS) & wire_account::is_account(account) {
         let s = wire::read_buddy(settings);
-        let a = wire::read_account(account);
+        let a = wire_account::read_account(account);
         let r = buddy::ask(s, a, size, mask, head, loans, chunks, index, tree);
         let after = r.account;
         let said = r.answer;
-        wire::put_account(account, after);
+        wire_account::put_account(account, after);
         wire::tell_asked(answer, said);
     } else {
         wire::tell_bad(answer);
@@ -79,16 +77,16 @@ pub extern "C" fn tibrezkam_buddy_deliver(
     ensures { λ _. ⌜ now (answer .exit) ≡ saidOut (linkedDeliver (now (settings .entry)) (now (account .entry)) what memory mapping (tables (now (head .entry)) (now (loans .entry)) (now (chunks .entry)) (now (index .entry)) (now (tree .entry))) .said) (now (answer .entry)) ⌝ }
 {
     if wire::is_settings(settings, BUDDY_WORDS)
-        & wire::is_account(account)
+        & wire_account::is_account(account)
         & wire::is_outcome(what, mapping)
     {
         let s = wire::read_buddy(settings);
-        let a = wire::read_account(account);
+        let a = wire_account::read_account(account);
         let o = wire::read_outcome(what, memory, mapping);
         let r = buddy::deliver(s, a, o, head, loans, chunks, index, tree);
         let after = r.account;
         let said = r.answer;
-        wire::put_account(account, after);
+        wire_account::put_account(account, after);
         wire::tell_delivered(answer, said);
     } else {
         wire::tell_bad(answer);
@@ -115,9 +113,9 @@ pub extern "C" fn tibrezkam_buddy_return(
     ensures { λ _. ⌜ listing (tables (now (head .entry)) (now (loans .exit)) (now (chunks .exit)) (now (index .exit)) (now (tree .exit))) (now (list .exit)) ≡ linkedReturn (now (settings .entry)) (now (account .entry)) (record { serial = serial; chunk = chunk; offset = offset; size = size }) (tables (now (head .entry)) (now (loans .entry)) (now (chunks .entry)) (now (index .entry)) (now (tree .entry))) (now (list .entry)) .tables ⌝ }
     ensures { λ _. ⌜ now (answer .exit) ≡ saidOut (linkedReturn (now (settings .entry)) (now (account .entry)) (record { serial = serial; chunk = chunk; offset = offset; size = size }) (tables (now (head .entry)) (now (loans .entry)) (now (chunks .entry)) (now (index .entry)) (now (tree .entry))) (now (list .entry)) .said) (now (answer .entry)) ⌝ }
 {
-    if wire::is_settings(settings, BUDDY_WORDS) & wire::is_account(account) {
+    if wire::is_settings(settings, BUDDY_WORDS) & wire_account::is_account(account) {
         let s = wire::read_buddy(settings);
-        let a = wire::read_account(account);
+        let a = wire_account::read_account(account);
         let b = Block {
             serial: serial,
             chunk: chunk,
@@ -127,7 +125,7 @@ pub extern "C" fn tibrezkam_buddy_return(
         let r = buddy::return_block(s, a, b, head, loans, chunks, index, tree, list);
         let after = r.account;
         let said = r.answer;
-        wire::put_account(account, after);
+        wire_account::put_account(account, after);
         wire::tell_released(answer, said);
     } else {
         wire::tell_bad(answer);

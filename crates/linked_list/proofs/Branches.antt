@@ -14,9 +14,9 @@ use Rattle.freelist_outcomes.specs.Ask.{askOf}
 use Rattle.freelist_outcomes.specs.Deliver.{deliverOf}
 use Rattle.freelist_outcomes.specs.Return.{returnOf, cleanUpOf}
 use Rattle.freelist_outcomes.specs.SetUp.{SetUp, setUp, setUpOf}
-use Rattle.wire.specs.Linked.{left, lentRight}
-use Rattle.wire.specs.Wire.{listWords, listIn, settingsOk, accountIn, accountOk, outcomeIn, outcomeOk, accountOut, saidOut}
-use Rattle.wire.proofs.Lent.{both-tested, all-tested, call-made, call-refused, Ends, ends-made, ends-refused}
+use Rattle.wire_rules.specs.Linked.{left, lentRight}
+use Rattle.wire_rules.specs.Wire.{listWords, listIn, settingsOk, accountIn, accountOk, outcomeIn, outcomeOk, accountOut, saidOut}
+use Rattle.wire_rules.proofs.Lent.{both-tested, all-tested, call-made, call-refused, Ends, ends-made, ends-refused}
 use Rattle.linked_list.specs.Calls.{listing, rightOk, leftBy, leftListed, linkedSetUp, linkedAsk, linkedDeliver, linkedReturn, linkedCleanUp}
 
 -- ---- set-up

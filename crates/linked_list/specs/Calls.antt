@@ -10,8 +10,8 @@ use Rattle.freelist_outcomes.specs.Ask.{askOf}
 use Rattle.freelist_outcomes.specs.Deliver.{deliverOf}
 use Rattle.freelist_outcomes.specs.Return.{returnOf, cleanUpOf}
 use Rattle.freelist_outcomes.specs.SetUp.{SetUp, setUp, setUpOf}
-use Rattle.wire.specs.Linked.{Left, left, lentRight}
-use Rattle.wire.specs.Wire.{listWords, listIn, settingsOk, accountIn, accountOk, outcomeIn, outcomeOk}
+use Rattle.wire_rules.specs.Linked.{Left, left, lentRight}
+use Rattle.wire_rules.specs.Wire.{listWords, listIn, settingsOk, accountIn, accountOk, outcomeIn, outcomeOk}
 
 -- the tables, and the lent list
 pub record Listing : Type 0 where

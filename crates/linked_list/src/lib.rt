@@ -1,12 +1,10 @@
 // A free list's calls for programs in other languages: numbers and slices of words alone. specs/Calls says what each leaves.
 ghost use mathlib.Core.Path.{_≡_};
 ghost use Rattle.freelist_rules.specs.Tables.{tables};
-ghost use Rattle.wire.specs.Wire.{saidOut};
+ghost use Rattle.wire_rules.specs.Wire.{saidOut};
 ghost use Rattle.linked_list.specs.Calls.{listing, linkedSetUp, linkedAsk, linkedDeliver, linkedReturn, linkedCleanUp};
 use counter::Block;
-
-// How many words a free list's settings are; wire's specs have the same name.
-const LIST_WORDS: usize = 9;
+use wire::LIST_WORDS;
 
 #[no_mangle]
 pub extern "C" fn tibrezkam_list_set_up(
@@ -47,12 +45,12 @@ pub extern "C" fn tibrezkam_list_ask(
     ensures { λ _. ⌜ tables (now (head .exit)) (now (loans .exit)) (now (chunks .entry)) (now (regions .exit)) (now (index .exit)) ≡ linkedAsk (now (settings .entry)) (now (account .entry)) size mask (tables (now (head .entry)) (now (loans .entry)) (now (chunks .entry)) (now (regions .entry)) (now (index .entry))) .tables ⌝ }
     ensures { λ _. ⌜ now (answer .exit) ≡ saidOut (linkedAsk (now (settings .entry)) (now (account .entry)) size mask (tables (now (head .entry)) (now (loans .entry)) (now (chunks .entry)) (now (regions .entry)) (now (index .entry))) .said) (now (answer .entry)) ⌝ }
 {
-    if wire::is_settings(settings, LIST_WORDS) & wire::is_account(account) {
+    if wire::is_settings(settings, LIST_WORDS) & wire_account::is_account(account) {
         let s = wire::read_free_list(settings);
-        let a = wire::read_account(account);
+        let a = wire_account::read_account(account);
         let r = freelist::ask(s, a, size, mask, head, loans, chunks, regions, index);
         let after = r.account;
-        wire::put_account(account, after);
+        wire_account::put_account(account, after);
         let said = r.answer;
         wire::tell_asked(answer, said);
     } else {
@@ -79,15 +77,15 @@ pub extern "C" fn tibrezkam_list_deliver(
     ensures { λ _. ⌜ now (answer .exit) ≡ saidOut (linkedDeliver (now (settings .entry)) (now (account .entry)) what memory mapping (tables (now (head .entry)) (now (loans .entry)) (now (chunks .entry)) (now (regions .entry)) (now (index .entry))) .said) (now (answer .entry)) ⌝ }
 {
     if wire::is_settings(settings, LIST_WORDS)
-        & wire::is_account(account)
+        & wire_account::is_account(account)
         & wire::is_outcome(what, mapping)
     {
         let s = wire::read_free_list(settings);
-        let a = wire::read_account(account);
+        let a = wire_account::read_account(account);
         let o = wire::read_outcome(what, memory, mapping);
         let r = freelist::deliver(s, a, o, head, loans, chunks, regions, index);
         let after = r.account;
-        wire::put_account(account, after);
+        wire_account::put_account(account, after);
         let said = r.answer;
         wire::tell_delivered(answer, said);
     } else {
@@ -115,9 +113,9 @@ pub extern "C" fn tibrezkam_list_return(
     ensures { λ _. ⌜ listing (tables (now (head .exit)) (now (loans .exit)) (now (chunks .exit)) (now (regions .exit)) (now (index .exit))) (now (list .exit)) ≡ linkedReturn (now (settings .entry)) (now (account .entry)) (record { serial = serial; chunk = chunk; offset = offset; size = size }) (tables (now (head .entry)) (now (loans .entry)) (now (chunks .entry)) (now (regions .entry)) (now (index .entry))) (now (list .entry)) .tables ⌝ }
     ensures { λ _. ⌜ now (answer .exit) ≡ saidOut (linkedReturn (now (settings .entry)) (now (account .entry)) (record { serial = serial; chunk = chunk; offset = offset; size = size }) (tables (now (head .entry)) (now (loans .entry)) (now (chunks .entry)) (now (regions .entry)) (now (index .entry))) (now (list .entry)) .said) (now (answer .entry)) ⌝ }
 {
-    if wire::is_settings(settings, LIST_WORDS) & wire::is_account(account) {
+    if wire::is_settings(settings, LIST_WORDS) & wire_account::is_account(account) {
         let s = wire::read_free_list(settings);
-        let a = wire::read_account(account);
+        let a = wire_account::read_account(account);
         let b = Block {
             serial: serial,
             chunk: chunk,
@@ -126,7 +124,7 @@ pub extern "C" fn tibrezkam_list_return(
         };
         let r = freelist::return_block(s, a, b, head, loans, chunks, regions, index, list);
         let after = r.account;
-        wire::put_account(account, after);
+        wire_account::put_account(account, after);
         let said = r.answer;
         wire::tell_released(answer, said);
     } else {
@@ -150,12 +148,12 @@ pub extern "C" fn tibrezkam_list_clean_up(
     ensures { λ _. ⌜ listing (tables (now (head .exit)) (now (loans .entry)) (now (chunks .exit)) (now (regions .exit)) (now (index .entry))) (now (list .exit)) ≡ linkedCleanUp (now (settings .entry)) (now (account .entry)) (tables (now (head .entry)) (now (loans .entry)) (now (chunks .entry)) (now (regions .entry)) (now (index .entry))) (now (list .entry)) .tables ⌝ }
     ensures { λ _. ⌜ now (answer .exit) ≡ saidOut (linkedCleanUp (now (settings .entry)) (now (account .entry)) (tables (now (head .entry)) (now (loans .entry)) (now (chunks .entry)) (now (regions .entry)) (now (index .entry))) (now (list .entry)) .said) (now (answer .entry)) ⌝ }
 {
-    if wire::is_settings(settings, LIST_WORDS) & wire::is_account(account) {
+    if wire::is_settings(settings, LIST_WORDS) & wire_account::is_account(account) {
         let s = wire::read_free_list(settings);
-        let a = wire::read_account(account);
+        let a = wire_account::read_account(account);
         let r = freelist::clean_up(s, a, head, loans, chunks, regions, index, list);
         let after = r.account;
-        wire::put_account(account, after);
+        wire_account::put_account(account, after);
         let said = r.answer;
         wire::tell_released(answer, said);
     } else {

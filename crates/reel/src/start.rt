@@ -1,7 +1,7 @@
 // What a store begins with: a fresh account, and tables of the lengths that its settings ask for.
 ghost use Prim.Native.Nat.{_+_, _*_, _≤_};
-use crate::calls::Settings;
-use crate::calls::store_of;
+use crate::settings::Settings;
+use crate::settings::store_of;
 use counter::Account;
 use counter::HEAPS;
 use counter::Heap;

@@ -60,7 +60,7 @@ pub fn run(
             break;
         }
         let record = turn.record;
-        let taken = reel::take(s, a, record, head, loans, chunks, index, own, &mut list);
+        let taken = reel_calls::take(s, a, record, head, loans, chunks, index, own, &mut list);
         print_answer(s, taken, &list);
         a = taken.account;
         w = turn.window;

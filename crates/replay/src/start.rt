@@ -67,7 +67,7 @@ fn replay(
     index: &mut [u64],
     own: &mut [u64],
 ) {
-    let answer = reel::set_up(s, head, loans, chunks, index, own);
+    let answer = reel_calls::set_up(s, head, loans, chunks, index, own);
     match answer {
         SetUpAnswer::Ready => {
             let store = reel::store_of(s);

@@ -4,8 +4,8 @@ ghost use mathlib.Core.Path.{_≡_};
 ghost use Prim.Native.Nat.{_≤_, _<_};
 ghost use lib.ListN.{set};
 ghost use Rattle.words.specs.Words.{widest, atMost};
-ghost use Rattle.ring.specs.Ring.{unlinked, linked};
-ghost use Rattle.ring.specs.Test.{ringLength};
+ghost use Rattle.ring_rules.specs.Ring.{unlinked, linked};
+ghost use Rattle.ring_rules.specs.Test.{ringLength};
 use slab::NOWHERE;
 
 // The place p is taken out; the head is p's next from now on, whichever place it was.

@@ -119,10 +119,6 @@ parted-same free free′ next next′ s most f g P =
 pub used-out : (free : ℕ → Bool) (next : ℕ → ℕ) (s : Slab) (most : ℕ) (P : Parted free next s most) (p : ℕ) → free p ≡ false → NotIn p (P .chained)
 used-out free next s most P p e = mem-not p (P .chained) (λ m. true-false (free p) (P .vacant p m) e)
 
--- one chain parts the places, whoever tells of it
-pub parted-one : (free free′ : ℕ → Bool) (next : ℕ → ℕ) (s : Slab) (most most′ : ℕ) (P : Parted free next s most) (Q : Parted free′ next s most′) → s .places ≤ nowhere → P .chained ≡ Q .chained
-parted-one free free′ next s most most′ P Q o = chain-unique next (s .places) (s .vacant) (P .chained) (Q .chained) o (P .chain) (Q .chain) (P .below) (Q .below)
-
 -- each place ever used is in use or vacant, by its record and by the chain alike, and not both; the chain has it once
 pub parts : (free : ℕ → Bool) (next : ℕ → ℕ) (s : Slab) (most : ℕ) (P : Parted free next s most) → Distinct (P .chained) × ((p : ℕ) → p < s .places → ((free p ≡ false) × NotIn p (P .chained)) ⊎ ((free p ≡ true) × Mem p (P .chained)))
 parts free next s most P = (P .distinct, λ p h. ⊎-elim (λ e. inr (e, P .all p h e)) (λ e. inl (e, used-out free next s most P p e)) (told (free p)))

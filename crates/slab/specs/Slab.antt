@@ -2,7 +2,7 @@
 -- place, else the next new one; length counts places ever used. Nothing is said of a place that was never used.
 -- Assumes nothing: these are definitions.
 use mathlib.Core.Path.{_≡_}
-use mathlib.Core.Bool.{Bool, true, false, cond}
+use mathlib.Core.Bool.{Bool, true, cond}
 use mathlib.Core.List.{List, [], _∷_}
 use Prim.Native.Nat.{ℕ, _+_, _^_, _%_, _≤_, _<_}
 use lib.Dec.{eqb, ltb}

@@ -1,7 +1,7 @@
 -- 13 as the code tests it is 13 as the paper says it, whichever way a store finds out whether a memory is held.
 -- Assumes nothing.
 use mathlib.Core.Path.{_≡_, refl}
-use mathlib.Core.Bool.{Bool, true}
+use mathlib.Core.Bool.{Bool}
 use mathlib.Core.List.{List}
 use Prim.Native.Nat.{ℕ}
 use Rattle.counter.specs.declared.answers.Memory.{Memory}
@@ -20,10 +20,3 @@ unfolding deliveryOk
 deliverable-is map held ms (O.Made m) h = deliverable-made map held ms m (h m refl)
 deliverable-is map held ms O.OutOfDevice h = refl
 deliverable-is map held ms O.OutOfHost h = refl
-
--- where none was made the test holds, whatever is said of held
-pub deliverable-device : (map held : Bool) → deliverable map held O.OutOfDevice ≡ true
-deliverable-device map held = refl
-
-pub deliverable-host : (map held : Bool) → deliverable map held O.OutOfHost ≡ true
-deliverable-host map held = refl

@@ -1,6 +1,4 @@
 -- The laws of this crate's definitions, for its own proofs and for the crates above.
-pub mod Settling
-pub mod Ordering
 pub mod Leading
 pub mod Deliveries
 pub mod Coming

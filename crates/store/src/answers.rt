@@ -64,9 +64,9 @@ pub fn answer_block(a: Account, l: Loan) -> Asked
 pub fn answer_order(s: StoreSettings, a: Account, size: u64, mask: u64, z: u64) -> Asked
     ensures { λ r. ⌜ (r .account ≡ withOrder a (Kept (keptFrom s size mask z))) × (askSaid (r .answer) ≡ Paper.orderOf (orderFrom s z)) ⌝ }
 {
-    let kept = crate::orders::keep(s, size, mask, z);
+    let kept = store_accounts::keep(s, size, mask, z);
     let order = kept.order;
-    let account = crate::accounts::with_order(a, OpenOrder::Kept(kept));
+    let account = store_accounts::with_order(a, OpenOrder::Kept(kept));
     Asked {
         account: account,
         answer: AskAnswer::Order(order),
@@ -103,7 +103,7 @@ pub fn lose_order(s: StoreSettings, a: Account, k: KeptOrder, l: Loss) -> Delive
     let free = l.free;
     let refusal = l.refusal;
     Delivered {
-        account: crate::accounts::lost(s, a, order.size, l.charged, free),
+        account: store_accounts::lost(s, a, order.size, l.charged, free),
         answer: DeliverAnswer::Refused(Refused {
             refusal: refusal,
             free: free,
@@ -129,7 +129,7 @@ pub fn settle(s: StoreSettings, a: Account, count: u64, bytes: u64) -> Released
     ensures { λ r. ⌜ (r .account ≡ releasedAccount s a count bytes) × (releaseSaid (r .answer) ≡ Paper.released count) ⌝ }
 {
     Released {
-        account: crate::accounts::released(s, a, count as u32, bytes),
+        account: store_accounts::released(s, a, count as u32, bytes),
         answer: ReleaseAnswer::Released(count),
     }
 }

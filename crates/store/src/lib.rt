@@ -1,15 +1,8 @@
-// What the calls of both engines do alike: the order, the account, and what a delivered outcome leads to.
-mod accounts;
+// What the calls of both engines do alike: what a delivered outcome leads to, and what they answer.
 mod answers;
 mod comings;
 mod fates;
-mod orders;
 
-pub use accounts::charged;
-pub use accounts::covers;
-pub use accounts::lost;
-pub use accounts::released;
-pub use accounts::with_order;
 pub use answers::answer_block;
 pub use answers::answer_order;
 pub use answers::deliver_block;
@@ -28,8 +21,3 @@ pub use fates::Loss;
 pub use fates::is_deliverable;
 pub use fates::lead;
 pub use fates::suits;
-pub use orders::is_open_for;
-pub use orders::keep;
-pub use orders::no_order;
-pub use orders::order_from;
-pub use orders::same_order;

@@ -92,9 +92,6 @@ among-where bs l e =
 pub among-yes : (bs : List Block) (l : Loan) (b : Block) → List·Memᴰ b bs → l ≡ loanOf b → among bs l ≡ true
 among-yes bs l b m e = among-some bs l ∙ some-yes (λ (c : Block). sameLoan c l) bs b m (ap (sameLoan b) e ∙ same-self b)
 
-pub among-mem : (bs : List Block) (l : Loan) → (among bs l ≡ true) ↔ ((b : Block) × List·Memᴰ b bs × (l ≡ loanOf b))
-among-mem bs l = (among-where bs l, λ w. among-yes bs l (w .0) (w .1) (w .2))
-
 pub less-those : (bs : List Block) (ls : List Loan) → loansLess bs ls ≡ those (λ (l : Loan). not (among bs l)) ls
 less-those bs [] = refl
 less-those bs (l ∷ ls) = go (among bs l) (less-those bs ls)

@@ -7,6 +7,7 @@ pub mod Loaned
 pub mod Bytes
 pub mod Placed
 pub mod Accounts
+pub mod Keyed
 pub mod Going
 pub mod Releasing
 pub mod Permuted

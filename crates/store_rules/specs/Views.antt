@@ -3,10 +3,11 @@
 use mathlib.Core.Path.{_≡_}
 use mathlib.Core.Bool.{Bool, false, cond, _&&_, _||_}
 use mathlib.Core.Logic.{_⊎_, _↔_}
-use mathlib.Core.List.{List, [], _∷_, List·Memᴰ}
+use mathlib.Core.List.{List, [], _∷_, List·Memᴰ, map}
 use Prim.Native.Nat.{ℕ, _+_, _%_, _≤_, _<_}
 use lib.Dec.{eqb, leb, ltb}
 use lib.ListN.{length}
+use Rattle.lists.specs.Members.{Distinct}
 use Rattle.counter.specs.declared.answers.Block.{Block}
 use Rattle.store_rules.specs.Loans.{loan}
 use Rattle.store_rules.specs.declared.Chunk.{Chunk}
@@ -79,6 +80,12 @@ held n x cs = total (λ (c : Chunk). on n x (c .number) 0 (c .size)) cs
 -- at every byte the loans and the free pieces that hold it are as many as the held chunks that have it
 abbrev pub Filled : View → Type 0
 Filled v = (n x : ℕ) → loaned n x (v .loans) + free n x (v .free) ≡ held n x (v .chunks)
+
+-- "loans have distinct serials", "held memory numbers differ", and so do chunk numbers
+pub record Apart (v : View) : Type 0 where
+  pub serials : Distinct (map (λ (l : Loan). l .serial) (v .loans))
+  pub numbers : Distinct (map (λ (c : Chunk). c .number) (v .chunks))
+  pub memories : Distinct (map (λ (c : Chunk). c .memory) (v .chunks))
 
 -- ---- a new block
 

@@ -1,11 +1,12 @@
 // Answers, written in six words.
 ghost use mathlib.Core.Path.{_≡_};
 ghost use mathlib.Core.List.{[]};
-ghost use Rattle.counter.specs.Paper.{refusal, refusalOf, blockOf, setUpSaid, askSaid, deliverSaid, releaseSaid};
-ghost use Rattle.wire.specs.Wire.{answerOut, saidOut};
+ghost use Rattle.counter.specs.Paper.{refusal, refusalOf, blockOf, setUpSaid, askSaid, deliverSaid, releaseSaid, rankSaid};
+ghost use Rattle.wire_rules.specs.Wire.{answerOut, saidOut};
 use counter::AskAnswer;
 use counter::DeliverAnswer;
 use counter::Lent;
+use counter::RankAnswer;
 use counter::Refused;
 use counter::ReleaseAnswer;
 use counter::SetUpAnswer;
@@ -21,6 +22,8 @@ const ORDER: u64 = 2;
 const RELEASED: u64 = 3;
 
 const REFUSED: u64 = 4;
+
+const RANKED: u64 = 5;
 
 fn tell(w: &mut [u64], what: u64, a: u64, b: u64, c: u64, d: u64)
     ensures { λ _. ⌜ now (w .exit) ≡ answerOut what a b c d (now (w .entry)) ⌝ }
@@ -100,5 +103,14 @@ pub fn tell_released(w: &mut [u64], answer: ReleaseAnswer)
     match answer {
         ReleaseAnswer::Released(n) => tell(w, RELEASED, n, 0, 0, 0),
         ReleaseAnswer::Refused(r) => tell_refused(w, r),
+    }
+}
+
+pub fn tell_ranked(w: &mut [u64], answer: RankAnswer)
+    ensures { λ _. ⌜ now (w .exit) ≡ saidOut (rankSaid answer) (now (w .entry)) ⌝ }
+{
+    match answer {
+        RankAnswer::Ranked => tell(w, RANKED, 0, 0, 0, 0),
+        RankAnswer::Refused(r) => tell_refused(w, r),
     }
 }

@@ -1,6 +1,6 @@
 // What became of an order, read from numbers.
 ghost use mathlib.Core.Path.{_≡_};
-ghost use Rattle.wire.specs.Wire.{mappingIn, outcomeIn, outcomeOk};
+ghost use Rattle.wire_rules.specs.Wire.{mappingIn, outcomeIn, outcomeOk};
 use counter::Mapping;
 use counter::Memory;
 use counter::Outcome;

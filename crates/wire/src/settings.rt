@@ -2,10 +2,15 @@
 ghost use mathlib.Core.Path.{_≡_};
 ghost use mathlib.Core.Bool.{true};
 ghost use Prim.Native.Nat.{_≤_};
-ghost use Rattle.wire.specs.Wire.{narrowMost, narrowOk, listWords, buddyWords, storeIn, listIn, buddyIn, settingsOk};
+ghost use Rattle.wire_rules.specs.Wire.{narrowMost, narrowOk, listWords, buddyWords, storeIn, listIn, buddyIn, settingsOk};
 use counter::BuddySettings;
 use counter::FreeListSettings;
 use counter::StoreSettings;
+
+// How many words the settings of a free list are, and those of a buddy.
+pub const LIST_WORDS: usize = 9;
+
+pub const BUDDY_WORDS: usize = 10;
 
 // The greatest number of a field of 32 bits.
 const NARROW_MOST: u64 = 4_294_967_295;
@@ -51,7 +56,7 @@ pub fn read_free_list(w: &[u64]) -> FreeListSettings
     ensures { λ r. ⌜ r ≡ listIn (now (w .entry)) ⌝ }
 {
     FreeListSettings {
-        store: read_store(w, 9),
+        store: read_store(w, LIST_WORDS),
         start: words::word(w, 7),
         last: words::word(w, 8),
     }
@@ -62,7 +67,7 @@ pub fn read_buddy(w: &[u64]) -> BuddySettings
     ensures { λ r. ⌜ r ≡ buddyIn (now (w .entry)) ⌝ }
 {
     BuddySettings {
-        store: read_store(w, 10),
+        store: read_store(w, BUDDY_WORDS),
         minimal: words::word(w, 7),
         initial: words::word(w, 8),
         pairs: words::word(w, 9) as usize,

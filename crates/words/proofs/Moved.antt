@@ -139,9 +139,6 @@ module _ (t : List ℕ) (src dst m : ℕ) where
   pub moved-out : (src + m ≤ length t → length t < dst + m) → moved src dst m t ≡ t
   moved-out f = moved-either (λ u. u ≡ t) refl (λ a b. let k : length t < dst + m = f a in absurd (omega arith))
 
-  pub length-moved : length (moved src dst m t) ≡ length t
-  length-moved = moved-either (λ u. length u ≡ length t) refl (length-run t src dst m)
-
 pub moved-none : (t : List ℕ) (src dst m : ℕ) → m ≡ 0 → moved src dst m t ≡ t
 moved-none t src dst m e = rw e (moved-either t src dst 0 (λ u. u ≡ t) refl (λ a b. sym (run-none t src dst)))
 

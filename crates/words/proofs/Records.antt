@@ -5,8 +5,8 @@ use Prim.Native.Nat.{ℕ, zero, suc, _+_, _-_, _*_, _≤_, _<_}
 use native.Mathlib.Nat.{add-comm, zero-add, suc-add, mul-zero, mul-suc, mul-add, mul-le-mul-left, le-of-suc-le-suc, not-suc-le-zero}
 use native.Mathlib.Numerals.{add-one}
 use native.Mathlib.Omega.{arith}
-use lib.ListN.{length, take, drop, getD, set, length-append, length-take, length-drop, length-set, take-append-drop, List·getD-append}
-use lib.Seq.{sets-eq, length-sets, drop-at, take-add, take-take, drop-drop, take-append-le, drop-append-le, length-take-le, set-split, getD-append-add, getD-take, getD-drop, getD-at, take-set-le, drop-set-add, drop-set-lt}
+use lib.ListN.{length, take, drop, getD, set, length-append, length-take, length-drop, length-set, take-append-drop}
+use lib.Seq.{sets-eq, length-sets, drop-at, take-add, take-take, drop-drop, take-append-le, drop-append-le, length-take-le, set-split, getD-drop, take-set-le, drop-set-add, drop-set-lt}
 use Rattle.words.specs.Words.{cellOf, closed, opened}
 use Rattle.words.specs.Rows.{Layout, row, rows, flat, laid, written, removeAt, insertAt}
 use Rattle.words.proofs.Moved.{run, length-run, moved-in, record-and-next, before-and-from, to-and-past}
@@ -200,25 +200,11 @@ module _ {R : Type 0} where
   length-insertAt i r rs h = simp (length-append, length-take, length-drop) (omega arith)
 
 module _ {R : Type 0} (L : Layout R) where
-  -- an operation that keeps or adds records, on what another left
-  pub laid-then : (f : List R → List R) (n : ℕ) (rs : List R) (t : List ℕ) → length rs ≡ n → n ≤ length (f rs)
-      → laid L (f (rows L n (laid L rs t))) (laid L rs t) ≡ laid L (f rs) t
-  laid-then f n rs t e h =
-      ap (λ (q : List R). laid L (f q) (laid L rs t)) (rows-after L n rs t e) ∙ laid-laid L (f rs) rs t (omega arith)
-
   pub drop-flat : (i : ℕ) (rs : List R) → i ≤ length rs → drop (L .width * i) (flat L rs) ≡ flat L (drop i rs)
   drop-flat i rs h =
       let e : flat L rs ≡ flat L (take i rs) ++ flat L (drop i rs) = ap (flat L) (sym (take-append-drop i rs)) ∙ flat-append L (take i rs) (drop i rs) in
       let l : length (flat L (take i rs)) ≡ L .width * i = length-flat L (take i rs) ∙ ap (λ (k : ℕ). L .width * k) (length-take-le i rs h) in
       ap (drop (L .width * i)) e ∙ drop-at (flat L (take i rs)) (flat L (drop i rs)) (L .width * i) l
-
-  -- an operation that leaves fewer records, on what another left: past them stand the last of the other's
-  pub laid-shrunk : (qs rs : List R) (t : List ℕ) → length qs ≤ length rs → laid L qs (laid L rs t) ≡ laid L (qs ++ drop (length qs) rs) t
-  laid-shrunk qs rs t h =
-      let w : ℕ = L .width in
-      let n : length (qs ++ drop (length qs) rs) ≡ length rs = simp (length-append, length-drop) (omega arith) in
-      let m : w * length qs ≤ length (flat L rs) = rw length-flat (mul-le-mul-left w h) in
-      rw (n, flat-append, drop-append-le (w * length qs) (flat L rs) (drop (w * length rs) t) m, drop-flat (length qs) rs h) (simp append-assoc)
 
   -- a record changed before the j-th leaves the words from the j-th record on
   pub laid-set-drop : (i j : ℕ) (r : R) (rs : List R) (t : List ℕ) → i < j → j ≤ length rs → drop (L .width * j) (laid L (set rs i r) t) ≡ drop (L .width * j) (laid L rs t)
@@ -232,36 +218,6 @@ module _ {R : Type 0} (L : Layout R) where
       (drop-append-le (w * j) (flat L (set rs i r)) x a
       ∙ ap (λ (l : List ℕ). l ++ x) (drop-flat j (set rs i r) (rw n g) ∙ ap (flat L) (drop-set-lt j rs i r h) ∙ sym (drop-flat j rs g))
       ∙ sym (drop-append-le (w * j) (flat L rs) x b))
-
--- ---- the elements after an operation
-
-module _ {R : Type 0} (d : R) where
-  pub removeAt-below : (i : ℕ) (rs : List R) (k : ℕ) → k < i → i < length rs → getD (removeAt i rs) k d ≡ getD rs k d
-  removeAt-below i rs k h l =
-      List·getD-append (take i rs) (drop (suc i) rs) d k (simp length-take (omega arith)) ∙ getD-take i rs k d h
-
-  pub removeAt-above : (i : ℕ) (rs : List R) (k : ℕ) → i ≤ k → i < length rs → getD (removeAt i rs) k d ≡ getD rs (suc k) d
-  removeAt-above i rs k h l =
-      let e : length (take i rs) ≡ i = length-take-le i rs (omega arith) in
-      let f : k ≡ length (take i rs) + (k - i) = omega arith in
-      let g : suc i + (k - i) ≡ suc k = omega arith in
-      ap (λ (n : ℕ). getD (removeAt i rs) n d) f ∙ getD-append-add (take i rs) (drop (suc i) rs) (k - i) d
-      ∙ getD-drop (suc i) rs (k - i) d ∙ ap (λ (n : ℕ). getD rs n d) g
-
-  pub insertAt-below : (i : ℕ) (r : R) (rs : List R) (k : ℕ) → k < i → i ≤ length rs → getD (insertAt i r rs) k d ≡ getD rs k d
-  insertAt-below i r rs k h l =
-      List·getD-append (take i rs) (r ∷ drop i rs) d k (simp length-take (omega arith)) ∙ getD-take i rs k d h
-
-  pub insertAt-same : (i : ℕ) (r : R) (rs : List R) → i ≤ length rs → getD (insertAt i r rs) i d ≡ r
-  insertAt-same i r rs l = getD-at (take i rs) r (drop i rs) d i (length-take-le i rs l)
-
-  pub insertAt-above : (i : ℕ) (r : R) (rs : List R) (k : ℕ) → i ≤ k → i ≤ length rs → getD (insertAt i r rs) (suc k) d ≡ getD rs k d
-  insertAt-above i r rs k h l =
-      let e : length (take i rs) ≡ i = length-take-le i rs l in
-      let f : suc k ≡ length (take i rs) + suc (k - i) = omega arith in
-      let g : i + (k - i) ≡ k = omega arith in
-      ap (λ (n : ℕ). getD (insertAt i r rs) n d) f ∙ getD-append-add (take i rs) (r ∷ drop i rs) (suc (k - i)) d
-      ∙ getD-drop i rs (k - i) d ∙ ap (λ (n : ℕ). getD rs n d) g
 
 -- ---- one word of one record
 

@@ -1,12 +1,16 @@
-//! The linked stores against the crate, on tapes of several stores and on recorded ones.
+//! The linked stores and ranking against the crate: on tapes of several stores, on recorded ones, and
+//! on lists of memory types.
 
 use {
     compare::{difference::Difference, generator, parallel::share, shelf},
-    linked::shelf::{answers_of_one, answers_of_several},
+    linked::{
+        ranking,
+        shelf::{answers_of_one, answers_of_several},
+    },
     std::{env, fs, io, path::Path, process::ExitCode},
 };
 
-const USAGE: &str = "linked recorded | linked stores SEED COUNT";
+const USAGE: &str = "linked recorded | linked stores SEED COUNT | linked rank SEED COUNT";
 /// The recorded tapes of one store and of several, seen from this package.
 const RECORDED: &str = "../recorded";
 const RECORDED_STORES: &str = "../recorded/stores";
@@ -38,6 +42,7 @@ fn run(arguments: &[&str]) -> Result<(), String> {
     match *arguments {
         ["recorded"] => recorded().map_err(|error| error.to_string())?.verdict(),
         ["stores", seed, count] => stores(number(seed)?, number(count)?).verdict(),
+        ["rank", seed, count] => ranking::run(number(seed)?, number(count)?),
         _ => Err(USAGE.into()),
     }
 }

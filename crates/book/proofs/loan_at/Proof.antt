@@ -1,4 +1,4 @@
-use Rattle.book.proofs.Whole.{loan-read}
+use Rattle.book_rules.proofs.Whole.{loan-read}
 use borrow.Author.Needs.{needs}
 use Rattle.book.proofs.loan_at.Statement.{statement}
 use Rattle.book.proofs.loan_at.Tie as tie

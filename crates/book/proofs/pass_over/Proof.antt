@@ -1,6 +1,6 @@
 use Rattle.words.specs.Words.{cellOf}
-use Rattle.book.specs.Book.{entryWords, vacatedAt, vacantAfterAt}
-use Rattle.book.proofs.Whole.{three-stored}
+use Rattle.book_rules.specs.Book.{entryWords, vacatedAt, vacantAfterAt}
+use Rattle.book_rules.proofs.Whole.{three-stored}
 use borrow.Author.Needs.{needs}
 use Rattle.book.proofs.pass_over.Statement.{statement}
 use Rattle.book.proofs.pass_over.Tie as tie

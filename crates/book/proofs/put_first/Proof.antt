@@ -1,5 +1,5 @@
-use Rattle.book.specs.Book.{vacatedAt, firstOf, nextOf}
-use Rattle.book.proofs.Whole.{three-stored}
+use Rattle.book_rules.specs.Book.{vacatedAt, firstOf, nextOf}
+use Rattle.book_rules.proofs.Whole.{three-stored}
 use borrow.Author.Needs.{needs}
 use Rattle.book.proofs.put_first.Statement.{statement}
 use Rattle.book.proofs.put_first.Tie as tie

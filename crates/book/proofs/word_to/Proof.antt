@@ -2,8 +2,8 @@ use mathlib.Core.Path.{_≡_, refl, sym, _∙_}
 use Prim.Native.Nat.{_≤_, _<_}
 use native.Mathlib.Omega.{arith}
 use native.Mathlib.Nat.{mod-lt}
-use Rattle.book.specs.Book.{seekIn, wordTo}
-use Rattle.book.proofs.Seeking.{seek-past, seek-here, seek-on, seek-none}
+use Rattle.book_rules.specs.Book.{seekIn, wordTo}
+use Rattle.book_rules.proofs.Seeking.{seek-past, seek-here, seek-on, seek-none}
 use borrow.Author.Needs.{needs}
 use Rattle.book.proofs.word_to.Statement.{statement}
 use Rattle.book.proofs.word_to.Tie as tie

@@ -1,4 +1,4 @@
-use Rattle.book.proofs.Whole.{loan-written}
+use Rattle.book_rules.proofs.Whole.{loan-written}
 use borrow.Author.Needs.{needs}
 use Rattle.book.proofs.write_loan.Statement.{statement}
 use Rattle.book.proofs.write_loan.Tie as tie

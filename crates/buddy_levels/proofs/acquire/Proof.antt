@@ -1,5 +1,5 @@
 use lib.ListN.{getD}
-use Rattle.buddy_levels.specs.Level.{tagAt, pairCell}
+use Rattle.buddy_levels_rules.specs.Level.{tagAt, pairCell}
 use Rattle.buddy_levels.proofs.Steps.{side-field, head-acquired}
 use borrow.Author.Needs.{needs}
 use Rattle.buddy_levels.proofs.acquire.Statement.{statement}

@@ -2,7 +2,7 @@ use borrow.Author.Needs.{needs}
 use Prim.Native.Nat.{_+_, _≤_}
 use native.Mathlib.Omega.{arith}
 use Rattle.lists.proofs.Bools.{not-yes, not-no}
-use Rattle.rounding.proofs.Masks.{power-top}
+use Rattle.rounding_rules.proofs.Masks.{power-top}
 use Rattle.counter.specs.Limits.{levelsMost}
 use Rattle.buddy_shape.specs.Seen.{seen}
 use Rattle.buddy_walk.proofs.Tops.{chunk-none, chunk-high, chunk-off, chunk-walk, level-low, whole-room, small-in}

@@ -1,5 +1,5 @@
 use borrow.Author.Needs.{needs}
-use Rattle.ring.proofs.Steps.{link-first, link-last}
+use Rattle.ring_rules.proofs.Steps.{link-first, link-last}
 use Rattle.ring.proofs.link.Statement.{statement}
 use Rattle.ring.proofs.link.Tie as tie
 

@@ -2,9 +2,9 @@ use mathlib.Core.Path.{_≡_, sym, _∙_}
 use Prim.Native.Nat.{_≤_}
 use native.Mathlib.Omega.{arith}
 use borrow.Author.Needs.{needs}
-use Rattle.ring.specs.Ring.{next, prev}
-use Rattle.ring.specs.Test.{metAfter, ringLength}
-use Rattle.ring.proofs.Steps.{met-done, met-far, met-torn, met-back, met-on, length-none, length-far, length-walk}
+use Rattle.ring_rules.specs.Ring.{next, prev}
+use Rattle.ring_rules.specs.Test.{metAfter, ringLength}
+use Rattle.ring_rules.proofs.Steps.{met-done, met-far, met-torn, met-back, met-on, length-none, length-far, length-walk}
 use Rattle.ring.proofs.ring_length.Statement.{statement}
 use Rattle.ring.proofs.ring_length.Tie as tie
 

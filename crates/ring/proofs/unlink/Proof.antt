@@ -1,5 +1,5 @@
 use borrow.Author.Needs.{needs}
-use Rattle.ring.proofs.Steps.{unlink-alone, unlink-one}
+use Rattle.ring_rules.proofs.Steps.{unlink-alone, unlink-one}
 use Rattle.ring.proofs.unlink.Statement.{statement}
 use Rattle.ring.proofs.unlink.Tie as tie
 

@@ -2,7 +2,7 @@ use native.Mathlib.Omega.{arith}
 use borrow.Author.Needs.{needs}
 use Rattle.slab.specs.Slab.{vacantAt}
 use Rattle.store_rules.specs.Loans.{loanWords, sizeAt}
-use Rattle.book.proofs.Following.{vacancies-most, chains-counted}
+use Rattle.book_rules.proofs.Following.{vacancies-most, chains-counted}
 use Rattle.book.proofs.chains.is_chained.Statement.{statement}
 use Rattle.book.proofs.chains.is_chained.Tie as tie
 

@@ -1,6 +1,6 @@
 use mathlib.Core.Path.{sym, _∙_}
 use borrow.Author.Tests.{eq-eqb, ne-eqb}
-use Rattle.book.proofs.Following.{link-past, link-vacant, link-read}
+use Rattle.book_rules.proofs.Following.{link-past, link-vacant, link-read}
 use borrow.Author.Needs.{needs}
 use Rattle.book.proofs.chains.is_link.Statement.{statement}
 use Rattle.book.proofs.chains.is_link.Tie as tie

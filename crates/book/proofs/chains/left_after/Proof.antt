@@ -4,9 +4,9 @@ use native.Mathlib.Omega.{arith}
 use lib.ListN.{getD}
 use Rattle.slab.specs.Slab.{vacantAt}
 use Rattle.store_rules.specs.Loans.{loanWords, sizeAt}
-use Rattle.book.specs.Book.{firstOf, nextOf, serialOf}
-use Rattle.book.specs.Chains.{leftAfter}
-use Rattle.book.proofs.Following.{link-alone, link-serial, after-end, after-none, after-torn, after-on}
+use Rattle.book_rules.specs.Book.{firstOf, nextOf, serialOf}
+use Rattle.book_rules.specs.Chains.{leftAfter}
+use Rattle.book_rules.proofs.Following.{link-alone, link-serial, after-end, after-none, after-torn, after-on}
 use borrow.Author.Needs.{needs}
 use Rattle.book.proofs.chains.left_after.Statement.{statement}
 use Rattle.book.proofs.chains.left_after.Tie as tie

@@ -6,9 +6,9 @@ use borrow.Author.Needs.{needs}
 use lib.ListN.{getD}
 use Rattle.slab.specs.Slab.{vacantAt}
 use Rattle.store_rules.specs.Loans.{loanWords, sizeAt}
-use Rattle.book.specs.Book.{firstOf, nextOf, serialOf}
-use Rattle.book.specs.Chains.{leftOf}
-use Rattle.book.proofs.Following.{of-none, of-torn, of-on}
+use Rattle.book_rules.specs.Book.{firstOf, nextOf, serialOf}
+use Rattle.book_rules.specs.Chains.{leftOf}
+use Rattle.book_rules.proofs.Following.{of-none, of-torn, of-on}
 use Rattle.book.proofs.chains.left_of.Statement.{statement}
 use Rattle.book.proofs.chains.left_of.Tie as tie
 

@@ -1,7 +1,7 @@
 use borrow.Author.Needs.{needs}
 use native.Mathlib.Omega.{arith}
 use Rattle.lists.proofs.Bools.{not-yes, not-no}
-use Rattle.book.proofs.Keeping.{kept-torn, kept-few, kept-told}
+use Rattle.book_rules.proofs.Keeping.{kept-torn, kept-few, kept-told}
 use Rattle.book.proofs.kept.is_kept.Statement.{statement}
 use Rattle.book.proofs.kept.is_kept.Tie as tie
 

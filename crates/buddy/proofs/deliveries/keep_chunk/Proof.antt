@@ -1,6 +1,6 @@
 use borrow.Author.Needs.{needs}
 use mathlib.Core.Path.{_∙_}
-use Rattle.buddy.proofs.Growing.{level-is}
+use Rattle.buddy_grow.proofs.Asked.{level-is}
 use Rattle.buddy.proofs.Arriving.{serves-now, kept-done}
 use Rattle.buddy.proofs.deliveries.keep_chunk.Statement.{statement}
 use Rattle.buddy.proofs.deliveries.keep_chunk.Tie as tie

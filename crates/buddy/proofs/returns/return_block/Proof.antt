@@ -1,7 +1,7 @@
 use borrow.Author.Needs.{needs}
 use mathlib.Core.Path.{sym, ap, _∙_}
 use Rattle.buddy_stores.specs.Tables.{tables}
-use Rattle.buddy_plan.specs.Backs.{backOf}
+use Rattle.returning.specs.Backs.{backOf}
 use Rattle.buddy.proofs.Readied.{returned-backs, returned-object, returned-list}
 use Rattle.buddy.proofs.Returning.{return-refused, return-done}
 use Rattle.buddy.proofs.returns.return_block.Statement.{statement}

@@ -3,12 +3,12 @@ use mathlib.Core.Path.{ap, _∙_, subst}
 use Prim.Native.Nat.{ℕ}
 use mathlib.Core.List.{[]}
 use native.Mathlib.Omega.{arith}
-use Rattle.rounding.specs.Raising.{levelOf}
-use Rattle.rounding.proofs.Masks.{power-top}
+use Rattle.rounding_rules.specs.Raising.{levelOf}
+use Rattle.rounding_rules.proofs.Masks.{power-top}
 use Rattle.buddy_stores.specs.Tables.{tables}
 use Rattle.buddy_outcomes.specs.Ask.{foundAt}
 use Rattle.buddy_decide.specs.Plans.{Sized}
-use Rattle.buddy_decide.proofs.Reading.{sought-at, sought-order}
+use Rattle.buddy_seek.proofs.Reading.{sought-at, sought-order}
 use Rattle.buddy_decide.proofs.Tests.{Sizing, fits-yes, sized-not, sized-at, sized-nowhere, found-low, none-sized}
 use Rattle.buddy_decide.proofs.deciding.decide_sized.Statement.{statement}
 use Rattle.buddy_decide.proofs.deciding.decide_sized.Tie as tie

@@ -4,7 +4,7 @@ use Prim.Native.Nat.{ℕ, _-_, _≤_}
 use native.Mathlib.Omega.{arith}
 use borrow.Author.Needs.{needs}
 use Rattle.lists.proofs.Bools.{not-yes, not-no}
-use Rattle.buddy_levels.specs.Test.{goodOk}
+use Rattle.buddy_levels_rules.specs.Test.{goodOk}
 use Rattle.buddy_stores.specs.Tables.{levelAfter}
 use Rattle.buddy_stores.specs.Test.{every}
 use Rattle.buddy_stores.proofs.Tests.{every-stop, every-next}

@@ -4,7 +4,7 @@ use Prim.Native.Nat.{_≤_}
 use native.Mathlib.Omega.{arith}
 use Rattle.counter.specs.Limits.{objectsMost}
 use Rattle.freelist_rules.specs.Tables.{tables}
-use Rattle.freelist_gate.specs.Backs.{backOf}
+use Rattle.returning.specs.Backs.{backOf}
 use Rattle.freelist.proofs.Returning.{returned-backs, returned-frees, return-refused, return-done}
 use Rattle.freelist.proofs.returns.return_block.Statement.{statement}
 use Rattle.freelist.proofs.returns.return_block.Tie as tie

@@ -1,5 +1,5 @@
 use borrow.Author.Needs.{needs}
-use Rattle.wire.proofs.Told.{six-set}
+use Rattle.wire_rules.proofs.Told.{six-set}
 use Rattle.wire.proofs.answers.tell.Statement.{statement}
 use Rattle.wire.proofs.answers.tell.Tie as tie
 

@@ -1,7 +1,7 @@
 use borrow.Author.Needs.{needs}
 use Rattle.counter.specs.Paper.{askSaid}
 use Rattle.counter.specs.declared.answers.AskAnswer.{AskAnswer}
-use Rattle.wire.proofs.Told.{told-as, told-order}
+use Rattle.wire_rules.proofs.Told.{told-as, told-order}
 use Rattle.wire.proofs.answers.tell_asked.Statement.{statement}
 use Rattle.wire.proofs.answers.tell_asked.Tie as tie
 

@@ -1,7 +1,7 @@
 use borrow.Author.Needs.{needs}
 use Rattle.counter.specs.Paper.{deliverSaid}
 use Rattle.counter.specs.declared.answers.DeliverAnswer.{DeliverAnswer}
-use Rattle.wire.proofs.Told.{told-as}
+use Rattle.wire_rules.proofs.Told.{told-as}
 use Rattle.wire.proofs.answers.tell_delivered.Statement.{statement}
 use Rattle.wire.proofs.answers.tell_delivered.Tie as tie
 

@@ -1,5 +1,5 @@
 use borrow.Author.Needs.{needs}
-use Rattle.wire.proofs.Told.{refused-nothing, refused-memory}
+use Rattle.wire_rules.proofs.Told.{refused-nothing, refused-memory}
 use Rattle.wire.proofs.answers.tell_refused.Statement.{statement}
 use Rattle.wire.proofs.answers.tell_refused.Tie as tie
 

@@ -1,8 +1,8 @@
 use borrow.Author.Needs.{needs}
 use Rattle.counter.specs.Paper.{releaseSaid}
 use Rattle.counter.specs.declared.answers.ReleaseAnswer.{ReleaseAnswer}
-use Rattle.wire.specs.Wire.{saidOut}
-use Rattle.wire.proofs.Told.{told-as}
+use Rattle.wire_rules.specs.Wire.{saidOut}
+use Rattle.wire_rules.proofs.Told.{told-as}
 use Rattle.wire.proofs.answers.tell_released.Statement.{statement}
 use Rattle.wire.proofs.answers.tell_released.Tie as tie
 

@@ -1,8 +1,8 @@
 use borrow.Author.Needs.{needs}
 use Rattle.counter.specs.Paper.{setUpSaid}
 use Rattle.counter.specs.declared.answers.SetUpAnswer.{SetUpAnswer}
-use Rattle.wire.specs.Wire.{saidOut}
-use Rattle.wire.proofs.Told.{told-as}
+use Rattle.wire_rules.specs.Wire.{saidOut}
+use Rattle.wire_rules.proofs.Told.{told-as}
 use Rattle.wire.proofs.answers.tell_set_up.Statement.{statement}
 use Rattle.wire.proofs.answers.tell_set_up.Tie as tie
 

@@ -1,5 +1,5 @@
 use mathlib.Core.Path.{refl}
-use Rattle.wire.specs.Wire.{outcomeOk}
+use Rattle.wire_rules.specs.Wire.{outcomeOk}
 use Rattle.wire.proofs.outcomes.is_outcome.Statement.{statement}
 use Rattle.wire.proofs.outcomes.is_outcome.Tie as tie
 

@@ -1,7 +1,7 @@
 use mathlib.Core.Path.{sym, ap}
 use Prim.Native.Nat.{ℕ}
 use borrow.Author.Tests.{ne-eqb}
-use Rattle.wire.specs.Wire.{mappingIn}
+use Rattle.wire_rules.specs.Wire.{mappingIn}
 use Rattle.wire.proofs.outcomes.read_mapping.Statement.{statement}
 use Rattle.wire.proofs.outcomes.read_mapping.Tie as tie
 

@@ -1,6 +1,6 @@
 use borrow.Author.Needs.{needs}
 use borrow.Author.Tests.{eq-eqb, ne-eqb}
-use Rattle.wire.specs.Wire.{outcomeIn}
+use Rattle.wire_rules.specs.Wire.{outcomeIn}
 use Rattle.wire.proofs.outcomes.read_outcome.Statement.{statement}
 use Rattle.wire.proofs.outcomes.read_outcome.Tie as tie
 

@@ -1,5 +1,5 @@
 use borrow.Author.Needs.{needs}
-use Rattle.wire.specs.Wire.{settingsOk}
+use Rattle.wire_rules.specs.Wire.{settingsOk}
 use Rattle.wire.proofs.settings.is_settings.Statement.{statement}
 use Rattle.wire.proofs.settings.is_settings.Tie as tie
 

@@ -1,6 +1,6 @@
 use borrow.Author.Needs.{needs}
 use native.Mathlib.Omega.{arith}
-use Rattle.wire.proofs.Settled.{settings-narrow}
+use Rattle.wire_rules.proofs.Settled.{settings-narrow}
 use Rattle.wire.proofs.settings.read_store.Statement.{statement}
 use Rattle.wire.proofs.settings.read_store.Tie as tie
 

@@ -1,0 +1,140 @@
+//! Times the linked calls and the crate's on the same calls in one process: ours as shipped, ours
+//! of the copies without the test of soundness (01's test 3), and the crate's.
+
+mod clock;
+mod side;
+
+use {
+    clock::{repeat, timed},
+    compare::{
+        bare::{Bare, BareTypes},
+        settings::{Kind, Settings},
+    },
+    linked::{
+        ffi::{self, SHIPPED, UNTESTED},
+        ranking::ROWS,
+        store::Store,
+    },
+    side::{Lender, Ours, Side},
+    std::hint::black_box,
+};
+
+const LIVE: [usize; 3] = [16, 128, 500];
+const CHUNK: u64 = 1 << 21;
+const KINDS: [(&str, Kind); 2] = [
+    ("buddy", Kind::Buddy { minimal: 64, initial: CHUNK, pairs: 256 }),
+    ("free list", Kind::FreeList { start_chunk: CHUNK, final_chunk: CHUNK }),
+];
+
+/// Property words of memory types: eleven with many alike, and each of the 16 ranked ones twice.
+const FEW_TYPES: [u8; 11] = [0, 0, 0, 0, 0, 0, 0, 1, 1, 6, 14];
+const MANY_TYPES: [u8; 32] = [
+    0, 7, 14, 5, 12, 3, 10, 1, 8, 15, 6, 13, 4, 11, 2, 9, //
+    0, 7, 14, 5, 12, 3, 10, 1, 8, 15, 6, 13, 4, 11, 2, 9,
+];
+
+/// The least nanoseconds of a call: ours, ours without test 3, and the crate's.
+type Best = [f64; 3];
+
+fn main() {
+    KINDS.iter().for_each(|&(_, kind)| check_copy(kind));
+    println!("nanoseconds a call, the best of many batches; test 3 alone is told in crate's calls");
+    print!("{:<11}{:<9}{:>5}{:>12}", "engine", "call", "live", "ours");
+    println!(
+        "{:>16}{:>11}{:>15}{:>14}",
+        "without test 3", "crate", "without/crate", "test 3/crate"
+    );
+    for (engine, kind) in KINDS {
+        print_row(engine, "set up", 0, time_set_up(kind));
+        for live in LIVE {
+            let (ask, take_back) = time_calls(kind, live);
+            print_row(engine, "ask", live, ask);
+            print_row(engine, "return", live, take_back);
+        }
+    }
+    for words in [&FEW_TYPES[..], &MANY_TYPES] {
+        let call = format!("{} types", words.len());
+        print_row("ranking", &call, 0, time_ranking(words));
+    }
+}
+
+fn print_row(engine: &str, call: &str, live: usize, [ours, untested, of_crate]: Best) {
+    let (times, test) = (untested / of_crate, (ours - untested) / of_crate);
+    print!("{engine:<11}{call:<9}{live:>5}{ours:>12.1}{untested:>16.1}{of_crate:>11.1}");
+    println!("{times:>15.2}{test:>14.1}");
+}
+
+fn settings(kind: Kind) -> Settings {
+    Settings {
+        kind,
+        store: 1,
+        memory_type: 0,
+        properties: 1,
+        heap: 0,
+        atom_mask: 0,
+        loans: 512,
+        chunks: 64,
+        heap_size: 1 << 40,
+        objects: 64,
+    }
+}
+
+/// Asks of a torn store: ours refuse it by test 3, and the copy is one that does not.
+fn check_copy(kind: Kind) {
+    let [ours, untested] = [&SHIPPED, &UNTESTED].map(|engines| {
+        let mut ours = Ours::set_up(engines, &settings(kind));
+        ours.first();
+        ours.ask_torn()
+    });
+    assert_eq!(ours, [4, 3, 0, 0, 0, 0], "a torn store is refused");
+    assert_ne!(untested, ours, "a copy has no test 3");
+}
+
+/// Set-ups; ours are over the same words again and again.
+fn time_set_up(kind: Kind) -> Best {
+    let settings = settings(kind);
+    let [mut ours, mut untested] = [&SHIPPED, &UNTESTED]
+        .map(|engines| Store::lent(engines, &settings.header()).expect("settings of an engine"));
+    let ready = |store: &mut Store| assert_eq!(store.set_up()[0], 0, "a set-up is not refused");
+    let mut best = [f64::INFINITY; 3];
+    repeat(|| {
+        best[0] = best[0].min(timed(|| ready(&mut ours)));
+        best[1] = best[1].min(timed(|| ready(&mut untested)));
+        best[2] = best[2].min(timed(|| black_box(Bare::set_up(&settings))));
+    });
+    best
+}
+
+/// Rankings. They have no test 3 and there is no copy of them, so ours stand in both columns.
+fn time_ranking(words: &[u8]) -> Best {
+    let types: Vec<u32> = words.iter().map(|&word| word.into()).collect();
+    let (mut rows, mut answer) = (vec![0; ROWS], [0; 6]);
+    let bare = BareTypes::new(words);
+    let (mut ours, mut of_crate) = (f64::INFINITY, f64::INFINITY);
+    repeat(|| {
+        ours = ours.min(timed(|| ffi::rank(&types, &mut rows, &mut answer)));
+        assert_eq!(answer[0], 5, "types within the table");
+        of_crate = of_crate.min(timed(|| black_box(bare.rank())));
+    });
+    [ours, ours, of_crate]
+}
+
+/// Asks and returns with so many blocks on loan.
+fn time_calls(kind: Kind, live: usize) -> (Best, Best) {
+    let settings = settings(kind);
+    let [mut ours, mut untested] =
+        [&SHIPPED, &UNTESTED].map(|engines| Side::new(Ours::set_up(engines, &settings), live));
+    let mut of_crate = Side::new(Bare::set_up(&settings), live);
+    repeat(|| {
+        ours.batch();
+        untested.batch();
+        of_crate.batch();
+        assert!(ours.places().eq(of_crate.places()), "the same places");
+        assert!(untested.places().eq(of_crate.places()), "the same places");
+    });
+    let ask = [ours.ask, untested.ask, of_crate.ask];
+    let take_back = [ours.take_back, untested.take_back, of_crate.take_back];
+    // It tells of blocks that are lost.
+    of_crate.close().cleanup();
+    (ask, take_back)
+}

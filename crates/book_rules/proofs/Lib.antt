@@ -1,0 +1,13 @@
+-- The laws of this crate, for its own proofs and for the crates above.
+pub mod Whole
+pub mod Seeking
+pub mod Following
+pub mod Used
+pub mod Falling
+pub mod Decides
+pub mod Putting
+pub mod Changed
+pub mod Cutting
+pub mod Keeps
+pub mod Uses
+pub mod Keeping

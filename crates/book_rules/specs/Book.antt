@@ -1,0 +1,103 @@
+-- The book of a store's loans. The loans stand in a slab, so that a loan's place stays; `index` has what can be made again
+-- from them: the place vacated last, and for each i below the limit n the first place of chain i, the place after i in its
+-- chain, and the vacant place after i. A loan is in the chain of its serial modulo n, the newest first.
+-- Assumes nothing: these are definitions.
+use mathlib.Core.Bool.{cond}
+use mathlib.Core.List.{List}
+use Prim.Native.Nat.{ℕ, zero, suc, _+_, _*_, _%_}
+use lib.Dec.{eqb, ltb}
+use lib.ListN.{getD, set}
+use Rattle.words.specs.Words.{cellOf}
+use Rattle.words.specs.Rows.{written}
+use Rattle.slab.specs.Slab.{nowhere, inserted}
+use Rattle.slab.specs.declared.Slab.{Slab}
+use Rattle.slab.specs.declared.Taken.{Taken}
+use Rattle.store_rules.specs.Loans.{loanWords, serialAt, sizeAt, loanRow}
+use Rattle.store_rules.specs.declared.Loan.{Loan}
+
+-- ---- where the words of the index stand
+
+abbrev pub entryWords : ℕ
+entryWords = 3
+
+abbrev pub vacatedAt : ℕ
+vacatedAt = 0
+
+abbrev pub firstAt : ℕ
+firstAt = 1
+
+abbrev pub nextAt : ℕ
+nextAt = 2
+
+abbrev pub vacantAfterAt : ℕ
+vacantAfterAt = 3
+
+-- how many words the index of n loans takes
+abbrev pub indexWords : ℕ → ℕ
+indexWords n = 1 + entryWords * n
+
+-- the words that lead to chain i, and on from place p
+abbrev pub firstOf : ℕ → ℕ
+firstOf i = cellOf firstAt entryWords i
+
+abbrev pub nextOf : ℕ → ℕ
+nextOf p = cellOf nextAt entryWords p
+
+-- ---- what they say
+
+abbrev pub serialOf : List ℕ → ℕ → ℕ
+serialOf loans p = getD loans (cellOf serialAt loanWords p) 0
+
+abbrev pub slabOf : ℕ → List ℕ → Slab
+slabOf places index = record { places = places; vacant = getD index vacatedAt 0 }
+
+-- ---- a loan is entered
+
+-- the place that it takes, and the slab from then on
+abbrev pub takenOf : ℕ → List ℕ → Taken
+takenOf places index = inserted (slabOf places index) index vacantAfterAt entryWords
+
+-- its record is written there
+unfoldable pub entered : ℕ → List ℕ → Loan → List ℕ → List ℕ
+entered places index l loans = written loanRow (takenOf places index .place) l loans
+
+-- and it becomes the first of its chain
+unfoldable pub enteredIndex : ℕ → ℕ → ℕ → List ℕ → List ℕ
+enteredIndex n places serial index =
+    set
+    (set
+    (set index vacatedAt (takenOf places index .slab .vacant))
+    (nextOf (takenOf places index .place))
+    (getD index (firstOf (serial % n)) 0))
+    (firstOf (serial % n))
+    (takenOf places index .place)
+
+-- ---- a loan is looked for by its serial
+
+-- the word that leads to the place with this serial: `at` itself, or one of the next k of its chain; else nowhere
+unfoldable pub seekIn : List ℕ → List ℕ → ℕ → ℕ → ℕ → ℕ → ℕ
+seekIn loans index places serial at zero = nowhere
+seekIn loans index places serial at (suc k) =
+    cond (ltb (getD index at 0) places)
+    (cond (eqb (serialOf loans (getD index at 0)) serial) at (seekIn loans index places serial (nextOf (getD index at 0)) k))
+    nowhere
+
+unfoldable pub wordTo : List ℕ → List ℕ → ℕ → ℕ → ℕ → ℕ
+wordTo loans index n places serial = seekIn loans index places serial (firstOf (serial % n)) places
+
+-- ---- the loan that a word leads to is struck out
+
+-- its place is marked as vacant
+unfoldable pub struck : ℕ → List ℕ → List ℕ → List ℕ
+struck at index loans = set loans (cellOf sizeAt loanWords (getD index at 0)) 0
+
+-- the chain goes past it, and it is the place vacated last
+unfoldable pub struckIndex : ℕ → List ℕ → List ℕ
+struckIndex at index =
+    set
+    (set
+    (set index at (getD index (nextOf (getD index at 0)) 0))
+    (cellOf vacantAfterAt entryWords (getD index at 0))
+    (getD index vacatedAt 0))
+    vacatedAt
+    (getD index at 0)

@@ -1,0 +1,4 @@
+pub mod Book
+pub mod Chains
+pub mod Kept
+pub mod Returns

@@ -1,0 +1,44 @@
+-- Levels made one by one are the levels made. Assumes nothing.
+use mathlib.Core.Path.{_≡_, refl, _∙_}
+use mathlib.Core.List.{List, []}
+use Prim.Native.Nat.{ℕ, zero, suc, _+_, _-_, _<_}
+use native.Mathlib.Omega.{arith}
+use lib.ListN.{getD, set}
+use Rattle.counter.specs.declared.settings.BuddySettings.{BuddySettings}
+use Rattle.buddy_levels_rules.specs.Level.{freshLevel}
+use Rattle.buddy_stores.specs.Tables.{tables, levelsAt, levelAfter, levelFrom}
+use Rattle.buddy_outcomes.specs.Ask.{freshLevels, grownTables}
+
+module _ (s : BuddySettings) where
+  pub fresh-none : (l n : ℕ) (t : List ℕ) → n ≡ 0 → freshLevels s l n t ≡ t
+  unfolding freshLevels
+  fresh-none l zero t e = refl
+  fresh-none l (suc n) t e = absurd (omega arith)
+
+  pub fresh-on : (l n : ℕ) (t t′ : List ℕ) (b : ℕ) → 0 < n → b ≡ levelFrom s l → t′ ≡ freshLevel b t → freshLevels s l n t ≡ freshLevels s (l + 1) (n - 1) t′
+  unfolding freshLevels
+  fresh-on l zero t t′ b o e f = absurd (omega arith)
+  fresh-on l (suc n) t t′ b o e f =
+      let p : suc n - 1 ≡ n = omega arith in
+      let q : l + 1 ≡ suc l = omega arith in
+      rw (p, q, f, e) refl
+
+  -- the same after i of n
+  pub fresh-next : (l n i : ℕ) (t t′ : List ℕ) (b : ℕ) → i < n → b ≡ levelAfter (s .pairs) (l + i) → t′ ≡ freshLevel b t
+      → freshLevels s (l + i) (n - i) t ≡ freshLevels s (l + (i + 1)) (n - (i + 1)) t′
+  fresh-next l n i t t′ b h e f =
+      let p : n - (i + 1) ≡ n - i - 1 = omega arith in
+      let q : l + (i + 1) ≡ l + i + 1 = omega arith in
+      rw (p, q) (fresh-on (l + i) (n - i) t t′ b (omega arith) e f)
+
+  pub fresh-all : (l n : ℕ) (t : List ℕ) → freshLevels s l n t ≡ freshLevels s (l + 0) (n - 0) t
+  fresh-all l n t =
+      let p : l + 0 ≡ l = omega arith in
+      let q : n - 0 ≡ n = omega arith in
+      rw (p, q) refl
+
+  pub grown-done : (n levels : ℕ) (head tree h′ t′ : List ℕ) → levels ≡ getD head levelsAt 0 → t′ ≡ freshLevels s levels (n - levels) tree → h′ ≡ set head levelsAt n
+      → tables h′ [] [] [] t′ ≡ grownTables s n (tables head [] [] [] tree)
+  unfolding grownTables
+  grown-done n levels head tree h′ t′ e f g =
+      (λ j. tables (g j) [] [] [] (f j)) ∙ (λ j. tables (set head levelsAt n) [] [] [] (freshLevels s (e j) (n - e j) tree))

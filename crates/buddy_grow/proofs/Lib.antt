@@ -1,0 +1,3 @@
+-- What the code that grows levels shows.
+pub mod Grown
+pub mod Asked

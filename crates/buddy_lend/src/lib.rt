@@ -1,0 +1,6 @@
+// A buddy store's tables written: a block lent from a ready side, its loan entered in the book.
+mod booking;
+mod lending;
+
+pub use booking::book_loan;
+pub use lending::lend;

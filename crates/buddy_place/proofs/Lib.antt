@@ -1,4 +1,0 @@
-pub mod Grown
-pub mod Booked
-pub mod Lent
-pub mod Served

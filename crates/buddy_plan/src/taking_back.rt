@@ -1,0 +1,36 @@
+// What a return comes to: the gate, and then test 7.
+ghost use mathlib.Core.Path.{_≡_};
+ghost use Rattle.buddy_stores.specs.Tables.{tables};
+ghost use Rattle.buddy_outcomes.specs.Return.{planReturn};
+ghost use Rattle.returning.specs.Backs.{backOf};
+use buddy_stores::PLACES_AT;
+use counter::Account;
+use counter::Block;
+use counter::BuddySettings;
+use counter::Gate;
+use returning::Back;
+
+// `list` says whether the release list is long enough.
+pub fn plan_return(
+    s: BuddySettings,
+    a: Account,
+    b: Block,
+    list: bool,
+    head: &[u64],
+    loans: &[u64],
+    chunks: &[u64],
+    index: &[u64],
+    tree: &[u64],
+) -> Back
+    ensures { λ r. ⌜ backOf r ≡ planReturn s a b (tables (now (head .entry)) (now (loans .entry)) (now (chunks .entry)) (now (index .entry)) (now (tree .entry))) list ⌝ }
+{
+    let verdict = buddy_gate::gate(s, a, list, head, loans, chunks, index, tree);
+    match verdict {
+        Gate::Go => {
+            let own = s.store;
+            let places = words::word(head, PLACES_AT);
+            returning::decide(b, own.loans, places, loans, index)
+        }
+        Gate::Shut(refusal) => Back::Refuse(refusal),
+    }
+}

@@ -1,0 +1,61 @@
+-- An ask's and a return's plan are what follows the gate. Assumes nothing.
+use mathlib.Core.Path.{_≡_, refl, sym, ap, _∙_}
+use mathlib.Core.Bool.{Bool, true}
+use mathlib.Core.List.{List, []}
+use Prim.Native.Nat.{ℕ}
+use Rattle.counter.specs.Account.{heapAt}
+use Rattle.counter.specs.Gate.{Verdict, pass, refuse, first}
+use Rattle.counter.specs.declared.account.Account.{Account}
+use Rattle.counter.specs.declared.account.Heap.{Heap}
+use Rattle.counter.specs.declared.answers.Block.{Block}
+use Rattle.counter.specs.declared.settings.FreeListSettings.{FreeListSettings}
+use Rattle.store_rules.specs.Orders.{Plan, deny}
+use Rattle.book_rules.specs.Returns as Returns
+use Rattle.freelist_rules.specs.Place.{Found, nowhere, at}
+use Rattle.freelist_rules.specs.Tables.{Tables, tables, placesIn, storeOf}
+use Rattle.freelist_outcomes.specs.Gate.{gateOf}
+use Rattle.freelist_outcomes.specs.Return.{onLoanOk, decideReturn, planReturn}
+use Rattle.freelist_outcomes.specs.Ask.{roomOk, countOk, objectsOk, foundFor, askRow, planned, decideAsk, planAsk}
+
+module _ (s : FreeListSettings) (a : Account) (t : Tables) where
+  -- ---- an ask
+
+  pub ask-shut : (size mask n : ℕ) → refuse n ≡ gateOf s a t true → deny n ≡ planAsk s a size mask t
+  unfolding planAsk
+  ask-shut size mask n e = rw (sym e) refl
+
+-- ---- an ask is decided by head, regions and index alone
+
+module _ (s : FreeListSettings) (h : Heap) (objects size mask : ℕ) (t : Tables) where
+  abbrev few : Tables
+  few = tables (t .head) [] [] (t .regions) (t .index)
+
+  same : (f : Found) (v : Verdict) → planned s size few f v ≡ planned s size t f v
+  unfolding storeOf
+  same f (refuse n) = refl
+  same (at i) pass = refl
+  same nowhere pass = refl
+
+  pub ask-few : decideAsk s h objects size mask few ≡ decideAsk s h objects size mask t
+  unfolding decideAsk roomOk countOk objectsOk storeOf
+  ask-few = same (foundFor s size mask t) (first (askRow s h objects size mask t (foundFor s size mask t)))
+
+pub ask-go : (s : FreeListSettings) (a : Account) (size mask : ℕ) (head loans chunks regions index : List ℕ) (h : Heap) (p : Plan ℕ)
+    → pass ≡ gateOf s a (tables head loans chunks regions index) true → h ≡ heapAt a (s .store .heap)
+    → p ≡ decideAsk s h (a .objects) size mask (tables head [] [] regions index) → p ≡ planAsk s a size mask (tables head loans chunks regions index)
+unfolding planAsk
+ask-go s a size mask head loans chunks regions index h p g k e =
+    e ∙ ap (λ (x : Heap). decideAsk s x (a .objects) size mask (tables head [] [] regions index)) k
+    ∙ ask-few s (heapAt a (s .store .heap)) (a .objects) size mask (tables head loans chunks regions index) ∙ rw (sym g) refl
+
+-- ---- a return
+
+module _ (s : FreeListSettings) (a : Account) (b : Block) (t : Tables) (list : Bool) where
+  pub return-shut : (n : ℕ) → refuse n ≡ gateOf s a t list → Returns.deny n ≡ planReturn s a b t list
+  unfolding planReturn
+  return-shut n e = rw (sym e) refl
+
+  pub return-go : (places : ℕ) (p : Returns.Plan) → pass ≡ gateOf s a t list → places ≡ placesIn t
+      → p ≡ Returns.decideReturn (t .loans) (t .index) (s .store .loans) places b → p ≡ planReturn s a b t list
+  unfolding planReturn decideReturn onLoanOk
+  return-go places p e f d = d ∙ ap (λ (n : ℕ). Returns.decideReturn (t .loans) (t .index) (s .store .loans) n b) f ∙ rw (sym e) refl

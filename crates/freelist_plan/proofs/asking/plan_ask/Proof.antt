@@ -1,0 +1,44 @@
+use borrow.Author.Needs.{needs}
+use mathlib.Core.Path.{_≡_, sym, ap, _∙_}
+use mathlib.Core.Bool.{true}
+use Rattle.counter.specs.Gate.{verdictOf}
+use Rattle.freelist_rules.specs.Tables.{tables}
+use Rattle.freelist_outcomes.proofs.Passing.{gate-passed}
+use Rattle.freelist_plan.proofs.Planned.{ask-shut, ask-go}
+use Rattle.freelist_plan.proofs.asking.plan_ask.Statement.{statement}
+use Rattle.freelist_plan.proofs.asking.plan_ask.Tie as tie
+
+gate-requires : tie.Need-gate-requires
+gate-requires c κs = search needs
+
+enum-known-g : tie.Need-enum-known-g
+enum-known-g c = search needs
+
+enum-told : tie.Need-enum-told
+enum-told c = search needs
+
+heap-requires : tie.Need-heap-requires
+heap-requires c κs = search needs
+
+decide-requires : tie.Need-decide-requires
+decide-requires c κs =
+    let g = c .before .before .before .before in
+    let a = g .before .before .before .before .before .before .args in
+    gate-passed (a .s) (a .a) (tables (a .head .now) (a .loans .now) (a .chunks .now) (a .regions .now) (a .index .now)) true (sym (ap verdictOf (c .before .before .enum-told .given .1)) ∙ g .gate .ensures) .settings
+
+returns : tie.Need-returns
+returns c =
+    let g = c .before .before .before in
+    let a = g .before .before .before .before .before .before .args in
+    ask-shut (a .s) (a .a) (tables (a .head .now) (a .loans .now) (a .chunks .now) (a .regions .now) (a .index .now)) (a .size) (a .mask) _ (sym (ap verdictOf (c .before .g .given .1)) ∙ g .gate .ensures)
+
+returns-2 : tie.Need-returns-2
+returns-2 c =
+    let g = c .before .before .before .before .before in
+    let a = g .before .before .before .before .before .before .args in
+    ask-go (a .s) (a .a) (a .size) (a .mask) (a .head .now) (a .loans .now) (a .chunks .now) (a .regions .now) (a .index .now) _ _ (sym (ap verdictOf (c .before .before .before .enum-told .given .1)) ∙ g .gate .ensures) (c .before .heap .ensures) (c .decide .ensures)
+
+pub plan-ask-spec : {M : Type 1} → statement M
+plan-ask-spec =
+    tie.close
+    (tie.spec gate-requires enum-known-g enum-told heap-requires decide-requires returns returns-2)

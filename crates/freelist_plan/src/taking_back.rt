@@ -1,0 +1,36 @@
+// What a return comes to: the gate, and then test 7.
+ghost use mathlib.Core.Path.{_≡_};
+ghost use Rattle.freelist_rules.specs.Tables.{tables};
+ghost use Rattle.freelist_outcomes.specs.Return.{planReturn};
+ghost use Rattle.returning.specs.Backs.{backOf};
+use counter::Account;
+use counter::Block;
+use counter::FreeListSettings;
+use counter::Gate;
+use freelist_rules::PLACES_AT;
+use returning::Back;
+
+// `list` says whether the release list is long enough.
+pub fn plan_return(
+    s: FreeListSettings,
+    a: Account,
+    b: Block,
+    list: bool,
+    head: &[u64],
+    loans: &[u64],
+    chunks: &[u64],
+    regions: &[u64],
+    index: &[u64],
+) -> Back
+    ensures { λ r. ⌜ backOf r ≡ planReturn s a b (tables (now (head .entry)) (now (loans .entry)) (now (chunks .entry)) (now (regions .entry)) (now (index .entry))) list ⌝ }
+{
+    let verdict = freelist_gate::gate(s, a, list, head, loans, chunks, regions, index);
+    match verdict {
+        Gate::Go => {
+            let own = s.store;
+            let places = words::word(head, PLACES_AT);
+            returning::decide(b, own.loans, places, loans, index)
+        }
+        Gate::Shut(refusal) => Back::Refuse(refusal),
+    }
+}

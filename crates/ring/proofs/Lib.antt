@@ -1,7 +1,0 @@
--- The laws of this crate, for its own proofs and for the crates above.
-pub mod Rings
-pub mod Apart
-pub mod Keeps
-pub mod Linking
-pub mod Steps
-pub mod Decides
