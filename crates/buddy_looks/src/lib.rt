@@ -1,6 +1,5 @@
 // At each pair in use and each loan, a look at what leads to it.
 ghost use mathlib.Core.Path.{_≡_};
-ghost use mathlib.Core.List.{[]};
 ghost use Prim.Native.Nat.{_+_, _≤_, _<_};
 ghost use lib.ListN.{getD};
 ghost use Rattle.counter.specs.Limits.{levelsMost, pairsMost, loansMost, chunksMost};

@@ -1,7 +1,7 @@
 -- What an ask looks for: the mask is a mask, and the size fits a word where its multiple does. Assumes nothing.
 use mathlib.Core.Path.{_≡_, refl, sym, ap, _∙_, subst}
 use mathlib.Core.Logic.{⊎-elim}
-use Prim.Native.Nat.{ℕ, _+_, _-_, _^_, max, _≤_, _<_}
+use Prim.Native.Nat.{ℕ, _-_, _^_, max, _≤_}
 use native.Mathlib.Omega.{arith}
 use lib.Pow.{pow-mono}
 use Rattle.lists.proofs.Bools.{lt-or-le}

@@ -7,11 +7,9 @@ use damage_parts::HEAD_AT;
 use damage_parts::INDEX_AT;
 use damage_parts::LIST_AT;
 use damage_parts::LOANS_AT;
-use damage_parts::OWN_AT;
-use damage_parts::OWN_ROOM;
 use damage_parts::keep_all;
 use damage_parts::lent_words;
-use damage_parts::load;
+use damage_parts::own_from;
 use damage_parts::table_from;
 use damage_parts::told;
 use reel::Settings;
@@ -30,8 +28,7 @@ pub fn run(s: Settings, a: Account, call: Record, image: &mut [u64]) -> Done {
     let mut chunks = table_from(image, CHUNKS_AT);
     let mut index = table_from(image, INDEX_AT);
     let mut list = table_from(image, LIST_AT);
-    let mut own = [0u64; OWN_ROOM];
-    load(&mut own, image, OWN_AT, own_end);
+    let mut own = own_from(image, own_end);
     let taken = reel_calls::take(
         s,
         a,
@@ -67,8 +64,7 @@ pub fn set_up(s: Settings, image: &mut [u64]) -> bool {
     let chunks = table_from(image, CHUNKS_AT);
     let mut index = table_from(image, INDEX_AT);
     let list = table_from(image, LIST_AT);
-    let mut own = [0u64; OWN_ROOM];
-    load(&mut own, image, OWN_AT, own_end);
+    let mut own = own_from(image, own_end);
     let answer = reel_calls::set_up(
         s,
         &mut head[..head_end],

@@ -8,16 +8,16 @@ use crate::calls::set_up;
 use counter::Account;
 use counter::OpenOrder;
 use damage_parts::Case;
+use damage_parts::Done;
 use damage_parts::Place;
-use damage_parts::ROW_MOST;
 use damage_parts::Tally;
 use damage_parts::WITH_ORDER;
 use damage_parts::ask;
 use damage_parts::ask_of;
 use damage_parts::call_of;
 use damage_parts::closed;
+use damage_parts::copy_of;
 use damage_parts::counted;
-use damage_parts::damaged;
 use damage_parts::held_block;
 use damage_parts::is_call;
 use damage_parts::is_raised;
@@ -26,14 +26,14 @@ use damage_parts::is_same_account;
 use damage_parts::is_tried;
 use damage_parts::large;
 use damage_parts::left_of;
-use damage_parts::load;
 use damage_parts::print_changed;
 use damage_parts::print_no_set_up;
 use damage_parts::row_words;
+use damage_parts::spoilt_row;
 use damage_parts::stray;
-use damage_parts::table_at;
 use damage_parts::table_words;
 use reel::Settings;
+use tape::Record;
 
 const TABLES: u64 = 5;
 
@@ -41,13 +41,16 @@ const VALUES: u64 = 5;
 
 const CALLS: u64 = 10;
 
+// A call made on a copy of the row, so that the row stays as it is.
+fn answered(s: Settings, a: Account, call: Record, image: &[u64]) -> Done {
+    let mut copy = copy_of(s, image);
+    run(s, a, call, &mut copy)
+}
+
 pub fn case_of(store: u64, s: Settings, a: Account, image: &[u64]) -> Case {
     let free = closed(reel::store_of(s), a);
     let large = large(s, image);
-    let n = row_words(s);
-    let mut copy = [0u64; ROW_MOST];
-    load(&mut copy, image, 0, n);
-    let done = run(s, free, ask(large, 0), &mut copy);
+    let done = answered(s, free, ask(large, 0), image);
     let open = done.account;
     let held = held_block(s, image);
     Case {
@@ -65,10 +68,7 @@ pub fn case_of(store: u64, s: Settings, a: Account, image: &[u64]) -> Case {
 pub fn is_sound(c: Case, image: &[u64]) -> bool {
     let s = c.settings;
     let free = c.free;
-    let n = row_words(s);
-    let mut copy = [0u64; ROW_MOST];
-    load(&mut copy, image, 0, n);
-    let done = run(s, free, stray(), &mut copy);
+    let done = answered(s, free, stray(), image);
     done.refusal == 7
 }
 
@@ -79,11 +79,9 @@ fn is_as_raised(c: Case, call: u64, spoilt: &[u64], after: &[u64]) -> bool {
     let a = c.free;
     let own = reel::store_of(s);
     let able = a.settled(own.heap, a.heap(own.heap), 1, OpenOrder::Nothing);
-    let n = row_words(s);
-    let mut raised = [0u64; ROW_MOST];
-    load(&mut raised, spoilt, 0, n);
+    let mut raised = copy_of(s, spoilt);
     run(s, able, ask_of(c, call), &mut raised);
-    is_same(after, &raised, n)
+    is_same(after, &raised, row_words(s))
 }
 
 // Whether a refusal left the tables and the list as it should.
@@ -99,9 +97,7 @@ fn is_left(c: Case, call: u64, refusal: u32, spoilt: &[u64], after: &[u64]) -> b
 fn try_call(c: Case, spoilt: &[u64], p: Place, call: u64, t: Tally) -> Tally {
     let s = c.settings;
     let a = if call < WITH_ORDER { c.free } else { c.open };
-    let n = row_words(s);
-    let mut after = [0u64; ROW_MOST];
-    load(&mut after, spoilt, 0, n);
+    let mut after = copy_of(s, spoilt);
     let done = run(s, a, call_of(c, call), &mut after);
     let expected = left_of(s, a, call, done.refusal);
     let same = is_left(c, call, done.refusal, spoilt, &after);
@@ -115,9 +111,7 @@ fn try_call(c: Case, spoilt: &[u64], p: Place, call: u64, t: Tally) -> Tally {
 // Set-up takes the tables whatever they hold.
 fn try_set_up(c: Case, spoilt: &[u64], t: Tally) -> Tally {
     let s = c.settings;
-    let n = row_words(s);
-    let mut after = [0u64; ROW_MOST];
-    load(&mut after, spoilt, 0, n);
+    let mut after = copy_of(s, spoilt);
     let kept = set_up(s, &mut after);
     if !kept {
         print_no_set_up(c.store);
@@ -140,12 +134,7 @@ fn try_calls(c: Case, spoilt: &[u64], p: Place, before: Tally) -> Tally {
 
 fn try_value(c: Case, image: &[u64], p: Place, before: Tally) -> Tally {
     let s = c.settings;
-    let n = row_words(s);
-    let mut spoilt = [0u64; ROW_MOST];
-    load(&mut spoilt, image, 0, n);
-    let at = table_at(p.table);
-    let old = words::cell(image, at, 1, p.word);
-    words::put_cell(&mut spoilt, at, 1, p.word, damaged(old, p.value));
+    let spoilt = spoilt_row(s, image, p);
     let t = try_calls(c, &spoilt, p, before);
     if t.kept {
         return try_set_up(c, &spoilt, t);

@@ -1,8 +1,13 @@
 // What a trial is made of: a case, the calls that are made on its damaged tables, what damage does to a word, and what a refusal
 // leaves of the account.
+ghost use mathlib.Core.Path.{_≡_};
+ghost use lib.ListN.{length};
 use crate::accounts::charged;
 use crate::accounts::closed;
 use crate::accounts::given_back;
+use crate::image::ROW_MOST;
+use crate::image::copy_of;
+use crate::image::table_at;
 use counter::Account;
 use counter::Ask;
 use counter::Block;
@@ -156,7 +161,7 @@ pub fn counted(t: Tally, kept: bool) -> Tally {
     }
 }
 
-pub fn damaged(old: u64, value: u64) -> u64 {
+fn damaged(old: u64, value: u64) -> u64 {
     match value {
         0 => 0,
         1 => 1,
@@ -164,4 +169,15 @@ pub fn damaged(old: u64, value: u64) -> u64 {
         3 => std::num::wrapping_add_u64(old, u64::MAX),
         _ => u64::MAX,
     }
+}
+
+// A copy of the row with that word damaged.
+pub fn spoilt_row(s: Settings, image: &[u64], p: Place) -> [u64; ROW_MOST]
+    ensures { λ r. ⌜ length r ≡ 1477 ⌝ }
+{
+    let mut row = copy_of(s, image);
+    let at = table_at(p.table);
+    let old = words::cell(image, at, 1, p.word);
+    words::put_cell(&mut row, at, 1, p.word, damaged(old, p.value));
+    row
 }

@@ -153,7 +153,7 @@ pub fn table_from(image: &[u64], from: usize) -> [u64; ROOM]
 }
 
 // The first n words of a table.
-pub fn load(table: &mut [u64], image: &[u64], from: usize, n: usize)
+fn load(table: &mut [u64], image: &[u64], from: usize, n: usize)
     requires { ⌜ from ≤ atMost ⌝ }
 {
     let mut i = 0usize;
@@ -164,8 +164,27 @@ pub fn load(table: &mut [u64], image: &[u64], from: usize, n: usize)
     }
 }
 
+// The engine's own table likewise, of which so many words are lent.
+pub fn own_from(image: &[u64], n: usize) -> [u64; OWN_ROOM]
+    ensures { λ r. ⌜ length r ≡ 1317 ⌝ }
+{
+    let mut own = [0u64; OWN_ROOM];
+    load(&mut own, image, OWN_AT, n);
+    own
+}
+
+// A row that holds what the store takes up of this one.
+pub fn copy_of(settings: Settings, image: &[u64]) -> [u64; ROW_MOST]
+    ensures { λ r. ⌜ length r ≡ 1477 ⌝ }
+{
+    let n = row_words(settings);
+    let mut row = [0u64; ROW_MOST];
+    load(&mut row, image, 0, n);
+    row
+}
+
 // Put back into the row.
-pub fn keep(image: &mut [u64], from: usize, table: &[u64], n: usize)
+fn keep(image: &mut [u64], from: usize, table: &[u64], n: usize)
     requires { ⌜ from ≤ atMost ⌝ }
 {
     let mut i = 0usize;

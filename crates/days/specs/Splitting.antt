@@ -34,7 +34,7 @@ use Rattle.buddy_outcomes.specs.Ask.{sizeFor, levelFor, searchFrom, foundFor, s
 use Rattle.buddy_outcomes.specs.Deliver.{deliverGateOf, chunkTables, servedTables, carryFate, planDeliver, carryDeliver, deliverOf}
 use Rattle.buddy_outcomes.specs.Return.{onLoanOk, vacatedTree, givenTables, decideReturn, planReturn, releasedBy, carryReturn, returnOf}
 use Rattle.buddy_outcomes.specs.SetUp.{freshTables, fitOk, setUpOf}
-use Rattle.days.specs.Facts.{Fact, row, heard, Day, day, account, openFor, made}
+use Rattle.days.specs.Facts.{row, heard, Day, day, account, openFor, made}
 
 -- ---- "All masks 0 unless given. Buddy, minimal 256, initial 4,096."
 

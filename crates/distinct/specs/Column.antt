@@ -1,6 +1,6 @@
 -- One word of each record of a lent table. Assumes nothing: these are definitions.
 use mathlib.Core.List.{List, [], _∷_}
-use Prim.Native.Nat.{ℕ, zero, suc, _+_}
+use Prim.Native.Nat.{ℕ, zero, suc}
 use lib.ListN.{getD}
 use Rattle.words.specs.Words.{cellOf}
 

@@ -1,5 +1,5 @@
 -- An ask carried out is the ask as it is defined. Assumes nothing.
-use mathlib.Core.Path.{_≡_, refl, sym, ap, _∙_}
+use mathlib.Core.Path.{_≡_, sym, ap, _∙_}
 use mathlib.Core.List.{List, []}
 use Prim.Native.Nat.{ℕ}
 use lib.ListN.{set}
@@ -9,7 +9,7 @@ use Rattle.counter.specs.declared.account.Account.{Account}
 use Rattle.counter.specs.declared.account.OpenOrder.the-variants.{Kept}
 use Rattle.counter.specs.declared.settings.FreeListSettings.{FreeListSettings}
 use Rattle.store_rules.specs.Orders.{Plan, deny, take, buy, orderFrom, keptFrom}
-use Rattle.store_rules.specs.Outcomes.{Out, out, withOrder, blockSaid}
+use Rattle.store_rules.specs.Outcomes.{out, withOrder, blockSaid}
 use Rattle.store_rules.specs.declared.Loan.{Loan}
 use Rattle.freelist_rules.specs.Tables.{Tables, tables, chunkSizeAt, storeOf}
 use Rattle.freelist_outcomes.specs.Ask.{loanFrom, takenTables, orderedTables, carryAsk, planAsk, askOf}

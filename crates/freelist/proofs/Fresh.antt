@@ -1,23 +1,19 @@
 -- Set-up leaves the tables of a store with nothing in it. Assumes nothing.
-use mathlib.Core.Path.{_≡_, refl, sym, ap, _∙_}
-use mathlib.Core.Bool.{Bool, true, false, cond, _&&_}
-use mathlib.Core.List.{List, [], _∷_, _++_, append-nil}
-use Prim.Native.Nat.{ℕ, zero, suc, _+_, _*_, _≤_, _<_}
-use native.Mathlib.Nat.{suc-add}
+use mathlib.Core.Path.{_≡_, refl, ap, _∙_}
+use mathlib.Core.Bool.{Bool, true, false}
+use mathlib.Core.List.{List, [], _∷_}
+use Prim.Native.Nat.{ℕ}
 use native.Mathlib.Omega.{arith}
-use lib.ListN.{length, drop, set, replicate, length-set}
-use lib.Seq.{drop-length}
+use lib.ListN.{length, set, replicate}
 use Rattle.lists.proofs.Bools.{and-left, and-right}
 use Rattle.counter.specs.InTable.{FreeListIn}
 use Rattle.counter.specs.Paper as Paper
-use Rattle.counter.specs.Paper.{Said}
 use Rattle.counter.specs.Table.{freeListOk}
 use Rattle.counter.specs.declared.settings.FreeListSettings.{FreeListSettings}
 use Rattle.counter.proofs.Tables.{free-list-yes}
 use Rattle.slab.specs.Slab.{nowhere}
-use Rattle.book_rules.specs.Book.{indexWords}
 use Rattle.freelist_rules.specs.Tables.{Tables, tables, mark, markAt, givenAt, madeAt, chunkSizeAt, placesAt, chunksAt, headWords, countAt, lengthsOk}
-use Rattle.freelist_outcomes.specs.SetUp.{SetUp, setUp, freshHead, freshTables, fitOk, setUpOf}
+use Rattle.freelist_outcomes.specs.SetUp.{setUp, freshHead, freshTables, fitOk, setUpOf}
 use Rattle.freelist_rules.proofs.Fits.{lengths-are}
 
 -- ---- the head

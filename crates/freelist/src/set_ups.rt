@@ -1,9 +1,8 @@
 // Set-up: a store with nothing in it.
 ghost use mathlib.Core.Path.{_≡_};
 ghost use lib.ListN.{length, set};
-ghost use Rattle.counter.specs.InTable.{FreeListIn};
 ghost use Rattle.counter.specs.Paper.{setUpSaid};
-ghost use Rattle.freelist_rules.specs.Tables.{tables, mark, markAt, givenAt, madeAt, chunkSizeAt, placesAt, chunksAt, headWords, countAt};
+ghost use Rattle.freelist_rules.specs.Tables.{tables, mark, markAt, givenAt, madeAt, chunkSizeAt, placesAt, chunksAt, headWords};
 ghost use Rattle.freelist_outcomes.specs.SetUp.{setUp, freshHead, fitOk, setUpOf};
 use counter::FreeListSettings;
 use counter::Refusal;

@@ -1,6 +1,5 @@
 // What an ask comes to, by the tests 5, 6, 8, 10 and 9, once the gate is passed.
 ghost use mathlib.Core.Path.{_≡_};
-ghost use mathlib.Core.Bool.{_&&_};
 ghost use mathlib.Core.List.{[], _∷_};
 ghost use Prim.Native.Nat.{_≤_, _<_};
 ghost use lib.Dec.{ltb};

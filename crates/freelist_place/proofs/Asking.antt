@@ -1,9 +1,9 @@
 -- What an ask looks for fits a word, and the block that a region gives is the one that is defined. Assumes nothing.
-use mathlib.Core.Path.{_≡_, refl, sym, ap, _∙_, subst}
+use mathlib.Core.Path.{_≡_, sym, ap, _∙_, subst}
 use Prim.Native.Nat.{ℕ, _+_, _-_, _^_, _≤_, _<_}
 use native.Mathlib.Omega.{arith}
 use Rattle.rounding_rules.specs.Masks.{Ones}
-use Rattle.rounding_rules.specs.Raising.{upTo, downTo}
+use Rattle.rounding_rules.specs.Raising.{downTo}
 use Rattle.rounding_rules.proofs.Masks.{ones-more, ones-top, join-ones}
 use Rattle.rounding_rules.proofs.Raising.{down-enough, up-down}
 use Rattle.counter.specs.InTable.{FreeListIn}

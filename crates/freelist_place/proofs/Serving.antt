@@ -1,5 +1,5 @@
 -- A region serves an ask as it is defined: the loan, and every table. Assumes nothing.
-use mathlib.Core.Path.{_≡_, refl, sym, ap, _∙_}
+use mathlib.Core.Path.{_≡_, sym, _∙_}
 use mathlib.Core.List.{List, []}
 use Prim.Native.Nat.{ℕ, _+_, _<_}
 use lib.ListN.{getD, set}

@@ -1,9 +1,9 @@
 -- A chunk added and a block taken back leave the tables as they are defined. Assumes nothing.
-use mathlib.Core.Path.{_≡_, refl, sym, ap, _∙_}
+use mathlib.Core.Path.{_≡_, ap, _∙_}
 use mathlib.Core.List.{List, [], _∷_, _++_}
-use Prim.Native.Nat.{ℕ, _+_, _*_, _≤_, _<_}
+use Prim.Native.Nat.{ℕ, _+_}
 use native.Mathlib.Omega.{arith}
-use lib.ListN.{length, getD, set}
+use lib.ListN.{getD, set}
 use Rattle.rounding_rules.specs.Growth.{doubled}
 use Rattle.words.specs.Rows.{rows, laid, written}
 use Rattle.words.proofs.Records.{appended}
@@ -12,7 +12,7 @@ use Rattle.counter.specs.declared.settings.FreeListSettings.{FreeListSettings}
 use Rattle.book_rules.specs.Book.{struck, struckIndex}
 use Rattle.freelist_rules.specs.Records.{region, chunk, chunkRow}
 use Rattle.freelist_rules.specs.Join.{insert}
-use Rattle.freelist_rules.specs.Tables.{Tables, tables, madeAt, chunkSizeAt, chunksAt, countAt, storeOf, laidRegions, regionsOf}
+use Rattle.freelist_rules.specs.Tables.{Tables, tables, madeAt, chunkSizeAt, chunksAt, storeOf, laidRegions, regionsOf}
 use Rattle.freelist_outcomes.specs.Deliver.{deliveredTables}
 use Rattle.freelist_outcomes.specs.Return.{givenTables}
 use Rattle.freelist_place.specs.Ready.{Adds}

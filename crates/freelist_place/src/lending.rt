@@ -1,8 +1,8 @@
 // A block lent: cut off its region, and entered in the book under the next serial.
 ghost use mathlib.Core.Path.{_≡_};
 ghost use mathlib.Core.List.{[]};
-ghost use Prim.Native.Nat.{_+_, _≤_, _<_};
-ghost use lib.ListN.{getD, set};
+ghost use Prim.Native.Nat.{_+_};
+ghost use lib.ListN.{set};
 ghost use Rattle.freelist_rules.specs.Tables.{tables, givenAt, placesAt};
 ghost use Rattle.freelist_outcomes.specs.Ask.{loanFrom, takenTables};
 ghost use Rattle.freelist_place.specs.Ready.{Lends};

@@ -1,6 +1,6 @@
 -- A delivery's tests in the code's order come to the plan that is defined. Assumes nothing.
 use mathlib.Core.Path.{_≡_, refl, sym, ap, _∙_}
-use mathlib.Core.Bool.{Bool, true, false, cond, _||_}
+use mathlib.Core.Bool.{Bool, true, false, _||_}
 use mathlib.Core.List.{List, [], _∷_, _++_}
 use Prim.Native.Nat.{ℕ, _+_}
 use lib.Dec.{eqb}
@@ -13,14 +13,13 @@ use Rattle.counter.specs.Gate.{Verdict, pass, refuse}
 use Rattle.counter.specs.declared.account.Account.{Account}
 use Rattle.counter.specs.declared.account.Heap.{Heap}
 use Rattle.counter.specs.declared.account.KeptOrder.{KeptOrder}
-use Rattle.counter.specs.declared.account.OpenOrder.{OpenOrder}
 use Rattle.counter.specs.declared.account.OpenOrder.the-variants.{Nothing, Kept}
 use Rattle.counter.specs.declared.account.Order.{Order}
 use Rattle.counter.specs.declared.answers.Memory.{Memory}
 use Rattle.counter.specs.declared.answers.Outcome.{Outcome}
 use Rattle.counter.specs.declared.answers.Outcome.the-variants as O
 use Rattle.counter.specs.declared.settings.FreeListSettings.{FreeListSettings}
-use Rattle.store_rules.specs.Delivery.{Fate, freeList, holds, deliveryOk, fateOf}
+use Rattle.store_rules.specs.Delivery.{holds}
 use Rattle.store_rules.specs.Orders.{Plan, deny, take, buy, orderFrom, sameOrder, leadsTo}
 use Rattle.store_rules.specs.Tests.{orderFor}
 use Rattle.store.specs.Comings.{knownIn}

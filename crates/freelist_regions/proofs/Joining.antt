@@ -1,6 +1,6 @@
 -- A block put among regions, in words: the four ways in which it may touch its neighbours. Assumes nothing.
-use mathlib.Core.Path.{_≡_, refl, sym, ap, _∙_}
-use mathlib.Core.Bool.{Bool, true, false, _&&_}
+use mathlib.Core.Path.{_≡_, sym, ap, _∙_}
+use mathlib.Core.Bool.{true, false, _&&_}
 use mathlib.Core.List.{List, _++_}
 use Prim.Native.Nat.{ℕ, suc, _+_, _*_, _-_, _≤_, _<_}
 use native.Mathlib.Omega.{arith}
@@ -12,7 +12,7 @@ use Rattle.words.specs.Words.{opened, closed}
 use Rattle.words.specs.Rows.{row, rows, flat, laid, written, insertAt, removeAt}
 use Rattle.words.proofs.Records.{length-rows, getD-rows, updated-at, removed-at, inserted-at, rows-after, laid-rows, laid-set-drop, length-laid, length-removeAt, length-insertAt}
 use Rattle.freelist_rules.specs.Records.{region, regionRow}
-use Rattle.freelist_rules.specs.Pieces.{line, lo, hi, Rising}
+use Rattle.freelist_rules.specs.Pieces.{lo, hi, Rising}
 use Rattle.freelist_rules.specs.Join.{meets, join, insert}
 use Rattle.store_rules.specs.declared.Region.{Region}
 use Rattle.freelist_rules.proofs.Inserts.{Apart, Ahead, insert-alone, insert-right, insert-left, insert-both}

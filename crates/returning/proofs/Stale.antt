@@ -12,7 +12,7 @@ use Rattle.slab.specs.Slab.{nowhere}
 use Rattle.store_rules.specs.Loans.{loanRow}
 use Rattle.store_rules.specs.Views.{sameLoan}
 use Rattle.store_rules.specs.declared.Loan.{Loan}
-use Rattle.book_rules.specs.Returns.{Plan, deny, back, wordFor, onLoanOk, decideReturn}
+use Rattle.book_rules.specs.Returns.{deny, back, wordFor, onLoanOk, decideReturn}
 
 module _ (loans index : List ℕ) (n places : ℕ) (b : Block) (w : ℕ) (found : w ≡ wordFor loans index n places b) where
   pub return-none : w ≡ nowhere → deny 7 ≡ decideReturn loans index n places b

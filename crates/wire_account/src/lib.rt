@@ -1,7 +1,7 @@
 // The account, read from words and written again; wire_rules' specs/Wire says which word is what.
 ghost use mathlib.Core.Path.{_≡_};
 ghost use mathlib.Core.Bool.{true};
-ghost use Prim.Native.Nat.{_<_, _≤_};
+ghost use Prim.Native.Nat.{_<_};
 ghost use Rattle.counter.specs.Limits.{heapsMost};
 ghost use Rattle.wire_rules.specs.Wire.{heapIn, heapsIn, orderIn, accountIn, accountOk, heapOut, heapsOut, orderWordsOut, orderOut, accountOut};
 use counter::Account;

@@ -1,4 +1,4 @@
-use mathlib.Core.Path.{_≡_, _∙_, sym, subst}
+use mathlib.Core.Path.{sym, subst}
 use Prim.Native.Nat.{ℕ, _+_, _≤_, _^_}
 use borrow.Author.Needs.{needs}
 use Rattle.counter.specs.Limits.{levelsMost, minimalBits}

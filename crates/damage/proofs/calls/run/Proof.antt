@@ -23,41 +23,38 @@ table-from-requires-4 c κs = search needs
 table-from-requires-5 : tie.Need-table-from-requires-5
 table-from-requires-5 c κs = search needs
 
-slice-aggregate-load : tie.Need-slice-aggregate-load
-slice-aggregate-load c = search needs
-
-load-requires : tie.Need-load-requires
-load-requires c κs = search needs
+own-from-requires : tie.Need-own-from-requires
+own-from-requires c κs = search needs
 
 array-borrow-prefix-head : tie.Need-array-borrow-prefix-head
 array-borrow-prefix-head c = search needs
 
 slice-aggregate-take : tie.Need-slice-aggregate-take
-slice-aggregate-take c = sym (length-take-le _ _ (omega (arith, c .before .before .before .before .before .before .before .before .before .before .before .before .before .table-from .ensures, c .before .before .before .before .before .before .before .before .before .before .before .before .before .before .before .lent-words .ensures)))
+slice-aggregate-take c = sym (length-take-le _ _ (omega (arith, c .before .before .before .before .before .before .before .before .before .before .before .table-from .ensures, c .before .before .before .before .before .before .before .before .before .before .before .before .before .lent-words .ensures)))
 
 array-borrow-prefix-loans : tie.Need-array-borrow-prefix-loans
 array-borrow-prefix-loans c = search needs
 
 slice-aggregate-take-2 : tie.Need-slice-aggregate-take-2
-slice-aggregate-take-2 c = sym (length-take-le _ _ (omega (arith, c .before .before .before .before .before .before .before .before .before .before .before .before .table-from2 .ensures, c .before .before .before .before .before .before .before .before .before .before .before .before .before .before .before .before .lent-words .ensures)))
+slice-aggregate-take-2 c = sym (length-take-le _ _ (omega (arith, c .before .before .before .before .before .before .before .before .before .before .table-from2 .ensures, c .before .before .before .before .before .before .before .before .before .before .before .before .before .before .lent-words .ensures)))
 
 array-borrow-prefix-chunks : tie.Need-array-borrow-prefix-chunks
 array-borrow-prefix-chunks c = search needs
 
 slice-aggregate-take-3 : tie.Need-slice-aggregate-take-3
-slice-aggregate-take-3 c = sym (length-take-le _ _ (omega (arith, c .before .before .before .before .before .before .before .before .before .before .before .table-from3 .ensures, c .before .before .before .before .before .before .before .before .before .before .before .before .before .before .before .before .before .lent-words .ensures)))
+slice-aggregate-take-3 c = sym (length-take-le _ _ (omega (arith, c .before .before .before .before .before .before .before .before .before .table-from3 .ensures, c .before .before .before .before .before .before .before .before .before .before .before .before .before .before .before .lent-words .ensures)))
 
 array-borrow-prefix-index : tie.Need-array-borrow-prefix-index
 array-borrow-prefix-index c = search needs
 
 slice-aggregate-take-4 : tie.Need-slice-aggregate-take-4
-slice-aggregate-take-4 c = sym (length-take-le _ _ (omega (arith, c .before .before .before .before .before .before .before .before .before .before .table-from4 .ensures, c .before .before .before .before .before .before .before .before .before .before .before .before .before .before .before .before .before .before .lent-words .ensures)))
+slice-aggregate-take-4 c = sym (length-take-le _ _ (omega (arith, c .before .before .before .before .before .before .before .before .table-from4 .ensures, c .before .before .before .before .before .before .before .before .before .before .before .before .before .before .before .before .lent-words .ensures)))
 
 array-borrow-prefix-own : tie.Need-array-borrow-prefix-own
 array-borrow-prefix-own c = search needs
 
 slice-aggregate-take-5 : tie.Need-slice-aggregate-take-5
-slice-aggregate-take-5 c = sym (length-take-le _ _ (omega (arith, c .before .before .before .before .before .own2 .given, c .before .before .before .before .before .before .before .before .before .before .before .before .before .before .before .before .before .before .before .lent-words .ensures)))
+slice-aggregate-take-5 c = sym (length-take-le _ _ (omega (arith, c .before .before .before .before .before .own-from .ensures, c .before .before .before .before .before .before .before .before .before .before .before .before .before .before .before .before .before .lent-words .ensures)))
 
 slice-aggregate-take-6 : tie.Need-slice-aggregate-take-6
 slice-aggregate-take-6 c = search needs
@@ -87,8 +84,7 @@ run-spec =
     table-from-requires-3
     table-from-requires-4
     table-from-requires-5
-    slice-aggregate-load
-    load-requires
+    own-from-requires
     array-borrow-prefix-head
     slice-aggregate-take
     array-borrow-prefix-loans

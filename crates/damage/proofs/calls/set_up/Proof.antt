@@ -23,41 +23,38 @@ table-from-requires-4 c κs = search needs
 table-from-requires-5 : tie.Need-table-from-requires-5
 table-from-requires-5 c κs = search needs
 
-slice-aggregate-load : tie.Need-slice-aggregate-load
-slice-aggregate-load c = search needs
-
-load-requires : tie.Need-load-requires
-load-requires c κs = search needs
+own-from-requires : tie.Need-own-from-requires
+own-from-requires c κs = search needs
 
 array-borrow-prefix-head : tie.Need-array-borrow-prefix-head
 array-borrow-prefix-head c = search needs
 
 slice-aggregate-set-up : tie.Need-slice-aggregate-set-up
-slice-aggregate-set-up c = sym (length-take-le _ _ (omega (arith, c .before .before .before .before .before .before .before .before .before .before .before .before .before .table-from .ensures, c .before .before .before .before .before .before .before .before .before .before .before .before .before .before .before .lent-words .ensures)))
+slice-aggregate-set-up c = sym (length-take-le _ _ (omega (arith, c .before .before .before .before .before .before .before .before .before .before .before .table-from .ensures, c .before .before .before .before .before .before .before .before .before .before .before .before .before .lent-words .ensures)))
 
 array-share-prefix-loans : tie.Need-array-share-prefix-loans
 array-share-prefix-loans c = search needs
 
 slice-aggregate-set-up-2 : tie.Need-slice-aggregate-set-up-2
-slice-aggregate-set-up-2 c = sym (length-take-le _ _ (omega (arith, c .before .before .before .before .before .before .before .before .before .before .before .before .table-from2 .ensures, c .before .before .before .before .before .before .before .before .before .before .before .before .before .before .before .before .lent-words .ensures)))
+slice-aggregate-set-up-2 c = sym (length-take-le _ _ (omega (arith, c .before .before .before .before .before .before .before .before .before .before .table-from2 .ensures, c .before .before .before .before .before .before .before .before .before .before .before .before .before .before .lent-words .ensures)))
 
 array-share-prefix-chunks : tie.Need-array-share-prefix-chunks
 array-share-prefix-chunks c = search needs
 
 slice-aggregate-set-up-3 : tie.Need-slice-aggregate-set-up-3
-slice-aggregate-set-up-3 c = sym (length-take-le _ _ (omega (arith, c .before .before .before .before .before .before .before .before .before .before .before .table-from3 .ensures, c .before .before .before .before .before .before .before .before .before .before .before .before .before .before .before .before .before .lent-words .ensures)))
+slice-aggregate-set-up-3 c = sym (length-take-le _ _ (omega (arith, c .before .before .before .before .before .before .before .before .before .table-from3 .ensures, c .before .before .before .before .before .before .before .before .before .before .before .before .before .before .before .lent-words .ensures)))
 
 array-borrow-prefix-index : tie.Need-array-borrow-prefix-index
 array-borrow-prefix-index c = search needs
 
 slice-aggregate-set-up-4 : tie.Need-slice-aggregate-set-up-4
-slice-aggregate-set-up-4 c = sym (length-take-le _ _ (omega (arith, c .before .before .before .before .before .before .before .before .before .before .table-from4 .ensures, c .before .before .before .before .before .before .before .before .before .before .before .before .before .before .before .before .before .before .lent-words .ensures)))
+slice-aggregate-set-up-4 c = sym (length-take-le _ _ (omega (arith, c .before .before .before .before .before .before .before .before .table-from4 .ensures, c .before .before .before .before .before .before .before .before .before .before .before .before .before .before .before .before .lent-words .ensures)))
 
 array-borrow-prefix-own : tie.Need-array-borrow-prefix-own
 array-borrow-prefix-own c = search needs
 
 slice-aggregate-set-up-5 : tie.Need-slice-aggregate-set-up-5
-slice-aggregate-set-up-5 c = sym (length-take-le _ _ (omega (arith, c .before .before .before .before .before .own2 .given, c .before .before .before .before .before .before .before .before .before .before .before .before .before .before .before .before .before .before .before .lent-words .ensures)))
+slice-aggregate-set-up-5 c = sym (length-take-le _ _ (omega (arith, c .before .before .before .before .before .own-from .ensures, c .before .before .before .before .before .before .before .before .before .before .before .before .before .before .before .before .before .lent-words .ensures)))
 
 set-up-requires : tie.Need-set-up-requires
 set-up-requires c κs = search needs
@@ -84,8 +81,7 @@ set-up-spec =
     table-from-requires-3
     table-from-requires-4
     table-from-requires-5
-    slice-aggregate-load
-    load-requires
+    own-from-requires
     array-borrow-prefix-head
     slice-aggregate-set-up
     array-share-prefix-loans

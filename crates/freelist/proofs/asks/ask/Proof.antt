@@ -1,5 +1,5 @@
 use borrow.Author.Needs.{needs}
-use mathlib.Core.Path.{_≡_, sym, ap, _∙_}
+use mathlib.Core.Path.{sym, ap, _∙_}
 use Rattle.freelist_decide.specs.Plans.{planOf}
 use Rattle.freelist.proofs.Asking.{ask-lends, ask-refused, ask-taken, ask-ordered}
 use Rattle.freelist.proofs.asks.ask.Statement.{statement}

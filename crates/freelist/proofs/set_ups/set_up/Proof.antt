@@ -1,5 +1,5 @@
 use borrow.Author.Needs.{needs}
-use mathlib.Core.Path.{_≡_, sym, _∙_}
+use mathlib.Core.Path.{sym, _∙_}
 use Rattle.freelist_rules.specs.Tables.{tables}
 use Rattle.freelist.proofs.Fresh.{fit-in, fit-head, set-up-ready, set-up-refused}
 use Rattle.freelist.proofs.set_ups.set_up.Statement.{statement}

@@ -1,5 +1,5 @@
 use borrow.Author.Needs.{needs}
-use mathlib.Core.Path.{_≡_, sym, ap, _∙_}
+use mathlib.Core.Path.{sym, ap, _∙_}
 use Rattle.lists.proofs.Bools.{not-yes, not-no}
 use Rattle.counter.proofs.Tables.{alignment-yes}
 use Rattle.freelist_regions.specs.Found.{foundOf}

@@ -1,7 +1,5 @@
 use borrow.Author.Needs.{needs}
-use mathlib.Core.Path.{_≡_, sym, ap, _∙_}
-use mathlib.Core.Bool.{Bool, true, false, _&&_}
-use native.Mathlib.Omega.{arith}
+use mathlib.Core.Path.{ap, _∙_}
 use Rattle.lists.proofs.Bools.{not-yes, not-no}
 use Rattle.store_rules.specs.Orders as Orders
 use Rattle.freelist_decide.proofs.Tests.{room-is, counts-is, raised-is, buy-full, buy-spent, buy-none, buy-go}

@@ -1,6 +1,5 @@
 use borrow.Author.Needs.{needs}
 use mathlib.Core.Path.{sym, _∙_}
-use native.Mathlib.Omega.{arith}
 use Rattle.lists.proofs.Bools.{not-yes, not-no}
 use Rattle.freelist_decide.proofs.Tests.{take-full, take-spent, take-go}
 use Rattle.freelist_decide.proofs.deciding.decide_take.Statement.{statement}

@@ -1,4 +1,3 @@
-use borrow.Author.Needs.{needs}
 use mathlib.Core.Path.{refl}
 use Rattle.freelist_outcomes.specs.Ask.{sizeOk}
 use Rattle.freelist_decide.proofs.deciding.is_size.Statement.{statement}

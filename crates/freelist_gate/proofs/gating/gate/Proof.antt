@@ -1,5 +1,5 @@
 use borrow.Author.Needs.{needs}
-use mathlib.Core.Path.{_≡_, sym, ap, _∙_}
+use mathlib.Core.Path.{sym, ap, _∙_}
 use mathlib.Core.Bool.{Bool, _&&_}
 use Rattle.lists.proofs.Bools.{not-yes, not-no, and-left}
 use Rattle.counter.specs.declared.account.Heap.{Heap}

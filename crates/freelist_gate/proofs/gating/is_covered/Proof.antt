@@ -1,5 +1,4 @@
 use borrow.Author.Needs.{needs}
-use mathlib.Core.Path.{_≡_, sym}
 use native.Mathlib.Omega.{arith}
 use Rattle.freelist_gate.proofs.Gates.{covered-is}
 use Rattle.freelist_gate.proofs.gating.is_covered.Statement.{statement}

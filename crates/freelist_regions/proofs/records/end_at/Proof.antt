@@ -1,5 +1,5 @@
 use borrow.Author.Needs.{needs}
-use mathlib.Core.Path.{sym, ap, _∙_}
+use mathlib.Core.Path.{ap, _∙_}
 use Rattle.words.specs.Rows.{written}
 use Rattle.freelist_rules.specs.Records.{region, regionRow}
 use Rattle.store_rules.specs.declared.Region.{Region}

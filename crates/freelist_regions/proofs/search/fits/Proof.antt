@@ -1,4 +1,3 @@
-use borrow.Author.Needs.{needs}
 use borrow.Author.Tests.{le-leb, lt-leb}
 use Rattle.freelist_rules.specs.Place.{fitsIn}
 use Rattle.freelist_regions.proofs.search.fits.Statement.{statement}

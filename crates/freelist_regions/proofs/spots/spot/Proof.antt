@@ -1,10 +1,8 @@
-use borrow.Author.Needs.{needs}
-use mathlib.Core.Path.{_≡_, sym, ap, _∙_}
-use mathlib.Core.Bool.{Bool, true, false}
-use mathlib.Core.Logic.{⊎-elim}
+use mathlib.Core.Path.{_≡_, sym, _∙_}
+use mathlib.Core.Bool.{true, false}
 use Prim.Native.Nat.{ℕ, _+_, _-_, _/_, _≤_, _<_}
 use native.Mathlib.Omega.{arith}
-use Rattle.freelist_regions.specs.Spot.{after, Parting, Parts}
+use Rattle.freelist_regions.specs.Spot.{after}
 use Rattle.freelist_regions.proofs.Halves.{lowered, raised}
 use Rattle.freelist_regions.proofs.spots.spot.Statement.{statement}
 use Rattle.freelist_regions.proofs.spots.spot.Tie as tie
