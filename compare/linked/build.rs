@@ -1,6 +1,6 @@
 //! Links the project's archives, from where `rt staticlib` writes them or from the folder that
 //! the variable ARCHIVES names. With the feature `timing` it links copies of them too, which do
-//! without the test of soundness.
+//! without the test of soundness, or without all tests of the gate.
 
 use std::{
     env, fs,
@@ -9,12 +9,17 @@ use std::{
 
 mod untested;
 
+use untested::Says;
+
 const WRITTEN: &str = "../../target/staticlib";
 const ARCHIVES: [&str; 3] = ["linked_list", "linked_buddy", "linked_rank"];
-/// The archives that have a test of soundness, and the section that it is in.
-const TESTED: [(&str, &str); 2] = [
-    ("linked_list", ".text.freelist_test::is_sound"),
-    ("linked_buddy", ".text.buddy_test::is_sound"),
+/// The copies: of which archive, the word that their names begin with, the section whose function
+/// is a test, and what it says at once in the copy.
+const COPIES: [(&str, &str, &str, Says); 4] = [
+    ("linked_list", "untested3", ".text.freelist_test::is_sound", Says::Yes),
+    ("linked_buddy", "untested3", ".text.buddy_test::is_sound", Says::Yes),
+    ("linked_list", "ungated14", ".text.freelist_gate::gating::gate", Says::Go),
+    ("linked_buddy", "ungated14", ".text.buddy_gate::gating::gate", Says::Go),
 ];
 
 fn main() {
@@ -37,13 +42,13 @@ fn main() {
 fn link_copies(folder: &Path) {
     let out = PathBuf::from(env::var_os("OUT_DIR").expect("cargo names a folder"));
     println!("cargo::rustc-link-search=native={}", out.display());
-    for (name, section) in TESTED {
+    for (name, word, section, says) in COPIES {
         let path = folder.join(format!("lib{name}.a"));
         let archive = fs::read(&path).unwrap_or_else(|error| panic!("{}: {error}", path.display()));
-        let copy = untested::copy(&archive, section)
+        let copy = untested::copy(&archive, word, section, says)
             .unwrap_or_else(|error| panic!("{}: {error}", path.display()));
-        fs::write(out.join(format!("lib{name}_for_timing_only.a")), copy)
+        fs::write(out.join(format!("lib{name}_{word}_for_timing_only.a")), copy)
             .unwrap_or_else(|error| panic!("{}: {error}", out.display()));
-        println!("cargo::rustc-link-lib=static={name}_for_timing_only");
+        println!("cargo::rustc-link-lib=static={name}_{word}_for_timing_only");
     }
 }

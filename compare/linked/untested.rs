@@ -1,6 +1,6 @@
-//! Copies of the archives, for timing only: in a copy the test of soundness, 01's test 3, says yes
-//! at once, and the exported names begin with another word, so that a program links both. A copy
-//! lies in the folder of cargo's build and is never shipped: it takes a torn store for a sound one.
+//! Copies of the archives, for timing only: in a copy one function, a test, says at once that all is
+//! well, and the exported names begin with another word, so that a program links both. A copy lies
+//! in the folder of cargo's build and is never shipped: it takes a torn store for a sound one.
 
 const ARCHIVE: &[u8] = b"!<arch>\n";
 const MEMBER_HEADER: usize = 60;
@@ -17,17 +17,39 @@ const ENTRY_SIZE: usize = 58;
 const ENTRY_COUNT: usize = 60;
 const NAMES: usize = 62;
 const X86_64: u64 = 62;
+const AARCH64: u64 = 183;
 const PROGRAM_BITS: u64 = 1;
 const RELOCATIONS: u64 = 4;
 const RELOCATION: usize = 24;
 
-/// mov al, 1; ret
-const YES: [u8; 3] = [0xb0, 0x01, 0xc3];
+/// The word that exported names begin with.
+const SHIPPED: &str = "tibrezkam";
 
-const SHIPPED: &[u8] = b"tibrezkam";
-const FOR_TIMING: &[u8] = b"untested3";
-// No place in the file may move.
-const _: () = assert!(SHIPPED.len() == FOR_TIMING.len());
+/// What a function says at once in a copy.
+#[derive(Clone, Copy)]
+pub enum Says {
+    /// A test: yes.
+    Yes,
+    /// A gate, whose answer lies where its first argument points: go.
+    Go,
+}
+
+impl Says {
+    /// The instructions, for a processor.
+    fn code(self, processor: u64) -> Result<&'static [u8], String> {
+        match (self, processor) {
+            // mov al, 1; ret
+            (Says::Yes, X86_64) => Ok(&[0xb0, 0x01, 0xc3]),
+            // mov byte ptr [rdi], 0; ret
+            (Says::Go, X86_64) => Ok(&[0xc6, 0x07, 0x00, 0xc3]),
+            // mov w0, #1; ret
+            (Says::Yes, AARCH64) => Ok(&[0x20, 0x00, 0x80, 0x52, 0xc0, 0x03, 0x5f, 0xd6]),
+            // strb wzr, [x0]; ret
+            (Says::Go, AARCH64) => Ok(&[0x1f, 0x00, 0x00, 0x39, 0xc0, 0x03, 0x5f, 0xd6]),
+            _ => Err(format!("an object is for processor {processor}")),
+        }
+    }
+}
 
 /// A section's kind and name, where it lies in its object, and the section that it is about.
 struct Section {
@@ -38,18 +60,20 @@ struct Section {
     about: usize,
 }
 
-/// The archive with other names, and with the function in this section saying yes.
-pub fn copy(archive: &[u8], section: &str) -> Result<Vec<u8>, String> {
+/// The archive with names that begin with another word, and with the function in this section
+/// saying at once what it is to say.
+pub fn copy(archive: &[u8], word: &str, section: &str, says: Says) -> Result<Vec<u8>, String> {
     let mut places = Vec::new();
     for (at, object) in objects(archive)? {
-        places.extend(function(object, section)?.map(|place| at + place));
+        let code = says.code(number(object, PROCESSOR, 2)?)?;
+        places.extend(function(object, section, code.len())?.map(|place| (at + place, code)));
     }
-    let [place] = places[..] else {
+    let [(place, code)] = places[..] else {
         return Err(format!("{} sections are named {section}", places.len()));
     };
     let mut copy = archive.to_vec();
-    copy[place..place + YES.len()].copy_from_slice(&YES);
-    rename(&mut copy)?;
+    copy[place..place + code.len()].copy_from_slice(code);
+    rename(&mut copy, word)?;
     Ok(copy)
 }
 
@@ -78,11 +102,9 @@ fn objects(archive: &[u8]) -> Result<Vec<(usize, &[u8])>, String> {
     Ok(found)
 }
 
-/// Where the function of a section begins, if the object has that section.
-fn function(object: &[u8], name: &str) -> Result<Option<usize>, String> {
-    if number(object, PROCESSOR, 2)? != X86_64 {
-        return Err("an object is not for x86-64".into());
-    }
+/// Where the function of a section begins, if the object has that section; so many bytes of it are
+/// to be written.
+fn function(object: &[u8], name: &str, written: usize) -> Result<Option<usize>, String> {
     let sections = sections(object)?;
     let names =
         sections.get(number(object, NAMES, 2)? as usize).ok_or("its sections have no names")?;
@@ -95,13 +117,13 @@ fn function(object: &[u8], name: &str) -> Result<Option<usize>, String> {
         return Ok(None);
     };
     let Section { at, size, .. } = sections[place];
-    if size < YES.len() {
+    if size < written {
         return Err(format!("{name} has {size} bytes only"));
     }
     part(object, at, size)?;
     let tables = sections.iter().filter(|table| table.kind == RELOCATIONS && table.about == place);
     for first in tables.flat_map(|table| (table.at..table.at + table.size).step_by(RELOCATION)) {
-        if number(object, first, 8)? < YES.len() as u64 {
+        if number(object, first, 8)? < written as u64 {
             return Err(format!("the linker writes into the first bytes of {name}"));
         }
     }
@@ -125,11 +147,14 @@ fn sections(object: &[u8]) -> Result<Vec<Section>, String> {
 }
 
 /// Gives every exported name its other beginning, in the objects and in the archive's index.
-fn rename(archive: &mut [u8]) -> Result<(), String> {
+fn rename(archive: &mut [u8], word: &str) -> Result<(), String> {
+    if word.len() != SHIPPED.len() {
+        return Err(format!("{word} is not as long as {SHIPPED}: places in the file would move"));
+    }
     let mut count = 0;
     for at in 0..archive.len() {
-        if archive[at..].starts_with(SHIPPED) {
-            archive[at..at + SHIPPED.len()].copy_from_slice(FOR_TIMING);
+        if archive[at..].starts_with(SHIPPED.as_bytes()) {
+            archive[at..at + word.len()].copy_from_slice(word.as_bytes());
             count += 1;
         }
     }

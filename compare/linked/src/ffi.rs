@@ -89,7 +89,7 @@ engine!(
     tibrezkam_buddy_return
 );
 
-// The same of the copies for timing, whose test of soundness says yes to all.
+// The same of the copies for timing: their test of soundness says yes to all, or all their gate does.
 #[cfg(feature = "timing")]
 engine!(
     UNTESTED_LIST: untested3_list_set_up,
@@ -104,10 +104,26 @@ engine!(
     untested3_buddy_deliver,
     untested3_buddy_return
 );
+#[cfg(feature = "timing")]
+engine!(
+    UNGATED_LIST: ungated14_list_set_up,
+    ungated14_list_ask,
+    ungated14_list_deliver,
+    ungated14_list_return
+);
+#[cfg(feature = "timing")]
+engine!(
+    UNGATED_BUDDY: ungated14_buddy_set_up,
+    ungated14_buddy_ask,
+    ungated14_buddy_deliver,
+    ungated14_buddy_return
+);
 
 pub static SHIPPED: Engines = Engines { list: &LIST, buddy: &BUDDY };
 #[cfg(feature = "timing")]
 pub static UNTESTED: Engines = Engines { list: &UNTESTED_LIST, buddy: &UNTESTED_BUDDY };
+#[cfg(feature = "timing")]
+pub static UNGATED: Engines = Engines { list: &UNGATED_LIST, buddy: &UNGATED_BUDDY };
 
 // A free list's only.
 #[rustfmt::skip]

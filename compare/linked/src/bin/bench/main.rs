@@ -1,5 +1,6 @@
 //! Times the linked calls and the crate's on the same calls in one process: ours as shipped, ours
-//! of the copies without the test of soundness (01's test 3), and the crate's.
+//! of the copies without the test of soundness (01's test 3) and without the whole gate (the tests 1
+//! to 4), and the crate's.
 
 mod clock;
 mod side;
@@ -11,7 +12,7 @@ use {
         settings::{Kind, Settings},
     },
     linked::{
-        ffi::{self, SHIPPED, UNTESTED},
+        ffi::{self, Engines, SHIPPED, UNGATED, UNTESTED},
         ranking::ROWS,
         store::Store,
     },
@@ -33,16 +34,20 @@ const MANY_TYPES: [u8; 32] = [
     0, 7, 14, 5, 12, 3, 10, 1, 8, 15, 6, 13, 4, 11, 2, 9,
 ];
 
-/// The least nanoseconds of a call: ours, ours without test 3, and the crate's.
-type Best = [f64; 3];
+/// Ours, as they are timed.
+const OURS: [&Engines; 3] = [&SHIPPED, &UNTESTED, &UNGATED];
+
+/// The least nanoseconds of a call: ours, ours without test 3, ours without the gate, and the crate's.
+type Best = [f64; 4];
 
 fn main() {
-    KINDS.iter().for_each(|&(_, kind)| check_copy(kind));
+    KINDS.iter().for_each(|&(_, kind)| check_copies(kind));
     println!("nanoseconds a call, the best of many batches; test 3 alone is told in crate's calls");
-    print!("{:<11}{:<9}{:>5}{:>12}", "engine", "call", "live", "ours");
+    println!("'no 3': without test 3; 'no 1-4': without the gate, that is, between the tests");
+    print!("{:<11}{:<9}{:>5}{:>11}", "engine", "call", "live", "ours");
     println!(
-        "{:>16}{:>11}{:>15}{:>14}",
-        "without test 3", "crate", "without/crate", "test 3/crate"
+        "{:>10}{:>10}{:>10}{:>12}{:>14}{:>14}",
+        "no 3", "no 1-4", "crate", "no 3/crate", "no 1-4/crate", "test 3/crate"
     );
     for (engine, kind) in KINDS {
         print_row(engine, "set up", 0, time_set_up(kind));
@@ -58,10 +63,11 @@ fn main() {
     }
 }
 
-fn print_row(engine: &str, call: &str, live: usize, [ours, untested, of_crate]: Best) {
-    let (times, test) = (untested / of_crate, (ours - untested) / of_crate);
-    print!("{engine:<11}{call:<9}{live:>5}{ours:>12.1}{untested:>16.1}{of_crate:>11.1}");
-    println!("{times:>15.2}{test:>14.1}");
+fn print_row(engine: &str, call: &str, live: usize, [ours, untested, ungated, of_crate]: Best) {
+    let [tested, between] = [untested, ungated].map(|time| time / of_crate);
+    let test = (ours - untested) / of_crate;
+    print!("{engine:<11}{call:<9}{live:>5}{ours:>11.1}{untested:>10.1}{ungated:>10.1}");
+    println!("{of_crate:>10.1}{tested:>12.2}{between:>14.2}{test:>14.1}");
 }
 
 fn settings(kind: Kind) -> Settings {
@@ -79,33 +85,38 @@ fn settings(kind: Kind) -> Settings {
     }
 }
 
-/// Asks of a torn store: ours refuse it by test 3, and the copy is one that does not.
-fn check_copy(kind: Kind) {
-    let [ours, untested] = [&SHIPPED, &UNTESTED].map(|engines| {
+/// Asks of a torn store, and while an order is open: ours refuse the one by test 3 and the other by
+/// test 2, a copy without test 3 only the other, and a copy without the gate neither.
+fn check_copies(kind: Kind) {
+    let torn = OURS.map(|engines| {
         let mut ours = Ours::set_up(engines, &settings(kind));
         ours.first();
         ours.ask_torn()
     });
-    assert_eq!(ours, [4, 3, 0, 0, 0, 0], "a torn store is refused");
-    assert_ne!(untested, ours, "a copy has no test 3");
+    let refused = torn.map(|answer| answer == [4, 3, 0, 0, 0, 0]);
+    assert_eq!(refused, [true, false, false], "a torn store: {torn:?}");
+    let ordered = OURS.map(|engines| Ours::set_up(engines, &settings(kind)).ask_twice());
+    let refused = ordered.map(|answer| answer == [4, 2, 0, 0, 0, 0]);
+    assert_eq!(refused, [true, true, false], "an open order: {ordered:?}");
 }
 
 /// Set-ups; ours are over the same words again and again.
 fn time_set_up(kind: Kind) -> Best {
     let settings = settings(kind);
-    let [mut ours, mut untested] = [&SHIPPED, &UNTESTED]
+    let mut ours = OURS
         .map(|engines| Store::lent(engines, &settings.header()).expect("settings of an engine"));
     let ready = |store: &mut Store| assert_eq!(store.set_up()[0], 0, "a set-up is not refused");
-    let mut best = [f64::INFINITY; 3];
+    let mut best = [f64::INFINITY; 4];
     repeat(|| {
-        best[0] = best[0].min(timed(|| ready(&mut ours)));
-        best[1] = best[1].min(timed(|| ready(&mut untested)));
-        best[2] = best[2].min(timed(|| black_box(Bare::set_up(&settings))));
+        for (store, best) in ours.iter_mut().zip(&mut best) {
+            *best = best.min(timed(|| ready(store)));
+        }
+        best[3] = best[3].min(timed(|| black_box(Bare::set_up(&settings))));
     });
     best
 }
 
-/// Rankings. They have no test 3 and there is no copy of them, so ours stand in both columns.
+/// Rankings. They have no gate and there is no copy of them, so ours stand in all three columns.
 fn time_ranking(words: &[u8]) -> Best {
     let types: Vec<u32> = words.iter().map(|&word| word.into()).collect();
     let (mut rows, mut answer) = (vec![0; ROWS], [0; 6]);
@@ -116,24 +127,24 @@ fn time_ranking(words: &[u8]) -> Best {
         assert_eq!(answer[0], 5, "types within the table");
         of_crate = of_crate.min(timed(|| black_box(bare.rank())));
     });
-    [ours, ours, of_crate]
+    [ours, ours, ours, of_crate]
 }
 
 /// Asks and returns with so many blocks on loan.
 fn time_calls(kind: Kind, live: usize) -> (Best, Best) {
     let settings = settings(kind);
-    let [mut ours, mut untested] =
-        [&SHIPPED, &UNTESTED].map(|engines| Side::new(Ours::set_up(engines, &settings), live));
+    let mut ours = OURS.map(|engines| Side::new(Ours::set_up(engines, &settings), live));
     let mut of_crate = Side::new(Bare::set_up(&settings), live);
     repeat(|| {
-        ours.batch();
-        untested.batch();
         of_crate.batch();
-        assert!(ours.places().eq(of_crate.places()), "the same places");
-        assert!(untested.places().eq(of_crate.places()), "the same places");
+        for side in &mut ours {
+            side.batch();
+            assert!(side.places().eq(of_crate.places()), "the same places");
+        }
     });
-    let ask = [ours.ask, untested.ask, of_crate.ask];
-    let take_back = [ours.take_back, untested.take_back, of_crate.take_back];
+    let [tested, untested, ungated] = &ours;
+    let ask = [tested.ask, untested.ask, ungated.ask, of_crate.ask];
+    let take_back = [tested.take_back, untested.take_back, ungated.take_back, of_crate.take_back];
     // It tells of blocks that are lost.
     of_crate.close().cleanup();
     (ask, take_back)

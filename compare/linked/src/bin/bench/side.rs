@@ -112,6 +112,12 @@ impl Ours {
         Ours { store, account: Account::new(&header).expect("an account within the table") }
     }
 
+    /// The answer to an ask while the order of an earlier one is open.
+    pub fn ask_twice(mut self) -> Answer {
+        self.store.ask(&mut self.account, 1, 0);
+        *self.store.ask(&mut self.account, 1, 0)
+    }
+
     /// The answer to an ask once the store is torn.
     pub fn ask_torn(mut self) -> Answer {
         self.store.tear();
