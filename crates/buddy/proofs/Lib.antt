@@ -1,6 +1,3 @@
--- What the calls rest on, and what they come to.
-pub mod Readied
-pub mod Asking
-pub mod Arriving
-pub mod Returning
+-- What set-up leaves, and the calls on a whole account.
 pub mod Fresh
+pub mod Wholes

@@ -8,7 +8,6 @@ use counter::Account;
 use counter::Block;
 use counter::BuddySettings;
 use counter::Released;
-use returning::Back;
 
 // A block comes back. The memory number of its chunk, where that goes, then stands at the front of `list`.
 pub fn return_block(
@@ -25,21 +24,7 @@ pub fn return_block(
     ensures { λ r. ⌜ listed (releaseSaid (r .answer)) (r .account) (tables (now (head .entry)) (now (loans .exit)) (now (chunks .exit)) (now (index .exit)) (now (tree .exit))) (now (list .exit)) ≡ returnOf s a b (tables (now (head .entry)) (now (loans .entry)) (now (chunks .entry)) (now (index .entry)) (now (tree .entry))) (now (list .entry)) ⌝ }
 {
     let own = s.store;
-    let long = own.chunks <= list.len();
-    let plan = buddy_plan::plan_return(s, a, b, long, head, loans, chunks, index, tree);
-    match plan {
-        Back::Refuse(refusal) => store::refuse_return(a, refusal),
-        Back::From(at) => buddy_settle::carry_return(
-            s,
-            a,
-            b,
-            at,
-            head,
-            loans,
-            chunks,
-            index,
-            tree,
-            list,
-        ),
-    }
+    let h = store_accounts::share_of(own, a);
+    let r = buddy_calls::return_block(s, h, b, head, loans, chunks, index, tree, list);
+    store::released(own, a, r)
 }

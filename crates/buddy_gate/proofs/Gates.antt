@@ -1,5 +1,5 @@
 -- The gate's tests in the code's words. Assumes nothing.
-use mathlib.Core.Path.{_≡_, refl, sym, _∙_}
+use mathlib.Core.Path.{_≡_, refl, sym, ap, _∙_}
 use mathlib.Core.Bool.{Bool, true, false, _&&_}
 use mathlib.Core.Logic.{⊎-elim}
 use mathlib.Core.List.{[]}
@@ -8,24 +8,29 @@ use native.Mathlib.Omega.{arith}
 use lib.Dec.{eqb}
 use lib.ListN.{length}
 use borrow.Author.Tests.{lt-ltb, ne-eqb}
-use Rattle.lists.proofs.Bools.{and-both, same?}
+use Rattle.lists.proofs.Bools.{and-both, and-left, same?}
 use Rattle.rounding_rules.proofs.Masks.{power-top}
-use Rattle.counter.specs.Account.{heapAt}
 use Rattle.counter.specs.Gate.{Verdict, pass, refuse}
 use Rattle.counter.specs.InTable.{BuddyIn}
 use Rattle.counter.specs.Limits.{chunksMost}
-use Rattle.counter.specs.Table.{buddyOk, heapsOk}
+use Rattle.counter.specs.Table.{buddyOk, heapOk}
 use Rattle.counter.specs.declared.account.Account.{Account}
 use Rattle.counter.specs.declared.account.Heap.{Heap}
+use Rattle.counter.specs.declared.account.OpenOrder.{OpenOrder}
 use Rattle.counter.specs.declared.settings.BuddySettings.{BuddySettings}
+use Rattle.counter.proofs.Tables.{buddy-yes}
 use Rattle.store_rules.specs.Loans.{loanWords}
-use Rattle.store_rules.specs.Tests.{noOrder, coversOk}
+use Rattle.store_rules.specs.Shares.{holding, orderBy, holder}
+use Rattle.store_rules.specs.Tests.{coversOk}
+use Rattle.store_rules.specs.declared.Share.{Share}
+use Rattle.store_rules.proofs.Shares.{held-heap, held-table, held-free}
 use Rattle.book_rules.specs.Book.{indexWords}
 use Rattle.buddy_shape.proofs.Shape.{node-bytes-most}
 use Rattle.buddy_stores.specs.Tables.{Tables, tables, headWords, chunkWords, chunkPlacesIn, chunkSizeIn, heldIn, highIn, nodesFrom, lengthsOk}
 use Rattle.buddy_stores.specs.Sound.{Sound}
 use Rattle.buddy_stores.specs.Test.{soundOk}
 use Rattle.buddy_outcomes.specs.Gate.{lentOk, heldCount, heldBytes, accountOk, gateOf}
+use Rattle.buddy_outcomes.proofs.Passing.{lent-in}
 use Rattle.buddy_gate.specs.Gates.{storeGate}
 use Rattle.buddy_gate.proofs.Held.{count-same, bytes-same, sizeMost}
 
@@ -45,9 +50,22 @@ module _ (s : BuddySettings) (t : Tables) where
       joined (eqb (length (t .head)) headWords) (eqb (length (t .loans)) (loanWords * s .store .loans)) (eqb (length (t .chunks)) (chunkWords * s .store .chunks)) (eqb (length (t .index)) (indexWords (s .store .loans))) (eqb (length (t .tree)) (nodes + s .store .loans))
       ∙ rw e refl
 
-  pub lent-yes : (a : Account) (h f : Bool) → buddyOk s ≡ true → h ≡ heapsOk (a .heaps) → f ≡ lengthsOk s t → (h && f) ≡ lentOk s a t
+  pub lent-yes : (h : Share) (own f : Bool) → buddyOk s ≡ true → own ≡ heapOk (h .heap) → f ≡ lengthsOk s t → (h .table && (own && f)) ≡ lentOk s (holder (s .store) h) t
   unfolding lentOk
-  lent-yes a h f e p q = rw (e, p, q) refl
+  lent-yes h own f e p q =
+      three (h .table) own f
+      ∙ (λ j. (h .table && p j) && q j)
+      ∙ ap (λ (b : Bool). b && lengthsOk s t) (sym (held-table (s .store) h (orderBy (h .free)) (buddy-yes s e .store .heap)))
+      ∙ rw e refl
+    where
+      three : (a b c : Bool) → (a && (b && c)) ≡ ((a && b) && c)
+      three true b c = refl
+      three false b c = refl
+
+  -- whatever order is open
+  pub lent-held : (h : Share) (o p : OpenOrder) → lentOk s (holding (s .store) h o) t ≡ lentOk s (holding (s .store) h p) t
+  unfolding lentOk holding
+  lent-held h o p = refl
 
   pub lent-no : (a : Account) → buddyOk s ≡ false → false ≡ lentOk s a t
   unfolding lentOk
@@ -99,15 +117,22 @@ module _ (s : BuddySettings) (h : Heap) (objects : ℕ) (t : Tables) where
 pub covered-is : (h : Heap) (objects k n b m : ℕ) (r : Bool) → k ≡ n → b ≡ m → r ≡ coversOk h objects k b → r ≡ coversOk h objects n m
 covered-is h objects k n b m r e f g = g ∙ (λ j. coversOk h objects (e j) (f j))
 
-module _ (s : BuddySettings) (a : Account) (t : Tables) (list : Bool) where
-  pub gate-lent : (lentOk s a t && list) ≡ false → refuse 1 ≡ gateOf s a t list
+module _ (s : BuddySettings) (h : Share) (t : Tables) (list : Bool) where
+  abbrev held : Account
+  held = holder (s .store) h
+
+  pub gate-lent : (lentOk s held t && list) ≡ false → refuse 1 ≡ gateOf s held t list
   unfolding gateOf
   gate-lent e = rw e refl
 
-  pub gate-order : (lentOk s a t && list) ≡ true → noOrder (a .order) ≡ false → refuse 2 ≡ gateOf s a t list
-  unfolding gateOf
-  gate-order e f = rw (e, f) refl
+  pub gate-order : (lentOk s held t && list) ≡ true → h .free ≡ false → refuse 2 ≡ gateOf s held t list
+  unfolding gateOf holding
+  gate-order e f = rw (e, held-free (h .free) ∙ f) refl
 
-  pub gate-rest : (v : Verdict) → (lentOk s a t && list) ≡ true → noOrder (a .order) ≡ true → v ≡ storeGate s (heapAt a (s .store .heap)) (a .objects) t → v ≡ gateOf s a t list
-  unfolding gateOf storeGate accountOk
-  gate-rest v e f g = g ∙ rw (e, f) refl
+  pub gate-rest : (v : Verdict) → (lentOk s held t && list) ≡ true → h .free ≡ true → v ≡ storeGate s (h .heap) (h .objects) t → v ≡ gateOf s held t list
+  unfolding gateOf storeGate accountOk holding
+  gate-rest v e f g =
+      let below = lent-in s held t (and-left (lentOk s held t) list e) .settings .store .heap in
+      g
+      ∙ ap (λ (x : Heap). storeGate s x (h .objects) t) (sym (held-heap (s .store) h (orderBy (h .free)) below))
+      ∙ rw (e, held-free (h .free) ∙ f) refl

@@ -7,6 +7,7 @@ ghost use Rattle.words.specs.Words.{cellOf};
 ghost use Rattle.counter.specs.Gate.{verdictOf};
 ghost use Rattle.counter.specs.InTable.{BuddyIn};
 ghost use Rattle.counter.specs.Limits.{chunksMost, minimalBits, levelsMost};
+ghost use Rattle.store_rules.specs.Shares.{holder};
 ghost use Rattle.store_rules.specs.Tests.{coversOk};
 ghost use Rattle.buddy_shape.specs.Seen.{looked};
 ghost use Rattle.buddy_stores.specs.Tables.{tables, lengthsOk, chunkPlacesAt, chunkWords, chunkSizeAt};
@@ -17,12 +18,12 @@ use buddy_stores::CHUNK_PLACES_AT;
 use buddy_stores::CHUNK_SIZE_AT;
 use buddy_stores::CHUNK_WORDS;
 use buddy_stores::HEAD_WORDS;
-use counter::Account;
 use counter::BuddySettings;
 use counter::Gate;
 use counter::Heap;
 use counter::Refusal;
 use store_rules::LOAN_WORDS;
+use store_rules::Share;
 
 pub fn lengths_fit(
     s: BuddySettings,
@@ -47,19 +48,19 @@ pub fn lengths_fit(
 // Test 1: every value, and every table's length.
 pub fn is_lent(
     s: BuddySettings,
-    a: Account,
+    h: Share,
     head: &[u64],
     loans: &[u64],
     chunks: &[u64],
     index: &[u64],
     tree: &[u64],
 ) -> bool
-    ensures { λ r. ⌜ r ≡ lentOk s a (tables (now (head .entry)) (now (loans .entry)) (now (chunks .entry)) (now (index .entry)) (now (tree .entry))) ⌝ }
+    ensures { λ r. ⌜ r ≡ lentOk s (holder (s .store) h) (tables (now (head .entry)) (now (loans .entry)) (now (chunks .entry)) (now (index .entry)) (now (tree .entry))) ⌝ }
 {
     if s.in_table() {
-        let heaps = a.heaps;
+        let heap = h.heap;
         let fit = lengths_fit(s, head, loans, chunks, index, tree);
-        counter::heaps_in_table(heaps) & fit
+        h.table & (counter::heap_in_table(heap) & fit)
     } else {
         false
     }
@@ -129,7 +130,7 @@ fn gate_store(
 // The gate of an ask and a return. `list` says whether a release list is long enough.
 pub fn gate(
     s: BuddySettings,
-    a: Account,
+    h: Share,
     list: bool,
     head: &[u64],
     loans: &[u64],
@@ -137,17 +138,15 @@ pub fn gate(
     index: &[u64],
     tree: &[u64],
 ) -> Gate
-    ensures { λ r. ⌜ verdictOf r ≡ gateOf s a (tables (now (head .entry)) (now (loans .entry)) (now (chunks .entry)) (now (index .entry)) (now (tree .entry))) list ⌝ }
+    ensures { λ r. ⌜ verdictOf r ≡ gateOf s (holder (s .store) h) (tables (now (head .entry)) (now (loans .entry)) (now (chunks .entry)) (now (index .entry)) (now (tree .entry))) list ⌝ }
 {
-    let lent = is_lent(s, a, head, loans, chunks, index, tree);
+    let lent = is_lent(s, h, head, loans, chunks, index, tree);
     if !(lent & list) {
         return Gate::Shut(Refusal::Setup);
     }
-    let order = a.order;
-    if !store_accounts::no_order(order) {
+    if !h.free {
         return Gate::Shut(Refusal::Order);
     }
-    let own = s.store;
-    let h = a.heap(own.heap);
-    gate_store(s, h, a.objects, head, loans, chunks, index, tree)
+    let heap = h.heap;
+    gate_store(s, heap, h.objects, head, loans, chunks, index, tree)
 }

@@ -9,11 +9,7 @@ use lib.ListN.{getD}
 use Rattle.rounding_rules.specs.Raising.{raised, levelOf}
 use Rattle.rounding_rules.specs.declared.Raised.{Raised}
 use Rattle.rounding_rules.specs.declared.Raised.the-variants.{To, Overflow}
-use Rattle.counter.specs.Paper.{Said}
-use Rattle.counter.specs.Paper as Paper
-use Rattle.counter.specs.declared.account.Account.{Account}
 use Rattle.counter.specs.declared.settings.BuddySettings.{BuddySettings}
-use Rattle.store_rules.specs.Outcomes.{out}
 use Rattle.buddy_stores.specs.Tables.{Tables, tables, levelsAt}
 use Rattle.buddy_outcomes.specs.Ask.{sizeFor, levelFor, grownFor, grownTables, deniedTables}
 use Rattle.rounding_rules.proofs.Raising.{raised-to}
@@ -43,17 +39,16 @@ pub level-is : (s : BuddySettings) (size mask z l : ℕ) → z ≡ sizeFor s siz
 unfolding levelFor
 level-is s size mask z l e f = f ∙ ap (λ (x : ℕ). levelOf x (s .minimal)) e
 
-module _ (s : BuddySettings) (a : Account) (size mask n : ℕ) (head tree : List ℕ) where
+module _ (s : BuddySettings) (size mask n : ℕ) (head tree : List ℕ) where
   abbrev before : Tables
   before = tables head [] [] [] tree
 
-  pub denied-nine : (h′ r′ : List ℕ) (b : Account) (w : Said) → n ≡ 9 → tables h′ [] [] [] r′ ≡ grownTables s (grownFor s size mask (tables head [] [] [] [])) before
-      → b ≡ a → w ≡ Paper.refusal n [] → out w b (tables h′ [] [] [] r′) ≡ out (Paper.refusal n []) a (deniedTables s size mask n before)
+  pub denied-nine : (t : Tables) → n ≡ 9 → t ≡ grownTables s (grownFor s size mask (tables head [] [] [] [])) before → t ≡ deniedTables s size mask n before
   unfolding deniedTables
-  denied-nine h′ r′ b w e t f g =
+  denied-nine t e g =
       let y : eqb n 9 ≡ true = rw e refl in
-      (λ j. out (g j) (f j) (t j)) ∙ sym (rw y refl)
+      g ∙ sym (rw y refl)
 
-  pub denied-other : (b : Account) (w : Said) → eqb n 9 ≡ false → b ≡ a → w ≡ Paper.refusal n [] → out w b before ≡ out (Paper.refusal n []) a (deniedTables s size mask n before)
+  pub denied-other : eqb n 9 ≡ false → before ≡ deniedTables s size mask n before
   unfolding deniedTables
-  denied-other b w y f g = (λ j. out (g j) (f j) before) ∙ sym (rw y refl)
+  denied-other y = sym (rw y refl)

@@ -9,13 +9,11 @@ ghost use Rattle.counter.specs.InTable.{BuddyIn};
 ghost use Rattle.counter.specs.Limits.{alignBits};
 ghost use Rattle.counter.specs.Paper as Paper;
 ghost use Rattle.counter.specs.Paper.{numberOf, askSaid};
-ghost use Rattle.store_rules.specs.Outcomes.{out};
 ghost use Rattle.buddy_stores.specs.Tables.{tables};
 ghost use Rattle.buddy_outcomes.specs.Ask.{sizeFor, grownFor, grownTables, deniedTables};
 ghost use Rattle.buddy_grow.specs.Grows.{Grows};
 use buddy_stores::LEVELS_AT;
-use counter::Account;
-use counter::Asked;
+use counter::AskAnswer;
 use counter::BuddySettings;
 use counter::Refusal;
 use rounding_rules::Raised;
@@ -47,19 +45,18 @@ pub fn grow_for(s: BuddySettings, size: u64, mask: u64, head: &mut [u64], tree: 
 // 9 leaves the levels grown as the ask needs, any other refusal leaves all as it was.
 pub fn refuse(
     s: BuddySettings,
-    a: Account,
     size: u64,
     mask: u64,
     refusal: Refusal,
     head: &mut [u64],
     tree: &mut [u64],
-) -> Asked
+) -> AskAnswer
     requires { ⌜ (eqb (numberOf refusal) 9 ≡ true → Grows s size mask (now head)) ⌝ }
-    ensures { λ r. ⌜ out (askSaid (r .answer)) (r .account) (tables (now (head .exit)) [] [] [] (now (tree .exit))) ≡ out (Paper.refusal (numberOf refusal) []) a (deniedTables s size mask (numberOf refusal) (tables (now (head .entry)) [] [] [] (now (tree .entry)))) ⌝ }
+    ensures { λ r. ⌜ (askSaid r ≡ Paper.refusal (numberOf refusal) []) × (tables (now (head .exit)) [] [] [] (now (tree .exit)) ≡ deniedTables s size mask (numberOf refusal) (tables (now (head .entry)) [] [] [] (now (tree .entry)))) ⌝ }
 {
     if refusal.number() == 9 {
         grow_for(s, size, mask, head, tree);
-        return store::refuse_ask(a, refusal);
+        return store::refuse_ask(refusal);
     }
-    store::refuse_ask(a, refusal)
+    store::refuse_ask(refusal)
 }

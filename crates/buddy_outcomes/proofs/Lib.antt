@@ -38,3 +38,4 @@ pub mod Goes
 pub mod Fewer
 pub mod Ended
 pub mod Denied
+pub mod Shares

@@ -3,11 +3,11 @@ use mathlib.Core.Path.{_≡_, refl, sym, ap, _∙_}
 use mathlib.Core.Bool.{Bool, true, false}
 use mathlib.Core.List.{[]}
 use Prim.Native.Nat.{ℕ}
-use Rattle.counter.specs.Account.{heapAt}
 use Rattle.counter.specs.Gate.{Verdict, pass, refuse}
 use Rattle.counter.specs.declared.account.Account.{Account}
 use Rattle.counter.specs.declared.account.Heap.{Heap}
 use Rattle.counter.specs.declared.account.KeptOrder.{KeptOrder}
+use Rattle.counter.specs.declared.account.OpenOrder.{OpenOrder}
 use Rattle.counter.specs.declared.account.OpenOrder.the-variants.{Nothing, Kept}
 use Rattle.counter.specs.declared.account.Order.{Order}
 use Rattle.counter.specs.declared.answers.Outcome.{Outcome}
@@ -15,7 +15,10 @@ use Rattle.counter.specs.declared.settings.BuddySettings.{BuddySettings}
 use Rattle.store_rules.specs.Arrivals as Arrivals
 use Rattle.store_rules.specs.Delivery.{buddy}
 use Rattle.store_rules.specs.Orders.{Plan, deny, take, buy, orderFrom, sameOrder, leadsTo}
+use Rattle.store_rules.specs.Shares.{holding, orderBy, holder}
 use Rattle.store_rules.specs.Tests.{orderFor}
+use Rattle.store_rules.specs.declared.Share.{Share}
+use Rattle.store_rules.proofs.Shares.{held-heap}
 use Rattle.store.specs.Comings.{knownIn, comes}
 use Rattle.store.proofs.Coming.{comes-is}
 use Rattle.buddy_stores.specs.Tables.{Tables, tables, chunkPlacesIn, memories}
@@ -23,8 +26,9 @@ use Rattle.buddy_stores.specs.Test.{soundOk}
 use Rattle.buddy_outcomes.specs.Ask.{decideAsk}
 use Rattle.buddy_outcomes.specs.Deliver.{stillOk, deliverGateOf, planDeliver}
 use Rattle.buddy_outcomes.specs.Gate.{lentOk, accountOk}
+use Rattle.buddy_outcomes.proofs.Passing.{lent-in}
 use Rattle.buddy_plan.specs.Comings.{keptGate}
-use Rattle.buddy_gate.proofs.Gates.{covered, covered-same}
+use Rattle.buddy_gate.proofs.Gates.{covered, covered-same, lent-held}
 use Rattle.buddy_gate.proofs.Held.{memories-same}
 use Rattle.buddy_plan.proofs.Planned.{ask-few}
 
@@ -65,27 +69,44 @@ module _ (s : BuddySettings) (h : Heap) (objects : ℕ) (k : KeptOrder) (t : Tab
   unfolding keptGate
   kept-go e f g = rw (e, sym still-is ∙ f, sym (covered-same s h objects t) ∙ g) refl
 
-module _ (s : BuddySettings) (a : Account) (t : Tables) where
-  pub delivery-lent : lentOk s a t ≡ false → refuse 1 ≡ deliverGateOf s a t
-  unfolding deliverGateOf
-  delivery-lent e = rw e refl
+-- told of the share, whatever order is open
+module _ (s : BuddySettings) (h : Share) (o : OpenOrder) (t : Tables) where
+  abbrev lent : Bool
+  lent = lentOk s (holder (s .store) h) t
 
-  pub delivery-order : lentOk s a t ≡ true → orderFor (s .store .number) (a .order) ≡ false → refuse 2 ≡ deliverGateOf s a t
+  abbrev held : Account
+  held = holding (s .store) h o
+
+  lent-same : (b : Bool) → lent ≡ b → lentOk s held t ≡ b
+  lent-same b e = lent-held s t h o (orderBy (h .free)) ∙ e
+
+  pub delivery-lent : lent ≡ false → refuse 1 ≡ deliverGateOf s held t
   unfolding deliverGateOf
-  delivery-order e f = rw (e, f) refl
+  delivery-lent e = rw (lent-same false e) refl
+
+  pub delivery-order : lent ≡ true → orderFor (s .store .number) o ≡ false → refuse 2 ≡ deliverGateOf s held t
+  unfolding deliverGateOf holding
+  delivery-order e f = rw (lent-same true e, f) refl
 
   -- no order is open
-  pub delivery-none : lentOk s a t ≡ true → a .order ≡ Nothing → refuse 2 ≡ deliverGateOf s a t
+  pub delivery-none : lent ≡ true → o ≡ Nothing → refuse 2 ≡ deliverGateOf s held t
   delivery-none e f = delivery-order e (ap (orderFor (s .store .number)) f)
 
-  pub delivery-kept : (h : Heap) (v : Verdict) (k : KeptOrder) → lentOk s a t ≡ true → orderFor (s .store .number) (a .order) ≡ true → a .order ≡ Kept k → h ≡ heapAt a (s .store .heap) → v ≡ keptGate s h (a .objects) k t → v ≡ deliverGateOf s a t
-  unfolding deliverGateOf keptGate accountOk
-  delivery-kept h v k e f o p g = g ∙ ap (λ (x : Heap). keptGate s x (a .objects) k t) p ∙ rw (e, f, ap (stillOk s a t) o) refl
+  pub delivery-kept : (v : Verdict) (k : KeptOrder) → lent ≡ true → orderFor (s .store .number) o ≡ true → o ≡ Kept k → v ≡ keptGate s (h .heap) (h .objects) k t → v ≡ deliverGateOf s held t
+  unfolding deliverGateOf keptGate accountOk holding
+  delivery-kept v k e f d g =
+      let below = lent-in s (holder (s .store) h) t e .settings .store .heap in
+      g
+      ∙ ap (λ (x : Heap). keptGate s x (h .objects) k t) (sym (held-heap (s .store) h o below))
+      ∙ rw (lent-same true e, f, ap (stillOk s held t) d) refl
 
 -- ---- the whole of it
 
-module _ (s : BuddySettings) (a : Account) (o : Outcome) (t : Tables) where
-  pub plan-shut : (v : Verdict) (n : ℕ) → v ≡ refuse n → v ≡ deliverGateOf s a t → Arrivals.deny n ≡ planDeliver s a o t
+module _ (s : BuddySettings) (h : Share) (order : OpenOrder) (o : Outcome) (t : Tables) where
+  abbrev whole : Account
+  whole = holding (s .store) h order
+
+  pub plan-shut : (v : Verdict) (n : ℕ) → v ≡ refuse n → v ≡ deliverGateOf s whole t → Arrivals.deny n ≡ planDeliver s whole o t
   unfolding planDeliver
   plan-shut v n e f = rw (sym f ∙ e) refl
 
@@ -93,8 +114,8 @@ module _ (s : BuddySettings) (a : Account) (o : Outcome) (t : Tables) where
   abbrev few : Tables
   few = tables (t .head) [] (t .chunks) [] []
 
-  pub plan-go : (v : Verdict) (p : Arrivals.Arrival) (known : Bool) → v ≡ pass → v ≡ deliverGateOf s a t → known ≡ knownIn (memories few (chunkPlacesIn t)) o → p ≡ comes buddy o known (a .order) → p ≡ planDeliver s a o t
-  unfolding planDeliver
+  pub plan-go : (v : Verdict) (p : Arrivals.Arrival) (known : Bool) → v ≡ pass → v ≡ deliverGateOf s whole t → known ≡ knownIn (memories few (chunkPlacesIn t)) o → p ≡ comes buddy o known order → p ≡ planDeliver s whole o t
+  unfolding planDeliver holding
   plan-go v p known e f k g =
       let m = memories-same few t refl refl (chunkPlacesIn t) in
-      g ∙ ap (λ (b : Bool). comes buddy o b (a .order)) (k ∙ (λ j. knownIn (m j) o)) ∙ comes-is buddy o (memories t (chunkPlacesIn t)) (a .order) ∙ rw (sym f ∙ e) refl
+      g ∙ ap (λ (b : Bool). comes buddy o b order) (k ∙ (λ j. knownIn (m j) o)) ∙ comes-is buddy o (memories t (chunkPlacesIn t)) order ∙ rw (sym f ∙ e) refl

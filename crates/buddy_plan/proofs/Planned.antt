@@ -4,7 +4,6 @@ use mathlib.Core.Bool.{Bool, true, _&&_}
 use mathlib.Core.List.{List, [], _∷_}
 use Prim.Native.Nat.{ℕ, _-_}
 use lib.Dec.{ltb}
-use Rattle.counter.specs.Account.{heapAt}
 use Rattle.counter.specs.Gate.{Verdict, pass, refuse, first}
 use Rattle.counter.specs.Table.{alignmentOk}
 use Rattle.counter.specs.declared.account.Account.{Account}
@@ -12,11 +11,15 @@ use Rattle.counter.specs.declared.account.Heap.{Heap}
 use Rattle.counter.specs.declared.answers.Block.{Block}
 use Rattle.counter.specs.declared.settings.BuddySettings.{BuddySettings}
 use Rattle.store_rules.specs.Orders.{Plan, deny}
+use Rattle.store_rules.specs.Shares.{holding, orderBy, holder}
+use Rattle.store_rules.specs.declared.Share.{Share}
+use Rattle.store_rules.proofs.Shares.{held-heap}
 use Rattle.book_rules.specs.Book.{takenOf}
 use Rattle.book_rules.specs.Returns as Returns
 use Rattle.buddy_stores.specs.Tables.{Tables, tables, placesIn}
 use Rattle.buddy_outcomes.specs.Gate.{gateOf}
 use Rattle.buddy_outcomes.specs.Return.{onLoanOk, decideReturn, planReturn}
+use Rattle.buddy_outcomes.proofs.Passing.{gate-passed}
 use Rattle.buddy_seek.proofs.Reading.{pairs-read}
 use Rattle.buddy_outcomes.specs.Ask.{Found, nowhere, at, levelFor, fromFor, foundFor, sizeOk, pairsRoom, chunkSpot, roomOk, countOk, objectsOk, planned, decideAsk, planAsk}
 
@@ -51,13 +54,17 @@ module _ (s : BuddySettings) (h : Heap) (objects size mask : ℕ) (t : Tables) w
       ap (λ (b : Bool). planned s size mask few f (first ((alignmentOk mask, 5) ∷ (sizeOk s size mask, 6) ∷ (b, 8) ∷ (countOk s h size mask t f, 10) ∷ (objectsOk objects f, 9) ∷ []))) (room-same f)
       ∙ same f (first ((alignmentOk mask, 5) ∷ (sizeOk s size mask, 6) ∷ (roomOk s size mask t f, 8) ∷ (countOk s h size mask t f, 10) ∷ (objectsOk objects f, 9) ∷ []))
 
-pub ask-go : (s : BuddySettings) (a : Account) (size mask : ℕ) (head loans chunks index tree : List ℕ) (h : Heap) (p : Plan ℕ)
-    → pass ≡ gateOf s a (tables head loans chunks index tree) true → h ≡ heapAt a (s .store .heap)
-    → p ≡ decideAsk s h (a .objects) size mask (tables head [] [] index tree) → p ≡ planAsk s a size mask (tables head loans chunks index tree)
-unfolding planAsk
-ask-go s a size mask head loans chunks index tree h p g k e =
-    e ∙ ap (λ (x : Heap). decideAsk s x (a .objects) size mask (tables head [] [] index tree)) k
-    ∙ ask-few s (heapAt a (s .store .heap)) (a .objects) size mask (tables head loans chunks index tree) ∙ rw (sym g) refl
+pub ask-go : (s : BuddySettings) (h : Share) (size mask : ℕ) (head loans chunks index tree : List ℕ) (p : Plan ℕ)
+    → pass ≡ gateOf s (holder (s .store) h) (tables head loans chunks index tree) true
+    → p ≡ decideAsk s (h .heap) (h .objects) size mask (tables head [] [] index tree) → p ≡ planAsk s (holder (s .store) h) size mask (tables head loans chunks index tree)
+unfolding planAsk holding
+ask-go s h size mask head loans chunks index tree p g e =
+    let t = tables head loans chunks index tree in
+    let below = gate-passed s (holder (s .store) h) t true g .lent .settings .store .heap in
+    e
+    ∙ ask-few s (h .heap) (h .objects) size mask t
+    ∙ ap (λ (x : Heap). decideAsk s x (h .objects) size mask t) (sym (held-heap (s .store) h (orderBy (h .free)) below))
+    ∙ rw (sym g) refl
 
 -- ---- a return
 

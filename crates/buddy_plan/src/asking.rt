@@ -3,14 +3,15 @@ ghost use mathlib.Core.Path.{_≡_};
 ghost use Rattle.buddy_stores.specs.Tables.{tables};
 ghost use Rattle.buddy_outcomes.specs.Ask.{sizeFor, levelFor, planAsk};
 ghost use Rattle.buddy_decide.specs.Plans.{planOf, Sized};
+ghost use Rattle.store_rules.specs.Shares.{holder};
 use buddy_decide::Plan;
-use counter::Account;
 use counter::BuddySettings;
 use counter::Gate;
+use store_rules::Share;
 
 pub fn plan_ask(
     s: BuddySettings,
-    a: Account,
+    h: Share,
     size: u64,
     mask: u64,
     head: &[u64],
@@ -19,16 +20,15 @@ pub fn plan_ask(
     index: &[u64],
     tree: &[u64],
 ) -> Plan
-    ensures { λ r. ⌜ planOf r ≡ planAsk s a size mask (tables (now (head .entry)) (now (loans .entry)) (now (chunks .entry)) (now (index .entry)) (now (tree .entry))) ⌝ }
+    ensures { λ r. ⌜ planOf r ≡ planAsk s (holder (s .store) h) size mask (tables (now (head .entry)) (now (loans .entry)) (now (chunks .entry)) (now (index .entry)) (now (tree .entry))) ⌝ }
     ensures { λ r. ⌜ Sized (sizeFor s size mask) (levelFor s size mask) r ⌝ }
 {
-    let g = buddy_gate::gate(s, a, true, head, loans, chunks, index, tree);
+    let g = buddy_gate::gate(s, h, true, head, loans, chunks, index, tree);
     match g {
         Gate::Shut(refusal) => Plan::Refuse(refusal),
         Gate::Go => {
-            let own = s.store;
-            let h = a.heap(own.heap);
-            buddy_decide::decide(s, h, a.objects, size, mask, head, index, tree)
+            let heap = h.heap;
+            buddy_decide::decide(s, heap, h.objects, size, mask, head, index, tree)
         }
     }
 }

@@ -14,12 +14,12 @@ ghost use Rattle.buddy_stores.specs.Tables.{tables, levelsAt, chunkPlacesAt, me
 ghost use Rattle.buddy_outcomes.specs.Ask.{decideAsk};
 ghost use Rattle.buddy_outcomes.specs.Deliver.{deliverGateOf, planDeliver};
 ghost use Rattle.buddy_plan.specs.Comings.{keptGate};
+ghost use Rattle.store_rules.specs.Shares.{holding};
 use buddy_decide::Plan;
 use buddy_stores::CHUNK_PLACES_AT;
 use buddy_stores::CHUNK_SIZE_AT;
 use buddy_stores::CHUNK_WORDS;
 use buddy_stores::MEMORY_AT;
-use counter::Account;
 use counter::BuddySettings;
 use counter::Gate;
 use counter::Heap;
@@ -29,6 +29,7 @@ use counter::Outcome;
 use counter::Refusal;
 use store::Coming;
 use store::Engine;
+use store_rules::Share;
 
 // Whether the kept ask still leads to the order that was told.
 fn is_still(
@@ -83,27 +84,27 @@ fn gate_kept(
 // The gate of a delivery: an order has to be open for this store.
 fn gate_delivery(
     s: BuddySettings,
-    a: Account,
+    h: Share,
+    order: OpenOrder,
     head: &[u64],
     loans: &[u64],
     chunks: &[u64],
     index: &[u64],
     tree: &[u64],
 ) -> Gate
-    ensures { λ r. ⌜ verdictOf r ≡ deliverGateOf s a (tables (now (head .entry)) (now (loans .entry)) (now (chunks .entry)) (now (index .entry)) (now (tree .entry))) ⌝ }
+    ensures { λ r. ⌜ verdictOf r ≡ deliverGateOf s (holding (s .store) h order) (tables (now (head .entry)) (now (loans .entry)) (now (chunks .entry)) (now (index .entry)) (now (tree .entry))) ⌝ }
 {
-    if !buddy_gate::is_lent(s, a, head, loans, chunks, index, tree) {
+    if !buddy_gate::is_lent(s, h, head, loans, chunks, index, tree) {
         return Gate::Shut(Refusal::Setup);
     }
     let own = s.store;
-    let order = a.order;
     if !store_accounts::is_open_for(own.number, order) {
         return Gate::Shut(Refusal::Order);
     }
-    let h = a.heap(own.heap);
+    let heap = h.heap;
     match order {
         OpenOrder::Nothing => Gate::Shut(Refusal::Order),
-        OpenOrder::Kept(k) => gate_kept(s, h, a.objects, k, head, loans, chunks, index, tree),
+        OpenOrder::Kept(k) => gate_kept(s, heap, h.objects, k, head, loans, chunks, index, tree),
     }
 }
 
@@ -135,7 +136,8 @@ fn is_known(o: Outcome, head: &[u64], chunks: &[u64]) -> bool
 
 pub fn plan_deliver(
     s: BuddySettings,
-    a: Account,
+    h: Share,
+    order: OpenOrder,
     o: Outcome,
     head: &[u64],
     loans: &[u64],
@@ -143,10 +145,9 @@ pub fn plan_deliver(
     index: &[u64],
     tree: &[u64],
 ) -> Coming
-    ensures { λ r. ⌜ comingOf r ≡ planDeliver s a o (tables (now (head .entry)) (now (loans .entry)) (now (chunks .entry)) (now (index .entry)) (now (tree .entry))) ⌝ }
+    ensures { λ r. ⌜ comingOf r ≡ planDeliver s (holding (s .store) h order) o (tables (now (head .entry)) (now (loans .entry)) (now (chunks .entry)) (now (index .entry)) (now (tree .entry))) ⌝ }
 {
-    let g = gate_delivery(s, a, head, loans, chunks, index, tree);
-    let order = a.order;
+    let g = gate_delivery(s, h, order, head, loans, chunks, index, tree);
     match g {
         Gate::Shut(r) => Coming::Refuse(r),
         Gate::Go => store::come(Engine::Buddy, order, o, is_known(o, head, chunks)),

@@ -3,17 +3,18 @@ ghost use mathlib.Core.Path.{_≡_};
 ghost use Rattle.buddy_stores.specs.Tables.{tables};
 ghost use Rattle.buddy_outcomes.specs.Return.{planReturn};
 ghost use Rattle.returning.specs.Backs.{backOf};
+ghost use Rattle.store_rules.specs.Shares.{holder};
 use buddy_stores::PLACES_AT;
-use counter::Account;
 use counter::Block;
 use counter::BuddySettings;
 use counter::Gate;
 use returning::Back;
+use store_rules::Share;
 
 // `list` says whether the release list is long enough.
 pub fn plan_return(
     s: BuddySettings,
-    a: Account,
+    h: Share,
     b: Block,
     list: bool,
     head: &[u64],
@@ -22,9 +23,9 @@ pub fn plan_return(
     index: &[u64],
     tree: &[u64],
 ) -> Back
-    ensures { λ r. ⌜ backOf r ≡ planReturn s a b (tables (now (head .entry)) (now (loans .entry)) (now (chunks .entry)) (now (index .entry)) (now (tree .entry))) list ⌝ }
+    ensures { λ r. ⌜ backOf r ≡ planReturn s (holder (s .store) h) b (tables (now (head .entry)) (now (loans .entry)) (now (chunks .entry)) (now (index .entry)) (now (tree .entry))) list ⌝ }
 {
-    let verdict = buddy_gate::gate(s, a, list, head, loans, chunks, index, tree);
+    let verdict = buddy_gate::gate(s, h, list, head, loans, chunks, index, tree);
     match verdict {
         Gate::Go => {
             let own = s.store;

@@ -9,18 +9,19 @@ ghost use Rattle.store_rules.specs.Outcomes.{listed};
 ghost use Rattle.buddy_stores.specs.Tables.{tables};
 ghost use Rattle.buddy_outcomes.specs.Return.{climbFor, releasedBy};
 ghost use Rattle.buddy_ready.specs.Ready.{Backs};
+ghost use Rattle.store_rules.specs.Shares.{holder};
 use buddy_stores::CHUNK_SIZE_AT;
 use buddy_stores::CHUNK_WORDS;
 use buddy_stores::MEMORY_AT;
-use counter::Account;
 use counter::Block;
 use counter::BuddySettings;
-use counter::Released;
+use store_rules::ReleasedShare;
+use store_rules::Share;
 
 // The loan that the word at `at` of the index leads to.
 pub fn carry_return(
     s: BuddySettings,
-    a: Account,
+    h: Share,
     b: Block,
     at: usize,
     head: &[u64],
@@ -29,15 +30,15 @@ pub fn carry_return(
     index: &mut [u64],
     tree: &mut [u64],
     list: &mut [u64],
-) -> Released
-    requires { ⌜ Backs s b at (tables (now head) (now loans) (now chunks) (now index) (now tree)) × (climbFor s b at (tables (now head) (now loans) (now chunks) (now index) (now tree)) .freed ≡ true → a .objects + 1 ≤ objectsMost) × (0 < length (now list)) ⌝ }
-    ensures { λ r. ⌜ listed (releaseSaid (r .answer)) (r .account) (tables (now (head .entry)) (now (loans .exit)) (now (chunks .exit)) (now (index .exit)) (now (tree .exit))) (now (list .exit)) ≡ releasedBy s a b at (tables (now (head .entry)) (now (loans .entry)) (now (chunks .entry)) (now (index .entry)) (now (tree .entry))) (now (list .entry)) ⌝ }
+) -> ReleasedShare
+    requires { ⌜ Backs s b at (tables (now head) (now loans) (now chunks) (now index) (now tree)) × (climbFor s b at (tables (now head) (now loans) (now chunks) (now index) (now tree)) .freed ≡ true → h .objects + 1 ≤ objectsMost) × (0 < length (now list)) ⌝ }
+    ensures { λ r. ⌜ listed (releaseSaid (r .answer)) (holder (s .store) (r .share)) (tables (now (head .entry)) (now (loans .exit)) (now (chunks .exit)) (now (index .exit)) (now (tree .exit))) (now (list .exit)) ≡ releasedBy s (holder (s .store) h) b at (tables (now (head .entry)) (now (loans .entry)) (now (chunks .entry)) (now (index .entry)) (now (tree .entry))) (now (list .entry)) ⌝ }
 {
     let memory = words::cell(chunks, MEMORY_AT, CHUNK_WORDS, b.chunk as usize);
     let bytes = words::cell(chunks, CHUNK_SIZE_AT, CHUNK_WORDS, b.chunk as usize);
     if buddy_back::take_back(s, b, at, head, loans, chunks, index, tree) {
         words::put(list, 0, memory);
-        return store::settle(s.store, a, 1, bytes);
+        return store::settle(h, 1, bytes);
     }
-    store::settle(s.store, a, 0, 0)
+    store::settle(h, 0, 0)
 }

@@ -1,5 +1,2 @@
-pub mod Arriving
-pub mod Asking
-pub mod Freeing
 pub mod Fresh
-pub mod Returning
+pub mod Wholes

@@ -7,8 +7,6 @@ ghost use Rattle.freelist_outcomes.specs.Ask.{askOf};
 use counter::Account;
 use counter::Asked;
 use counter::FreeListSettings;
-use freelist_decide::Plan;
-use freelist_rules::CHUNK_SIZE_AT;
 
 pub fn ask(
     s: FreeListSettings,
@@ -23,16 +21,8 @@ pub fn ask(
 ) -> Asked
     ensures { λ r. ⌜ out (askSaid (r .answer)) (r .account) (tables (now (head .exit)) (now (loans .exit)) (now (chunks .entry)) (now (regions .exit)) (now (index .exit))) ≡ askOf s a size mask (tables (now (head .entry)) (now (loans .entry)) (now (chunks .entry)) (now (regions .entry)) (now (index .entry))) ⌝ }
 {
-    let plan = freelist_plan::plan_ask(s, a, size, mask, head, loans, chunks, regions, index);
-    match plan {
-        Plan::Refuse(refusal) => store::refuse_ask(a, refusal),
-        Plan::Take(i) => {
-            let l = freelist_place::lend(s, size, mask, i, head, loans, regions, index);
-            store::answer_block(a, l)
-        }
-        Plan::Buy(z) => {
-            words::put(head, CHUNK_SIZE_AT, z);
-            store::answer_order(s.store, a, size, mask, z)
-        }
-    }
+    let own = s.store;
+    let h = store_accounts::share_of(own, a);
+    let answer = freelist_calls::ask(s, h, size, mask, head, loans, chunks, regions, index);
+    store::asked(a, size, mask, answer)
 }

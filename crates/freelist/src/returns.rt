@@ -1,62 +1,13 @@
 // A return and a clean-up: what is taken back, and the wholly free chunks that go.
 ghost use mathlib.Core.Path.{_≡_};
-ghost use mathlib.Core.Bool.{true, false};
-ghost use mathlib.Core.List.{[]};
 ghost use Rattle.counter.specs.Paper.{releaseSaid};
 ghost use Rattle.store_rules.specs.Outcomes.{listed};
 ghost use Rattle.freelist_rules.specs.Tables.{tables};
-ghost use Rattle.freelist_outcomes.specs.Return.{givenTables, releaseOf, returnOf, cleanUpOf};
-ghost use Rattle.freelist_place.specs.Ready.{Backs};
-ghost use Rattle.freelist.specs.Frees.{joined, Frees};
+ghost use Rattle.freelist_outcomes.specs.Return.{returnOf, cleanUpOf};
 use counter::Account;
 use counter::Block;
 use counter::FreeListSettings;
-use counter::Gate;
 use counter::Released;
-use freelist_rules::CHUNKS_AT;
-use returning::Back;
-
-// Wholly free chunks go; `spare` keeps that of the last region.
-fn let_go(
-    s: FreeListSettings,
-    a: Account,
-    spare: bool,
-    head: &mut [u64],
-    chunks: &mut [u64],
-    regions: &mut [u64],
-    list: &mut [u64],
-) -> Released
-    requires { ⌜ Frees s a (now head) (now chunks) (now regions) (now list) ⌝ }
-    ensures { λ r. ⌜ listed (releaseSaid (r .answer)) (r .account) (tables (now (head .exit)) [] (now (chunks .exit)) (now (regions .exit)) []) (now (list .exit)) ≡ releaseOf s a spare (tables (now (head .entry)) [] (now (chunks .entry)) (now (regions .entry)) []) (now (list .entry)) ⌝ }
-{
-    let at = freelist_regions::count_at(s);
-    let k = words::word(head, CHUNKS_AT) as usize;
-    let n = words::word(regions, at) as usize;
-    let gone = freelist_release::release(chunks, k, regions, n, spare, list);
-    words::put(head, CHUNKS_AT, gone.chunks as u64);
-    words::put(regions, at, gone.regions as u64);
-    store::settle(s.store, a, gone.count, gone.bytes)
-}
-
-// The loan that the word at `at` of the index leads to.
-fn carry_return(
-    s: FreeListSettings,
-    a: Account,
-    b: Block,
-    at: usize,
-    head: &mut [u64],
-    loans: &mut [u64],
-    chunks: &mut [u64],
-    regions: &mut [u64],
-    index: &mut [u64],
-    list: &mut [u64],
-) -> Released
-    requires { ⌜ Backs s b (now regions) × Frees s a (now head) (now chunks) (joined s b (now regions)) (now list) ⌝ }
-    ensures { λ r. ⌜ listed (releaseSaid (r .answer)) (r .account) (tables (now (head .exit)) (now (loans .exit)) (now (chunks .exit)) (now (regions .exit)) (now (index .exit))) (now (list .exit)) ≡ releaseOf s a true (givenTables s b at (tables (now (head .entry)) (now (loans .entry)) (now (chunks .entry)) (now (regions .entry)) (now (index .entry)))) (now (list .entry)) ⌝ }
-{
-    freelist_place::take_back(s, b, at, loans, regions, index);
-    let_go(s, a, true, head, chunks, regions, list)
-}
 
 // A block comes back. The memory numbers of the chunks that go then stand at the front of `list`.
 pub fn return_block(
@@ -73,12 +24,9 @@ pub fn return_block(
     ensures { λ r. ⌜ listed (releaseSaid (r .answer)) (r .account) (tables (now (head .exit)) (now (loans .exit)) (now (chunks .exit)) (now (regions .exit)) (now (index .exit))) (now (list .exit)) ≡ returnOf s a b (tables (now (head .entry)) (now (loans .entry)) (now (chunks .entry)) (now (regions .entry)) (now (index .entry))) (now (list .entry)) ⌝ }
 {
     let own = s.store;
-    let long = own.chunks <= list.len();
-    let plan = freelist_plan::plan_return(s, a, b, long, head, loans, chunks, regions, index);
-    match plan {
-        Back::Refuse(refusal) => store::refuse_return(a, refusal),
-        Back::From(at) => carry_return(s, a, b, at, head, loans, chunks, regions, index, list),
-    }
+    let h = store_accounts::share_of(own, a);
+    let r = freelist_calls::return_block(s, h, b, head, loans, chunks, regions, index, list);
+    store::released(own, a, r)
 }
 
 // Every wholly free chunk goes.
@@ -95,10 +43,7 @@ pub fn clean_up(
     ensures { λ r. ⌜ listed (releaseSaid (r .answer)) (r .account) (tables (now (head .exit)) (now (loans .entry)) (now (chunks .exit)) (now (regions .exit)) (now (index .entry))) (now (list .exit)) ≡ cleanUpOf s a (tables (now (head .entry)) (now (loans .entry)) (now (chunks .entry)) (now (regions .entry)) (now (index .entry))) (now (list .entry)) ⌝ }
 {
     let own = s.store;
-    let long = own.chunks <= list.len();
-    let verdict = freelist_gate::gate(s, a, long, head, loans, chunks, regions, index);
-    match verdict {
-        Gate::Shut(refusal) => store::refuse_return(a, refusal),
-        Gate::Go => let_go(s, a, false, head, chunks, regions, list),
-    }
+    let h = store_accounts::share_of(own, a);
+    let r = freelist_calls::clean_up(s, h, head, loans, chunks, regions, index, list);
+    store::released(own, a, r)
 }

@@ -1,29 +1,35 @@
 -- The gate's tests in the code's words. Assumes nothing.
-use mathlib.Core.Path.{_≡_, refl, ap, _∙_}
+use mathlib.Core.Path.{_≡_, refl, sym, ap, _∙_}
 use mathlib.Core.Bool.{Bool, true, false, _&&_}
 use mathlib.Core.List.{List, [], _∷_}
 use Prim.Native.Nat.{ℕ, _+_, _*_}
 use native.Mathlib.Omega.{arith}
 use lib.Dec.{eqb}
 use lib.ListN.{length, getD}
+use Rattle.lists.proofs.Bools.{and-left}
 use Rattle.words.specs.Words.{cellOf}
 use Rattle.words.specs.Rows.{row, rows}
 use Rattle.words.proofs.Records.{cell-row, rows-snoc}
 use Rattle.counter.specs.Account.{heapAt}
 use Rattle.counter.specs.Gate.{Verdict, pass, refuse}
-use Rattle.counter.specs.Table.{freeListOk, heapsOk}
+use Rattle.counter.specs.Table.{freeListOk, heapOk, heapsOk}
 use Rattle.counter.specs.declared.account.Account.{Account}
 use Rattle.counter.specs.declared.account.Heap.{Heap}
 use Rattle.counter.specs.declared.settings.FreeListSettings.{FreeListSettings}
+use Rattle.counter.proofs.Tables.{free-list-yes}
 use Rattle.store_rules.specs.Loans.{loanWords}
+use Rattle.store_rules.specs.Shares.{holding, orderBy, holder}
 use Rattle.store_rules.specs.Tests.{noOrder, coversOk}
 use Rattle.book_rules.specs.Book.{indexWords}
 use Rattle.freelist_rules.specs.Records.{chunkWords, chunkRow}
 use Rattle.freelist_rules.specs.Pieces.{total}
 use Rattle.freelist_rules.specs.Tables.{Tables, headWords, chunksAt, chunksIn, countAt, lengthsOk, storeOf, soundOk}
 use Rattle.store_rules.specs.declared.Chunk.{Chunk}
+use Rattle.store_rules.specs.declared.Share.{Share}
+use Rattle.store_rules.proofs.Shares.{held-heap, held-table, held-free}
 use Rattle.freelist_rules.proofs.GivesBack.{total-append}
 use Rattle.freelist_outcomes.specs.Gate.{lentOk, accountOk, gateOf}
+use Rattle.freelist_outcomes.proofs.Passing.{lent-in}
 use Rattle.freelist_gate.specs.Gates.{storeGate}
 
 module _ (s : FreeListSettings) (t : Tables) where
@@ -32,9 +38,17 @@ module _ (s : FreeListSettings) (t : Tables) where
   unfolding lengthsOk
   lengths-is count e = rw e refl
 
-  pub lent-yes : (a : Account) (h f : Bool) → freeListOk s ≡ true → h ≡ heapsOk (a .heaps) → f ≡ lengthsOk s t → (h && f) ≡ lentOk s a t
+  -- the share's word on all heaps and its own heap's test are the test of the heaps that hold it
+  pub lent-yes : (h : Share) (b f : Bool) → freeListOk s ≡ true → b ≡ heapOk (h .heap) → f ≡ lengthsOk s t → (h .table && (b && f)) ≡ lentOk s (holder (s .store) h) t
   unfolding lentOk
-  lent-yes a h f e p q = rw (e, p, q) refl
+  lent-yes h b f e p q =
+      let k : (h .table && b) ≡ heapsOk (holder (s .store) h .heaps) =
+      ap (λ (x : Bool). h .table && x) p ∙ sym (held-table (s .store) h (orderBy (h .free)) (free-list-yes s e .store .heap)) in
+      and-again (h .table) b f ∙ (λ j. k j && q j) ∙ rw e refl
+    where
+      and-again : (x y z : Bool) → (x && (y && z)) ≡ ((x && y) && z)
+      and-again true y z = refl
+      and-again false y z = refl
 
   pub lent-no : (a : Account) → freeListOk s ≡ false → false ≡ lentOk s a t
   unfolding lentOk
@@ -77,10 +91,26 @@ module _ (s : FreeListSettings) (a : Account) (t : Tables) (list : Bool) where
   unfolding gateOf
   gate-lent e = rw e refl
 
-  pub gate-order : (lentOk s a t && list) ≡ true → noOrder (a .order) ≡ false → refuse 2 ≡ gateOf s a t list
+  gate-order : (lentOk s a t && list) ≡ true → noOrder (a .order) ≡ false → refuse 2 ≡ gateOf s a t list
   unfolding gateOf
   gate-order e f = rw (e, f) refl
 
-  pub gate-rest : (v : Verdict) → (lentOk s a t && list) ≡ true → noOrder (a .order) ≡ true → v ≡ storeGate s (heapAt a (s .store .heap)) (a .objects) t → v ≡ gateOf s a t list
+  gate-rest : (v : Verdict) → (lentOk s a t && list) ≡ true → noOrder (a .order) ≡ true → v ≡ storeGate s (heapAt a (s .store .heap)) (a .objects) t → v ≡ gateOf s a t list
   unfolding gateOf storeGate accountOk
   gate-rest v e f g = g ∙ rw (e, f) refl
+
+-- the later tests, by the share
+module _ (s : FreeListSettings) (h : Share) (t : Tables) (list : Bool) where
+  abbrev held : Account
+  held = holder (s .store) h
+
+  pub gate-closed : (lentOk s held t && list) ≡ true → h .free ≡ false → refuse 2 ≡ gateOf s held t list
+  unfolding holding
+  gate-closed e f = gate-order s held t list e (held-free (h .free) ∙ f)
+
+  pub gate-open : (v : Verdict) → (lentOk s held t && list) ≡ true → h .free ≡ true → v ≡ storeGate s (h .heap) (h .objects) t → v ≡ gateOf s held t list
+  unfolding holding
+  gate-open v e f g =
+      let below = lent-in s held t (and-left (lentOk s held t) list e) .0 .store .heap in
+      gate-rest s held t list v e (held-free (h .free) ∙ f)
+      (g ∙ ap (λ (x : Heap). storeGate s x (h .objects) t) (sym (held-heap (s .store) h (orderBy (h .free)) below)))

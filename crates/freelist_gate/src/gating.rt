@@ -7,6 +7,7 @@ ghost use Rattle.words.specs.Rows.{rows};
 ghost use Rattle.counter.specs.Gate.{verdictOf};
 ghost use Rattle.counter.specs.InTable.{FreeListIn};
 ghost use Rattle.counter.specs.Limits.{chunksMost, chunkSizeMost};
+ghost use Rattle.store_rules.specs.Shares.{holder};
 ghost use Rattle.store_rules.specs.Tests.{coversOk};
 ghost use Rattle.freelist_rules.specs.Records.{chunkRow};
 ghost use Rattle.freelist_rules.specs.Pieces.{total};
@@ -14,7 +15,6 @@ ghost use Rattle.freelist_rules.specs.Tables.{tables, lengthsOk, chunksAt};
 ghost use Rattle.freelist_outcomes.specs.Gate.{lentOk, gateOf};
 ghost use Rattle.freelist_gate.specs.Gates.{storeGate};
 use book::ENTRY_WORDS;
-use counter::Account;
 use counter::FreeListSettings;
 use counter::Gate;
 use counter::Heap;
@@ -24,6 +24,7 @@ use freelist_rules::CHUNK_WORDS;
 use freelist_rules::CHUNKS_AT;
 use freelist_rules::HEAD_WORDS;
 use store_rules::LOAN_WORDS;
+use store_rules::Share;
 
 pub fn lengths_fit(
     s: FreeListSettings,
@@ -48,19 +49,19 @@ pub fn lengths_fit(
 // Test 1: every value, and every table's length.
 pub fn is_lent(
     s: FreeListSettings,
-    a: Account,
+    h: Share,
     head: &[u64],
     loans: &[u64],
     chunks: &[u64],
     regions: &[u64],
     index: &[u64],
 ) -> bool
-    ensures { λ r. ⌜ r ≡ lentOk s a (tables (now (head .entry)) (now (loans .entry)) (now (chunks .entry)) (now (regions .entry)) (now (index .entry))) ⌝ }
+    ensures { λ r. ⌜ r ≡ lentOk s (holder (s .store) h) (tables (now (head .entry)) (now (loans .entry)) (now (chunks .entry)) (now (regions .entry)) (now (index .entry))) ⌝ }
 {
     if s.in_table() {
-        let heaps = a.heaps;
+        let heap = h.heap;
         let fit = lengths_fit(s, head, loans, chunks, regions, index);
-        counter::heaps_in_table(heaps) & fit
+        h.table & (counter::heap_in_table(heap) & fit)
     } else {
         false
     }
@@ -115,7 +116,7 @@ fn gate_store(
 // The gate of an ask, a return and a clean-up. `list` says whether a release list is long enough.
 pub fn gate(
     s: FreeListSettings,
-    a: Account,
+    h: Share,
     list: bool,
     head: &[u64],
     loans: &[u64],
@@ -123,17 +124,15 @@ pub fn gate(
     regions: &[u64],
     index: &[u64],
 ) -> Gate
-    ensures { λ r. ⌜ verdictOf r ≡ gateOf s a (tables (now (head .entry)) (now (loans .entry)) (now (chunks .entry)) (now (regions .entry)) (now (index .entry))) list ⌝ }
+    ensures { λ r. ⌜ verdictOf r ≡ gateOf s (holder (s .store) h) (tables (now (head .entry)) (now (loans .entry)) (now (chunks .entry)) (now (regions .entry)) (now (index .entry))) list ⌝ }
 {
-    let lent = is_lent(s, a, head, loans, chunks, regions, index);
+    let lent = is_lent(s, h, head, loans, chunks, regions, index);
     if !(lent & list) {
         return Gate::Shut(Refusal::Setup);
     }
-    let order = a.order;
-    if !store_accounts::no_order(order) {
+    if !h.free {
         return Gate::Shut(Refusal::Order);
     }
-    let own = s.store;
-    let h = a.heap(own.heap);
-    gate_store(s, h, a.objects, head, loans, chunks, regions, index)
+    let heap = h.heap;
+    gate_store(s, heap, h.objects, head, loans, chunks, regions, index)
 }

@@ -17,3 +17,4 @@ pub mod Refused
 pub mod Accounts
 pub mod Again
 pub mod Told
+pub mod Shares

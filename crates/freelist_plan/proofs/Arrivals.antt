@@ -13,6 +13,7 @@ use Rattle.counter.specs.Gate.{Verdict, pass, refuse}
 use Rattle.counter.specs.declared.account.Account.{Account}
 use Rattle.counter.specs.declared.account.Heap.{Heap}
 use Rattle.counter.specs.declared.account.KeptOrder.{KeptOrder}
+use Rattle.counter.specs.declared.account.OpenOrder.{OpenOrder}
 use Rattle.counter.specs.declared.account.OpenOrder.the-variants.{Nothing, Kept}
 use Rattle.counter.specs.declared.account.Order.{Order}
 use Rattle.counter.specs.declared.answers.Memory.{Memory}
@@ -21,16 +22,20 @@ use Rattle.counter.specs.declared.answers.Outcome.the-variants as O
 use Rattle.counter.specs.declared.settings.FreeListSettings.{FreeListSettings}
 use Rattle.store_rules.specs.Delivery.{holds}
 use Rattle.store_rules.specs.Orders.{Plan, deny, take, buy, orderFrom, sameOrder, leadsTo}
+use Rattle.store_rules.specs.Shares.{holding, holder}
 use Rattle.store_rules.specs.Tests.{orderFor}
 use Rattle.store.specs.Comings.{knownIn}
 use Rattle.freelist_rules.specs.Records.{chunkWords, chunkRow}
 use Rattle.freelist_rules.specs.Tables.{Tables, tables, chunksAt, chunksIn, storeOf, soundOk}
 use Rattle.freelist_rules.specs.Walk.{memories}
 use Rattle.store_rules.specs.declared.Chunk.{Chunk}
+use Rattle.store_rules.specs.declared.Share.{Share}
+use Rattle.store_rules.proofs.Shares.{held-heap}
 use Rattle.freelist_outcomes.specs.Ask.{decideAsk}
 use Rattle.freelist_outcomes.specs.Deliver as Deliver
 use Rattle.freelist_outcomes.specs.Deliver.{stillOk, deliverGateOf, decideDeliver, planDeliver}
 use Rattle.freelist_outcomes.specs.Gate.{lentOk, accountOk}
+use Rattle.freelist_outcomes.proofs.Passing.{lent-in}
 use Rattle.freelist_plan.specs.Comings.{keptGate}
 use Rattle.freelist_gate.proofs.Gates.{covered}
 use Rattle.freelist_plan.proofs.Planned.{ask-few}
@@ -73,21 +78,43 @@ module _ (s : FreeListSettings) (h : Heap) (objects : ℕ) (k : KeptOrder) (t : 
   kept-go e f g = rw (e, sym still-is ∙ f, g) refl
 
 module _ (s : FreeListSettings) (a : Account) (t : Tables) where
-  pub delivery-lent : lentOk s a t ≡ false → refuse 1 ≡ deliverGateOf s a t
+  lent-not : lentOk s a t ≡ false → refuse 1 ≡ deliverGateOf s a t
   unfolding deliverGateOf
-  delivery-lent e = rw e refl
+  lent-not e = rw e refl
 
-  pub delivery-order : lentOk s a t ≡ true → orderFor (s .store .number) (a .order) ≡ false → refuse 2 ≡ deliverGateOf s a t
+  order-not : lentOk s a t ≡ true → orderFor (s .store .number) (a .order) ≡ false → refuse 2 ≡ deliverGateOf s a t
   unfolding deliverGateOf
-  delivery-order e f = rw (e, f) refl
+  order-not e f = rw (e, f) refl
+
+  order-kept : (h : Heap) (v : Verdict) (k : KeptOrder) → lentOk s a t ≡ true → orderFor (s .store .number) (a .order) ≡ true → a .order ≡ Kept k → h ≡ heapAt a (s .store .heap) → v ≡ keptGate s h (a .objects) k t → v ≡ deliverGateOf s a t
+  unfolding deliverGateOf keptGate accountOk
+  order-kept h v k e f o p g = g ∙ ap (λ (x : Heap). keptGate s x (a .objects) k t) p ∙ rw (e, f, ap (stillOk s a t) o) refl
+
+-- by the share and the order
+module _ (s : FreeListSettings) (h : Share) (order : OpenOrder) (t : Tables) where
+  abbrev held : Account
+  held = holding (s .store) h order
+
+  -- test 1 looks at no order
+  lent-held : {b : Bool} → lentOk s (holder (s .store) h) t ≡ b → lentOk s held t ≡ b
+  unfolding lentOk holding
+  lent-held e = e
+
+  pub delivery-lent : lentOk s (holder (s .store) h) t ≡ false → refuse 1 ≡ deliverGateOf s held t
+  delivery-lent e = lent-not s held t (lent-held e)
+
+  pub delivery-order : lentOk s (holder (s .store) h) t ≡ true → orderFor (s .store .number) order ≡ false → refuse 2 ≡ deliverGateOf s held t
+  unfolding holding
+  delivery-order e f = order-not s held t (lent-held e) f
 
   -- no order is open
-  pub delivery-none : lentOk s a t ≡ true → a .order ≡ Nothing → refuse 2 ≡ deliverGateOf s a t
+  pub delivery-none : lentOk s (holder (s .store) h) t ≡ true → order ≡ Nothing → refuse 2 ≡ deliverGateOf s held t
   delivery-none e f = delivery-order e (ap (orderFor (s .store .number)) f)
 
-  pub delivery-kept : (h : Heap) (v : Verdict) (k : KeptOrder) → lentOk s a t ≡ true → orderFor (s .store .number) (a .order) ≡ true → a .order ≡ Kept k → h ≡ heapAt a (s .store .heap) → v ≡ keptGate s h (a .objects) k t → v ≡ deliverGateOf s a t
-  unfolding deliverGateOf keptGate accountOk
-  delivery-kept h v k e f o p g = g ∙ ap (λ (x : Heap). keptGate s x (a .objects) k t) p ∙ rw (e, f, ap (stillOk s a t) o) refl
+  pub delivery-kept : (v : Verdict) (k : KeptOrder) → lentOk s (holder (s .store) h) t ≡ true → orderFor (s .store .number) order ≡ true → order ≡ Kept k → v ≡ keptGate s (h .heap) (h .objects) k t → v ≡ deliverGateOf s held t
+  unfolding holding
+  delivery-kept v k e f o g =
+      order-kept s held t (h .heap) v k (lent-held e) f o (sym (held-heap (s .store) h order (lent-in s held t (lent-held e) .0 .store .heap))) g
 
 -- ---- memories held
 
@@ -118,6 +145,12 @@ module _ (s : FreeListSettings) (a : Account) (o : Outcome) (t : Tables) where
   unfolding planDeliver
   plan-shut v n e f = rw (sym f ∙ e) refl
 
-  pub plan-go : (v : Verdict) (p : Deliver.Arrival) → v ≡ pass → v ≡ deliverGateOf s a t → p ≡ decideDeliver o (memories (rows chunkRow (chunksIn t) (t .chunks))) (a .order) → p ≡ planDeliver s a o t
+  went : (v : Verdict) (p : Deliver.Arrival) → v ≡ pass → v ≡ deliverGateOf s a t → p ≡ decideDeliver o (memories (rows chunkRow (chunksIn t) (t .chunks))) (a .order) → p ≡ planDeliver s a o t
   unfolding planDeliver storeOf
-  plan-go v p e f g = g ∙ rw (sym f ∙ e) refl
+  went v p e f g = g ∙ rw (sym f ∙ e) refl
+
+pub plan-go : (s : FreeListSettings) (h : Share) (order : OpenOrder) (o : Outcome) (t : Tables) (v : Verdict) (p : Deliver.Arrival) → v ≡ pass
+    → v ≡ deliverGateOf s (holding (s .store) h order) t → p ≡ decideDeliver o (memories (rows chunkRow (chunksIn t) (t .chunks))) order
+    → p ≡ planDeliver s (holding (s .store) h order) o t
+unfolding holding
+plan-go s h order o t v p e f g = went s (holding (s .store) h order) o t v p e f g

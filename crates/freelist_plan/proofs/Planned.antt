@@ -10,12 +10,16 @@ use Rattle.counter.specs.declared.account.Heap.{Heap}
 use Rattle.counter.specs.declared.answers.Block.{Block}
 use Rattle.counter.specs.declared.settings.FreeListSettings.{FreeListSettings}
 use Rattle.store_rules.specs.Orders.{Plan, deny}
+use Rattle.store_rules.specs.Shares.{holding, orderBy, holder}
+use Rattle.store_rules.specs.declared.Share.{Share}
+use Rattle.store_rules.proofs.Shares.{held-heap}
 use Rattle.book_rules.specs.Returns as Returns
 use Rattle.freelist_rules.specs.Place.{Found, nowhere, at}
 use Rattle.freelist_rules.specs.Tables.{Tables, tables, placesIn, storeOf}
 use Rattle.freelist_outcomes.specs.Gate.{gateOf}
 use Rattle.freelist_outcomes.specs.Return.{onLoanOk, decideReturn, planReturn}
 use Rattle.freelist_outcomes.specs.Ask.{roomOk, countOk, objectsOk, foundFor, askRow, planned, decideAsk, planAsk}
+use Rattle.freelist_outcomes.proofs.Passing.{gate-passed}
 
 module _ (s : FreeListSettings) (a : Account) (t : Tables) where
   -- ---- an ask
@@ -40,13 +44,24 @@ module _ (s : FreeListSettings) (h : Heap) (objects size mask : ℕ) (t : Tables
   unfolding decideAsk roomOk countOk objectsOk storeOf
   ask-few = same (foundFor s size mask t) (first (askRow s h objects size mask t (foundFor s size mask t)))
 
-pub ask-go : (s : FreeListSettings) (a : Account) (size mask : ℕ) (head loans chunks regions index : List ℕ) (h : Heap) (p : Plan ℕ)
-    → pass ≡ gateOf s a (tables head loans chunks regions index) true → h ≡ heapAt a (s .store .heap)
-    → p ≡ decideAsk s h (a .objects) size mask (tables head [] [] regions index) → p ≡ planAsk s a size mask (tables head loans chunks regions index)
-unfolding planAsk
-ask-go s a size mask head loans chunks regions index h p g k e =
-    e ∙ ap (λ (x : Heap). decideAsk s x (a .objects) size mask (tables head [] [] regions index)) k
-    ∙ ask-few s (heapAt a (s .store .heap)) (a .objects) size mask (tables head loans chunks regions index) ∙ rw (sym g) refl
+module _ (s : FreeListSettings) (size mask : ℕ) (head loans chunks regions index : List ℕ) where
+  abbrev now : Tables
+  now = tables head loans chunks regions index
+
+  went : (a : Account) (h : Heap) (p : Plan ℕ) → pass ≡ gateOf s a now true → h ≡ heapAt a (s .store .heap)
+      → p ≡ decideAsk s h (a .objects) size mask (tables head [] [] regions index) → p ≡ planAsk s a size mask now
+  unfolding planAsk
+  went a h p g k e =
+      e ∙ ap (λ (x : Heap). decideAsk s x (a .objects) size mask (tables head [] [] regions index)) k
+      ∙ ask-few s (heapAt a (s .store .heap)) (a .objects) size mask now ∙ rw (sym g) refl
+
+  -- by the share
+  pub ask-go : (h : Share) (p : Plan ℕ) → pass ≡ gateOf s (holder (s .store) h) now true
+      → p ≡ decideAsk s (h .heap) (h .objects) size mask (tables head [] [] regions index) → p ≡ planAsk s (holder (s .store) h) size mask now
+  unfolding holding
+  ask-go h p g e =
+      let below = gate-passed s (holder (s .store) h) now true g .settings .store .heap in
+      went (holder (s .store) h) (h .heap) p g (sym (held-heap (s .store) h (orderBy (h .free)) below)) e
 
 -- ---- a return
 

@@ -4,14 +4,15 @@ ghost use mathlib.Core.Bool.{true};
 ghost use Rattle.freelist_rules.specs.Tables.{tables};
 ghost use Rattle.freelist_outcomes.specs.Ask.{planAsk};
 ghost use Rattle.freelist_decide.specs.Plans.{planOf};
-use counter::Account;
+ghost use Rattle.store_rules.specs.Shares.{holder};
 use counter::FreeListSettings;
 use counter::Gate;
 use freelist_decide::Plan;
+use store_rules::Share;
 
 pub fn plan_ask(
     s: FreeListSettings,
-    a: Account,
+    h: Share,
     size: u64,
     mask: u64,
     head: &[u64],
@@ -20,15 +21,14 @@ pub fn plan_ask(
     regions: &[u64],
     index: &[u64],
 ) -> Plan
-    ensures { λ r. ⌜ planOf r ≡ planAsk s a size mask (tables (now (head .entry)) (now (loans .entry)) (now (chunks .entry)) (now (regions .entry)) (now (index .entry))) ⌝ }
+    ensures { λ r. ⌜ planOf r ≡ planAsk s (holder (s .store) h) size mask (tables (now (head .entry)) (now (loans .entry)) (now (chunks .entry)) (now (regions .entry)) (now (index .entry))) ⌝ }
 {
-    let g = freelist_gate::gate(s, a, true, head, loans, chunks, regions, index);
+    let g = freelist_gate::gate(s, h, true, head, loans, chunks, regions, index);
     match g {
         Gate::Shut(refusal) => Plan::Refuse(refusal),
         Gate::Go => {
-            let own = s.store;
-            let h = a.heap(own.heap);
-            freelist_decide::decide(s, h, a.objects, size, mask, head, regions, index)
+            let heap = h.heap;
+            freelist_decide::decide(s, heap, h.objects, size, mask, head, regions, index)
         }
     }
 }

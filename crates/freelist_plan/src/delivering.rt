@@ -15,7 +15,7 @@ ghost use Rattle.freelist_rules.specs.Walk.{memories};
 ghost use Rattle.freelist_outcomes.specs.Ask.{decideAsk};
 ghost use Rattle.freelist_outcomes.specs.Deliver.{deliverGateOf, decideDeliver, planDeliver};
 ghost use Rattle.freelist_plan.specs.Comings.{keptGate};
-use counter::Account;
+ghost use Rattle.store_rules.specs.Shares.{holding};
 use counter::FreeListSettings;
 use counter::Gate;
 use counter::Heap;
@@ -29,6 +29,7 @@ use freelist_rules::CHUNK_WORDS;
 use freelist_rules::CHUNKS_AT;
 use store::Coming;
 use store::Engine;
+use store_rules::Share;
 
 // Whether the kept ask still leads to the order that was told.
 fn is_still(
@@ -84,27 +85,27 @@ fn gate_kept(
 // The gate of a delivery: an order has to be open for this store.
 fn gate_delivery(
     s: FreeListSettings,
-    a: Account,
+    h: Share,
+    order: OpenOrder,
     head: &[u64],
     loans: &[u64],
     chunks: &[u64],
     regions: &[u64],
     index: &[u64],
 ) -> Gate
-    ensures { λ r. ⌜ verdictOf r ≡ deliverGateOf s a (tables (now (head .entry)) (now (loans .entry)) (now (chunks .entry)) (now (regions .entry)) (now (index .entry))) ⌝ }
+    ensures { λ r. ⌜ verdictOf r ≡ deliverGateOf s (holding (s .store) h order) (tables (now (head .entry)) (now (loans .entry)) (now (chunks .entry)) (now (regions .entry)) (now (index .entry))) ⌝ }
 {
-    if !freelist_gate::is_lent(s, a, head, loans, chunks, regions, index) {
+    if !freelist_gate::is_lent(s, h, head, loans, chunks, regions, index) {
         return Gate::Shut(Refusal::Setup);
     }
     let own = s.store;
-    let order = a.order;
     if !store_accounts::is_open_for(own.number, order) {
         return Gate::Shut(Refusal::Order);
     }
-    let h = a.heap(own.heap);
+    let heap = h.heap;
     match order {
         OpenOrder::Nothing => Gate::Shut(Refusal::Order),
-        OpenOrder::Kept(k) => gate_kept(s, h, a.objects, k, head, loans, chunks, regions, index),
+        OpenOrder::Kept(k) => gate_kept(s, heap, h.objects, k, head, loans, chunks, regions, index),
     }
 }
 
@@ -141,7 +142,8 @@ fn decide_delivery(order: OpenOrder, o: Outcome, head: &[u64], chunks: &[u64]) -
 
 pub fn plan_deliver(
     s: FreeListSettings,
-    a: Account,
+    h: Share,
+    order: OpenOrder,
     o: Outcome,
     head: &[u64],
     loans: &[u64],
@@ -149,10 +151,9 @@ pub fn plan_deliver(
     regions: &[u64],
     index: &[u64],
 ) -> Coming
-    ensures { λ r. ⌜ comingOf r ≡ planDeliver s a o (tables (now (head .entry)) (now (loans .entry)) (now (chunks .entry)) (now (regions .entry)) (now (index .entry))) ⌝ }
+    ensures { λ r. ⌜ comingOf r ≡ planDeliver s (holding (s .store) h order) o (tables (now (head .entry)) (now (loans .entry)) (now (chunks .entry)) (now (regions .entry)) (now (index .entry))) ⌝ }
 {
-    let g = gate_delivery(s, a, head, loans, chunks, regions, index);
-    let order = a.order;
+    let g = gate_delivery(s, h, order, head, loans, chunks, regions, index);
     match g {
         Gate::Shut(r) => Coming::Refuse(r),
         Gate::Go => decide_delivery(order, o, head, chunks),

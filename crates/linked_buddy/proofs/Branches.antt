@@ -7,17 +7,23 @@ use Rattle.lists.proofs.Bools.{and-left, and-right}
 use Rattle.counter.specs.Paper.{Said}
 use Rattle.counter.specs.Paper as Paper
 use Rattle.counter.specs.declared.account.Account.{Account}
+use Rattle.counter.specs.declared.account.OpenOrder.{OpenOrder}
 use Rattle.counter.specs.declared.answers.Block.{Block}
 use Rattle.counter.specs.declared.answers.Outcome.{Outcome}
 use Rattle.counter.specs.declared.settings.BuddySettings.{BuddySettings}
 use Rattle.store_rules.specs.Outcomes.{out, listed}
+use Rattle.store_rules.specs.Shares.{shareOf, withShare, holding, holder, askLeft}
+use Rattle.store_rules.specs.declared.Share.{Share}
+use Rattle.store.proofs.Wholes.{whole-ask, whole-deliver, whole-listed}
 use Rattle.buddy_stores.specs.Tables.{Tables}
 use Rattle.buddy_outcomes.specs.Ask.{askOf}
 use Rattle.buddy_outcomes.specs.Deliver.{deliverOf}
 use Rattle.buddy_outcomes.specs.Return.{returnOf}
 use Rattle.buddy_outcomes.specs.SetUp.{SetUp, setUp, setUpOf}
+use Rattle.buddy_outcomes.proofs.Shares.{ask-alike, deliver-alike, return-alike}
 use Rattle.wire_rules.specs.Linked.{Left, left, untouched}
-use Rattle.wire_rules.specs.Wire.{buddyWords, buddyIn, settingsOk, accountIn, accountOk, accountOut, outcomeIn, outcomeOk, saidOut}
+use Rattle.wire_rules.specs.Wire.{buddyWords, buddyIn, settingsOk, orderIn, accountIn, accountOk, orderOut, accountOut, shareOut, askedOut, outcomeIn, outcomeOk, saidOut}
+use Rattle.wire_rules.proofs.Shares.{holds, holds-order, order-held, asked-out, share-out, released-out}
 use Rattle.linked_buddy.specs.Calls.{listing, rightOk, linkedSetUp, leftBy, leftListed, linkedAsk, linkedDeliver, linkedReturn}
 
 -- ---- set-up; v is the lent answer, v′ what is left in it
@@ -71,15 +77,22 @@ module _ (s w : List ℕ) (p q : Bool) (ep : p ≡ settingsOk buddyWords s) (eq 
   account-right e = and-right (settingsOk buddyWords s) _ (both true e)
 
   module _ (size mask : ℕ) (t : Tables) where
-    -- both are right: the account that the ask left is written, and its answer told
-    pub ask-made : (w′ v v′ : List ℕ) (t′ : Tables) (said : Said) (account : Account) (s′ : BuddySettings) (a : Account)
-        → (p && q) ≡ true → s′ ≡ buddyIn s → a ≡ accountIn w → out said account t′ ≡ askOf s′ a size mask t
-        → w′ ≡ accountOut account w → v′ ≡ saidOut said v → Leaves (linkedAsk s w size mask t) w′ t′ v v′
+    -- both are right: of the share that was read, what the ask left of the account is written, and its answer told
+    pub ask-made : (w′ v v′ : List ℕ) (t′ : Tables) (said : Said) (s′ : BuddySettings) (h : Share)
+        → (p && q) ≡ true → s′ ≡ buddyIn s → h ≡ shareOf (s′ .store) (accountIn w)
+        → out said (askLeft (holder (s′ .store) h) size mask said) t′ ≡ askOf s′ (holder (s′ .store) h) size mask t
+        → w′ ≡ askedOut size mask said w → v′ ≡ saidOut said v → Leaves (linkedAsk s w size mask t) w′ t′ v v′
     unfolding linkedAsk
-    ask-made w′ v v′ t′ said account s′ a right es ea r f g =
+    ask-made w′ v v′ t′ said s′ h right es eh r f g =
         let o : rightOk s w ≡ true = both true right in
-        leaves-made (linkedAsk s w size mask t) w w′ v v′ t′ said account
-        (ap (leftBy w) r ∙ (λ j. leftBy w (askOf (es j) (ea j) size mask t)) ∙ sym (rw o refl)) f g
+        let a = accountIn w in
+        let b = holder (s′ .store) h in
+        let alike = ask-alike s′ a b (holds (s′ .store) w h eh) size mask t in
+        let r′ : out said (askLeft a size mask said) t′ ≡ askOf s′ a size mask t = whole-ask (s′ .store) a said t′ size mask b _ _ alike r in
+        leaves-made (linkedAsk s w size mask t) w w′ v v′ t′ said (askLeft a size mask said)
+        (ap (leftBy w) r′ ∙ (λ j. leftBy w (askOf (es j) a size mask t)) ∙ sym (rw o refl))
+        (f ∙ sym (asked-out w (account-right right) size mask said))
+        g
 
     -- one is not: 1 is told, and nothing changes
     pub ask-bad : (v v′ : List ℕ) → (p && q) ≡ false → v′ ≡ saidOut (Paper.refusal 1 []) v → Leaves (linkedAsk s w size mask t) w t v v′
@@ -91,15 +104,23 @@ module _ (s w : List ℕ) (p q : Bool) (ep : p ≡ settingsOk buddyWords s) (eq 
     all : (x : Bool) → ((p && q) && z) ≡ x → (rightOk s w && outcomeOk what mapping) ≡ x
     all x e = (λ j. both (p && q) refl j && sym ez j) ∙ e
 
-    -- all three are right
-    pub deliver-made : (w′ v v′ : List ℕ) (t′ : Tables) (said : Said) (account : Account) (s′ : BuddySettings) (a : Account) (o : Outcome)
-        → ((p && q) && z) ≡ true → s′ ≡ buddyIn s → a ≡ accountIn w → o ≡ outcomeIn what memory mapping → out said account t′ ≡ deliverOf s′ a o t
-        → w′ ≡ accountOut account w → v′ ≡ saidOut said v → Leaves (linkedDeliver s w what memory mapping t) w′ t′ v v′
+    -- all three are right: the share and the order that the delivery left are written one after the other
+    pub deliver-made : (w″ w′ v v′ : List ℕ) (t′ : Tables) (said : Said) (s′ : BuddySettings) (h h′ : Share) (n n′ : OpenOrder) (o : Outcome)
+        → ((p && q) && z) ≡ true → s′ ≡ buddyIn s → h ≡ shareOf (s′ .store) (accountIn w) → n ≡ orderIn w → o ≡ outcomeIn what memory mapping
+        → out said (holding (s′ .store) h′ n′) t′ ≡ deliverOf s′ (holding (s′ .store) h n) o t
+        → w″ ≡ shareOut (s′ .store .heap) h′ w → w′ ≡ orderOut n′ w″ → v′ ≡ saidOut said v → Leaves (linkedDeliver s w what memory mapping t) w′ t′ v v′
     unfolding linkedDeliver
-    deliver-made w′ v v′ t′ said account s′ a o right es ea eo r f g =
+    deliver-made w″ w′ v v′ t′ said s′ h h′ n n′ o right es eh en eo r f f′ g =
         let k : (rightOk s w && outcomeOk what mapping) ≡ true = all true right in
-        leaves-made (linkedDeliver s w what memory mapping t) w w′ v v′ t′ said account
-        (ap (leftBy w) r ∙ (λ j. leftBy w (deliverOf (es j) (ea j) (eo j) t)) ∙ sym (rw k refl)) f g
+        let a = accountIn w in
+        let b = holding (s′ .store) h n in
+        let after = withShare (s′ .store) a h′ n′ in
+        let alike = deliver-alike s′ a b (holds-order (s′ .store) w h eh n en) (order-held (s′ .store) w h eh n en) o t in
+        let r′ : out said after t′ ≡ deliverOf s′ a o t = whole-deliver (s′ .store) a said t′ h′ n′ _ _ alike r in
+        leaves-made (linkedDeliver s w what memory mapping t) w w′ v v′ t′ said after
+        (ap (leftBy w) r′ ∙ (λ j. leftBy w (deliverOf (es j) a (eo j) t)) ∙ sym (rw k refl))
+        (f′ ∙ ap (orderOut n′) f ∙ sym (share-out w (s′ .store) h′ n′))
+        g
 
     -- one is not
     pub deliver-bad : (v v′ : List ℕ) → ((p && q) && z) ≡ false → v′ ≡ saidOut (Paper.refusal 1 []) v → Leaves (linkedDeliver s w what memory mapping t) w t v v′
@@ -110,14 +131,21 @@ module _ (s w : List ℕ) (p q : Bool) (ep : p ≡ settingsOk buddyWords s) (eq 
 
   module _ (b : Block) (t : Tables) (list : List ℕ) where
     -- both are right; the list is left as the return left it
-    pub return-made : (w′ v v′ : List ℕ) (t′ : Tables) (list′ : List ℕ) (said : Said) (account : Account) (s′ : BuddySettings) (a : Account)
-        → (p && q) ≡ true → s′ ≡ buddyIn s → a ≡ accountIn w → listed said account t′ list′ ≡ returnOf s′ a b t list
-        → w′ ≡ accountOut account w → v′ ≡ saidOut said v → Leaves (linkedReturn s w b t list) w′ (listing t′ list′) v v′
+    pub return-made : (w′ v v′ : List ℕ) (t′ : Tables) (list′ : List ℕ) (said : Said) (s′ : BuddySettings) (h h′ : Share)
+        → (p && q) ≡ true → s′ ≡ buddyIn s → h ≡ shareOf (s′ .store) (accountIn w)
+        → listed said (holder (s′ .store) h′) t′ list′ ≡ returnOf s′ (holder (s′ .store) h) b t list
+        → w′ ≡ shareOut (s′ .store .heap) h′ w → v′ ≡ saidOut said v → Leaves (linkedReturn s w b t list) w′ (listing t′ list′) v v′
     unfolding linkedReturn
-    return-made w′ v v′ t′ list′ said account s′ a right es ea r f g =
+    return-made w′ v v′ t′ list′ said s′ h h′ right es eh r f g =
         let o : rightOk s w ≡ true = both true right in
-        leaves-made (linkedReturn s w b t list) w w′ v v′ (listing t′ list′) said account
-        (ap (leftListed w) r ∙ (λ j. leftListed w (returnOf (es j) (ea j) b t list)) ∙ sym (rw o refl)) f g
+        let a = accountIn w in
+        let after = withShare (s′ .store) a h′ (orderIn w) in
+        let alike = return-alike s′ a (holder (s′ .store) h) (holds (s′ .store) w h eh) b t list in
+        let r′ : listed said after t′ list′ ≡ returnOf s′ a b t list = whole-listed (s′ .store) a said t′ list′ h′ _ _ alike r in
+        leaves-made (linkedReturn s w b t list) w w′ v v′ (listing t′ list′) said after
+        (ap (leftListed w) r′ ∙ (λ j. leftListed w (returnOf (es j) a b t list)) ∙ sym (rw o refl))
+        (f ∙ sym (released-out w (account-right right) (s′ .store) h′))
+        g
 
     -- one is not
     pub return-bad : (v v′ : List ℕ) → (p && q) ≡ false → v′ ≡ saidOut (Paper.refusal 1 []) v → Leaves (linkedReturn s w b t list) w (listing t list) v v′

@@ -47,11 +47,11 @@ pub extern "C" fn tibrezkam_buddy_ask(
 {
     if wire::is_settings(settings, BUDDY_WORDS) & wire_account::is_account(account) {
         let s = wire::read_buddy(settings);
-        let a = wire_account::read_account(account);
-        let r = buddy::ask(s, a, size, mask, head, loans, chunks, index, tree);
-        let after = r.account;
-        let said = r.answer;
-        wire_account::put_account(account, after);
+        let own = s.store;
+        let table = wire_account::heaps_in_table(account);
+        let h = wire_account::read_share(account, own, table);
+        let said = buddy_calls::ask(s, h, size, mask, head, loans, chunks, index, tree);
+        wire_account::put_asked(account, size, mask, said);
         wire::tell_asked(answer, said);
     } else {
         wire::tell_bad(answer);
@@ -81,12 +81,17 @@ pub extern "C" fn tibrezkam_buddy_deliver(
         & wire::is_outcome(what, mapping)
     {
         let s = wire::read_buddy(settings);
-        let a = wire_account::read_account(account);
+        let own = s.store;
+        let table = wire_account::heaps_in_table(account);
+        let h = wire_account::read_share(account, own, table);
         let o = wire::read_outcome(what, memory, mapping);
-        let r = buddy::deliver(s, a, o, head, loans, chunks, index, tree);
-        let after = r.account;
+        let order = wire_account::read_order(account);
+        let r = buddy_calls::deliver(s, h, order, o, head, loans, chunks, index, tree);
+        let after = r.share;
+        let open = r.order;
         let said = r.answer;
-        wire_account::put_account(account, after);
+        wire_account::put_share(account, own, after);
+        wire_account::put_order(account, open);
         wire::tell_delivered(answer, said);
     } else {
         wire::tell_bad(answer);
@@ -115,17 +120,19 @@ pub extern "C" fn tibrezkam_buddy_return(
 {
     if wire::is_settings(settings, BUDDY_WORDS) & wire_account::is_account(account) {
         let s = wire::read_buddy(settings);
-        let a = wire_account::read_account(account);
+        let own = s.store;
+        let table = wire_account::heaps_in_table(account);
+        let h = wire_account::read_share(account, own, table);
         let b = Block {
             serial: serial,
             chunk: chunk,
             offset: offset,
             size: size,
         };
-        let r = buddy::return_block(s, a, b, head, loans, chunks, index, tree, list);
-        let after = r.account;
+        let r = buddy_calls::return_block(s, h, b, head, loans, chunks, index, tree, list);
+        let after = r.share;
         let said = r.answer;
-        wire_account::put_account(account, after);
+        wire_account::put_share(account, own, after);
         wire::tell_released(answer, said);
     } else {
         wire::tell_bad(answer);

@@ -5,18 +5,23 @@ use mathlib.Core.List.{List, []}
 use Prim.Native.Nat.{ℕ}
 use Rattle.counter.specs.Paper.{Said, refusal}
 use Rattle.counter.specs.declared.account.Account.{Account}
+use Rattle.counter.specs.declared.account.OpenOrder.{OpenOrder}
 use Rattle.counter.specs.declared.answers.Block.{Block}
 use Rattle.counter.specs.declared.answers.Outcome.{Outcome}
 use Rattle.counter.specs.declared.settings.FreeListSettings.{FreeListSettings}
-use Rattle.store_rules.specs.Outcomes.{Out, out, Listed, listed}
+use Rattle.store_rules.specs.Outcomes.{out, listed}
+use Rattle.store_rules.specs.Shares.{shareOf, withShare, holding, holder, askLeft}
+use Rattle.store_rules.specs.declared.Share.{Share}
+use Rattle.store.proofs.Wholes.{whole-ask, whole-deliver, whole-listed}
 use Rattle.freelist_rules.specs.Tables.{Tables}
 use Rattle.freelist_outcomes.specs.Ask.{askOf}
 use Rattle.freelist_outcomes.specs.Deliver.{deliverOf}
 use Rattle.freelist_outcomes.specs.Return.{returnOf, cleanUpOf}
 use Rattle.freelist_outcomes.specs.SetUp.{SetUp, setUp, setUpOf}
-use Rattle.wire_rules.specs.Linked.{left, lentRight}
-use Rattle.wire_rules.specs.Wire.{listWords, listIn, settingsOk, accountIn, accountOk, outcomeIn, outcomeOk, accountOut, saidOut}
-use Rattle.wire_rules.proofs.Lent.{both-tested, all-tested, call-made, call-refused, Ends, ends-made, ends-refused}
+use Rattle.freelist_outcomes.proofs.Shares.{ask-alike, deliver-alike, return-alike, clean-up-alike}
+use Rattle.wire_rules.specs.Wire.{listWords, listIn, settingsOk, orderIn, accountIn, accountOk, outcomeIn, outcomeOk, orderOut, accountOut, shareOut, askedOut, saidOut}
+use Rattle.wire_rules.proofs.Lent.{both-tested, all-tested, both-right, call-made, call-refused, Ends, ends-made, ends-refused}
+use Rattle.wire_rules.proofs.Shares.{holds, holds-order, order-held, asked-out, share-out, released-out}
 use Rattle.linked_list.specs.Calls.{listing, rightOk, leftBy, leftListed, linkedSetUp, linkedAsk, linkedDeliver, linkedReturn, linkedCleanUp}
 
 -- ---- set-up
@@ -47,21 +52,11 @@ module _ (s : List ℕ) (t : Tables) (p : Bool) (w v : List ℕ) (e : p ≡ sett
       (ap (λ (b : Bool). cond b (setUpOf (listIn s) t) (setUp (refusal 1 []) t)) (sym e ∙ h))
       k
 
--- ---- a call with an account: what it was given is what was read
+-- ---- a call with an account
 
-module _ (s a : List ℕ) (own : FreeListSettings) (b : Account) (f : own ≡ listIn s) (g : b ≡ accountIn a) where
-  read : {R : Type 0} (call : FreeListSettings → Account → R) (r : R) → r ≡ call own b → call (listIn s) (accountIn a) ≡ r
-  read call r e = sym (e ∙ ap (λ (x : FreeListSettings). call x b) f ∙ ap (call (listIn s)) g)
-
-  made : (ok : Bool) (t u : Tables) (said : Said) (after : Account) (call : FreeListSettings → Account → Out Tables) → ok ≡ true
-      → out said after u ≡ call own b → lentRight ok a t (leftBy a (call (listIn s) (accountIn a))) ≡ left a said after u
-  made ok t u said after call e h = call-made ok a t _ _ e (ap (leftBy a) (read call (out said after u) h))
-
-  made-listed : (ok : Bool) (t u : Tables) (list left-list : List ℕ) (said : Said) (after : Account)
-      (call : FreeListSettings → Account → Listed Tables) → ok ≡ true → listed said after u left-list ≡ call own b
-      → lentRight ok a (listing t list) (leftListed a (call (listIn s) (accountIn a))) ≡ left a said after (listing u left-list)
-  made-listed ok t u list left-list said after call e h =
-      call-made ok a (listing t list) _ _ e (ap (leftListed a) (read call (listed said after u left-list) h))
+-- what it was given is what was read
+read : {R : Type 0} (s : List ℕ) (own : FreeListSettings) (call : FreeListSettings → R) (r : R) → own ≡ listIn s → r ≡ call own → call (listIn s) ≡ r
+read s own call r f e = sym (e ∙ ap call f)
 
 -- ---- the calls, by what their tests said
 
@@ -72,40 +67,66 @@ module _ (s a : List ℕ) (p q : Bool) (w v : List ℕ) (d : p ≡ settingsOk li
   are-right : (what mapping : ℕ) (r b : Bool) → r ≡ outcomeOk what mapping → ((p && q) && r) ≡ b → (rightOk s a && outcomeOk what mapping) ≡ b
   are-right what mapping r b k h = all-tested listWords s a what mapping p q r d e k ∙ h
 
-  -- made: read, asked, and account and answer written
-  module _ (own : FreeListSettings) (b after : Account) (c : List ℕ) (t u : Tables) (said : Said) where
-    pub ask-made : (size mask : ℕ) → (p && q) ≡ true → own ≡ listIn s → b ≡ accountIn a → out said after u ≡ askOf own b size mask t
-        → c ≡ accountOut after a → v ≡ saidOut said w → Ends c u w v (linkedAsk s a size mask t)
+  -- made: the share read, the call made of it, and what it changed of the account and the answer written
+  module _ (own : FreeListSettings) (h : Share) (c : List ℕ) (t u : Tables) (said : Said) (f : own ≡ listIn s) (g : h ≡ shareOf (own .store) (accountIn a)) where
+    pub ask-made : (size mask : ℕ) → (p && q) ≡ true
+        → out said (askLeft (holder (own .store) h) size mask said) u ≡ askOf own (holder (own .store) h) size mask t
+        → c ≡ askedOut size mask said a → v ≡ saidOut said w → Ends c u w v (linkedAsk s a size mask t)
     unfolding linkedAsk
-    ask-made size mask h f g k =
-        ends-made a c w v u said after (linkedAsk s a size mask t)
-        (made s a own b f g (rightOk s a) t u said after (λ x y. askOf x y size mask t) (is-right true h) k)
+    ask-made size mask y k m =
+        ends-made a c w v u said (askLeft (accountIn a) size mask said) (linkedAsk s a size mask t)
+        (call-made (rightOk s a) a t _ _ (is-right true y)
+        (ap (leftBy a)
+        (read s own (λ x. askOf x (accountIn a) size mask t) (out said (askLeft (accountIn a) size mask said) u) f
+        (whole-ask (own .store) (accountIn a) said u size mask (holder (own .store) h) _ _ (ask-alike own (accountIn a) (holder (own .store) h) (holds (own .store) a h g) size mask t) k))))
+        (m ∙ sym (asked-out a (both-right listWords s a p q d e y .1) size mask said))
 
-    pub deliver-made : (what memory mapping : ℕ) (r : Bool) (o : Outcome) → r ≡ outcomeOk what mapping → ((p && q) && r) ≡ true → own ≡ listIn s
-        → b ≡ accountIn a → o ≡ outcomeIn what memory mapping → out said after u ≡ deliverOf own b o t
-        → c ≡ accountOut after a → v ≡ saidOut said w → Ends c u w v (linkedDeliver s a what memory mapping t)
+    pub deliver-made : (what memory mapping : ℕ) (r : Bool) (o : Outcome) (order left-order : OpenOrder) (after : Share) (b : List ℕ)
+        → r ≡ outcomeOk what mapping → ((p && q) && r) ≡ true → o ≡ outcomeIn what memory mapping → order ≡ orderIn a
+        → out said (holding (own .store) after left-order) u ≡ deliverOf own (holding (own .store) h order) o t
+        → b ≡ shareOut (own .store .heap) after a → c ≡ orderOut left-order b → v ≡ saidOut said w
+        → Ends c u w v (linkedDeliver s a what memory mapping t)
     unfolding linkedDeliver
-    deliver-made what memory mapping r o i h f g j k =
-        ends-made a c w v u said after (linkedDeliver s a what memory mapping t)
-        (made s a own b f g (rightOk s a && outcomeOk what mapping) t u said after (λ x y. deliverOf x y (outcomeIn what memory mapping) t)
-        (are-right what mapping r true i h)
-        (k ∙ ap (λ (x : Outcome). deliverOf own b x t) j))
+    deliver-made what memory mapping r o order left-order after b i y j x k m n =
+        ends-made a c w v u said (withShare (own .store) (accountIn a) after left-order) (linkedDeliver s a what memory mapping t)
+        (call-made (rightOk s a && outcomeOk what mapping) a t _ _ (are-right what mapping r true i y)
+        (ap (leftBy a)
+        (read s own (λ z. deliverOf z (accountIn a) (outcomeIn what memory mapping) t) (out said (withShare (own .store) (accountIn a) after left-order) u) f
+        (whole-deliver (own .store) (accountIn a) said u after left-order _ _ (deliver-alike own (accountIn a) (holding (own .store) h order) (holds-order (own .store) a h g order x) (order-held (own .store) a h g order x) o t) k
+        ∙ ap (λ (z : Outcome). deliverOf own (accountIn a) z t) j))))
+        (n ∙ ap (orderOut left-order) m ∙ sym (share-out a (own .store) after left-order))
 
-    pub return-made : (block : Block) (list left-list : List ℕ) → (p && q) ≡ true → own ≡ listIn s → b ≡ accountIn a
-        → listed said after u left-list ≡ returnOf own b block t list
-        → c ≡ accountOut after a → v ≡ saidOut said w → Ends c (listing u left-list) w v (linkedReturn s a block t list)
-    unfolding linkedReturn
-    return-made block list left-list h f g k =
-        ends-made a c w v (listing u left-list) said after (linkedReturn s a block t list)
-        (made-listed s a own b f g (rightOk s a) t u list left-list said after (λ x y. returnOf x y block t list) (is-right true h) k)
+    module _ (list left-list : List ℕ) (after : Share) where
+      -- the account that a return or a clean-up leaves
+      abbrev gone : Account
+      gone = withShare (own .store) (accountIn a) after (orderIn a)
 
-    pub clean-made : (list left-list : List ℕ) → (p && q) ≡ true → own ≡ listIn s → b ≡ accountIn a
-        → listed said after u left-list ≡ cleanUpOf own b t list
-        → c ≡ accountOut after a → v ≡ saidOut said w → Ends c (listing u left-list) w v (linkedCleanUp s a t list)
-    unfolding linkedCleanUp
-    clean-made list left-list h f g k =
-        ends-made a c w v (listing u left-list) said after (linkedCleanUp s a t list)
-        (made-listed s a own b f g (rightOk s a) t u list left-list said after (λ x y. cleanUpOf x y t list) (is-right true h) k)
+      gone-out : (p && q) ≡ true → c ≡ shareOut (own .store .heap) after a → c ≡ accountOut gone a
+      gone-out y m = m ∙ sym (released-out a (both-right listWords s a p q d e y .1) (own .store) after)
+
+      pub return-made : (block : Block) → (p && q) ≡ true
+          → listed said (holder (own .store) after) u left-list ≡ returnOf own (holder (own .store) h) block t list
+          → c ≡ shareOut (own .store .heap) after a → v ≡ saidOut said w → Ends c (listing u left-list) w v (linkedReturn s a block t list)
+      unfolding linkedReturn
+      return-made block y k m =
+          ends-made a c w v (listing u left-list) said gone (linkedReturn s a block t list)
+          (call-made (rightOk s a) a (listing t list) _ _ (is-right true y)
+          (ap (leftListed a)
+          (read s own (λ x. returnOf x (accountIn a) block t list) (listed said gone u left-list) f
+          (whole-listed (own .store) (accountIn a) said u left-list after _ _ (return-alike own (accountIn a) (holder (own .store) h) (holds (own .store) a h g) block t list) k))))
+          (gone-out y m)
+
+      pub clean-made : (p && q) ≡ true
+          → listed said (holder (own .store) after) u left-list ≡ cleanUpOf own (holder (own .store) h) t list
+          → c ≡ shareOut (own .store .heap) after a → v ≡ saidOut said w → Ends c (listing u left-list) w v (linkedCleanUp s a t list)
+      unfolding linkedCleanUp
+      clean-made y k m =
+          ends-made a c w v (listing u left-list) said gone (linkedCleanUp s a t list)
+          (call-made (rightOk s a) a (listing t list) _ _ (is-right true y)
+          (ap (leftListed a)
+          (read s own (λ x. cleanUpOf x (accountIn a) t list) (listed said gone u left-list) f
+          (whole-listed (own .store) (accountIn a) said u left-list after _ _ (clean-up-alike own (accountIn a) (holder (own .store) h) (holds (own .store) a h g) t list) k))))
+          (gone-out y m)
 
   -- not made: the answer alone is written
   module _ (t : Tables) where

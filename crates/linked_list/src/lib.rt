@@ -47,11 +47,11 @@ pub extern "C" fn tibrezkam_list_ask(
 {
     if wire::is_settings(settings, LIST_WORDS) & wire_account::is_account(account) {
         let s = wire::read_free_list(settings);
-        let a = wire_account::read_account(account);
-        let r = freelist::ask(s, a, size, mask, head, loans, chunks, regions, index);
-        let after = r.account;
-        wire_account::put_account(account, after);
-        let said = r.answer;
+        let own = s.store;
+        let table = wire_account::heaps_in_table(account);
+        let h = wire_account::read_share(account, own, table);
+        let said = freelist_calls::ask(s, h, size, mask, head, loans, chunks, regions, index);
+        wire_account::put_asked(account, size, mask, said);
         wire::tell_asked(answer, said);
     } else {
         wire::tell_bad(answer);
@@ -81,12 +81,17 @@ pub extern "C" fn tibrezkam_list_deliver(
         & wire::is_outcome(what, mapping)
     {
         let s = wire::read_free_list(settings);
-        let a = wire_account::read_account(account);
+        let own = s.store;
+        let table = wire_account::heaps_in_table(account);
+        let h = wire_account::read_share(account, own, table);
         let o = wire::read_outcome(what, memory, mapping);
-        let r = freelist::deliver(s, a, o, head, loans, chunks, regions, index);
-        let after = r.account;
-        wire_account::put_account(account, after);
+        let order = wire_account::read_order(account);
+        let r = freelist_calls::deliver(s, h, order, o, head, loans, chunks, regions, index);
+        let after = r.share;
+        let open = r.order;
         let said = r.answer;
+        wire_account::put_share(account, own, after);
+        wire_account::put_order(account, open);
         wire::tell_delivered(answer, said);
     } else {
         wire::tell_bad(answer);
@@ -115,16 +120,18 @@ pub extern "C" fn tibrezkam_list_return(
 {
     if wire::is_settings(settings, LIST_WORDS) & wire_account::is_account(account) {
         let s = wire::read_free_list(settings);
-        let a = wire_account::read_account(account);
+        let own = s.store;
+        let table = wire_account::heaps_in_table(account);
+        let h = wire_account::read_share(account, own, table);
         let b = Block {
             serial: serial,
             chunk: chunk,
             offset: offset,
             size: size,
         };
-        let r = freelist::return_block(s, a, b, head, loans, chunks, regions, index, list);
-        let after = r.account;
-        wire_account::put_account(account, after);
+        let r = freelist_calls::return_block(s, h, b, head, loans, chunks, regions, index, list);
+        let after = r.share;
+        wire_account::put_share(account, own, after);
         let said = r.answer;
         wire::tell_released(answer, said);
     } else {
@@ -150,10 +157,12 @@ pub extern "C" fn tibrezkam_list_clean_up(
 {
     if wire::is_settings(settings, LIST_WORDS) & wire_account::is_account(account) {
         let s = wire::read_free_list(settings);
-        let a = wire_account::read_account(account);
-        let r = freelist::clean_up(s, a, head, loans, chunks, regions, index, list);
-        let after = r.account;
-        wire_account::put_account(account, after);
+        let own = s.store;
+        let table = wire_account::heaps_in_table(account);
+        let h = wire_account::read_share(account, own, table);
+        let r = freelist_calls::clean_up(s, h, head, loans, chunks, regions, index, list);
+        let after = r.share;
+        wire_account::put_share(account, own, after);
         let said = r.answer;
         wire::tell_released(answer, said);
     } else {

@@ -2,3 +2,4 @@
 pub mod Leading
 pub mod Deliveries
 pub mod Coming
+pub mod Wholes

@@ -1,30 +1,30 @@
-// What the calls of both engines answer, with the account that they leave.
+// What the calls of both engines answer, with the share of the account that they leave.
 ghost use mathlib.Core.Path.{_≡_};
 ghost use mathlib.Core.List.{[]};
 ghost use Prim.Native.Nat.{_+_, _≤_};
 ghost use Rattle.counter.specs.Limits.{objectsMost};
 ghost use Rattle.counter.specs.Paper as Paper;
 ghost use Rattle.counter.specs.Paper.{numberOf, freeOf, askSaid, deliverSaid, releaseSaid};
-ghost use Rattle.counter.specs.declared.account.OpenOrder.the-variants.{Kept};
-ghost use Rattle.store_rules.specs.Orders.{orderFrom, keptFrom};
-ghost use Rattle.store_rules.specs.Outcomes.{blockSaid, withOrder, lostAccount, releasedAccount};
+ghost use Rattle.counter.specs.declared.account.OpenOrder.the-variants.{Nothing};
+ghost use Rattle.store_rules.specs.Orders.{orderFrom};
+ghost use Rattle.store_rules.specs.Outcomes.{blockSaid};
+ghost use Rattle.store_rules.specs.Shares.{lostShare, releasedShare};
 use crate::fates::Loss;
-use counter::Account;
 use counter::AskAnswer;
-use counter::Asked;
 use counter::Block;
 use counter::DeliverAnswer;
-use counter::Delivered;
 use counter::KeptOrder;
 use counter::Lent;
 use counter::OpenOrder;
 use counter::Refusal;
 use counter::Refused;
 use counter::ReleaseAnswer;
-use counter::Released;
 use counter::StoreSettings;
 use counter::ToFree;
+use store_rules::DeliveredShare;
 use store_rules::Loan;
+use store_rules::ReleasedShare;
+use store_rules::Share;
 
 fn block_of(l: Loan) -> Lent
     ensures { λ r. ⌜ Paper.block (r .block .serial) (r .block .chunk) (r .block .offset) (r .block .size) ≡ blockSaid l ⌝ }
@@ -39,45 +39,34 @@ fn block_of(l: Loan) -> Lent
     }
 }
 
-pub fn refuse_ask(a: Account, refusal: Refusal) -> Asked
-    ensures { λ r. ⌜ (r .account ≡ a) × (askSaid (r .answer) ≡ Paper.refusal (numberOf refusal) []) ⌝ }
+pub fn refuse_ask(refusal: Refusal) -> AskAnswer
+    ensures { λ r. ⌜ askSaid r ≡ Paper.refusal (numberOf refusal) [] ⌝ }
 {
-    Asked {
-        account: a,
-        answer: AskAnswer::Refused(Refused {
-            refusal: refusal,
-            free: ToFree::Nothing,
-        }),
-    }
+    AskAnswer::Refused(Refused {
+        refusal: refusal,
+        free: ToFree::Nothing,
+    })
 }
 
-pub fn answer_block(a: Account, l: Loan) -> Asked
-    ensures { λ r. ⌜ (r .account ≡ a) × (askSaid (r .answer) ≡ blockSaid l) ⌝ }
+pub fn answer_block(l: Loan) -> AskAnswer
+    ensures { λ r. ⌜ askSaid r ≡ blockSaid l ⌝ }
 {
-    Asked {
-        account: a,
-        answer: AskAnswer::Block(block_of(l)),
-    }
+    AskAnswer::Block(block_of(l))
 }
 
-// The order is told, and kept with the ask.
-pub fn answer_order(s: StoreSettings, a: Account, size: u64, mask: u64, z: u64) -> Asked
-    ensures { λ r. ⌜ (r .account ≡ withOrder a (Kept (keptFrom s size mask z))) × (askSaid (r .answer) ≡ Paper.orderOf (orderFrom s z)) ⌝ }
+// The order is told; whoever has the account keeps it with the ask.
+pub fn answer_order(s: StoreSettings, z: u64) -> AskAnswer
+    ensures { λ r. ⌜ askSaid r ≡ Paper.orderOf (orderFrom s z) ⌝ }
 {
-    let kept = store_accounts::keep(s, size, mask, z);
-    let order = kept.order;
-    let account = store_accounts::with_order(a, OpenOrder::Kept(kept));
-    Asked {
-        account: account,
-        answer: AskAnswer::Order(order),
-    }
+    AskAnswer::Order(store_accounts::order_from(s, z))
 }
 
-pub fn refuse_delivery(a: Account, refusal: Refusal) -> Delivered
-    ensures { λ r. ⌜ (r .account ≡ a) × (deliverSaid (r .answer) ≡ Paper.refusal (numberOf refusal) []) ⌝ }
+pub fn refuse_delivery(h: Share, order: OpenOrder, refusal: Refusal) -> DeliveredShare
+    ensures { λ r. ⌜ (r .share ≡ h) × (r .order ≡ order) × (deliverSaid (r .answer) ≡ Paper.refusal (numberOf refusal) []) ⌝ }
 {
-    Delivered {
-        account: a,
+    DeliveredShare {
+        share: h,
+        order: order,
         answer: DeliverAnswer::Refused(Refused {
             refusal: refusal,
             free: ToFree::Nothing,
@@ -86,24 +75,26 @@ pub fn refuse_delivery(a: Account, refusal: Refusal) -> Delivered
 }
 
 // A block is lent from the new chunk.
-pub fn deliver_block(a: Account, l: Loan) -> Delivered
-    ensures { λ r. ⌜ (r .account ≡ a) × (deliverSaid (r .answer) ≡ blockSaid l) ⌝ }
+pub fn deliver_block(h: Share, l: Loan) -> DeliveredShare
+    ensures { λ r. ⌜ (r .share ≡ h) × (r .order ≡ Nothing) × (deliverSaid (r .answer) ≡ blockSaid l) ⌝ }
 {
-    Delivered {
-        account: a,
+    DeliveredShare {
+        share: h,
+        order: OpenOrder::Nothing,
         answer: DeliverAnswer::Block(block_of(l)),
     }
 }
 
 // The order is closed by a failure.
-pub fn lose_order(s: StoreSettings, a: Account, k: KeptOrder, l: Loss) -> Delivered
-    ensures { λ r. ⌜ (r .account ≡ lostAccount s a (k .order .size) (l .charged) (freeOf (l .free))) × (deliverSaid (r .answer) ≡ Paper.refusal (numberOf (l .refusal)) (freeOf (l .free))) ⌝ }
+pub fn lose_order(h: Share, k: KeptOrder, l: Loss) -> DeliveredShare
+    ensures { λ r. ⌜ (r .share ≡ lostShare h (k .order .size) (l .charged) (freeOf (l .free))) × (r .order ≡ Nothing) × (deliverSaid (r .answer) ≡ Paper.refusal (numberOf (l .refusal)) (freeOf (l .free))) ⌝ }
 {
     let order = k.order;
     let free = l.free;
     let refusal = l.refusal;
-    Delivered {
-        account: store_accounts::lost(s, a, order.size, l.charged, free),
+    DeliveredShare {
+        share: store_accounts::lost(h, order.size, l.charged, free),
+        order: OpenOrder::Nothing,
         answer: DeliverAnswer::Refused(Refused {
             refusal: refusal,
             free: free,
@@ -111,11 +102,11 @@ pub fn lose_order(s: StoreSettings, a: Account, k: KeptOrder, l: Loss) -> Delive
     }
 }
 
-pub fn refuse_return(a: Account, refusal: Refusal) -> Released
-    ensures { λ r. ⌜ (r .account ≡ a) × (releaseSaid (r .answer) ≡ Paper.refusal (numberOf refusal) []) ⌝ }
+pub fn refuse_return(h: Share, refusal: Refusal) -> ReleasedShare
+    ensures { λ r. ⌜ (r .share ≡ h) × (releaseSaid (r .answer) ≡ Paper.refusal (numberOf refusal) []) ⌝ }
 {
-    Released {
-        account: a,
+    ReleasedShare {
+        share: h,
         answer: ReleaseAnswer::Refused(Refused {
             refusal: refusal,
             free: ToFree::Nothing,
@@ -123,13 +114,13 @@ pub fn refuse_return(a: Account, refusal: Refusal) -> Released
     }
 }
 
-// So many chunks, of so many bytes in all, are gone: the account allows one object more for each.
-pub fn settle(s: StoreSettings, a: Account, count: u64, bytes: u64) -> Released
-    requires { ⌜ a .objects + count ≤ objectsMost ⌝ }
-    ensures { λ r. ⌜ (r .account ≡ releasedAccount s a count bytes) × (releaseSaid (r .answer) ≡ Paper.released count) ⌝ }
+// So many chunks, of so many bytes in all, are gone: its share allows one object more for each.
+pub fn settle(h: Share, count: u64, bytes: u64) -> ReleasedShare
+    requires { ⌜ h .objects + count ≤ objectsMost ⌝ }
+    ensures { λ r. ⌜ (r .share ≡ releasedShare h count bytes) × (releaseSaid (r .answer) ≡ Paper.released count) ⌝ }
 {
-    Released {
-        account: store_accounts::released(s, a, count as u32, bytes),
+    ReleasedShare {
+        share: store_accounts::released(h, count as u32, bytes),
         answer: ReleaseAnswer::Released(count),
     }
 }

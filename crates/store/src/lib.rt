@@ -2,6 +2,7 @@
 mod answers;
 mod comings;
 mod fates;
+mod whole;
 
 pub use answers::answer_block;
 pub use answers::answer_order;
@@ -21,3 +22,6 @@ pub use fates::Loss;
 pub use fates::is_deliverable;
 pub use fates::lead;
 pub use fates::suits;
+pub use whole::asked;
+pub use whole::delivered;
+pub use whole::released;

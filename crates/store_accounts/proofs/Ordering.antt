@@ -4,22 +4,15 @@ use mathlib.Core.Bool.{Bool, _&&_}
 use Prim.Native.Nat.{ℕ}
 use lib.Dec.{eqb}
 use Rattle.counter.specs.Properties.{hostVisible}
-use Rattle.counter.specs.declared.account.KeptOrder.{KeptOrder}
 use Rattle.counter.specs.declared.account.Order.{Order}
 use Rattle.counter.specs.declared.settings.StoreSettings.{StoreSettings}
-use Rattle.store_rules.specs.Orders.{orderFrom, keptFrom, sameBool, sameOrder}
+use Rattle.store_rules.specs.Orders.{orderFrom, sameBool, sameOrder}
 
 abbrev pub order : ℕ → ℕ → ℕ → Bool → Order
 order store size kind map = record { store = store; size = size; kind = kind; map = map }
 
 pub order-is : (s : StoreSettings) (z : ℕ) (map : Bool) → map ≡ hostVisible (s .properties) → order (s .number) z (s .kind) map ≡ orderFrom s z
 order-is s z map e = ap (order (s .number) z (s .kind)) e
-
-abbrev pub kept : ℕ → ℕ → Order → KeptOrder
-kept size mask o = record { ask = record { size = size; mask = mask }; order = o }
-
-pub kept-is : (s : StoreSettings) (size mask z : ℕ) (o : Order) → o ≡ orderFrom s z → kept size mask o ≡ keptFrom s size mask z
-kept-is s size mask z o e = ap (kept size mask) e
 
 pub same-is : (o p : Order) (maps : Bool) → maps ≡ sameBool (o .map) (p .map) → (eqb (o .store) (p .store) && (eqb (o .size) (p .size) && (eqb (o .kind) (p .kind) && maps))) ≡ sameOrder o p
 same-is o p maps e = ap (λ (b : Bool). eqb (o .store) (p .store) && (eqb (o .size) (p .size) && (eqb (o .kind) (p .kind) && b))) e

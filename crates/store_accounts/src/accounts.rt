@@ -1,9 +1,10 @@
-// The account as a call finds and leaves it: one heap, the objects still allowed, and the order.
+// A store's share of the account as a call finds and leaves it: its heap, the objects still allowed, and the order.
 ghost use mathlib.Core.Path.{_≡_};
 ghost use Prim.Native.Nat.{_+_, _-_, _≤_};
 ghost use Rattle.counter.specs.Limits.{objectsMost};
 ghost use Rattle.counter.specs.Paper.{freeOf};
-ghost use Rattle.store_rules.specs.Outcomes.{withOrder, chargedAccount, backAccount, lostAccount, releasedAccount};
+ghost use Rattle.store_rules.specs.Outcomes.{withOrder};
+ghost use Rattle.store_rules.specs.Shares.{shareOf, withShare, chargedShare, backShare, closedShare, lostShare, releasedShare};
 ghost use Rattle.store_rules.specs.Tests.{coversOk};
 use counter::Account;
 use counter::Heap;
@@ -11,6 +12,7 @@ use counter::OBJECTS_MOST;
 use counter::OpenOrder;
 use counter::StoreSettings;
 use counter::ToFree;
+use store_rules::Share;
 
 // Whether the heap and the object count cover a store's chunks.
 pub fn covers(h: Heap, objects: u32, chunks: u64, bytes: u64) -> bool
@@ -18,6 +20,28 @@ pub fn covers(h: Heap, objects: u32, chunks: u64, bytes: u64) -> bool
 {
     let most = (OBJECTS_MOST - objects) as u64;
     (bytes <= h.used) & (heap::agrees(h) & (chunks <= most))
+}
+
+// The share of a store with these settings.
+pub fn share_of(s: StoreSettings, a: Account) -> Share
+    ensures { λ r. ⌜ r ≡ shareOf s a ⌝ }
+{
+    let order = a.order;
+    let heaps = a.heaps;
+    Share {
+        table: counter::heaps_in_table(heaps),
+        free: crate::orders::no_order(order),
+        heap: a.heap(s.heap),
+        objects: a.objects,
+    }
+}
+
+// The account with this share and this order in it, and the rest as it was.
+pub fn with_share(s: StoreSettings, a: Account, h: Share, order: OpenOrder) -> Account
+    ensures { λ r. ⌜ r ≡ withShare s a h order ⌝ }
+{
+    let heap = h.heap;
+    a.settled(s.heap, heap, h.objects, order)
 }
 
 pub fn with_order(a: Account, order: OpenOrder) -> Account
@@ -42,46 +66,65 @@ fn one_fewer(objects: u32) -> u32
 }
 
 // A chunk of so many bytes was allocated, and the order is closed.
-pub fn charged(s: StoreSettings, a: Account, size: u64) -> Account
-    ensures { λ r. ⌜ r ≡ chargedAccount s a size ⌝ }
+pub fn charged(h: Share, size: u64) -> Share
+    ensures { λ r. ⌜ r ≡ chargedShare h size ⌝ }
 {
-    let h = heap::charge(a.heap(s.heap), size);
-    a.settled(s.heap, h, one_fewer(a.objects), OpenOrder::Nothing)
+    Share {
+        table: h.table,
+        free: true,
+        heap: heap::charge(h.heap, size),
+        objects: one_fewer(h.objects),
+    }
 }
 
 // It was, and is given back.
-fn given_back(s: StoreSettings, a: Account, size: u64) -> Account
-    ensures { λ r. ⌜ r ≡ backAccount s a size ⌝ }
+fn given_back(h: Share, size: u64) -> Share
+    ensures { λ r. ⌜ r ≡ backShare h size ⌝ }
 {
-    let h = heap::charge(a.heap(s.heap), size);
-    a.settled(
-        s.heap,
-        heap::release(h, size),
-        a.objects,
-        OpenOrder::Nothing,
-    )
+    Share {
+        table: h.table,
+        free: true,
+        heap: heap::release(heap::charge(h.heap, size), size),
+        objects: h.objects,
+    }
+}
+
+// The order is closed, and nothing else has changed.
+fn closed(h: Share) -> Share
+    ensures { λ r. ⌜ r ≡ closedShare h ⌝ }
+{
+    let heap = h.heap;
+    Share {
+        table: h.table,
+        free: true,
+        heap: heap,
+        objects: h.objects,
+    }
 }
 
 // The order is closed by a failure.
-pub fn lost(s: StoreSettings, a: Account, size: u64, charge: bool, free: ToFree) -> Account
-    ensures { λ r. ⌜ r ≡ lostAccount s a size charge (freeOf free) ⌝ }
+pub fn lost(h: Share, size: u64, charge: bool, free: ToFree) -> Share
+    ensures { λ r. ⌜ r ≡ lostShare h size charge (freeOf free) ⌝ }
 {
     if charge {
         match free {
-            ToFree::Nothing => charged(s, a, size),
-            ToFree::Memory(_) => given_back(s, a, size),
+            ToFree::Nothing => charged(h, size),
+            ToFree::Memory(_) => given_back(h, size),
         }
     } else {
-        with_order(a, OpenOrder::Nothing)
+        closed(h)
     }
 }
 
 // So many chunks, of so many bytes in all, are released.
-pub fn released(s: StoreSettings, a: Account, count: u32, bytes: u64) -> Account
-    requires { ⌜ a .objects + count ≤ objectsMost ⌝ }
-    ensures { λ r. ⌜ r ≡ releasedAccount s a count bytes ⌝ }
+pub fn released(h: Share, count: u32, bytes: u64) -> Share
+    requires { ⌜ h .objects + count ≤ objectsMost ⌝ }
+    ensures { λ r. ⌜ r ≡ releasedShare h count bytes ⌝ }
 {
-    let h = heap::release(a.heap(s.heap), bytes);
-    let order = a.order;
-    a.settled(s.heap, h, a.objects + count, order)
+    Share {
+        table: h.table,
+        free: h.free,
+        heap: heap::release(h.heap, bytes),
+        objects: h.objects + count,
+    }
 }

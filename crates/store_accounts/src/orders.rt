@@ -1,10 +1,8 @@
 // The order that an ask opens.
 ghost use mathlib.Core.Path.{_≡_};
-ghost use Rattle.store_rules.specs.Orders.{orderFrom, keptFrom, sameBool, sameOrder};
+ghost use Rattle.store_rules.specs.Orders.{orderFrom, sameBool, sameOrder};
 ghost use Rattle.store_rules.specs.Tests.{noOrder, orderFor};
-use counter::Ask;
 use counter::HOST_VISIBLE;
-use counter::KeptOrder;
 use counter::OpenOrder;
 use counter::Order;
 use counter::StoreSettings;
@@ -40,21 +38,6 @@ pub fn order_from(s: StoreSettings, size: u64) -> Order
         size: size,
         kind: s.kind,
         map: counter::has(s.properties, HOST_VISIBLE),
-    }
-}
-
-// It is kept with the ask that it serves.
-pub fn keep(s: StoreSettings, size: u64, mask: u64, z: u64) -> KeptOrder
-    ensures { λ r. ⌜ r ≡ keptFrom s size mask z ⌝ }
-{
-    let ask = Ask {
-        size: size,
-        mask: mask,
-    };
-    let order = order_from(s, z);
-    KeptOrder {
-        ask: ask,
-        order: order,
     }
 }
 

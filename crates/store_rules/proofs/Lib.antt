@@ -12,3 +12,4 @@ pub mod Going
 pub mod Releasing
 pub mod Permuted
 pub mod Lessening
+pub mod Shares

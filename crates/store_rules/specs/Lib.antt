@@ -6,3 +6,4 @@ pub mod Loans
 pub mod Refusals
 pub mod Arrivals
 pub mod Views
+pub mod Shares

@@ -1,4 +1,8 @@
 // What the stores of both engines share. specs/ says it; no code.
+use counter::DeliverAnswer;
+use counter::Heap;
+use counter::OpenOrder;
+use counter::ReleaseAnswer;
 
 // How many words a loan takes in a table, and which are its serial and its size; specs/Loans has the same names.
 pub const LOAN_WORDS: usize = 4;
@@ -27,4 +31,26 @@ pub struct Region {
     pub chunk: u64,
     pub start: u64,
     pub end: u64,
+}
+
+// A store's share of the account, all that a call reads of it short of an order's text: whether every heap is in 01's table, whether
+// no order is open, the store's own heap, the device objects still allowed.
+pub struct Share {
+    pub table: bool,
+    pub free: bool,
+    pub heap: Heap,
+    pub objects: u32,
+}
+
+// What a delivery answers, with the share and the order that it leaves.
+pub struct DeliveredShare {
+    pub share: Share,
+    pub order: OpenOrder,
+    pub answer: DeliverAnswer,
+}
+
+// What a return or a clean-up answers, with the share that it leaves.
+pub struct ReleasedShare {
+    pub share: Share,
+    pub answer: ReleaseAnswer,
 }

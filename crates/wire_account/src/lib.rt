@@ -1,17 +1,25 @@
-// The account, read from words and written again; wire_rules' specs/Wire says which word is what.
+// A store's share of the account, read from words and written again; wire_rules' specs/Wire says which word is what.
 ghost use mathlib.Core.Path.{_≡_};
 ghost use mathlib.Core.Bool.{true};
 ghost use Prim.Native.Nat.{_<_};
+ghost use Rattle.counter.specs.Account.{heapAt};
 ghost use Rattle.counter.specs.Limits.{heapsMost};
-ghost use Rattle.wire_rules.specs.Wire.{heapIn, heapsIn, orderIn, accountIn, accountOk, heapOut, heapsOut, orderWordsOut, orderOut, accountOut};
-use counter::Account;
+ghost use Rattle.counter.specs.Paper.{askSaid};
+ghost use Rattle.counter.specs.Table.{heapsOk};
+ghost use Rattle.counter.specs.declared.account.OpenOrder.the-variants.{Kept};
+ghost use Rattle.store_rules.specs.Shares.{shareOf};
+ghost use Rattle.wire_rules.specs.Wire.{heapsIn, orderIn, accountIn, accountOk, heapOut, orderOut, shareOut, askedOut};
 use counter::Ask;
+use counter::AskAnswer;
+use counter::HEAP_BYTES_MOST;
 use counter::HEAPS;
 use counter::Heap;
 use counter::KeptOrder;
 use counter::OpenOrder;
 use counter::Order;
+use counter::StoreSettings;
 use counter::Total;
+use store_rules::Share;
 use wire::is_narrow;
 use wire::narrow;
 
@@ -48,39 +56,53 @@ pub fn is_account(w: &[u64]) -> bool
         & (words::word(w, ORDER_MAP_AT) <= 1)
 }
 
-fn read_heap(w: &[u64], i: usize) -> Heap
-    requires { ⌜ i < heapsMost ⌝ }
-    ensures { λ r. ⌜ r ≡ heapIn (now (w .entry)) i ⌝ }
+// Whether every heap is in 01's table.
+pub fn heaps_in_table(w: &[u64]) -> bool
+    requires { ⌜ accountOk (now w) ≡ true ⌝ }
+    ensures { λ r. ⌜ r ≡ heapsOk (heapsIn (now (w .entry)) heapsMost) ⌝ }
 {
-    let at = HEAP_WORDS * i;
-    Heap {
-        size: words::word(w, at),
-        used: words::word(w, at + 1),
-        allocated: Total {
-            hi: words::word(w, at + 2),
-            lo: words::word(w, at + 3),
-        },
-        deallocated: Total {
-            hi: words::word(w, at + 4),
-            lo: words::word(w, at + 5),
-        },
-    }
-}
-
-fn read_heaps(w: &[u64]) -> [Heap; HEAPS]
-    ensures { λ r. ⌜ r ≡ heapsIn (now (w .entry)) heapsMost ⌝ }
-{
-    let none = read_heap(w, 0);
-    let mut heaps = [none; HEAPS];
+    let mut ok = true;
     let mut i = 0;
     while i < HEAPS {
-        heaps[i] = read_heap(w, i);
+        let at = HEAP_WORDS * i;
+        let fits = (w[at] <= HEAP_BYTES_MOST) & (w[at + 1] <= HEAP_BYTES_MOST);
+        ok = ok & fits;
         i += 1;
     }
-    heaps
+    ok
 }
 
-fn read_order(w: &[u64]) -> OpenOrder
+// The heap with this number, an empty one past the last.
+fn read_heap(w: &[u64], i: usize) -> Heap
+    requires { ⌜ accountOk (now w) ≡ true ⌝ }
+    ensures { λ r. ⌜ r ≡ heapAt (accountIn (now (w .entry))) i ⌝ }
+{
+    if i < HEAPS {
+        let at = HEAP_WORDS * i;
+        return Heap {
+            size: w[at],
+            used: w[at + 1],
+            allocated: Total {
+                hi: w[at + 2],
+                lo: w[at + 3],
+            },
+            deallocated: Total {
+                hi: w[at + 4],
+                lo: w[at + 5],
+            },
+        };
+    }
+    let none = Total { hi: 0, lo: 0 };
+    Heap {
+        size: 0,
+        used: 0,
+        allocated: none,
+        deallocated: none,
+    }
+}
+
+// The order that is open, if one is.
+pub fn read_order(w: &[u64]) -> OpenOrder
     requires { ⌜ accountOk (now w) ≡ true ⌝ }
     ensures { λ r. ⌜ r ≡ orderIn (now (w .entry)) ⌝ }
 {
@@ -101,92 +123,86 @@ fn read_order(w: &[u64]) -> OpenOrder
     })
 }
 
-pub fn read_account(w: &[u64]) -> Account
-    requires { ⌜ accountOk (now w) ≡ true ⌝ }
-    ensures { λ r. ⌜ r ≡ accountIn (now (w .entry)) ⌝ }
+// A store's share of the account that the words are; `table` says whether every heap is in 01's table. That walk over the heaps is
+// its caller's, so that this is small enough to be made there and the share is not copied.
+pub fn read_share(w: &[u64], s: StoreSettings, table: bool) -> Share
+    requires { ⌜ (accountOk (now w) ≡ true) × (table ≡ heapsOk (heapsIn (now w) heapsMost)) ⌝ }
+    ensures { λ r. ⌜ r ≡ shareOf s (accountIn (now (w .entry))) ⌝ }
 {
-    let heaps = read_heaps(w);
-    Account {
-        heaps: heaps,
-        objects: narrow(words::word(w, OBJECTS_AT)),
-        order: read_order(w),
+    let heap = read_heap(w, s.heap);
+    Share {
+        table: table,
+        free: w[OPEN_AT] == 0,
+        heap: heap,
+        objects: narrow(w[OBJECTS_AT]),
     }
 }
 
 fn put_heap(w: &mut [u64], i: usize, h: Heap)
-    requires { ⌜ i < heapsMost ⌝ }
+    requires { ⌜ (i < heapsMost) × (accountOk (now w) ≡ true) ⌝ }
     ensures { λ _. ⌜ now (w .exit) ≡ heapOut h i (now (w .entry)) ⌝ }
 {
     let at = HEAP_WORDS * i;
     let allocated = h.allocated;
     let deallocated = h.deallocated;
-    words::put(w, at, h.size);
-    words::put(w, at + 1, h.used);
-    words::put(w, at + 2, allocated.hi);
-    words::put(w, at + 3, allocated.lo);
-    words::put(w, at + 4, deallocated.hi);
-    words::put(w, at + 5, deallocated.lo);
+    w[at] = h.size;
+    w[at + 1] = h.used;
+    w[at + 2] = allocated.hi;
+    w[at + 3] = allocated.lo;
+    w[at + 4] = deallocated.hi;
+    w[at + 5] = deallocated.lo;
 }
 
-fn put_heaps(w: &mut [u64], heaps: [Heap; HEAPS])
-    ensures { λ _. ⌜ now (w .exit) ≡ heapsOut heaps heapsMost (now (w .entry)) ⌝ }
+// The store's heap and the objects are written again.
+pub fn put_share(w: &mut [u64], s: StoreSettings, h: Share)
+    requires { ⌜ accountOk (now w) ≡ true ⌝ }
+    ensures { λ _. ⌜ now (w .exit) ≡ shareOut (s .heap) h (now (w .entry)) ⌝ }
 {
-    let mut i = 0;
-    while i < HEAPS {
-        put_heap(w, i, heaps[i]);
-        i += 1;
+    let i = s.heap;
+    if i < HEAPS {
+        let heap = h.heap;
+        put_heap(w, i, heap);
     }
+    words::put(w, OBJECTS_AT, h.objects as u64);
 }
 
-fn put_order_words(
-    w: &mut [u64],
-    opened: u64,
-    store: u64,
-    size: u64,
-    kind: u64,
-    map: u64,
-    asked: u64,
-    mask: u64,
-)
-    ensures { λ _. ⌜ now (w .exit) ≡ orderWordsOut opened store size kind map asked mask (now (w .entry)) ⌝ }
+// An order is open.
+fn put_kept(w: &mut [u64], k: KeptOrder)
+    ensures { λ _. ⌜ now (w .exit) ≡ orderOut (Kept k) (now (w .entry)) ⌝ }
 {
-    words::put(w, OPEN_AT, opened);
-    words::put(w, ORDER_STORE_AT, store);
-    words::put(w, ORDER_SIZE_AT, size);
-    words::put(w, ORDER_KIND_AT, kind);
-    words::put(w, ORDER_MAP_AT, map);
-    words::put(w, ASK_SIZE_AT, asked);
-    words::put(w, ASK_MASK_AT, mask);
+    let o = k.order;
+    let a = k.ask;
+    words::put(w, OPEN_AT, 1);
+    words::put(w, ORDER_STORE_AT, o.store as u64);
+    words::put(w, ORDER_SIZE_AT, o.size);
+    words::put(w, ORDER_KIND_AT, o.kind as u64);
+    words::put(w, ORDER_MAP_AT, o.map as u64);
+    words::put(w, ASK_SIZE_AT, a.size);
+    words::put(w, ASK_MASK_AT, a.mask);
 }
 
-fn put_order(w: &mut [u64], order: OpenOrder)
+pub fn put_order(w: &mut [u64], order: OpenOrder)
     ensures { λ _. ⌜ now (w .exit) ≡ orderOut order (now (w .entry)) ⌝ }
 {
     match order {
-        OpenOrder::Nothing => put_order_words(w, 0, 0, 0, 0, 0, 0, 0),
-        OpenOrder::Kept(k) => {
-            let o = k.order;
-            let a = k.ask;
-            put_order_words(
-                w,
-                1,
-                o.store as u64,
-                o.size,
-                o.kind as u64,
-                o.map as u64,
-                a.size,
-                a.mask,
-            )
-        }
+        OpenOrder::Nothing => words::put(w, OPEN_AT, 0),
+        OpenOrder::Kept(k) => put_kept(w, k),
     }
 }
 
-pub fn put_account(w: &mut [u64], a: Account)
-    ensures { λ _. ⌜ now (w .exit) ≡ accountOut a (now (w .entry)) ⌝ }
+// What an ask leaves: where it told an order, that is kept with the ask.
+pub fn put_asked(w: &mut [u64], size: u64, mask: u64, answer: AskAnswer)
+    ensures { λ _. ⌜ now (w .exit) ≡ askedOut size mask (askSaid answer) (now (w .entry)) ⌝ }
 {
-    let heaps = a.heaps;
-    put_heaps(w, heaps);
-    words::put(w, OBJECTS_AT, a.objects as u64);
-    let order = a.order;
-    put_order(w, order);
+    match answer {
+        AskAnswer::Block(_) => {}
+        AskAnswer::Refused(_) => {}
+        AskAnswer::Order(o) => {
+            let ask = Ask {
+                size: size,
+                mask: mask,
+            };
+            put_kept(w, KeptOrder { ask: ask, order: o })
+        }
+    }
 }

@@ -11,22 +11,40 @@ use Rattle.counter.specs.Limits.{heapsMost}
 use Rattle.counter.specs.declared.account.Account.{Account}
 use Rattle.counter.specs.declared.account.KeptOrder.{KeptOrder}
 use Rattle.counter.specs.declared.account.OpenOrder.the-variants.{Kept}
-use Rattle.wire_rules.specs.Wire.{narrowMost, accountWords, objectsAt, heapAt, heapIn, heapsIn, orderIn, accountIn, accountOk, heapsOut, accountOut}
-use Rattle.wire_rules.proofs.Heaps.{heaps-length, heap-same, heaps-each, heaps-front}
-use Rattle.wire_rules.proofs.Orders.{right-all, order-length, order-before, order-again, Tested, order-tested}
+use Rattle.wire_rules.specs.Wire.{narrowMost, accountWords, objectsAt, openAt, orderStoreAt, orderKindAt, orderMapAt, heapAt, heapIn, heapsIn, orderIn, accountIn, accountOk, heapsOut, accountOut}
+use Rattle.wire_rules.proofs.Heaps.{heaps-length, heap-same, heaps-each, heaps-front, heaps-past}
+use Rattle.wire_rules.proofs.Orders.{Right, right-yes, right-all, order-length, order-before, order-again, Tested, order-tested}
 
 -- as many words as before
 pub words-stay : (a : Account) (w : List ℕ) → length (accountOut a w) ≡ length w
 unfolding accountOut
 words-stay a w = order-length (a .order) _ ∙ length-set (heapsOut (a .heaps) heapsMost w) objectsAt (a .objects) ∙ heaps-length (a .heaps) heapsMost w
 
-module _ (a : Account) (w : List ℕ) (whole : length w ≡ accountWords) where
+module _ (a : Account) (w : List ℕ) (right : Right w) where
+  whole : length w ≡ accountWords
+  whole = right .whole
+
   -- the words before the order is written
   abbrev unordered : List ℕ
   unordered = set (heapsOut (a .heaps) heapsMost w) objectsAt (a .objects)
 
   unordered-whole : length unordered ≡ accountWords
   unordered-whole = length-set (heapsOut (a .heaps) heapsMost w) objectsAt (a .objects) ∙ heaps-length (a .heaps) heapsMost w ∙ whole
+
+  -- a word past the objects stays
+  unordered-past : (k : ℕ) → objectsAt < k → getD unordered k 0 ≡ getD w k 0
+  unordered-past k l =
+      getD-set-other (heapsOut (a .heaps) heapsMost w) objectsAt k (a .objects) 0 (λ e. omega arith)
+      ∙ heaps-past (a .heaps) heapsMost w k (omega arith)
+
+  unordered-tested : Tested unordered
+  unordered-tested =
+      record {
+        opened = omega (arith, unordered-past openAt (omega arith), right .opened-most);
+        store = omega (arith, unordered-past orderStoreAt (omega arith), right .store-most);
+        kind = omega (arith, unordered-past orderKindAt (omega arith), right .kind-most);
+        map = omega (arith, unordered-past orderMapAt (omega arith), right .map-most);
+      }
 
   objects-again : getD (accountOut a w) objectsAt 0 ≡ a .objects
   unfolding accountOut
@@ -55,21 +73,22 @@ module _ (a : Account) (w : List ℕ) (whole : length w ≡ accountWords) where
 
   order-right : ((k : KeptOrder) → a .order ≡ Kept k → (k .order .store ≤ narrowMost) × (k .order .kind ≤ narrowMost)) → Tested (accountOut a w)
   unfolding accountOut
-  order-right n = order-tested (a .order) unordered unordered-whole n
+  order-right n = order-tested (a .order) unordered unordered-whole unordered-tested n
 
 -- what a call writes is the words of an account, and read again it is the account that the call left
-pub account-again : (a : Account) (w : List ℕ) → length w ≡ accountWords → length (a .heaps) ≡ heapsMost → a .objects ≤ narrowMost
+pub account-again : (a : Account) (w : List ℕ) → accountOk w ≡ true → length (a .heaps) ≡ heapsMost → a .objects ≤ narrowMost
     → ((k : KeptOrder) → a .order ≡ Kept k → (k .order .store ≤ narrowMost) × (k .order .kind ≤ narrowMost))
     → (accountOk (accountOut a w) ≡ true) × (accountIn (accountOut a w) ≡ a)
-account-again a w whole heaps objects narrow =
-    let t = order-right a w whole narrow in (
+account-again a w ok heaps objects narrow =
+    let r = right-yes w ok in
+    let t = order-right a w r narrow in (
       right-all (accountOut a w) (record {
-        whole = words-stay a w ∙ whole;
-        objects-most = omega (arith, objects-again a w whole);
+        whole = words-stay a w ∙ r .whole;
+        objects-most = omega (arith, objects-again a w r);
         opened-most = t .opened;
         store-most = t .store;
         kind-most = t .kind;
         map-most = t .map;
       }),
-      rw (heaps-back a w whole heaps, objects-again a w whole, order-back a w whole),
+      rw (heaps-back a w r heaps, objects-again a w r, order-back a w r),
     )

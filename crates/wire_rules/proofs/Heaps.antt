@@ -1,53 +1,34 @@
 -- The heaps' words, one heap after the other: read, written, and read again. Assumes nothing.
 use mathlib.Core.Path.{_≡_, refl, sym, ap, _∙_}
-use mathlib.Core.List.{List}
+use mathlib.Core.List.{List, [], _∷_, _++_}
 use mathlib.Core.Logic.{⊎-elim}
 use Prim.Native.Nat.{ℕ, zero, suc, _+_, _*_, _≤_, _<_}
 use native.Mathlib.Nat.{add-comm, zero-add}
-use native.Mathlib.Numerals.{add-one}
 use native.Mathlib.Omega.{arith}
-use lib.ListN.{length, take, getD, set, length-set}
-use lib.Seq.{take-all, take-suc, take-suc-set, getD-set-same, getD-set-other}
+use lib.ListN.{length, take, getD, set, length-set, length-append, List·getD-append}
+use lib.Seq.{take-suc, getD-set-same, getD-set-other, getD-append-seam, set-getD}
 use Rattle.lists.proofs.Bools.{same?}
 use Rattle.counter.specs.Account.{noHeap}
-use Rattle.counter.specs.Limits.{heapsMost}
 use Rattle.counter.specs.declared.account.Heap.{Heap}
 use Rattle.wire_rules.specs.Wire.{heapAt, heapIn, heapsIn, heapOut, heapsOut}
 
 -- ---- as the code reads them
 
 -- a heap's six words, from the first on
-pub read-six : (w : List ℕ) (i s u a b c d : ℕ) → s ≡ getD w (6 * i) 0 → u ≡ getD w (6 * i + 1) 0 → a ≡ getD w (6 * i + 2) 0 → b ≡ getD w (6 * i + 3) 0
-    → c ≡ getD w (6 * i + 4) 0 → d ≡ getD w (6 * i + 5) 0
-    → record { size = s; used = u; allocated = record { hi = a; lo = b }; deallocated = record { hi = c; lo = d } } ≡ heapIn w i
+pub read-six : (w : List ℕ) (i : ℕ)
+    → record { size = getD w (6 * i) 0; used = getD w (6 * i + 1) 0; allocated = record { hi = getD w (6 * i + 2) 0; lo = getD w (6 * i + 3) 0 }; deallocated = record { hi = getD w (6 * i + 4) 0; lo = getD w (6 * i + 5) 0 } } ≡ heapIn w i
 unfolding heapIn
-read-six w i s u a b c d e0 e1 e2 e3 e4 e5 =
-    cc (zero-add (6 * i), add-comm 1 (6 * i), add-comm 2 (6 * i), add-comm 3 (6 * i), add-comm 4 (6 * i), add-comm 5 (6 * i))
-
--- with the heap at i read too, one heap more is as the words say
-pub read-more : (w : List ℕ) (hs : List Heap) (i : ℕ) (h : Heap) → i < length hs → take i hs ≡ heapsIn w i → h ≡ heapIn w i → take (i + 1) (set hs i h) ≡ heapsIn w (i + 1)
-unfolding heapsIn
-read-more w hs i h l e f = rw (add-one i, take-suc-set hs i h l, e, f)
-
--- all read
-pub read-all : (w : List ℕ) (hs : List Heap) → length hs ≡ heapsMost → take heapsMost hs ≡ heapsIn w heapsMost → hs ≡ heapsIn w heapsMost
-read-all w hs l e = sym (take-all heapsMost hs (omega arith)) ∙ e
+read-six w i =
+    rw (zero-add (6 * i), add-comm 1 (6 * i), add-comm 2 (6 * i), add-comm 3 (6 * i), add-comm 4 (6 * i), add-comm 5 (6 * i))
 
 -- ---- as the code writes them
 
 -- a heap's six words put in turn, from the first on
-pub put-six : (h : Heap) (i : ℕ) (w a b c d e f : List ℕ)
-    → a ≡ set w (6 * i) (h .size) → b ≡ set a (6 * i + 1) (h .used) → c ≡ set b (6 * i + 2) (h .allocated .hi) → d ≡ set c (6 * i + 3) (h .allocated .lo)
-    → e ≡ set d (6 * i + 4) (h .deallocated .hi) → f ≡ set e (6 * i + 5) (h .deallocated .lo)
-    → f ≡ heapOut h i w
+pub put-six : (h : Heap) (i : ℕ) (w : List ℕ)
+    → set (set (set (set (set (set w (6 * i) (h .size)) (6 * i + 1) (h .used)) (6 * i + 2) (h .allocated .hi)) (6 * i + 3) (h .allocated .lo)) (6 * i + 4) (h .deallocated .hi)) (6 * i + 5) (h .deallocated .lo) ≡ heapOut h i w
 unfolding heapOut
-put-six h i w a b c d e f e0 e1 e2 e3 e4 e5 =
-    cc (zero-add (6 * i), add-comm 1 (6 * i), add-comm 2 (6 * i), add-comm 3 (6 * i), add-comm 4 (6 * i), add-comm 5 (6 * i))
-
--- with the heap at i written too, one heap more is written
-pub put-more : (hs : List Heap) (i : ℕ) (w v u : List ℕ) → v ≡ heapsOut hs i w → u ≡ heapOut (getD hs i noHeap) i v → u ≡ heapsOut hs (i + 1) w
-unfolding heapsOut
-put-more hs i w v u e f = rw (add-one i) (f ∙ ap (heapOut (getD hs i noHeap) i) e)
+put-six h i w =
+    rw (zero-add (6 * i), add-comm 1 (6 * i), add-comm 2 (6 * i), add-comm 3 (6 * i), add-comm 4 (6 * i), add-comm 5 (6 * i))
 
 -- writing heaps leaves as many words
 pub heap-length : (h : Heap) (i : ℕ) (w : List ℕ) → length (heapOut h i w) ≡ length w
@@ -140,3 +121,64 @@ unfolding heapsIn
 heaps-front w hs zero l e = refl
 heaps-front w hs (suc n) l e =
     rw (heaps-front w hs n (omega arith) (λ i h. e i (omega arith)), e n (omega arith), take-suc hs n noHeap (omega arith))
+
+-- a word past the heaps stays
+pub heaps-past : (hs : List Heap) (n : ℕ) (w : List ℕ) (k : ℕ) → 6 * n ≤ k → getD (heapsOut hs n w) k 0 ≡ getD w k 0
+unfolding heapsOut
+heaps-past hs zero w k l = refl
+heaps-past hs (suc n) w k l =
+    heap-other (getD hs n noHeap) n (heapsOut hs n w) k (λ f lf e. omega arith) ∙ heaps-past hs n w k (omega arith)
+
+-- ---- what was read, written again
+
+pub heaps-many : (w : List ℕ) (n : ℕ) → length (heapsIn w n) ≡ n
+unfolding heapsIn
+heaps-many w zero = refl
+heaps-many w (suc n) = simp length-append (omega (arith, heaps-many w n))
+
+-- each heap by its number
+pub heaps-at : (w : List ℕ) (n i : ℕ) → i < n → getD (heapsIn w n) i noHeap ≡ heapIn w i
+unfolding heapsIn
+heaps-at w zero i l = absurd (omega arith)
+heaps-at w (suc n) i l =
+    ⊎-elim
+    (λ (q : i ≡ n).
+    ap (λ (k : ℕ). getD (heapsIn w n ++ (heapIn w n ∷ [])) k noHeap) (q ∙ sym (heaps-many w n))
+    ∙ getD-append-seam (heapsIn w n) (heapIn w n) [] noHeap
+    ∙ ap (heapIn w) (sym q))
+    (λ (ne : i ≡ n → ⊥).
+    List·getD-append (heapsIn w n) (heapIn w n ∷ []) noHeap i (omega (arith, ne, heaps-many w n))
+    ∙ heaps-at w n i (omega (arith, ne)))
+    (same? i n)
+
+-- a heap leaves the words as they are
+heap-stays : (w : List ℕ) (i : ℕ) → heapOut (heapIn w i) i w ≡ w
+unfolding heapOut heapIn
+heap-stays w i =
+    rw (set-getD w (heapAt 0 i) 0, set-getD w (heapAt 1 i) 0, set-getD w (heapAt 2 i) 0, set-getD w (heapAt 3 i) 0, set-getD w (heapAt 4 i) 0, set-getD w (heapAt 5 i) 0)
+
+-- and so do heaps
+pub heaps-stay : (hs : List Heap) (n : ℕ) (w : List ℕ) → ((i : ℕ) → i < n → getD hs i noHeap ≡ heapIn w i) → heapsOut hs n w ≡ w
+unfolding heapsOut
+heaps-stay hs zero w e = refl
+heaps-stay hs (suc n) w e =
+    rw (heaps-stay hs n w (λ i l. e i (omega arith)), e n (omega arith)) (heap-stays w n)
+
+-- where all but one are as they were read, that one alone is written
+pub heaps-one : (hs : List Heap) (n : ℕ) (w : List ℕ) (i : ℕ) → i < n → ((j : ℕ) → j < n → (j ≡ i → ⊥) → getD hs j noHeap ≡ heapIn w j)
+    → heapsOut hs n w ≡ heapOut (getD hs i noHeap) i w
+unfolding heapsOut
+heaps-one hs zero w i l e = absurd (omega arith)
+heaps-one hs (suc n) w i l e =
+    ⊎-elim
+    (λ (q : i ≡ n).
+    ap (heapOut (getD hs n noHeap) n) (heaps-stay hs n w (λ j m. e j (omega arith) (λ k. omega arith)))
+    ∙ ap (λ (k : ℕ). heapOut (getD hs k noHeap) k w) (sym q))
+    (λ (ne : i ≡ n → ⊥).
+    let g = getD hs i noHeap in
+    let same : heapIn w n ≡ heapIn (heapOut g i w) n =
+    sym (heap-same (heapOut g i w) w n (λ f lf. heap-other g i w (heapAt f n) (λ k lk q. ne (omega arith)))) in
+    ap (heapOut (getD hs n noHeap) n) (heaps-one hs n w i (omega (arith, ne)) (λ j m d. e j (omega arith) d))
+    ∙ ap (λ (x : Heap). heapOut x n (heapOut g i w)) (e n (omega arith) (λ q. ne (sym q)) ∙ same)
+    ∙ heap-stays (heapOut g i w) n)
+    (same? i n)

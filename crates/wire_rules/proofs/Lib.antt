@@ -5,4 +5,5 @@ pub mod Told
 pub mod Heaps
 pub mod Orders
 pub mod Again
+pub mod Shares
 pub mod Lent

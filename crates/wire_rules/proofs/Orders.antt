@@ -2,18 +2,23 @@
 use mathlib.Core.Path.{_≡_, refl, sym, ap, _∙_}
 use mathlib.Core.Bool.{Bool, true, false, _&&_}
 use mathlib.Core.List.{List}
+use mathlib.Core.Logic.{⊎-elim}
 use Prim.Native.Nat.{ℕ, _≤_, _<_}
 use native.Mathlib.Omega.{arith}
 use mir.Val.{boolByte}
 use lib.Dec.{eqb, leb}
 use lib.ListN.{length, getD, set, length-set}
-use lib.Seq.{getD-set-other}
+use lib.Seq.{getD-set-other, set-getD}
 use borrow.Author.Tests.{leb-true, eqb-true, le-leb, eq-eqb, ne-eqb}
-use Rattle.lists.proofs.Bools.{and-left, and-right, and-both}
+use Rattle.lists.proofs.Bools.{and-left, and-right, and-both, same?}
+use Rattle.counter.specs.Paper.{askSaid}
 use Rattle.counter.specs.declared.account.KeptOrder.{KeptOrder}
 use Rattle.counter.specs.declared.account.OpenOrder.{OpenOrder}
 use Rattle.counter.specs.declared.account.OpenOrder.the-variants.{Nothing, Kept}
-use Rattle.wire_rules.specs.Wire.{narrowMost, narrowOk, accountWords, objectsAt, openAt, orderStoreAt, orderSizeAt, orderKindAt, orderMapAt, askSizeAt, askMaskAt, orderIn, accountOk, flag, orderWordsOut, orderOut}
+use Rattle.counter.specs.declared.account.Order.{Order}
+use Rattle.counter.specs.declared.answers.AskAnswer.{AskAnswer}
+use Rattle.counter.specs.declared.answers.AskAnswer.the-variants as A
+use Rattle.wire_rules.specs.Wire.{narrowMost, narrowOk, accountWords, objectsAt, openAt, orderStoreAt, orderSizeAt, orderKindAt, orderMapAt, askSizeAt, askMaskAt, orderIn, accountOk, flag, orderWordsOut, orderOut, askedOut}
 use Rattle.wire_rules.proofs.Heaps.{over, on}
 use Rattle.wire_rules.proofs.Flags.{cast-flag}
 
@@ -87,26 +92,27 @@ order-kept w n a b s t z k l m e ne ea eb es et ez ek el em =
 
 -- ---- as the code writes one
 
--- seven words put in turn are an order's
-pub seven-set : (w a b c d e f g : List ℕ) (o s z k m q r : ℕ)
-    → a ≡ set w openAt o → b ≡ set a orderStoreAt s → c ≡ set b orderSizeAt z → d ≡ set c orderKindAt k → e ≡ set d orderMapAt m
-    → f ≡ set e askSizeAt q → g ≡ set f askMaskAt r
-    → g ≡ orderWordsOut o s z k m q r w
-unfolding orderWordsOut
-seven-set w a b c d e f g o s z k m q r e0 e1 e2 e3 e4 e5 e6 = rw (e6, e5, e4, e3, e2, e1, e0)
+-- seven words put in turn are a kept order's
+pub put-kept : (k : KeptOrder) (w a b c d e f g : List ℕ)
+    → a ≡ set w openAt 1 → b ≡ set a orderStoreAt (k .order .store) → c ≡ set b orderSizeAt (k .order .size) → d ≡ set c orderKindAt (k .order .kind)
+    → e ≡ set d orderMapAt (boolByte (k .order .map)) → f ≡ set e askSizeAt (k .ask .size) → g ≡ set f askMaskAt (k .ask .mask)
+    → g ≡ orderOut (Kept k) w
+unfolding orderOut orderWordsOut
+put-kept k w a b c d e f g e0 e1 e2 e3 e4 e5 e6 = rw (e6, e5, e4, e3, e2, e1, e0, cast-flag (k .order .map))
 
--- none, as seven zeros
-pub put-none : (o : OpenOrder) (w v : List ℕ) → o ≡ Nothing → v ≡ orderWordsOut 0 0 0 0 0 0 0 w → v ≡ orderOut o w
+-- none, by its first word
+pub put-none : (o : OpenOrder) (w v : List ℕ) → o ≡ Nothing → v ≡ set w openAt 0 → v ≡ orderOut o w
 unfolding orderOut
 put-none o w v e f = rw e f
 
--- a kept one, as its seven words
-pub put-kept : (o : OpenOrder) (k : KeptOrder) (w v : List ℕ) → o ≡ Kept k
-    → v ≡ orderWordsOut 1 (k .order .store) (k .order .size) (k .order .kind) (boolByte (k .order .map)) (k .ask .size) (k .ask .mask) w → v ≡ orderOut o w
-unfolding orderOut
-put-kept o k w v e f =
-    rw e
-    (f ∙ ap (λ (m : ℕ). orderWordsOut 1 (k .order .store) (k .order .size) (k .order .kind) m (k .ask .size) (k .ask .mask) w) (cast-flag (k .order .map)))
+-- one, as it is kept
+pub put-some : (o : OpenOrder) (k : KeptOrder) (w v : List ℕ) → o ≡ Kept k → v ≡ orderOut (Kept k) w → v ≡ orderOut o w
+put-some o k w v e f = rw e f
+
+-- one that an ask told, kept with the ask
+pub put-told : (answer : AskAnswer) (o : Order) (size mask : ℕ) (w v : List ℕ) → answer ≡ A.Order o
+    → v ≡ orderOut (Kept (record { ask = record { size = size; mask = mask }; order = o })) w → v ≡ askedOut size mask (askSaid answer) w
+put-told answer o size mask w v e f = rw e f
 
 -- ---- what was written, read again
 
@@ -117,7 +123,7 @@ order-words-length o s z k m a b w = simp length-set
 
 pub order-length : (o : OpenOrder) (w : List ℕ) → length (orderOut o w) ≡ length w
 unfolding orderOut
-order-length Nothing w = order-words-length _ _ _ _ _ _ _ w
+order-length Nothing w = length-set w openAt 0
 order-length (Kept k) w = order-words-length _ _ _ _ _ _ _ w
 
 order-words-before : (o s z k m a b : ℕ) (w : List ℕ) (i : ℕ) → i < openAt → getD (orderWordsOut o s z k m a b w) i 0 ≡ getD w i 0
@@ -135,7 +141,7 @@ order-words-before o s z k m a b w i l =
 -- a word before the order's stays
 pub order-before : (o : OpenOrder) (w : List ℕ) (i : ℕ) → i < openAt → getD (orderOut o w) i 0 ≡ getD w i 0
 unfolding orderOut
-order-before Nothing w i l = order-words-before _ _ _ _ _ _ _ w i l
+order-before Nothing w i l = getD-set-other w openAt i 0 0 (λ e. omega arith)
 order-before (Kept k) w i l = order-words-before _ _ _ _ _ _ _ w i l
 
 -- the seven words
@@ -184,7 +190,7 @@ flag-most false = omega arith
 -- the order that was written is read again
 pub order-again : (o : OpenOrder) (w : List ℕ) → length w ≡ accountWords → orderIn (orderOut o w) ≡ o
 unfolding orderIn orderOut
-order-again Nothing w l = rw (seven 0 0 0 0 0 0 0 w l .open-is)
+order-again Nothing w l = let e : getD (set w openAt 0) openAt 0 ≡ 0 = on w openAt 0 accountWords l (omega arith) in rw e
 order-again (Kept k) w l =
     let t = seven 1 (k .order .store) (k .order .size) (k .order .kind) (flag (k .order .map)) (k .ask .size) (k .ask .mask) w l in
     rw (t .open-is, t .store-is, t .size-is, t .kind-is, t .map-is, t .asked-is, t .mask-is, unflag (k .order .map))
@@ -196,19 +202,19 @@ pub record Tested (v : List ℕ) : Type 0 where
   pub kind : getD v orderKindAt 0 ≤ narrowMost
   pub map : getD v orderMapAt 0 ≤ 1
 
--- and passes the test, where its store and type are of 32 bits
-pub order-tested : (o : OpenOrder) (w : List ℕ) → length w ≡ accountWords
+-- and passes the test, where its store and type are of 32 bits, and where the words that none leaves passed it
+pub order-tested : (o : OpenOrder) (w : List ℕ) → length w ≡ accountWords → Tested w
     → ((k : KeptOrder) → o ≡ Kept k → (k .order .store ≤ narrowMost) × (k .order .kind ≤ narrowMost)) → Tested (orderOut o w)
 unfolding orderOut
-order-tested Nothing w l h =
-    let t = seven 0 0 0 0 0 0 0 w l in
+order-tested Nothing w l t h =
+    let past : (k : ℕ) → openAt < k → getD (set w openAt 0) k 0 ≡ getD w k 0 = λ k q. getD-set-other w openAt k 0 0 (λ e. omega arith) in
     record {
-      opened = omega (arith, t .open-is);
-      store = omega (arith, t .store-is);
-      kind = omega (arith, t .kind-is);
-      map = omega (arith, t .map-is);
+      opened = omega (arith, on w openAt 0 accountWords l (omega arith));
+      store = omega (arith, past orderStoreAt (omega arith), t .store);
+      kind = omega (arith, past orderKindAt (omega arith), t .kind);
+      map = omega (arith, past orderMapAt (omega arith), t .map);
     }
-order-tested (Kept k) w l h =
+order-tested (Kept k) w l tested h =
     let t = seven 1 (k .order .store) (k .order .size) (k .order .kind) (flag (k .order .map)) (k .ask .size) (k .ask .mask) w l in
     let n = h k refl in
     record {
@@ -217,3 +223,21 @@ order-tested (Kept k) w l h =
       kind = omega (arith, t .kind-is, n .1);
       map = omega (arith, t .map-is, flag-most (k .order .map));
     }
+
+-- ---- what was read, written again
+
+flag-back : (m : ℕ) → m ≤ 1 → flag (eqb m 1) ≡ m
+flag-back m q =
+    ⊎-elim (λ (e : m ≡ 1). rw (e)) (λ (n : m ≡ 1 → ⊥). let z : m ≡ 0 = omega (arith, n) in rw (z)) (same? m 1)
+
+-- leaves the words as they are
+pub order-stays : (w : List ℕ) → getD w openAt 0 ≤ 1 → getD w orderMapAt 0 ≤ 1 → orderOut (orderIn w) w ≡ w
+unfolding orderIn orderOut orderWordsOut
+order-stays w opened map =
+    ⊎-elim
+    (λ (e : getD w openAt 0 ≡ 0).
+    rw (eq-eqb (getD w openAt 0) 0 e) (ap (set w openAt) (sym e) ∙ set-getD w openAt 0))
+    (λ (n : getD w openAt 0 ≡ 0 → ⊥).
+    let e : 1 ≡ getD w openAt 0 = omega (arith, n) in
+    rw (ne-eqb (getD w openAt 0) 0 n, flag-back (getD w orderMapAt 0) map, e, set-getD w openAt 0, set-getD w orderStoreAt 0, set-getD w orderSizeAt 0, set-getD w orderKindAt 0, set-getD w orderMapAt 0, set-getD w askSizeAt 0, set-getD w askMaskAt 0))
+    (same? (getD w openAt 0) 0)

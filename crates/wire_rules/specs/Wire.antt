@@ -3,7 +3,7 @@
 use mathlib.Core.Bool.{Bool, cond, _&&_}
 use mathlib.Core.List.{List, [], _∷_, _++_}
 use Prim.Native.Nat.{ℕ, zero, suc, _^_, _-_}
-use lib.Dec.{eqb, leb}
+use lib.Dec.{eqb, leb, ltb}
 use lib.ListN.{length, getD, set}
 use Rattle.words.specs.Words.{cellOf}
 use Rattle.counter.specs.Account.{noHeap}
@@ -21,6 +21,7 @@ use Rattle.counter.specs.declared.answers.Outcome.the-variants as O
 use Rattle.counter.specs.declared.settings.BuddySettings.{BuddySettings}
 use Rattle.counter.specs.declared.settings.FreeListSettings.{FreeListSettings}
 use Rattle.counter.specs.declared.settings.StoreSettings.{StoreSettings}
+use Rattle.store_rules.specs.declared.Share.{Share}
 
 -- the greatest number of a field of 32 bits
 abbrev pub narrowMost : ℕ
@@ -152,12 +153,29 @@ unfoldable pub orderWordsOut : ℕ → ℕ → ℕ → ℕ → ℕ → ℕ → �
 orderWordsOut opened store size kind map asked mask w =
     set (set (set (set (set (set (set w openAt opened) orderStoreAt store) orderSizeAt size) orderKindAt kind) orderMapAt map) askSizeAt asked) askMaskAt mask
 
+-- the words of an order that is not open are spare
 unfoldable pub orderOut : OpenOrder → List ℕ → List ℕ
-orderOut Nothing w = orderWordsOut 0 0 0 0 0 0 0 w
+orderOut Nothing w = set w openAt 0
 orderOut (Kept k) w = orderWordsOut 1 (k .order .store) (k .order .size) (k .order .kind) (flag (k .order .map)) (k .ask .size) (k .ask .mask) w
 
 unfoldable pub accountOut : Account → List ℕ → List ℕ
 accountOut a w = orderOut (a .order) (set (heapsOut (a .heaps) heapsMost w) objectsAt (a .objects))
+
+-- of a store's share: its heap, with the number i, and the objects
+unfoldable pub shareOut : ℕ → Share → List ℕ → List ℕ
+shareOut i h w = set (cond (ltb i heapsMost) (heapOut (h .heap) i w) w) objectsAt (h .objects)
+
+-- of an ask, by what it said: an order, with the size and mask that were asked
+abbrev pub askedOut : ℕ → ℕ → Said → List ℕ → List ℕ
+askedOut size mask Paper.ready w = w
+askedOut size mask (Paper.block serial chunk offset z) w = w
+askedOut size mask (Paper.order store z kind map) w =
+    orderOut
+    (Kept (record { ask = record { size = size; mask = mask }; order = record { store = store; size = z; kind = kind; map = map } }))
+    w
+askedOut size mask (Paper.released n) w = w
+askedOut size mask Paper.ranked w = w
+askedOut size mask (Paper.refusal n back) w = w
 
 -- ---- an outcome: 0 memory was made, 1 out of device memory, 2 out of host memory; of made memory its number, and 0 mapped, 1 not
 -- wanted, 2 map failed, 3 out of device memory, 4 out of host memory

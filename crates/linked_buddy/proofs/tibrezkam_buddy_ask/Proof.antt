@@ -12,20 +12,33 @@ is-account-requires c κs = search needs
 
 read-buddy-requires : tie.Need-read-buddy-requires
 read-buddy-requires c κs =
-    let a = c .before .before .before .before .before .before .before .before .before .before .before .before .args in
-    settings-right (a .settings .now) (a .account .now) _ _ (c .before .before .before .is-settings .ensures) (c .before .is-account .ensures) (c .if1 .taken)
+    let j = c in
+    let q = j .before in
+    let p = q .before .before in
+    let a = p .before .before .before .before .before .before .before .before .before .args in
+    settings-right (a .settings .now) (a .account .now) _ _ (p .is-settings .ensures) (q .is-account .ensures) (j .if1 .taken)
 
-read-account-requires : tie.Need-read-account-requires
-read-account-requires c κs =
-    let i = c .before .before in
-    let a = i .before .before .before .before .before .before .before .before .before .before .before .before .args in
-    account-right (a .settings .now) (a .account .now) _ _ (i .before .before .before .is-settings .ensures) (i .before .is-account .ensures) (i .if1 .taken)
+heaps-in-table-requires : tie.Need-heaps-in-table-requires
+heaps-in-table-requires c κs =
+    let j = c .before .before .before in
+    let q = j .before in
+    let p = q .before .before in
+    let a = p .before .before .before .before .before .before .before .before .before .args in
+    account-right (a .settings .now) (a .account .now) _ _ (p .is-settings .ensures) (q .is-account .ensures) (j .if1 .taken)
+
+read-share-requires : tie.Need-read-share-requires
+read-share-requires c κs =
+    let j = c .before .before .before .before .before in
+    let q = j .before in
+    let p = q .before .before in
+    let a = p .before .before .before .before .before .before .before .before .before .args in
+    (account-right (a .settings .now) (a .account .now) _ _ (p .is-settings .ensures) (q .is-account .ensures) (j .if1 .taken), c .before .heaps-in-table .ensures)
 
 ask-requires : tie.Need-ask-requires
 ask-requires c κs = search needs
 
-put-account-requires : tie.Need-put-account-requires
-put-account-requires c κs = search needs
+put-asked-requires : tie.Need-put-asked-requires
+put-asked-requires c κs = search needs
 
 tell-asked-requires : tie.Need-tell-asked-requires
 tell-asked-requires c κs = search needs
@@ -53,11 +66,16 @@ same-length-6 c = search needs
 
 returns : tie.Need-returns
 returns c =
-    let u = c .before .before .before .before .before .before .before .before .before .before .before .before .before .before .before .before .before in
-    let m = u .before .before .before .before .before in
-    let i = m .before .before .before in
-    let a = i .before .before .before .before .before .before .before .before .before .before .before .before .args in
-    ask-made (a .settings .now) (a .account .now) _ _ (i .before .before .before .is-settings .ensures) (i .before .is-account .ensures) (a .size) (a .mask) (tables (a .head .now) (a .loans .now) (a .chunks .now) (a .index .now) (a .tree .now)) _ (a .answer .now) _ (tables _ _ (a .chunks .now) _ _) _ _ _ _ (i .if1 .taken) (m .before .before .read-buddy .ensures) (m .read-account .ensures) (u .ask .ensures) (c .before .before .before .before .before .before .put-account .ensures) (c .before .before .tell-asked .ensures)
+    let v = c .before .before in
+    let w = v .before .before .before .before in
+    let m = w .before .before .before .before .before .before .before .before .before .before in
+    let h = m .before .before .before .before .before in
+    let f = h .before .before .before .before .before in
+    let j = f .before in
+    let q = j .before in
+    let p = q .before .before in
+    let a = p .before .before .before .before .before .before .before .before .before .args in
+    ask-made (a .settings .now) (a .account .now) _ _ (p .is-settings .ensures) (q .is-account .ensures) (a .size) (a .mask) (tables (a .head .now) (a .loans .now) (a .chunks .now) (a .index .now) (a .tree .now)) _ (a .answer .now) _ (tables _ _ _ _ _) _ _ _ (j .if1 .taken) (f .read-buddy .ensures) (h .read-share .ensures) (m .ask .ensures) (w .put-asked .ensures) (v .tell-asked .ensures)
 
 same-length-7 : tie.Need-same-length-7
 same-length-7 c = search needs
@@ -67,9 +85,12 @@ same-length-8 c = search needs
 
 returns-2 : tie.Need-returns-2
 returns-2 c =
-    let i = c .before .before .before .before in
-    let a = i .before .before .before .before .before .before .before .before .before .before .before .before .args in
-    ask-bad (a .settings .now) (a .account .now) _ _ (i .before .before .before .is-settings .ensures) (i .before .is-account .ensures) (a .size) (a .mask) (tables (a .head .now) (a .loans .now) (a .chunks .now) (a .index .now) (a .tree .now)) (a .answer .now) _ (i .if1 .left) (c .before .before .tell-bad .ensures)
+    let v = c .before .before in
+    let j = v .before .before in
+    let q = j .before in
+    let p = q .before .before in
+    let a = p .before .before .before .before .before .before .before .before .before .args in
+    ask-bad (a .settings .now) (a .account .now) _ _ (p .is-settings .ensures) (q .is-account .ensures) (a .size) (a .mask) (tables (a .head .now) (a .loans .now) (a .chunks .now) (a .index .now) (a .tree .now)) (a .answer .now) _ (j .if1 .left) (v .tell-bad .ensures)
 
 pub tibrezkam-buddy-ask-spec : {M : Type 1} → statement M
 tibrezkam-buddy-ask-spec =
@@ -78,9 +99,10 @@ tibrezkam-buddy-ask-spec =
     is-settings-requires
     is-account-requires
     read-buddy-requires
-    read-account-requires
+    heaps-in-table-requires
+    read-share-requires
     ask-requires
-    put-account-requires
+    put-asked-requires
     tell-asked-requires
     tell-bad-requires
     same-length

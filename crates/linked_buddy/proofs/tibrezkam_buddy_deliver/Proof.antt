@@ -16,23 +16,52 @@ is-outcome-requires c κs = search needs
 
 read-buddy-requires : tie.Need-read-buddy-requires
 read-buddy-requires c κs =
-    let a = c .before .before .before .before .before .before .before .before .before .before .before .before .before .args in
-    settings-right (a .settings .now) (a .account .now) _ _ (c .before .before .before .before .is-settings .ensures) (c .before .before .is-account .ensures) (and-left _ _ (c .if1 .taken))
+    let j = c in
+    let q = j .before .before in
+    let p = q .before .before in
+    let a = p .before .before .before .before .before .before .before .before .before .args in
+    settings-right (a .settings .now) (a .account .now) _ _ (p .is-settings .ensures) (q .is-account .ensures) (and-left _ _ (j .if1 .taken))
 
-read-account-requires : tie.Need-read-account-requires
-read-account-requires c κs =
-    let i = c .before .before in
-    let a = i .before .before .before .before .before .before .before .before .before .before .before .before .before .args in
-    account-right (a .settings .now) (a .account .now) _ _ (i .before .before .before .before .is-settings .ensures) (i .before .before .is-account .ensures) (and-left _ _ (i .if1 .taken))
+heaps-in-table-requires : tie.Need-heaps-in-table-requires
+heaps-in-table-requires c κs =
+    let j = c .before .before .before in
+    let q = j .before .before in
+    let p = q .before .before in
+    let a = p .before .before .before .before .before .before .before .before .before .args in
+    account-right (a .settings .now) (a .account .now) _ _ (p .is-settings .ensures) (q .is-account .ensures) (and-left _ _ (j .if1 .taken))
+
+read-share-requires : tie.Need-read-share-requires
+read-share-requires c κs =
+    let j = c .before .before .before .before .before in
+    let q = j .before .before in
+    let p = q .before .before in
+    let a = p .before .before .before .before .before .before .before .before .before .args in
+    (account-right (a .settings .now) (a .account .now) _ _ (p .is-settings .ensures) (q .is-account .ensures) (and-left _ _ (j .if1 .taken)), c .before .heaps-in-table .ensures)
 
 read-outcome-requires : tie.Need-read-outcome-requires
 read-outcome-requires c κs = search needs
 
+read-order-requires : tie.Need-read-order-requires
+read-order-requires c κs =
+    let j = c .before .before .before .before .before .before .before .before in
+    let q = j .before .before in
+    let p = q .before .before in
+    let a = p .before .before .before .before .before .before .before .before .before .args in
+    account-right (a .settings .now) (a .account .now) _ _ (p .is-settings .ensures) (q .is-account .ensures) (and-left _ _ (j .if1 .taken))
+
 deliver-requires : tie.Need-deliver-requires
 deliver-requires c κs = search needs
 
-put-account-requires : tie.Need-put-account-requires
-put-account-requires c κs = search needs
+put-share-requires : tie.Need-put-share-requires
+put-share-requires c κs =
+    let j = c .before .before .before .before .before .before .before .before .before .before .before .before .before .before .before .before .before .before .before .before .before .before .before .before .before .before .before in
+    let q = j .before .before in
+    let p = q .before .before in
+    let a = p .before .before .before .before .before .before .before .before .before .args in
+    account-right (a .settings .now) (a .account .now) _ _ (p .is-settings .ensures) (q .is-account .ensures) (and-left _ _ (j .if1 .taken))
+
+put-order-requires : tie.Need-put-order-requires
+put-order-requires c κs = search needs
 
 tell-delivered-requires : tie.Need-tell-delivered-requires
 tell-delivered-requires c κs = search needs
@@ -63,12 +92,20 @@ same-length-7 c = search needs
 
 returns : tie.Need-returns
 returns c =
-    let u = c .before .before .before .before .before .before .before .before .before .before .before .before .before .before .before .before .before .before .before in
-    let o = u .before .before .before .before .before .before in
-    let m = u .before .before .before .before .before .before .before in
-    let i = m .before .before .before in
-    let a = i .before .before .before .before .before .before .before .before .before .before .before .before .before .args in
-    deliver-made (a .settings .now) (a .account .now) _ _ (i .before .before .before .before .is-settings .ensures) (i .before .before .is-account .ensures) (a .what) (a .memory) (a .mapping) (tables (a .head .now) (a .loans .now) (a .chunks .now) (a .index .now) (a .tree .now)) _ (i .before .is-outcome .ensures) _ (a .answer .now) _ (tables _ _ _ _ _) _ _ _ _ _ (i .if1 .taken) (m .before .before .read-buddy .ensures) (m .read-account .ensures) (o .read-outcome .ensures) (u .deliver .ensures) (c .before .before .before .before .before .before .put-account .ensures) (c .before .before .tell-delivered .ensures)
+    let v = c .before .before in
+    let x = v .before .before .before .before in
+    let w = x .before .before .before .before in
+    let m = w .before .before .before .before .before .before .before .before .before .before .before .before .before in
+    let n = m .before .before .before .before .before .before in
+    let o = n .before .before in
+    let h = o .before in
+    let f = h .before .before .before .before .before in
+    let j = f .before in
+    let z = j .before in
+    let q = z .before in
+    let p = q .before .before in
+    let a = p .before .before .before .before .before .before .before .before .before .args in
+    deliver-made (a .settings .now) (a .account .now) _ _ (p .is-settings .ensures) (q .is-account .ensures) (a .what) (a .memory) (a .mapping) (tables (a .head .now) (a .loans .now) (a .chunks .now) (a .index .now) (a .tree .now)) _ (z .is-outcome .ensures) _ _ (a .answer .now) _ (tables _ _ _ _ _) _ _ _ _ _ _ _ (j .if1 .taken) (f .read-buddy .ensures) (h .read-share .ensures) (n .read-order .ensures) (o .read-outcome .ensures) (m .deliver .ensures) (w .put-share .ensures) (x .put-order .ensures) (v .tell-delivered .ensures)
 
 same-length-8 : tie.Need-same-length-8
 same-length-8 c = search needs
@@ -78,9 +115,13 @@ same-length-9 c = search needs
 
 returns-2 : tie.Need-returns-2
 returns-2 c =
-    let i = c .before .before .before .before in
-    let a = i .before .before .before .before .before .before .before .before .before .before .before .before .before .args in
-    deliver-bad (a .settings .now) (a .account .now) _ _ (i .before .before .before .before .is-settings .ensures) (i .before .before .is-account .ensures) (a .what) (a .memory) (a .mapping) (tables (a .head .now) (a .loans .now) (a .chunks .now) (a .index .now) (a .tree .now)) _ (i .before .is-outcome .ensures) (a .answer .now) _ (i .if1 .left) (c .before .before .tell-bad .ensures)
+    let v = c .before .before in
+    let j = v .before .before in
+    let z = j .before in
+    let q = z .before in
+    let p = q .before .before in
+    let a = p .before .before .before .before .before .before .before .before .before .args in
+    deliver-bad (a .settings .now) (a .account .now) _ _ (p .is-settings .ensures) (q .is-account .ensures) (a .what) (a .memory) (a .mapping) (tables (a .head .now) (a .loans .now) (a .chunks .now) (a .index .now) (a .tree .now)) _ (z .is-outcome .ensures) (a .answer .now) _ (j .if1 .left) (v .tell-bad .ensures)
 
 pub tibrezkam-buddy-deliver-spec : {M : Type 1} → statement M
 tibrezkam-buddy-deliver-spec =
@@ -90,10 +131,13 @@ tibrezkam-buddy-deliver-spec =
     is-account-requires
     is-outcome-requires
     read-buddy-requires
-    read-account-requires
+    heaps-in-table-requires
+    read-share-requires
     read-outcome-requires
+    read-order-requires
     deliver-requires
-    put-account-requires
+    put-share-requires
+    put-order-requires
     tell-delivered-requires
     tell-bad-requires
     same-length

@@ -12,20 +12,38 @@ is-account-requires c κs = search needs
 
 read-buddy-requires : tie.Need-read-buddy-requires
 read-buddy-requires c κs =
-    let a = c .before .before .before .before .before .before .before .before .before .before .before .before .before .args in
-    settings-right (a .settings .now) (a .account .now) _ _ (c .before .before .before .is-settings .ensures) (c .before .is-account .ensures) (c .if1 .taken)
+    let j = c in
+    let q = j .before in
+    let p = q .before .before in
+    let a = p .before .before .before .before .before .before .before .before .before .before .args in
+    settings-right (a .settings .now) (a .account .now) _ _ (p .is-settings .ensures) (q .is-account .ensures) (j .if1 .taken)
 
-read-account-requires : tie.Need-read-account-requires
-read-account-requires c κs =
-    let i = c .before .before in
-    let a = i .before .before .before .before .before .before .before .before .before .before .before .before .before .args in
-    account-right (a .settings .now) (a .account .now) _ _ (i .before .before .before .is-settings .ensures) (i .before .is-account .ensures) (i .if1 .taken)
+heaps-in-table-requires : tie.Need-heaps-in-table-requires
+heaps-in-table-requires c κs =
+    let j = c .before .before .before in
+    let q = j .before in
+    let p = q .before .before in
+    let a = p .before .before .before .before .before .before .before .before .before .before .args in
+    account-right (a .settings .now) (a .account .now) _ _ (p .is-settings .ensures) (q .is-account .ensures) (j .if1 .taken)
+
+read-share-requires : tie.Need-read-share-requires
+read-share-requires c κs =
+    let j = c .before .before .before .before .before in
+    let q = j .before in
+    let p = q .before .before in
+    let a = p .before .before .before .before .before .before .before .before .before .before .args in
+    (account-right (a .settings .now) (a .account .now) _ _ (p .is-settings .ensures) (q .is-account .ensures) (j .if1 .taken), c .before .heaps-in-table .ensures)
 
 return-block-requires : tie.Need-return-block-requires
 return-block-requires c κs = search needs
 
-put-account-requires : tie.Need-put-account-requires
-put-account-requires c κs = search needs
+put-share-requires : tie.Need-put-share-requires
+put-share-requires c κs =
+    let j = c .before .before .before .before .before .before .before .before .before .before .before .before .before .before .before .before .before .before .before .before .before .before .before .before in
+    let q = j .before in
+    let p = q .before .before in
+    let a = p .before .before .before .before .before .before .before .before .before .before .args in
+    account-right (a .settings .now) (a .account .now) _ _ (p .is-settings .ensures) (q .is-account .ensures) (j .if1 .taken)
 
 tell-released-requires : tie.Need-tell-released-requires
 tell-released-requires c κs = search needs
@@ -56,11 +74,16 @@ same-length-7 c = search needs
 
 returns : tie.Need-returns
 returns c =
-    let u = c .before .before .before .before .before .before .before .before .before .before .before .before .before .before .before .before .before .before .before in
-    let m = u .before .before .before .before .before .before in
-    let i = m .before .before .before in
-    let a = i .before .before .before .before .before .before .before .before .before .before .before .before .before .args in
-    return-made (a .settings .now) (a .account .now) _ _ (i .before .before .before .is-settings .ensures) (i .before .is-account .ensures) (record { serial = a .serial; chunk = a .chunk; offset = a .offset; size = a .size }) (tables (a .head .now) (a .loans .now) (a .chunks .now) (a .index .now) (a .tree .now)) (a .list .now) _ (a .answer .now) _ (tables (a .head .now) _ _ _ _) _ _ _ _ _ (i .if1 .taken) (m .before .before .read-buddy .ensures) (m .read-account .ensures) (u .return-block .ensures) (c .before .before .before .before .before .before .put-account .ensures) (c .before .before .tell-released .ensures)
+    let v = c .before .before in
+    let w = v .before .before .before .before in
+    let m = w .before .before .before .before .before .before .before .before .before .before .before .before .before in
+    let h = m .before .before .before .before .before .before in
+    let f = h .before .before .before .before .before in
+    let j = f .before in
+    let q = j .before in
+    let p = q .before .before in
+    let a = p .before .before .before .before .before .before .before .before .before .before .args in
+    return-made (a .settings .now) (a .account .now) _ _ (p .is-settings .ensures) (q .is-account .ensures) (record { serial = a .serial; chunk = a .chunk; offset = a .offset; size = a .size }) (tables (a .head .now) (a .loans .now) (a .chunks .now) (a .index .now) (a .tree .now)) (a .list .now) _ (a .answer .now) _ (tables _ _ _ _ _) _ _ _ _ _ (j .if1 .taken) (f .read-buddy .ensures) (h .read-share .ensures) (m .return-block .ensures) (w .put-share .ensures) (v .tell-released .ensures)
 
 same-length-8 : tie.Need-same-length-8
 same-length-8 c = search needs
@@ -70,9 +93,12 @@ same-length-9 c = search needs
 
 returns-2 : tie.Need-returns-2
 returns-2 c =
-    let i = c .before .before .before .before in
-    let a = i .before .before .before .before .before .before .before .before .before .before .before .before .before .args in
-    return-bad (a .settings .now) (a .account .now) _ _ (i .before .before .before .is-settings .ensures) (i .before .is-account .ensures) (record { serial = a .serial; chunk = a .chunk; offset = a .offset; size = a .size }) (tables (a .head .now) (a .loans .now) (a .chunks .now) (a .index .now) (a .tree .now)) (a .list .now) (a .answer .now) _ (i .if1 .left) (c .before .before .tell-bad .ensures)
+    let v = c .before .before in
+    let j = v .before .before in
+    let q = j .before in
+    let p = q .before .before in
+    let a = p .before .before .before .before .before .before .before .before .before .before .args in
+    return-bad (a .settings .now) (a .account .now) _ _ (p .is-settings .ensures) (q .is-account .ensures) (record { serial = a .serial; chunk = a .chunk; offset = a .offset; size = a .size }) (tables (a .head .now) (a .loans .now) (a .chunks .now) (a .index .now) (a .tree .now)) (a .list .now) (a .answer .now) _ (j .if1 .left) (v .tell-bad .ensures)
 
 pub tibrezkam-buddy-return-spec : {M : Type 1} → statement M
 tibrezkam-buddy-return-spec =
@@ -81,9 +107,10 @@ tibrezkam-buddy-return-spec =
     is-settings-requires
     is-account-requires
     read-buddy-requires
-    read-account-requires
+    heaps-in-table-requires
+    read-share-requires
     return-block-requires
-    put-account-requires
+    put-share-requires
     tell-released-requires
     tell-bad-requires
     same-length

@@ -17,27 +17,52 @@ is-outcome-requires c κs = search needs
 
 read-free-list-requires : tie.Need-read-free-list-requires
 read-free-list-requires c κs =
-    let q = c .before .before in
+    let j = c in
+    let q = j .before .before in
     let p = q .before .before in
     let a = p .before .before .before .before .before .before .before .before .before .args in
-    all-right listWords (a .settings .now) (a .account .now) _ _ _ (p .is-settings .ensures) (q .is-account .ensures) (c .if1 .taken) .0
+    all-right listWords (a .settings .now) (a .account .now) _ _ _ (p .is-settings .ensures) (q .is-account .ensures) (j .if1 .taken) .0
 
-read-account-requires : tie.Need-read-account-requires
-read-account-requires c κs =
-    let j = c .before .before in
+heaps-in-table-requires : tie.Need-heaps-in-table-requires
+heaps-in-table-requires c κs =
+    let j = c .before .before .before in
     let q = j .before .before in
     let p = q .before .before in
     let a = p .before .before .before .before .before .before .before .before .before .args in
     all-right listWords (a .settings .now) (a .account .now) _ _ _ (p .is-settings .ensures) (q .is-account .ensures) (j .if1 .taken) .1
 
+read-share-requires : tie.Need-read-share-requires
+read-share-requires c κs =
+    let j = c .before .before .before .before .before in
+    let q = j .before .before in
+    let p = q .before .before in
+    let a = p .before .before .before .before .before .before .before .before .before .args in
+    (all-right listWords (a .settings .now) (a .account .now) _ _ _ (p .is-settings .ensures) (q .is-account .ensures) (j .if1 .taken) .1, c .before .heaps-in-table .ensures)
+
 read-outcome-requires : tie.Need-read-outcome-requires
 read-outcome-requires c κs = search needs
+
+read-order-requires : tie.Need-read-order-requires
+read-order-requires c κs =
+    let j = c .before .before .before .before .before .before .before .before in
+    let q = j .before .before in
+    let p = q .before .before in
+    let a = p .before .before .before .before .before .before .before .before .before .args in
+    all-right listWords (a .settings .now) (a .account .now) _ _ _ (p .is-settings .ensures) (q .is-account .ensures) (j .if1 .taken) .1
 
 deliver-requires : tie.Need-deliver-requires
 deliver-requires c κs = search needs
 
-put-account-requires : tie.Need-put-account-requires
-put-account-requires c κs = search needs
+put-share-requires : tie.Need-put-share-requires
+put-share-requires c κs =
+    let j = c .before .before .before .before .before .before .before .before .before .before .before .before .before .before .before .before .before .before .before .before .before .before .before .before .before .before .before in
+    let q = j .before .before in
+    let p = q .before .before in
+    let a = p .before .before .before .before .before .before .before .before .before .args in
+    all-right listWords (a .settings .now) (a .account .now) _ _ _ (p .is-settings .ensures) (q .is-account .ensures) (j .if1 .taken) .1
+
+put-order-requires : tie.Need-put-order-requires
+put-order-requires c κs = search needs
 
 tell-delivered-requires : tie.Need-tell-delivered-requires
 tell-delivered-requires c κs = search needs
@@ -69,17 +94,19 @@ same-length-7 c = search needs
 returns : tie.Need-returns
 returns c =
     let v = c .before .before in
-    let w = v .before .before .before .before in
+    let x = v .before .before .before .before in
+    let w = x .before .before .before .before in
     let m = w .before .before .before .before .before .before .before .before .before .before .before .before .before in
-    let o = m .before .before .before .before .before .before in
+    let n = m .before .before .before .before .before .before in
+    let o = n .before .before in
     let h = o .before in
-    let f = h .before .before in
+    let f = h .before .before .before .before .before in
     let j = f .before in
-    let r = j .before in
-    let q = r .before in
+    let z = j .before in
+    let q = z .before in
     let p = q .before .before in
     let a = p .before .before .before .before .before .before .before .before .before .args in
-    deliver-made (a .settings .now) (a .account .now) _ _ (a .answer .now) _ (p .is-settings .ensures) (q .is-account .ensures) _ _ _ _ (tables (a .head .now) (a .loans .now) (a .chunks .now) (a .regions .now) (a .index .now)) _ _ (a .what) (a .memory) (a .mapping) _ _ (r .is-outcome .ensures) (j .if1 .taken) (f .read-free-list .ensures) (h .read-account .ensures) (o .read-outcome .ensures) (m .deliver .ensures) (w .put-account .ensures) (v .tell-delivered .ensures)
+    deliver-made (a .settings .now) (a .account .now) _ _ (a .answer .now) _ (p .is-settings .ensures) (q .is-account .ensures) _ _ _ (tables (a .head .now) (a .loans .now) (a .chunks .now) (a .regions .now) (a .index .now)) _ _ (f .read-free-list .ensures) (h .read-share .ensures) (a .what) (a .memory) (a .mapping) _ _ _ _ _ _ (z .is-outcome .ensures) (j .if1 .taken) (o .read-outcome .ensures) (n .read-order .ensures) (m .deliver .ensures) (w .put-share .ensures) (x .put-order .ensures) (v .tell-delivered .ensures)
 
 same-length-8 : tie.Need-same-length-8
 same-length-8 c = search needs
@@ -91,11 +118,11 @@ returns-2 : tie.Need-returns-2
 returns-2 c =
     let v = c .before .before in
     let j = v .before .before in
-    let r = j .before in
-    let q = r .before in
+    let z = j .before in
+    let q = z .before in
     let p = q .before .before in
     let a = p .before .before .before .before .before .before .before .before .before .args in
-    deliver-refused (a .settings .now) (a .account .now) _ _ (a .answer .now) _ (p .is-settings .ensures) (q .is-account .ensures) (tables (a .head .now) (a .loans .now) (a .chunks .now) (a .regions .now) (a .index .now)) (a .what) (a .memory) (a .mapping) _ (r .is-outcome .ensures) (j .if1 .left) (v .tell-bad .ensures)
+    deliver-refused (a .settings .now) (a .account .now) _ _ (a .answer .now) _ (p .is-settings .ensures) (q .is-account .ensures) (tables (a .head .now) (a .loans .now) (a .chunks .now) (a .regions .now) (a .index .now)) (a .what) (a .memory) (a .mapping) _ (z .is-outcome .ensures) (j .if1 .left) (v .tell-bad .ensures)
 
 pub tibrezkam-list-deliver-spec : {M : Type 1} → statement M
 tibrezkam-list-deliver-spec =
@@ -105,10 +132,13 @@ tibrezkam-list-deliver-spec =
     is-account-requires
     is-outcome-requires
     read-free-list-requires
-    read-account-requires
+    heaps-in-table-requires
+    read-share-requires
     read-outcome-requires
+    read-order-requires
     deliver-requires
-    put-account-requires
+    put-share-requires
+    put-order-requires
     tell-delivered-requires
     tell-bad-requires
     same-length

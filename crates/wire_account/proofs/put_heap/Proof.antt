@@ -1,73 +1,92 @@
 use borrow.Author.Needs.{needs}
+use native.Mathlib.Omega.{arith}
+use lib.ListN.{length-set}
 use Rattle.wire_rules.proofs.Heaps.{put-six}
+use Rattle.wire_rules.proofs.Orders.{right-yes}
 use Rattle.wire_account.proofs.put_heap.Statement.{statement}
 use Rattle.wire_account.proofs.put_heap.Tie as tie
 
 mul-at : tie.Need-mul-at
 mul-at c = search needs
 
-put-requires : tie.Need-put-requires
-put-requires c κs = search needs
+mul-w : tie.Need-mul-w
+mul-w c = search needs
 
-add-put : tie.Need-add-put
-add-put c = search needs
+slice-write-w : tie.Need-slice-write-w
+slice-write-w c = let s = c .before .before in omega (arith, right-yes (s .args .w .now) (s .pre .1) .whole)
 
-put-requires-2 : tie.Need-put-requires-2
-put-requires-2 c κs = search needs
+add-w : tie.Need-add-w
+add-w c = search needs
 
-add-put-2 : tie.Need-add-put-2
-add-put-2 c = search needs
+mul-w-2 : tie.Need-mul-w-2
+mul-w-2 c = search needs
 
-put-requires-3 : tie.Need-put-requires-3
-put-requires-3 c κs = search needs
+slice-write-w-2 : tie.Need-slice-write-w-2
+slice-write-w-2 c = let s = c .before .before in simp length-set (omega (arith, right-yes (s .args .w .now) (s .pre .1) .whole))
 
-add-put-3 : tie.Need-add-put-3
-add-put-3 c = search needs
+add-w-2 : tie.Need-add-w-2
+add-w-2 c = search needs
 
-put-requires-4 : tie.Need-put-requires-4
-put-requires-4 c κs = search needs
+mul-w-3 : tie.Need-mul-w-3
+mul-w-3 c = search needs
 
-add-put-4 : tie.Need-add-put-4
-add-put-4 c = search needs
+slice-write-w-3 : tie.Need-slice-write-w-3
+slice-write-w-3 c = let s = c .before .before in simp length-set (omega (arith, right-yes (s .args .w .now) (s .pre .1) .whole))
 
-put-requires-5 : tie.Need-put-requires-5
-put-requires-5 c κs = search needs
+add-w-3 : tie.Need-add-w-3
+add-w-3 c = search needs
 
-add-put-5 : tie.Need-add-put-5
-add-put-5 c = search needs
+mul-w-4 : tie.Need-mul-w-4
+mul-w-4 c = search needs
 
-put-requires-6 : tie.Need-put-requires-6
-put-requires-6 c κs = search needs
+slice-write-w-4 : tie.Need-slice-write-w-4
+slice-write-w-4 c = let s = c .before .before in simp length-set (omega (arith, right-yes (s .args .w .now) (s .pre .1) .whole))
+
+add-w-4 : tie.Need-add-w-4
+add-w-4 c = search needs
+
+mul-w-5 : tie.Need-mul-w-5
+mul-w-5 c = search needs
+
+slice-write-w-5 : tie.Need-slice-write-w-5
+slice-write-w-5 c = let s = c .before .before in simp length-set (omega (arith, right-yes (s .args .w .now) (s .pre .1) .whole))
+
+add-w-5 : tie.Need-add-w-5
+add-w-5 c = search needs
+
+mul-w-6 : tie.Need-mul-w-6
+mul-w-6 c = search needs
+
+slice-write-w-6 : tie.Need-slice-write-w-6
+slice-write-w-6 c = let s = c .before .before in simp length-set (omega (arith, right-yes (s .args .w .now) (s .pre .1) .whole))
 
 same-length : tie.Need-same-length
 same-length c = search needs
 
 returns : tie.Need-returns
-returns c =
-    let p6 = c .before .before in
-    let p5 = p6 .before .before .before .before in
-    let p4 = p5 .before .before .before .before in
-    let p3 = p4 .before .before .before .before in
-    let p2 = p3 .before .before .before .before in
-    let p1 = p2 .before .before .before .before in
-    let a = p1 .before .before .before .before .before .args in
-    put-six (a .h) (a .i) (a .w .now) _ _ _ _ _ _ (p1 .put .ensures) (p2 .put2 .ensures) (p3 .put3 .ensures) (p4 .put4 .ensures) (p5 .put5 .ensures) (p6 .put6 .ensures)
+returns c = let a = c .before .before .args in put-six (a .h) (a .i) (a .w .now)
 
 pub put-heap-spec : {M : Type 1} → statement M
 put-heap-spec =
     tie.close
     (tie.spec
     mul-at
-    put-requires
-    add-put
-    put-requires-2
-    add-put-2
-    put-requires-3
-    add-put-3
-    put-requires-4
-    add-put-4
-    put-requires-5
-    add-put-5
-    put-requires-6
+    mul-w
+    slice-write-w
+    add-w
+    mul-w-2
+    slice-write-w-2
+    add-w-2
+    mul-w-3
+    slice-write-w-3
+    add-w-3
+    mul-w-4
+    slice-write-w-4
+    add-w-4
+    mul-w-5
+    slice-write-w-5
+    add-w-5
+    mul-w-6
+    slice-write-w-6
     same-length
     returns)

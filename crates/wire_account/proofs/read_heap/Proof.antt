@@ -1,64 +1,94 @@
 use borrow.Author.Needs.{needs}
-use Rattle.wire_rules.proofs.Heaps.{read-six}
+use native.Mathlib.Omega.{arith}
+use Rattle.wire_rules.proofs.Orders.{right-yes}
+use Rattle.wire_rules.proofs.Shares.{read-own, read-none}
 use Rattle.wire_account.proofs.read_heap.Statement.{statement}
 use Rattle.wire_account.proofs.read_heap.Tie as tie
 
 mul-at : tie.Need-mul-at
 mul-at c = search needs
 
-word-requires : tie.Need-word-requires
-word-requires c κs = search needs
+mul-t6 : tie.Need-mul-t6
+mul-t6 c = search needs
 
-add-word : tie.Need-add-word
-add-word c = search needs
+shared-slice-read-t8 : tie.Need-shared-slice-read-t8
+shared-slice-read-t8 c = let s = c .before .before in omega (arith, right-yes (s .args .w .now) (s .pre) .whole)
 
-word-requires-2 : tie.Need-word-requires-2
-word-requires-2 c κs = search needs
+add-t9 : tie.Need-add-t9
+add-t9 c = search needs
 
-add-word-2 : tie.Need-add-word-2
-add-word-2 c = search needs
+mul-t10 : tie.Need-mul-t10
+mul-t10 c = search needs
 
-word-requires-3 : tie.Need-word-requires-3
-word-requires-3 c κs = search needs
+shared-slice-read-t12 : tie.Need-shared-slice-read-t12
+shared-slice-read-t12 c = let s = c .before .before .before in omega (arith, right-yes (s .args .w .now) (s .pre) .whole)
 
-add-word-3 : tie.Need-add-word-3
-add-word-3 c = search needs
+add-t13 : tie.Need-add-t13
+add-t13 c = search needs
 
-word-requires-4 : tie.Need-word-requires-4
-word-requires-4 c κs = search needs
+mul-t14 : tie.Need-mul-t14
+mul-t14 c = search needs
 
-add-word-4 : tie.Need-add-word-4
-add-word-4 c = search needs
+shared-slice-read-t16 : tie.Need-shared-slice-read-t16
+shared-slice-read-t16 c = let s = c .before .before .before .before in omega (arith, right-yes (s .args .w .now) (s .pre) .whole)
 
-word-requires-5 : tie.Need-word-requires-5
-word-requires-5 c κs = search needs
+add-t17 : tie.Need-add-t17
+add-t17 c = search needs
 
-add-word-5 : tie.Need-add-word-5
-add-word-5 c = search needs
+mul-t18 : tie.Need-mul-t18
+mul-t18 c = search needs
 
-word-requires-6 : tie.Need-word-requires-6
-word-requires-6 c κs = search needs
+shared-slice-read-t20 : tie.Need-shared-slice-read-t20
+shared-slice-read-t20 c = let s = c .before .before .before .before .before in omega (arith, right-yes (s .args .w .now) (s .pre) .whole)
+
+add-t22 : tie.Need-add-t22
+add-t22 c = search needs
+
+mul-t23 : tie.Need-mul-t23
+mul-t23 c = search needs
+
+shared-slice-read-t25 : tie.Need-shared-slice-read-t25
+shared-slice-read-t25 c = let s = c .before .before .before .before .before .before in omega (arith, right-yes (s .args .w .now) (s .pre) .whole)
+
+add-t26 : tie.Need-add-t26
+add-t26 c = search needs
+
+mul-t27 : tie.Need-mul-t27
+mul-t27 c = search needs
+
+shared-slice-read-t29 : tie.Need-shared-slice-read-t29
+shared-slice-read-t29 c = let s = c .before .before .before .before .before .before .before in omega (arith, right-yes (s .args .w .now) (s .pre) .whole)
 
 returns : tie.Need-returns
 returns c =
-    let w2 = c .before .before .before .before in
-    let a = w2 .before .before .before .args in
-    read-six (a .w .now) (a .i) _ _ _ _ _ _ (w2 .before .word .ensures) (w2 .word2 .ensures) (c .before .before .before .word3 .ensures) (c .before .before .word4 .ensures) (c .before .word5 .ensures) (c .word6 .ensures)
+    let i = c .before .before .before .before .before .before in
+    let a = i .before .args in
+    read-own (a .w .now) (a .i) (i .if1 .taken)
+
+returns-2 : tie.Need-returns-2
+returns-2 c = let a = c .before .args in read-none (a .w .now) (a .i) (c .if1 .left)
 
 pub read-heap-spec : {M : Type 1} → statement M
 read-heap-spec =
     tie.close
     (tie.spec
     mul-at
-    word-requires
-    add-word
-    word-requires-2
-    add-word-2
-    word-requires-3
-    add-word-3
-    word-requires-4
-    add-word-4
-    word-requires-5
-    add-word-5
-    word-requires-6
-    returns)
+    mul-t6
+    shared-slice-read-t8
+    add-t9
+    mul-t10
+    shared-slice-read-t12
+    add-t13
+    mul-t14
+    shared-slice-read-t16
+    add-t17
+    mul-t18
+    shared-slice-read-t20
+    add-t22
+    mul-t23
+    shared-slice-read-t25
+    add-t26
+    mul-t27
+    shared-slice-read-t29
+    returns
+    returns-2)

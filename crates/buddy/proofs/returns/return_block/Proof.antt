@@ -1,35 +1,19 @@
 use borrow.Author.Needs.{needs}
-use mathlib.Core.Path.{sym, ap, _∙_}
+use mathlib.Core.Path.{ap}
+use Rattle.counter.specs.Paper.{releaseSaid}
 use Rattle.buddy_stores.specs.Tables.{tables}
-use Rattle.returning.specs.Backs.{backOf}
-use Rattle.buddy.proofs.Readied.{returned-backs, returned-object, returned-list}
-use Rattle.buddy.proofs.Returning.{return-refused, return-done}
+use Rattle.buddy.proofs.Wholes.{released-whole}
 use Rattle.buddy.proofs.returns.return_block.Statement.{statement}
 use Rattle.buddy.proofs.returns.return_block.Tie as tie
 
-plan-return-requires : tie.Need-plan-return-requires
-plan-return-requires c κs = search needs
+share-of-requires : tie.Need-share-of-requires
+share-of-requires c κs = search needs
 
-enum-known-plan : tie.Need-enum-known-plan
-enum-known-plan c = search needs
+return-block-requires : tie.Need-return-block-requires
+return-block-requires c κs = search needs
 
-refuse-return-requires : tie.Need-refuse-return-requires
-refuse-return-requires c κs = search needs
-
-enum-known-plan-2 : tie.Need-enum-known-plan-2
-enum-known-plan-2 c = search needs
-
-carry-return-requires : tie.Need-carry-return-requires
-carry-return-requires c κs =
-    let m = c .before .before .before .before .before .before in
-    let p = m .before .before in
-    let a = p .before .before .before .before .before .before .before .before .before .before .before .before .before .args in
-    let e = sym (ap backOf (m .plan2 .given .1)) ∙ p .plan-return .ensures in
-    let t = tables (a .head .now) (a .loans .now) (a .chunks .now) (a .index .now) (a .tree .now) in (
-      returned-backs (a .s) (a .a) (a .b) t (a .list .now) _ e,
-      returned-object (a .s) (a .a) (a .b) t (a .list .now) _ e,
-      returned-list (a .s) (a .a) (a .b) t (a .list .now) _ e,
-    )
+released-requires : tie.Need-released-requires
+released-requires c κs = search needs
 
 same-length : tie.Need-same-length
 same-length c = search needs
@@ -43,53 +27,26 @@ same-length-3 c = search needs
 same-length-4 : tie.Need-same-length-4
 same-length-4 c = search needs
 
-returns : tie.Need-returns
-returns c =
-    let m = c .before .before in
-    let p = m .before .before in
-    let a = p .before .before .before .before .before .before .before .before .before .before .before .before .before .args in
-    return-refused (a .s) (a .a) (a .b) (tables (a .head .now) (a .loans .now) (a .chunks .now) (a .index .now) (a .tree .now)) (a .list .now) _ _ _ (c .refuse-return .ensures .0) (c .refuse-return .ensures .1) (sym (ap backOf (m .plan .given .1)) ∙ p .plan-return .ensures)
-
 same-length-5 : tie.Need-same-length-5
 same-length-5 c = search needs
 
-same-length-6 : tie.Need-same-length-6
-same-length-6 c = search needs
-
-same-length-7 : tie.Need-same-length-7
-same-length-7 c = search needs
-
-same-length-8 : tie.Need-same-length-8
-same-length-8 c = search needs
-
-same-length-9 : tie.Need-same-length-9
-same-length-9 c = search needs
-
-returns-2 : tie.Need-returns-2
-returns-2 c =
-    let r = c .before .before .before .before .before .before .before .before .before .before in
-    let m = r .before .before .before .before .before .before .before in
-    let p = m .before .before in
-    let a = p .before .before .before .before .before .before .before .before .before .before .before .before .before .args in
-    return-done (a .s) (a .a) (a .b) (tables (a .head .now) (a .loans .now) (a .chunks .now) (a .index .now) (a .tree .now)) (a .list .now) _ _ (sym (ap backOf (m .plan2 .given .1)) ∙ p .plan-return .ensures) (r .carry-return .ensures)
+returns : tie.Need-returns
+returns c =
+    let p = c .before .before .before .before .before .before .before .before .before .before .before in
+    let h = p .before .before .before .before .before .before in
+    let a = h .before .before .before .before .before .before .before .before .args in
+    released-whole (a .s) (a .a) (tables (a .head .now) (a .loans .now) (a .chunks .now) (a .index .now) (a .tree .now)) _ _ (h .share-of .ensures) _ _ _ (ap releaseSaid (c .released .ensures .1)) (a .b) (a .list .now) _ _ (p .return-block .ensures) (c .released .ensures .0)
 
 pub return-block-spec : {M : Type 1} → statement M
 return-block-spec =
     tie.close
     (tie.spec
-    plan-return-requires
-    enum-known-plan
-    refuse-return-requires
-    enum-known-plan-2
-    carry-return-requires
+    share-of-requires
+    return-block-requires
+    released-requires
     same-length
     same-length-2
     same-length-3
     same-length-4
-    returns
     same-length-5
-    same-length-6
-    same-length-7
-    same-length-8
-    same-length-9
-    returns-2)
+    returns)

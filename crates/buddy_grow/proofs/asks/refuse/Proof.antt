@@ -30,7 +30,7 @@ returns c =
     let g = c .before .before .before .before .before in
     let n = g .before .before .before .before in
     let a = n .before .before .before .args in
-    denied-nine (a .s) (a .a) (a .size) (a .mask) (numberOf (a .refusal)) (a .head .now) (a .tree .now) _ _ _ _ (omega (arith, n .number .ensures, g .before .before .before .if1 .taken)) (g .grow-for .ensures) (c .refuse-ask .ensures .0) (c .refuse-ask .ensures .1)
+    (c .refuse-ask .ensures, denied-nine (a .s) (a .size) (a .mask) (numberOf (a .refusal)) (a .head .now) (a .tree .now) _ (omega (arith, n .number .ensures, g .before .before .before .if1 .taken)) (g .grow-for .ensures))
 
 refuse-ask-requires-2 : tie.Need-refuse-ask-requires-2
 refuse-ask-requires-2 c κs = search needs
@@ -39,7 +39,7 @@ returns-2 : tie.Need-returns-2
 returns-2 c =
     let n = c .before .before in
     let a = n .before .before .before .args in
-    denied-other (a .s) (a .a) (a .size) (a .mask) (numberOf (a .refusal)) (a .head .now) (a .tree .now) _ _ (ne-eqb (numberOf (a .refusal)) 9 (λ e. c .before .if1 .left (n .number .ensures ∙ e))) (c .refuse-ask2 .ensures .0) (c .refuse-ask2 .ensures .1)
+    (c .refuse-ask2 .ensures, denied-other (a .s) (a .size) (a .mask) (numberOf (a .refusal)) (a .head .now) (a .tree .now) (ne-eqb (numberOf (a .refusal)) 9 (λ e. c .before .if1 .left (n .number .ensures ∙ e))))
 
 pub refuse-spec : {M : Type 1} → statement M
 refuse-spec =

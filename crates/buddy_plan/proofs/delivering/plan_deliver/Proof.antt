@@ -25,13 +25,13 @@ returns : tie.Need-returns
 returns c =
     let g = c .before .before .before in
     let a = g .before .before .before .before .before .before .args in
-    plan-shut (a .s) (a .a) (a .o) (tables (a .head .now) (a .loans .now) (a .chunks .now) (a .index .now) (a .tree .now)) (verdictOf (g .gate-delivery .result)) _ (ap verdictOf (c .before .g .given .1)) (g .gate-delivery .ensures)
+    plan-shut (a .s) (a .h) (a .order) (a .o) (tables (a .head .now) (a .loans .now) (a .chunks .now) (a .index .now) (a .tree .now)) (verdictOf (g .gate-delivery .result)) _ (ap verdictOf (c .before .g .given .1)) (g .gate-delivery .ensures)
 
 returns-2 : tie.Need-returns-2
 returns-2 c =
     let g = c .before .before .before .before in
     let a = g .before .before .before .before .before .before .args in
-    plan-go (a .s) (a .a) (a .o) (tables (a .head .now) (a .loans .now) (a .chunks .now) (a .index .now) (a .tree .now)) (verdictOf (g .gate-delivery .result)) _ _ (ap verdictOf (c .before .before .enum-told .given .1)) (g .gate-delivery .ensures) (c .before .is-known .ensures) (c .come .ensures)
+    plan-go (a .s) (a .h) (a .order) (a .o) (tables (a .head .now) (a .loans .now) (a .chunks .now) (a .index .now) (a .tree .now)) (verdictOf (g .gate-delivery .result)) _ _ (ap verdictOf (c .before .before .enum-told .given .1)) (g .gate-delivery .ensures) (c .before .is-known .ensures) (c .come .ensures)
 
 pub plan-deliver-spec : {M : Type 1} → statement M
 plan-deliver-spec =

@@ -48,7 +48,7 @@ returns c =
     let m = t .before .before .before .before .before .before .before in
     let o = m .before .before .before .before .before .before .before .before in
     let a = o .args in
-    freed-done (a .s) (a .a) (a .b) (a .at) (tables (a .head .now) (a .loans .now) (a .chunks .now) (a .index .now) (a .tree .now)) (a .list .now) _ _ _ _ _ _ _ (c .before .before .before .before .before .if1 .taken) (t .take-back .ensures .0) (t .take-back .ensures .1) (m .cell .ensures) (t .before .before .before .before .before .cell2 .ensures) (o .pre .2) (p .put .ensures) (c .settle .ensures .0) (c .settle .ensures .1)
+    freed-done (a .s) (a .h) (a .b) (a .at) (tables (a .head .now) (a .loans .now) (a .chunks .now) (a .index .now) (a .tree .now)) (a .list .now) _ _ _ _ _ _ _ (c .before .before .before .before .before .if1 .taken) (t .take-back .ensures .0) (t .take-back .ensures .1) (m .cell .ensures) (t .before .before .before .before .before .cell2 .ensures) (o .pre .2) (p .put .ensures) (c .settle .ensures .0) (c .settle .ensures .1)
 
 settle-requires-2 : tie.Need-settle-requires-2
 settle-requires-2 c κs = let o = c .before .before .before .before .before .before .before .before .before .before .before .before .before .before .before .before .before .before .before .before .before .before .before .before in omega (arith, o .good)
@@ -70,7 +70,7 @@ returns-2 c =
     let t = c .before .before .before .before .before .before .before .before .before .before in
     let o = t .before .before .before .before .before .before .before .before .before .before .before .before .before .before .before in
     let a = o .args in
-    stays-done (a .s) (a .a) (a .b) (a .at) (tables (a .head .now) (a .loans .now) (a .chunks .now) (a .index .now) (a .tree .now)) (a .list .now) _ _ _ _ (c .before .if1 .left) (t .take-back .ensures .0) (t .take-back .ensures .1) (c .settle2 .ensures .0) (c .settle2 .ensures .1)
+    stays-done (a .s) (a .h) (a .b) (a .at) (tables (a .head .now) (a .loans .now) (a .chunks .now) (a .index .now) (a .tree .now)) (a .list .now) _ _ _ _ (c .before .if1 .left) (t .take-back .ensures .0) (t .take-back .ensures .1) (c .settle2 .ensures .0) (c .settle2 .ensures .1)
 
 pub carry-return-spec : {M : Type 1} → statement M
 carry-return-spec =

@@ -2,6 +2,7 @@ use borrow.Author.Needs.{needs}
 use mathlib.Core.Path.{sym, _∙_}
 use Rattle.counter.proofs.Tables.{free-list-yes}
 use Rattle.freelist_rules.specs.Tables.{tables}
+use Rattle.store_rules.specs.Shares.{holder}
 use Rattle.freelist_gate.proofs.Gates.{lent-yes, lent-no}
 use Rattle.freelist_gate.proofs.gating.is_lent.Statement.{statement}
 use Rattle.freelist_gate.proofs.gating.is_lent.Tie as tie
@@ -14,23 +15,24 @@ lengths-fit-requires c κs =
     let k = c .before .before in
     free-list-yes (k .before .before .before .before .before .before .args .s) (sym (k .in-table .ensures) ∙ c .before .if1 .taken)
 
-heaps-in-table-requires : tie.Need-heaps-in-table-requires
-heaps-in-table-requires c κs = search needs
+heap-in-table-requires : tie.Need-heap-in-table-requires
+heap-in-table-requires c κs = search needs
 
 returns : tie.Need-returns
 returns c =
-    let f = c .before in
+    let h = c .before in
+    let f = h .before in
     let k = f .before .before .before in
     let a = k .before .before .before .before .before .before .args in
-    lent-yes (a .s) (tables (a .head .now) (a .loans .now) (a .chunks .now) (a .regions .now) (a .index .now)) (a .a) _ _ (sym (k .in-table .ensures) ∙ f .before .before .if1 .taken) (c .heaps-in-table .ensures) (f .lengths-fit .ensures)
+    lent-yes (a .s) (tables (a .head .now) (a .loans .now) (a .chunks .now) (a .regions .now) (a .index .now)) (a .h) _ _ (sym (k .in-table .ensures) ∙ f .before .before .if1 .taken) (h .heap-in-table .ensures) (f .lengths-fit .ensures)
 
 returns-2 : tie.Need-returns-2
 returns-2 c =
     let k = c .before in
     let a = k .before .before .before .before .before .before .args in
-    lent-no (a .s) (tables (a .head .now) (a .loans .now) (a .chunks .now) (a .regions .now) (a .index .now)) (a .a) (sym (k .in-table .ensures) ∙ c .if1 .left)
+    lent-no (a .s) (tables (a .head .now) (a .loans .now) (a .chunks .now) (a .regions .now) (a .index .now)) (holder (a .s .store) (a .h)) (sym (k .in-table .ensures) ∙ c .if1 .left)
 
 pub is-lent-spec : {M : Type 1} → statement M
 is-lent-spec =
     tie.close
-    (tie.spec in-table-requires lengths-fit-requires heaps-in-table-requires returns returns-2)
+    (tie.spec in-table-requires lengths-fit-requires heap-in-table-requires returns returns-2)

@@ -1,10 +1,7 @@
 use borrow.Author.Needs.{needs}
-use Rattle.store_accounts.proofs.Settling.{charged-is}
+use mathlib.Core.Bool.{true}
 use Rattle.store_accounts.proofs.accounts.charged.Statement.{statement}
 use Rattle.store_accounts.proofs.accounts.charged.Tie as tie
-
-heap-requires : tie.Need-heap-requires
-heap-requires c κs = search needs
 
 charge-requires : tie.Need-charge-requires
 charge-requires c κs = search needs
@@ -12,17 +9,10 @@ charge-requires c κs = search needs
 one-fewer-requires : tie.Need-one-fewer-requires
 one-fewer-requires c κs = search needs
 
-settled-requires : tie.Need-settled-requires
-settled-requires c κs = search needs
-
 returns : tie.Need-returns
 returns c =
-    let n = c .before in
-    let g = n .before in
-    let h = g .before in
-    let a = h .before .args in
-    charged-is (a .s) (a .a) _ (a .size) _ _ _ (h .heap .ensures) (g .charge .ensures) (n .one-fewer .ensures) (c .settled .ensures)
+    let a = c .before .before .args in
+    λ j. record { table = a .h .table; free = true; heap = (c .before .charge .ensures) j; objects = (c .one-fewer .ensures) j }
 
 pub charged-spec : {M : Type 1} → statement M
-charged-spec =
-    tie.close (tie.spec heap-requires charge-requires one-fewer-requires settled-requires returns)
+charged-spec = tie.close (tie.spec charge-requires one-fewer-requires returns)

@@ -1,10 +1,10 @@
 use borrow.Author.Needs.{needs}
-use Rattle.store_accounts.proofs.Settling.{back-is}
+use mathlib.Core.Path.{ap, _∙_}
+use mathlib.Core.Bool.{true}
+use Rattle.counter.specs.declared.account.Heap.{Heap}
+use Rattle.heap.specs.Heap.{releasedOf}
 use Rattle.store_accounts.proofs.accounts.given_back.Statement.{statement}
 use Rattle.store_accounts.proofs.accounts.given_back.Tie as tie
-
-heap-requires : tie.Need-heap-requires
-heap-requires c κs = search needs
 
 charge-requires : tie.Need-charge-requires
 charge-requires c κs = search needs
@@ -12,17 +12,11 @@ charge-requires c κs = search needs
 release-requires : tie.Need-release-requires
 release-requires c κs = search needs
 
-settled-requires : tie.Need-settled-requires
-settled-requires c κs = search needs
-
 returns : tie.Need-returns
 returns c =
-    let k = c .before in
-    let g = k .before in
-    let h = g .before in
-    let a = h .before .args in
-    back-is (a .s) (a .a) _ (a .size) _ _ _ (h .heap .ensures) (g .charge .ensures) (k .release .ensures) (c .settled .ensures)
+    let a = c .before .before .args in
+    let e = c .release .ensures ∙ ap (λ (k : Heap). releasedOf k (a .size)) (c .before .charge .ensures) in
+    λ j. record { table = a .h .table; free = true; heap = e j; objects = a .h .objects }
 
 pub given-back-spec : {M : Type 1} → statement M
-given-back-spec =
-    tie.close (tie.spec heap-requires charge-requires release-requires settled-requires returns)
+given-back-spec = tie.close (tie.spec charge-requires release-requires returns)

@@ -15,25 +15,25 @@ enum-told-2 c = search needs
 given-back-requires : tie.Need-given-back-requires
 given-back-requires c κs = search needs
 
-with-order-requires : tie.Need-with-order-requires
-with-order-requires c κs = search needs
+closed-requires : tie.Need-closed-requires
+closed-requires c κs = search needs
 
 returns : tie.Need-returns
 returns c =
     let i = c .before .before .before in
     let a = i .before .args in
-    lost-kept (a .s) (a .a) _ (a .size) (a .charge) (a .free) (i .if1 .taken) (c .before .enum-told .given .1) (c .charged .ensures)
+    lost-kept (a .h) _ (a .size) (a .charge) (a .free) (i .if1 .taken) (c .before .enum-told .given .1) (c .charged .ensures)
 
 returns-2 : tie.Need-returns-2
 returns-2 c =
     let i = c .before .before .before in
     let a = i .before .args in
-    lost-back (a .s) (a .a) _ (a .size) (a .charge) (a .free) _ (i .if1 .taken) (c .before .enum-told2 .given .1) (c .given-back .ensures)
+    lost-back (a .h) _ (a .size) (a .charge) (a .free) _ (i .if1 .taken) (c .before .enum-told2 .given .1) (c .given-back .ensures)
 
 returns-3 : tie.Need-returns-3
 returns-3 c =
     let a = c .before .before .args in
-    lost-refused (a .s) (a .a) _ (a .size) (a .charge) (a .free) (c .before .if1 .left) (c .with-order .ensures)
+    lost-refused (a .h) _ (a .size) (a .charge) (a .free) (c .before .if1 .left) (c .closed .ensures)
 
 pub lost-spec : {M : Type 1} → statement M
 lost-spec =
@@ -43,7 +43,7 @@ lost-spec =
     charged-requires
     enum-told-2
     given-back-requires
-    with-order-requires
+    closed-requires
     returns
     returns-2
     returns-3)

@@ -1,0 +1,4 @@
+pub mod Arriving
+pub mod Asking
+pub mod Freeing
+pub mod Returning
