@@ -1,10 +1,8 @@
 // The book of a store's loans: their records in a slab, and an index by which a loan is found by its serial.
 mod chains;
-mod clearing;
 mod kept;
 
 pub use chains::is_chained;
-pub use clearing::clear;
 pub use kept::is_kept;
 ghost use mathlib.Core.Path.{_≡_};
 ghost use Prim.Native.Nat.{_≤_, _<_};
@@ -13,7 +11,7 @@ ghost use Rattle.counter.specs.Limits.{loansMost};
 ghost use Rattle.words.specs.Words.{cellOf};
 ghost use Rattle.words.specs.Rows.{row, written};
 ghost use Rattle.store_rules.specs.Loans.{loanRow};
-ghost use Rattle.book_rules.specs.Book.{entryWords, vacatedAt, vacantAfterAt, firstOf, nextOf, takenOf, entered, enteredIndex, wordTo, struck, struckIndex};
+ghost use Rattle.book_rules.specs.Book.{entryWords, vacatedAt, vacantAfterAt, firstOf, nextOf, freshIndex, takenOf, entered, firstBefore, enteredIndex, wordTo, struck, struckIndex};
 use slab::NOWHERE;
 use slab::Slab;
 use slab::Taken;
@@ -32,6 +30,14 @@ const FIRST_AT: usize = 1;
 const NEXT_AT: usize = 2;
 
 pub const VACANT_AFTER_AT: usize = 3;
+
+// An index with no loan: no place was vacated, and chain 0 is empty. The words of the other chains are spare.
+pub fn fresh_index(index: &mut [u64])
+    ensures { λ _. ⌜ now (index .exit) ≡ freshIndex (now (index .entry)) ⌝ }
+{
+    words::put(index, VACATED_AT, NOWHERE);
+    words::put(index, FIRST_AT, NOWHERE);
+}
 
 // The place that the next loan takes, and the slab from then on.
 pub fn next_place(places: u64, index: &[u64]) -> Taken
@@ -76,10 +82,22 @@ pub fn enter(loans: &mut [u64], index: &mut [u64], n: usize, places: u64, l: Loa
     let t = next_place(places, index);
     let s = t.slab;
     let i = l.serial % n as u64;
-    let first = words::cell(index, FIRST_AT, ENTRY_WORDS, i as usize);
+    let first = first_before(index, n, l.serial);
     write_loan(loans, t.place as usize, l);
     put_first(index, i as usize, t.place, first, s.vacant);
     s.places
+}
+
+// The first of the chain that this serial comes into: serials below n are each the first of theirs.
+fn first_before(index: &[u64], n: usize, serial: u64) -> u64
+    requires { ⌜ (0 < n) × (n ≤ loansMost) ⌝ }
+    ensures { λ r. ⌜ r ≡ firstBefore n serial (now (index .entry)) ⌝ }
+{
+    if serial < n as u64 {
+        return NOWHERE;
+    }
+    let i = serial % n as u64;
+    words::cell(index, FIRST_AT, ENTRY_WORDS, i as usize)
 }
 
 // The place p is the first of chain i from now on, before the one that was.
@@ -91,12 +109,15 @@ fn put_first(index: &mut [u64], i: usize, p: u64, first: u64, vacated: u64)
     words::put_cell(index, FIRST_AT, ENTRY_WORDS, i, p);
 }
 
-// The word of the index that leads to the loan with this serial, or NOWHERE. At most `places` turns, so that links that
+// The word of the index that leads to the loan with this serial, or NOWHERE: a serial that was not given has none. At most `places` turns, so that links that
 // lead round in a ring end too.
-pub fn word_to(loans: &[u64], index: &[u64], n: usize, places: u64, serial: u64) -> u64
+pub fn word_to(loans: &[u64], index: &[u64], n: usize, places: u64, given: u64, serial: u64) -> u64
     requires { ⌜ (0 < n) × (n ≤ loansMost) × (places ≤ loansMost) ⌝ }
-    ensures { λ r. ⌜ r ≡ wordTo (now (loans .entry)) (now (index .entry)) n places serial ⌝ }
+    ensures { λ r. ⌜ r ≡ wordTo (now (loans .entry)) (now (index .entry)) n places given serial ⌝ }
 {
+    if given < serial {
+        return NOWHERE;
+    }
     let i = serial % n as u64;
     let mut at = FIRST_AT + ENTRY_WORDS * i as usize;
     let mut left = places;

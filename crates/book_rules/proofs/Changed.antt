@@ -69,14 +69,14 @@ module _ (loans : List ℕ) (n p : ℕ) (l : Loan) (long : length loans ≡ loan
       ap (λ (t : List ℕ). vacantAt t sizeAt loanWords x) by-words
       ∙ ap (λ (w : ℕ). eqb w 0) (getD-set-other three (cellOf 3 loanWords p) (cellOf 3 loanWords x) (l .size) 0 (λ e. o (omega arith)) ∙ size-three x)
 
--- ---- p put first in chain c, and v the place vacated last
+-- ---- p put first in chain c, before f, and v the place vacated last
 
-module _ (index : List ℕ) (n c p v : ℕ) (long : length index ≡ indexWords n) (own : c < n) (room : p < n) where
+module _ (index : List ℕ) (n c p f v : ℕ) (long : length index ≡ indexWords n) (own : c < n) (room : p < n) where
   abbrev begun : List ℕ
   begun = set index vacatedAt v
 
   abbrev linked : List ℕ
-  linked = set begun (nextOf p) (getD index (firstOf c) 0)
+  linked = set begun (nextOf p) f
 
   abbrev pub firstPut : List ℕ
   firstPut = set linked (firstOf c) p
@@ -85,7 +85,7 @@ module _ (index : List ℕ) (n c p v : ℕ) (long : length index ≡ indexWords 
   begun-long = length-set index vacatedAt v
 
   linked-long : length linked ≡ length index
-  linked-long = length-set begun (nextOf p) (getD index (firstOf c) 0) ∙ begun-long
+  linked-long = length-set begun (nextOf p) f ∙ begun-long
 
   pub first-here : getD firstPut (firstOf c) 0 ≡ p
   first-here = getD-set-same linked (firstOf c) p 0 (omega (arith, linked-long))
@@ -93,30 +93,30 @@ module _ (index : List ℕ) (n c p v : ℕ) (long : length index ≡ indexWords 
   pub first-other : (i : ℕ) → (i ≡ c → ⊥) → getD firstPut (firstOf i) 0 ≡ getD index (firstOf i) 0
   first-other i o =
       getD-set-other linked (firstOf c) (firstOf i) p 0 (λ e. o (omega arith))
-      ∙ getD-set-other begun (nextOf p) (firstOf i) (getD index (firstOf c) 0) 0 (λ e. omega arith)
+      ∙ getD-set-other begun (nextOf p) (firstOf i) f 0 (λ e. omega arith)
       ∙ getD-set-other index vacatedAt (firstOf i) v 0 (λ e. omega arith)
 
-  pub next-here : getD firstPut (nextOf p) 0 ≡ getD index (firstOf c) 0
+  pub next-here : getD firstPut (nextOf p) 0 ≡ f
   next-here =
       getD-set-other linked (firstOf c) (nextOf p) p 0 (λ e. omega arith)
-      ∙ getD-set-same begun (nextOf p) (getD index (firstOf c) 0) 0 (omega (arith, begun-long))
+      ∙ getD-set-same begun (nextOf p) f 0 (omega (arith, begun-long))
 
   pub next-other : (x : ℕ) → (x ≡ p → ⊥) → getD firstPut (nextOf x) 0 ≡ getD index (nextOf x) 0
   next-other x o =
       getD-set-other linked (firstOf c) (nextOf x) p 0 (λ e. omega arith)
-      ∙ getD-set-other begun (nextOf p) (nextOf x) (getD index (firstOf c) 0) 0 (λ e. o (omega arith))
+      ∙ getD-set-other begun (nextOf p) (nextOf x) f 0 (λ e. o (omega arith))
       ∙ getD-set-other index vacatedAt (nextOf x) v 0 (λ e. omega arith)
 
   pub vacated-put : getD firstPut vacatedAt 0 ≡ v
   vacated-put =
       getD-set-other linked (firstOf c) vacatedAt p 0 (λ e. omega arith)
-      ∙ getD-set-other begun (nextOf p) vacatedAt (getD index (firstOf c) 0) 0 (λ e. omega arith)
+      ∙ getD-set-other begun (nextOf p) vacatedAt f 0 (λ e. omega arith)
       ∙ getD-set-same index vacatedAt v 0 (omega arith)
 
   pub link-put : (x : ℕ) → linkAt firstPut vacantAfterAt entryWords x ≡ linkAt index vacantAfterAt entryWords x
   link-put x =
       getD-set-other linked (firstOf c) (cellOf vacantAfterAt entryWords x) p 0 (λ e. omega arith)
-      ∙ getD-set-other begun (nextOf p) (cellOf vacantAfterAt entryWords x) (getD index (firstOf c) 0) 0 (λ e. omega arith)
+      ∙ getD-set-other begun (nextOf p) (cellOf vacantAfterAt entryWords x) f 0 (λ e. omega arith)
       ∙ getD-set-other index vacatedAt (cellOf vacantAfterAt entryWords x) v 0 (λ e. omega arith)
 
 -- ---- the loan at p struck out

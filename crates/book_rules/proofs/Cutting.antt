@@ -47,12 +47,6 @@ module _ (index : List ℕ) where
 -- the word at `at` leads past p from now on; of the other words that lead on in chains, each stays
 module _ (index index′ : List ℕ) (at p : ℕ) (stays : (v : ℕ) → (v % 3 ≡ 0 → ⊥) → (v ≡ at → ⊥) → getD index′ v 0 ≡ getD index v 0)
     (past : getD index′ at 0 ≡ getD index (nextOf p) 0) where
-  -- a chain that it does not lead on in
-  pub chain-stays : (w : ℕ) (l : List ℕ) → (w % 3 ≡ 0 → ⊥) → (w ≡ at → ⊥) → ((x : ℕ) → Mem x l → nextOf x ≡ at → ⊥)
-      → Chain (λ x. getD index (nextOf x) 0) (getD index w 0) l → Chain (λ x. getD index′ (nextOf x) 0) (getD index′ w 0) l
-  chain-stays w l o e f c =
-      rw (stays w o e) (chain-same (λ x. getD index (nextOf x) 0) (λ x. getD index′ (nextOf x) 0) (getD index w 0) l (λ x m. stays (nextOf x) (λ z. omega arith) (f x m)) c)
-
   -- the chain of p goes past it
   pub chain-cut : (w : ℕ) (a b : List ℕ) → at ≡ wordPast w a → (w % 3 ≡ 0 → ⊥) → ((x : ℕ) → Mem x (a ++ (p ∷ b)) → w ≡ nextOf x → ⊥) → Distinct (a ++ (p ∷ b))
       → Chain (λ x. getD index (nextOf x) 0) (getD index w 0) (a ++ (p ∷ b)) → Chain (λ x. getD index′ (nextOf x) 0) (getD index′ w 0) (a ++ b)

@@ -10,7 +10,7 @@ use Rattle.lists.proofs.Bools.{and-left}
 use Rattle.slab.specs.Slab.{vacantAt, linkAt}
 use Rattle.slab.specs.Test.{partedOk}
 use Rattle.store_rules.specs.Loans.{loanWords, sizeAt}
-use Rattle.book_rules.specs.Book.{entryWords, vacatedAt, vacantAfterAt, firstOf, nextOf, serialOf}
+use Rattle.book_rules.specs.Book.{entryWords, vacatedAt, vacantAfterAt, nextOf, serialOf, firstIn}
 use Rattle.book_rules.specs.Chains.{chainsOk}
 use Rattle.book_rules.specs.Kept.{keptOk}
 
@@ -34,7 +34,7 @@ module _ (loans index : List ℕ) (n places given : ℕ) where
     kept-few e = leb-true _ _ (and-left (leb places n) _ (sym told ∙ e))
 
     pub kept-told : p ≡ true → (q : Bool)
-        → q ≡ chainsOk (vacantAt loans sizeAt loanWords) (λ (i : ℕ). getD index (firstOf i) 0) (λ (p : ℕ). getD index (nextOf p) 0) (serialOf loans) n places given
+        → q ≡ chainsOk (vacantAt loans sizeAt loanWords) (firstIn given index) (λ (p : ℕ). getD index (nextOf p) 0) (serialOf loans) n places given
         → q ≡ keptOk loans index n places given
     unfolding keptOk
     kept-told e q f = f ∙ rw (sym parted ∙ e) refl

@@ -1,5 +1,6 @@
 -- The laws of this crate, for its own proofs and for the crates above.
 pub mod Whole
+pub mod Firsts
 pub mod Seeking
 pub mod Following
 pub mod Used

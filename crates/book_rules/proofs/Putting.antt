@@ -26,7 +26,7 @@ module _ (free free′ : ℕ → Bool) (first first′ next next′ serial seria
       (next-here : next′ p ≡ first ((given + 1) % n))
       (next-other : (x : ℕ) → (x ≡ p → ⊥) → next′ x ≡ next x)
       (first-here : first′ ((given + 1) % n) ≡ p)
-      (first-other : (i : ℕ) → (i ≡ (given + 1) % n → ⊥) → first′ i ≡ first i) where
+      (first-other : (i : ℕ) → i < n → (i ≡ (given + 1) % n → ⊥) → first′ i ≡ first i) where
     module _ (i : ℕ) (C : InChain free first next serial n places given i) where
       other : (x : ℕ) → Mem x (C .members) → x ≡ p → ⊥
       other x m e =
@@ -50,10 +50,10 @@ module _ (free free′ : ℕ → Bool) (first first′ next next′ serial seria
       falling-on most h = falling-same free first next serial serial′ given most (C .members) h (λ x m. serial-other x (other x m)) (C .falling)
 
       -- another chain stays
-      put-other : (i ≡ (given + 1) % n → ⊥) → InChain free′ first′ next′ serial′ n places′ (given + 1) i
-      put-other o = record {
+      put-other : i < n → (i ≡ (given + 1) % n → ⊥) → InChain free′ first′ next′ serial′ n places′ (given + 1) i
+      put-other h o = record {
         members = C .members;
-        chain = rw (first-other i o) chain-on;
+        chain = rw (first-other i h o) chain-on;
         falling = falling-on (given + 1) (omega arith);
         right = right-on;
         all = λ x h f s. ⊎-elim (λ e. absurd (o (sym s ∙ ap (λ (t : ℕ). t % n) (ap serial′ e ∙ serial-here)))) (λ e. all-on x e h f s) (same? x p);
@@ -74,4 +74,4 @@ module _ (free free′ : ℕ → Bool) (first first′ next next′ serial seria
           }
 
     pub put-chained : Chained free first next serial n places given → Chained free′ first′ next′ serial′ n places′ (given + 1)
-    put-chained C i h = ⊎-elim (put-own i (C i h)) (put-other i (C i h)) (same? i ((given + 1) % n))
+    put-chained C i h = ⊎-elim (put-own i (C i h)) (put-other i (C i h) h) (same? i ((given + 1) % n))

@@ -2,14 +2,14 @@
 use mathlib.Core.Path.{_≡_, refl, _∙_}
 use mathlib.Core.Bool.{cond}
 use mathlib.Core.List.{List}
-use Prim.Native.Nat.{ℕ, zero, suc, _-_, _≤_, _<_}
+use Prim.Native.Nat.{ℕ, zero, suc, _-_, _%_, _≤_, _<_}
 use native.Mathlib.Omega.{arith}
 use native.Mathlib.Numerals.{sub-one}
 use lib.Dec.{eqb, ltb}
 use lib.ListN.{getD}
 use borrow.Author.Tests.{lt-ltb, le-ltb, eq-eqb, ne-eqb}
 use Rattle.slab.specs.Slab.{nowhere}
-use Rattle.book_rules.specs.Book.{nextOf, serialOf, seekIn}
+use Rattle.book_rules.specs.Book.{firstOf, nextOf, serialOf, seekIn, wordTo}
 
 -- from the word at `at` on, which leads to p, with k places to go
 module _ (loans index : List ℕ) (places serial at k p : ℕ) (leads : p ≡ getD index at 0) where
@@ -33,3 +33,13 @@ module _ (loans index : List ℕ) (places serial at k p : ℕ) (leads : p ≡ ge
 pub seek-none : (loans index : List ℕ) (places serial at k : ℕ) → k ≤ 0 → seekIn loans index places serial at k ≡ nowhere
 unfolding seekIn
 seek-none loans index places serial at k h = let z : k ≡ 0 = omega arith in rw z refl
+
+-- a serial that was given is looked for in its chain, another is not
+module _ (loans index : List ℕ) (n places given serial : ℕ) where
+  pub word-given : serial ≤ given → wordTo loans index n places given serial ≡ seekIn loans index places serial (firstOf (serial % n)) places
+  unfolding wordTo
+  word-given h = rw (le-ltb given serial h)
+
+  pub word-none : given < serial → wordTo loans index n places given serial ≡ nowhere
+  unfolding wordTo
+  word-none h = rw (lt-ltb given serial h)

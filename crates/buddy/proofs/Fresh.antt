@@ -4,7 +4,7 @@ use mathlib.Core.Bool.{Bool, true, false, _&&_}
 use mathlib.Core.List.{List, [], _∷_}
 use Prim.Native.Nat.{ℕ}
 use native.Mathlib.Omega.{arith}
-use lib.ListN.{length, set, replicate}
+use lib.ListN.{length, set}
 use Rattle.lists.proofs.Bools.{and-left, and-right}
 use Rattle.counter.specs.InTable.{BuddyIn}
 use Rattle.counter.specs.Paper as Paper
@@ -13,7 +13,7 @@ use Rattle.counter.specs.Table.{buddyOk}
 use Rattle.counter.specs.declared.settings.BuddySettings.{BuddySettings}
 use Rattle.counter.proofs.Tables.{buddy-yes}
 use Rattle.slab.specs.Slab.{nowhere}
-use Rattle.book_rules.specs.Book.{indexWords}
+use Rattle.book_rules.specs.Book.{freshIndex}
 use Rattle.buddy_stores.specs.Tables.{Tables, tables, mark, markAt, givenAt, levelsAt, placesAt, chunkPlacesAt, headWords, chunksFrom, initialLevels, lengthsOk}
 use Rattle.buddy_outcomes.specs.Ask.{freshLevels}
 use Rattle.buddy_outcomes.specs.SetUp.{SetUp, setUp, freshHead, freshTables, fitOk, setUpOf}
@@ -51,12 +51,10 @@ module _ (s : BuddySettings) (t : Tables) where
   fit-settings e = buddy-yes s (and-left (buddyOk s) (lengthsOk s t) e)
 
   pub set-up-ready : (h′ i′ r′ : List ℕ) → fitOk s t ≡ true → h′ ≡ freshHead s → r′ ≡ set (freshLevels s 0 (initialLevels s) (t .tree)) (chunksFrom s) nowhere
-      → i′ ≡ replicate (length (t .index)) nowhere → setUp Paper.ready (tables h′ (t .loans) (t .chunks) i′ r′) ≡ setUpOf s t
+      → i′ ≡ freshIndex (t .index) → setUp Paper.ready (tables h′ (t .loans) (t .chunks) i′ r′) ≡ setUpOf s t
   unfolding setUpOf freshTables fitOk
   set-up-ready h′ i′ r′ e h r i =
-      let n : length (t .index) ≡ indexWords (s .store .loans) = lengths-are s t (and-right (buddyOk s) (lengthsOk s t) e) .index in
-      let i″ = i ∙ ap (λ (x : ℕ). replicate x nowhere) n in
-      (λ j. setUp Paper.ready (tables (h j) (t .loans) (t .chunks) (i″ j) (r j))) ∙ sym (rw e refl)
+      (λ j. setUp Paper.ready (tables (h j) (t .loans) (t .chunks) (i j) (r j))) ∙ sym (rw e refl)
 
   pub set-up-unfit : fitOk s t ≡ false → setUp (Paper.refusal 1 []) t ≡ setUpOf s t
   unfolding setUpOf

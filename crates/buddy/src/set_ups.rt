@@ -73,7 +73,7 @@ pub fn set_up(
     if is_fit(s, head, loans, chunks, index, tree) {
         fresh_head(s, head);
         fresh_tree(s, tree);
-        book::clear(index);
+        book::fresh_index(index);
         SetUpAnswer::Ready
     } else {
         SetUpAnswer::Refused(Refused {

@@ -7,7 +7,7 @@ use Prim.Native.Nat.{ℕ, _+_, _-_, _*_, _^_, _≤_, _<_}
 use native.Mathlib.Nat.{mul-suc}
 use native.Mathlib.Omega.{arith}
 use lib.Dec.{eqb, ltb}
-use lib.ListN.{length, getD, set, take, drop, length-set, length-replicate, getD-replicate}
+use lib.ListN.{length, getD, set, take, drop, length-set}
 use lib.Seq.{getD-set-same, getD-set-other, drop-set-add, take-set-le}
 use borrow.Author.Tests.{le-ltb}
 use Rattle.lists.proofs.Bools.{true-false, lt-or-le}
@@ -20,7 +20,7 @@ use Rattle.slab.specs.Slab.{nowhere, Parted}
 use Rattle.slab.specs.declared.Slab.{Slab}
 use Rattle.slab.specs.declared.Taken.{Taken}
 use Rattle.slab.proofs.Places.{parted-fresh, parted-same}
-use Rattle.book_rules.specs.Book.{vacatedAt, indexWords, firstOf}
+use Rattle.book_rules.proofs.Firsts.{fresh-wide, fresh-vacated, fresh-first}
 use Rattle.book_rules.proofs.Keeps.{BookChained, BookParted, fresh-chained}
 use Rattle.buddy_trees.specs.Trees.{Tree, free}
 use Rattle.buddy_rules.specs.Nodes.{Ent}
@@ -80,14 +80,9 @@ module _ (s : BuddySettings) (t : Tables) (fit : BuddyIn s) (lengths : Lengths s
         head = refl;
         loans = lengths .loans;
         chunks = lengths .chunks;
-        index = length-replicate (indexWords (s .store .loans)) nowhere;
+        index = fresh-wide (t .index) ∙ lengths .index;
         tree = length-set (freshLevels s 0 (initialLevels s) (t .tree)) (chunksFrom s) nowhere ∙ freshened-long s 0 (initialLevels s) (t .tree) ∙ lengths .tree;
       }
-
-  -- no place was ever vacated, and no chain leads anywhere
-  fresh-index : (i : ℕ) → i < indexWords (s .store .loans) → getD (freshTables s t .index) i 0 ≡ nowhere
-  unfolding freshTables
-  fresh-index i h = getD-replicate (indexWords (s .store .loans)) i nowhere 0 h
 
   fresh-held : (c : ℕ) → heldIn (freshTables s t) c ≡ false
   unfolding freshTables
@@ -97,9 +92,9 @@ module _ (s : BuddySettings) (t : Tables) (fit : BuddyIn s) (lengths : Lengths s
   unfolding freshTables
   fresh-live k = rw (le-ltb k 0 (omega arith))
 
-  fresh-vacated : getD (freshTables s t .tree) (chunksFrom s) 0 ≡ nowhere
+  none-vacated : getD (freshTables s t .tree) (chunksFrom s) 0 ≡ nowhere
   unfolding freshTables
-  fresh-vacated =
+  none-vacated =
       getD-set-same (freshLevels s 0 (initialLevels s) (t .tree)) (chunksFrom s) nowhere 0
       (omega (arith, freshened-long s 0 (initialLevels s) (t .tree), lengths .tree))
 
@@ -134,9 +129,9 @@ module _ (s : BuddySettings) (t : Tables) (fit : BuddyIn s) (lengths : Lengths s
         marked = refl;
         levels-least = omega arith;
         levels-most = few;
-        loans-parted = subst (λ (v : ℕ). Parted (vacantLoan u) (loanAfter u) (record { places = 0; vacant = v }) (s .store .loans)) (sym (fresh-index vacatedAt (omega arith))) (parted-fresh (vacantLoan u) (loanAfter u) (s .store .loans));
-        chained = fresh-chained (u .loans) (u .index) (s .store .loans) 0 (λ i h. fresh-index (firstOf i) (omega arith));
-        chunks-parted = subst (λ (v : ℕ). Parted (vacantChunk u) (chunkAfter s u) (record { places = 0; vacant = v }) (s .store .chunks)) (sym fresh-vacated) (parted-fresh (vacantChunk u) (chunkAfter s u) (s .store .chunks));
+        loans-parted = subst (λ (v : ℕ). Parted (vacantLoan u) (loanAfter u) (record { places = 0; vacant = v }) (s .store .loans)) (sym (fresh-vacated (t .index) (s .store .loans) (fit .store .loans-some) (lengths .index))) (parted-fresh (vacantLoan u) (loanAfter u) (s .store .loans));
+        chained = fresh-chained (u .loans) (u .index) (s .store .loans) 0 (λ i h. fresh-first (t .index) (s .store .loans) (fit .store .loans-some) (lengths .index) i);
+        chunks-parted = subst (λ (v : ℕ). Parted (vacantChunk u) (chunkAfter s u) (record { places = 0; vacant = v }) (s .store .chunks)) (sym none-vacated) (parted-fresh (vacantChunk u) (chunkAfter s u) (s .store .chunks));
         memories-differ = λ c d h. absurd (never c h);
         good = X .1;
         standing = X .0;

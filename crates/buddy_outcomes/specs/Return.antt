@@ -14,17 +14,17 @@ use Rattle.store_rules.specs.Outcomes.{Listed, listed, listOk, releasedAccount}
 use Rattle.book_rules.specs.Book.{struck, struckIndex}
 use Rattle.book_rules.specs.Returns as Returns
 pub use Rattle.book_rules.specs.Returns.{Plan, deny, back, decided, gated}
-use Rattle.buddy_stores.specs.Tables.{Tables, tables, chunkWords, chunkSizeAt, levelsIn, placesIn, memoryIn, chunkSizeIn, chunksFrom, placeAt, afterAt, placeWords, nodesFrom}
+use Rattle.buddy_stores.specs.Tables.{Tables, tables, givenIn, chunkWords, chunkSizeAt, levelsIn, placesIn, memoryIn, chunkSizeIn, chunksFrom, placeAt, afterAt, placeWords, nodesFrom}
 use Rattle.buddy_stores.specs.Moves.{Climbed, climbed}
 use Rattle.buddy_outcomes.specs.Gate.{gateOf}
 
 -- the word of the index that leads to the loan with the block's serial, and the loan's place
 abbrev pub wordFor : BuddySettings → Block → Tables → ℕ
-wordFor s b t = Returns.wordFor (t .loans) (t .index) (s .store .loans) (placesIn t) b
+wordFor s b t = Returns.wordFor (t .loans) (t .index) (s .store .loans) (placesIn t) (givenIn t) b
 
 -- 7: "no loan has this serial, chunk, offset and size"
 unfoldable pub onLoanOk : BuddySettings → Block → Tables → Bool
-onLoanOk s b t = Returns.onLoanOk (t .loans) (t .index) (s .store .loans) (placesIn t) b
+onLoanOk s b t = Returns.onLoanOk (t .loans) (t .index) (s .store .loans) (placesIn t) (givenIn t) b
 
 -- the climb from the node of the loan that the word w leads to
 abbrev pub climbFor : BuddySettings → Block → ℕ → Tables → Climbed

@@ -2,13 +2,13 @@
 use mathlib.Core.Bool.{Bool, cond, _&&_}
 use mathlib.Core.List.{List, [], _∷_}
 use Prim.Native.Nat.{ℕ}
-use lib.ListN.{set, replicate}
+use lib.ListN.{set}
 use Rattle.counter.specs.Paper.{Said}
 use Rattle.counter.specs.Paper as Paper
 use Rattle.counter.specs.Table.{buddyOk}
 use Rattle.counter.specs.declared.settings.BuddySettings.{BuddySettings}
 use Rattle.slab.specs.Slab.{nowhere}
-use Rattle.book_rules.specs.Book.{indexWords}
+use Rattle.book_rules.specs.Book.{freshIndex}
 use Rattle.buddy_stores.specs.Tables.{Tables, tables, mark, lengthsOk, chunksFrom, initialLevels}
 use Rattle.buddy_outcomes.specs.Ask.{freshLevels}
 
@@ -23,10 +23,10 @@ setUp s t = record { said = s; tables = t }
 abbrev pub freshHead : BuddySettings → List ℕ
 freshHead s = mark ∷ 0 ∷ initialLevels s ∷ 0 ∷ 0 ∷ []
 
--- the initial levels are there and empty, no chunk place is vacated, no chain leads anywhere
+-- the initial levels are there and empty, no chunk place is vacated, no loan is in the book
 unfoldable pub freshTables : BuddySettings → Tables → Tables
 freshTables s t =
-    tables (freshHead s) (t .loans) (t .chunks) (replicate (indexWords (s .store .loans)) nowhere)
+    tables (freshHead s) (t .loans) (t .chunks) (freshIndex (t .index))
     (set (freshLevels s 0 (initialLevels s) (t .tree)) (chunksFrom s) nowhere)
 
 -- 1, but for the account, which set-up does not take

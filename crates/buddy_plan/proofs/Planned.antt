@@ -16,7 +16,7 @@ use Rattle.store_rules.specs.declared.Share.{Share}
 use Rattle.store_rules.proofs.Shares.{held-heap}
 use Rattle.book_rules.specs.Book.{takenOf}
 use Rattle.book_rules.specs.Returns as Returns
-use Rattle.buddy_stores.specs.Tables.{Tables, tables, placesIn}
+use Rattle.buddy_stores.specs.Tables.{Tables, tables, placesIn, givenIn}
 use Rattle.buddy_outcomes.specs.Gate.{gateOf}
 use Rattle.buddy_outcomes.specs.Return.{onLoanOk, decideReturn, planReturn}
 use Rattle.buddy_outcomes.proofs.Passing.{gate-passed}
@@ -73,7 +73,7 @@ module _ (s : BuddySettings) (a : Account) (b : Block) (t : Tables) (list : Bool
   unfolding planReturn
   return-shut n e = rw (sym e) refl
 
-  pub return-go : (places : ℕ) (p : Returns.Plan) → pass ≡ gateOf s a t list → places ≡ placesIn t
-      → p ≡ Returns.decideReturn (t .loans) (t .index) (s .store .loans) places b → p ≡ planReturn s a b t list
+  pub return-go : (places given : ℕ) (p : Returns.Plan) → pass ≡ gateOf s a t list → places ≡ placesIn t → given ≡ givenIn t
+      → p ≡ Returns.decideReturn (t .loans) (t .index) (s .store .loans) places given b → p ≡ planReturn s a b t list
   unfolding planReturn decideReturn onLoanOk
-  return-go places p e f d = d ∙ ap (λ (n : ℕ). Returns.decideReturn (t .loans) (t .index) (s .store .loans) n b) f ∙ rw (sym e) refl
+  return-go places given p e f g d = d ∙ (λ j. Returns.decideReturn (t .loans) (t .index) (s .store .loans) (f j) (g j) b) ∙ rw (sym e) refl

@@ -4,6 +4,7 @@ ghost use Rattle.buddy_stores.specs.Tables.{tables};
 ghost use Rattle.buddy_outcomes.specs.Return.{planReturn};
 ghost use Rattle.returning.specs.Backs.{backOf};
 ghost use Rattle.store_rules.specs.Shares.{holder};
+use buddy_stores::GIVEN_AT;
 use buddy_stores::PLACES_AT;
 use counter::Block;
 use counter::BuddySettings;
@@ -30,7 +31,8 @@ pub fn plan_return(
         Gate::Go => {
             let own = s.store;
             let places = words::word(head, PLACES_AT);
-            returning::decide(b, own.loans, places, loans, index)
+            let given = words::word(head, GIVEN_AT);
+            returning::decide(b, own.loans, places, given, loans, index)
         }
         Gate::Shut(refusal) => Back::Refuse(refusal),
     }

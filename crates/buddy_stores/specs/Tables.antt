@@ -14,7 +14,7 @@ use Rattle.counter.specs.declared.settings.BuddySettings.{BuddySettings}
 use Rattle.slab.specs.Slab.{vacantAt, linkAt}
 use Rattle.slab.specs.declared.Slab.{Slab}
 use Rattle.store_rules.specs.Loans.{loanWords, sizeAt}
-use Rattle.book_rules.specs.Book.{indexWords, entryWords, vacantAfterAt, firstOf, nextOf, slabOf}
+use Rattle.book_rules.specs.Book.{indexWords, entryWords, vacantAfterAt, nextOf, slabOf, firstIn}
 use Rattle.buddy_rules.specs.Nodes.{Ent, Loan}
 use Rattle.buddy_levels_rules.specs.Level.{levelWords, pairIn}
 
@@ -190,7 +190,7 @@ abbrev pub loanSlab : Tables → Slab
 loanSlab t = slabOf (placesIn t) (t .index)
 
 abbrev pub chainStart : Tables → ℕ → ℕ
-chainStart t i = getD (t .index) (firstOf i) 0
+chainStart t = firstIn (givenIn t) (t .index)
 
 abbrev pub chainNext : Tables → ℕ → ℕ
 chainNext t p = getD (t .index) (nextOf p) 0

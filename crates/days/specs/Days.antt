@@ -19,7 +19,7 @@ use Rattle.store_rules.specs.Delivery.{deliveryOk}
 use Rattle.store_rules.specs.Loans.{loansOf}
 use Rattle.store_rules.specs.Outcomes.{out, listed, chargedAccount, releasedAccount}
 use Rattle.store_rules.specs.Tests.{coversOk}
-use Rattle.book_rules.specs.Book.{entered, enteredIndex, seekIn, wordTo, struck, struckIndex}
+use Rattle.book_rules.specs.Book.{firstIn, freshIndex, entered, firstBefore, enteredIndex, seekIn, wordTo, struck, struckIndex}
 use Rattle.book_rules.specs.Chains.{linkOk, leftAfter, leftOf, chainsOk}
 use Rattle.freelist_rules.specs.Walk.{fillsOk, sizedOk, chunkOk, loanOk}
 use Rattle.freelist_rules.specs.Place.{fitsIn, findFrom, cutOff}
@@ -69,7 +69,7 @@ list = record { store = record { number = 7; kind = 0; properties = 1; heap = 0;
 
 -- ---- the store's tables, word by word, as the day goes on
 
--- as set-up leaves it; the first ask's order raises nothing
+-- as set-up leaves it: a 9 stood in the index where it is spare; the first ask's order raises nothing
 abbrev pub opening : Tables
 opening =
     tables
@@ -77,7 +77,7 @@ opening =
     (0 ∷ 0 ∷ 0 ∷ 0 ∷ 0 ∷ 0 ∷ 0 ∷ 0 ∷ 0 ∷ 0 ∷ 0 ∷ 0 ∷ [])
     (0 ∷ 0 ∷ 0 ∷ 0 ∷ 0 ∷ 0 ∷ [])
     (0 ∷ 0 ∷ 0 ∷ 0 ∷ 0 ∷ 0 ∷ 0 ∷ 0 ∷ 0 ∷ 0 ∷ 0 ∷ 0 ∷ 0 ∷ 0 ∷ 0 ∷ 0 ∷ [])
-    (nowhere ∷ nowhere ∷ nowhere ∷ nowhere ∷ nowhere ∷ nowhere ∷ nowhere ∷ nowhere ∷ nowhere ∷ nowhere ∷ [])
+    (nowhere ∷ nowhere ∷ 9 ∷ 9 ∷ 9 ∷ 9 ∷ 9 ∷ 9 ∷ 9 ∷ 9 ∷ [])
 
 -- the 128 is on loan
 abbrev pub withOne : Tables
@@ -87,7 +87,7 @@ withOne =
     (1 ∷ 1 ∷ 3968 ∷ 128 ∷ 0 ∷ 0 ∷ 0 ∷ 0 ∷ 0 ∷ 0 ∷ 0 ∷ 0 ∷ [])
     (1 ∷ 50 ∷ 4096 ∷ 0 ∷ 0 ∷ 0 ∷ [])
     (1 ∷ 0 ∷ 3968 ∷ 0 ∷ 0 ∷ 0 ∷ 0 ∷ 0 ∷ 0 ∷ 0 ∷ 0 ∷ 0 ∷ 0 ∷ 0 ∷ 0 ∷ 1 ∷ [])
-    (nowhere ∷ nowhere ∷ nowhere ∷ nowhere ∷ 0 ∷ nowhere ∷ nowhere ∷ nowhere ∷ nowhere ∷ nowhere ∷ [])
+    (nowhere ∷ nowhere ∷ nowhere ∷ 9 ∷ 0 ∷ 9 ∷ 9 ∷ 9 ∷ 9 ∷ 9 ∷ [])
 
 -- and the 896; the next order raises nothing: 8,192 it is already
 abbrev pub withTwo : Tables
@@ -97,7 +97,7 @@ withTwo =
     (1 ∷ 1 ∷ 3968 ∷ 128 ∷ 2 ∷ 1 ∷ 3072 ∷ 896 ∷ 0 ∷ 0 ∷ 0 ∷ 0 ∷ [])
     (1 ∷ 50 ∷ 4096 ∷ 0 ∷ 0 ∷ 0 ∷ [])
     (1 ∷ 0 ∷ 3072 ∷ 0 ∷ 0 ∷ 0 ∷ 0 ∷ 0 ∷ 0 ∷ 0 ∷ 0 ∷ 0 ∷ 0 ∷ 0 ∷ 0 ∷ 1 ∷ [])
-    (nowhere ∷ nowhere ∷ nowhere ∷ nowhere ∷ 0 ∷ nowhere ∷ nowhere ∷ 1 ∷ nowhere ∷ nowhere ∷ [])
+    (nowhere ∷ nowhere ∷ nowhere ∷ 9 ∷ 0 ∷ nowhere ∷ 9 ∷ 1 ∷ 9 ∷ 9 ∷ [])
 
 -- and the 5,056, of chunk 2
 abbrev pub withThree : Tables
@@ -107,7 +107,7 @@ withThree =
     (1 ∷ 1 ∷ 3968 ∷ 128 ∷ 2 ∷ 1 ∷ 3072 ∷ 896 ∷ 3 ∷ 2 ∷ 3136 ∷ 5056 ∷ [])
     (1 ∷ 50 ∷ 4096 ∷ 2 ∷ 51 ∷ 8192 ∷ [])
     (1 ∷ 0 ∷ 3072 ∷ 2 ∷ 0 ∷ 3136 ∷ 0 ∷ 0 ∷ 0 ∷ 0 ∷ 0 ∷ 0 ∷ 0 ∷ 0 ∷ 0 ∷ 2 ∷ [])
-    (nowhere ∷ 2 ∷ nowhere ∷ nowhere ∷ 0 ∷ nowhere ∷ nowhere ∷ 1 ∷ nowhere ∷ nowhere ∷ [])
+    (nowhere ∷ 2 ∷ nowhere ∷ 9 ∷ 0 ∷ nowhere ∷ 9 ∷ 1 ∷ nowhere ∷ 9 ∷ [])
 
 -- the 128 is back
 abbrev pub lessOne : Tables
@@ -117,7 +117,7 @@ lessOne =
     (1 ∷ 1 ∷ 3968 ∷ 0 ∷ 2 ∷ 1 ∷ 3072 ∷ 896 ∷ 3 ∷ 2 ∷ 3136 ∷ 5056 ∷ [])
     (1 ∷ 50 ∷ 4096 ∷ 2 ∷ 51 ∷ 8192 ∷ [])
     (1 ∷ 0 ∷ 3072 ∷ 1 ∷ 3968 ∷ 4096 ∷ 2 ∷ 0 ∷ 3136 ∷ 0 ∷ 0 ∷ 0 ∷ 0 ∷ 0 ∷ 0 ∷ 3 ∷ [])
-    (0 ∷ 2 ∷ nowhere ∷ nowhere ∷ nowhere ∷ nowhere ∷ nowhere ∷ 1 ∷ nowhere ∷ nowhere ∷ [])
+    (0 ∷ 2 ∷ nowhere ∷ nowhere ∷ nowhere ∷ nowhere ∷ 9 ∷ 1 ∷ nowhere ∷ 9 ∷ [])
 
 -- and the 896: chunk 1 is gone
 abbrev pub lessTwo : Tables
@@ -127,7 +127,7 @@ lessTwo =
     (1 ∷ 1 ∷ 3968 ∷ 0 ∷ 2 ∷ 1 ∷ 3072 ∷ 0 ∷ 3 ∷ 2 ∷ 3136 ∷ 5056 ∷ [])
     (2 ∷ 51 ∷ 8192 ∷ 2 ∷ 51 ∷ 8192 ∷ [])
     (2 ∷ 0 ∷ 3136 ∷ 2 ∷ 0 ∷ 3136 ∷ 2 ∷ 0 ∷ 3136 ∷ 0 ∷ 0 ∷ 0 ∷ 0 ∷ 0 ∷ 0 ∷ 1 ∷ [])
-    (1 ∷ 2 ∷ nowhere ∷ nowhere ∷ nowhere ∷ nowhere ∷ 0 ∷ nowhere ∷ nowhere ∷ nowhere ∷ [])
+    (1 ∷ 2 ∷ nowhere ∷ nowhere ∷ nowhere ∷ nowhere ∷ 0 ∷ nowhere ∷ nowhere ∷ 9 ∷ [])
 
 -- ---- the day
 
@@ -162,7 +162,7 @@ days = (ranking ++ lending) ++ splitting
 
 -- on each of these days the definitions give what the paper says
 first-worked : map (λ (d : Day). d .gives) (ranking ++ lending) ≡ map (λ (d : Day). d .says) (ranking ++ lending)
-unfolding ranking lending servesOk patternOf wantedOf keyOf before placed order rowAs alignmentOk storeOk freeListOk heapsUpto onesOk powerOk upTo downTo bits powerUp ceilDiv grown doubled plusOf chargedOf releasedOf bearsOk agreesOk inserted vacancies leads partedOk deliveryOk loansOf chargedAccount releasedAccount coversOk entered enteredIndex seekIn wordTo struck struckIndex linkOk leftAfter leftOf chainsOk fillsOk sizedOk chunkOk loanOk fitsIn findFrom cutOff insert staying leaving remaining lengthsOk ordered storeOf soundOk laidRegions lentOk accountOk gateOf sizeOk roomOk countOk objectsOk decideAsk takenTables orderedTables carryAsk planAsk askOf deliverGateOf deliveredTables carryFate planDeliver carryDeliver deliverOf onLoanOk givenTables releasedTables releaseOf decideReturn planReturn carryReturn returnOf freshTables fitOk setUpOf
+unfolding ranking lending servesOk patternOf wantedOf keyOf before placed order rowAs alignmentOk storeOk freeListOk heapsUpto onesOk powerOk upTo downTo bits powerUp ceilDiv grown doubled plusOf chargedOf releasedOf bearsOk agreesOk inserted vacancies leads partedOk deliveryOk loansOf chargedAccount releasedAccount coversOk firstIn freshIndex entered firstBefore enteredIndex seekIn wordTo struck struckIndex linkOk leftAfter leftOf chainsOk fillsOk sizedOk chunkOk loanOk fitsIn findFrom cutOff insert staying leaving remaining lengthsOk ordered storeOf soundOk laidRegions lentOk accountOk gateOf sizeOk roomOk countOk objectsOk decideAsk takenTables orderedTables carryAsk planAsk askOf deliverGateOf deliveredTables carryFate planDeliver carryDeliver deliverOf onLoanOk givenTables releasedTables releaseOf decideReturn planReturn carryReturn returnOf freshTables fitOk setUpOf
 first-worked = refl
 
 map-append : (f : Day → Fact) (xs ys : List Day) → map f (xs ++ ys) ≡ map f xs ++ map f ys

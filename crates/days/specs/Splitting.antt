@@ -20,7 +20,7 @@ use Rattle.ring_rules.specs.Test.{metAfter, ringLength}
 use Rattle.store_rules.specs.Delivery.{deliveryOk}
 use Rattle.store_rules.specs.Outcomes.{Out, Listed, chargedAccount, releasedAccount}
 use Rattle.store_rules.specs.Tests.{coversOk}
-use Rattle.book_rules.specs.Book.{entered, enteredIndex, seekIn, wordTo, struck, struckIndex}
+use Rattle.book_rules.specs.Book.{firstIn, freshIndex, entered, firstBefore, enteredIndex, seekIn, wordTo, struck, struckIndex}
 use Rattle.book_rules.specs.Chains.{chainsOk, leftOf, leftAfter, linkOk}
 use Rattle.buddy_trees.specs.Trees.{bytes}
 use Rattle.buddy_levels_rules.specs.Level.{dropped, backed, acquired, added, freshLevel}
@@ -91,43 +91,43 @@ splitting =
 
 -- each of them, computed
 order-300 : heard (asked .said) (asked .account) ≡ heard (Paper.order 7 4096 0 false) (account 0 0 0 10 (openFor 300 4096))
-unfolding trailingZeros onesOk powerOk upTo bits powerUp levelOf alignmentOk storeOk buddyOk heapsUpto plusOf chargedOf releasedOf bearsOk agreesOk inserted partedOk leads vacancies unlinked linked metAfter ringLength deliveryOk chargedAccount releasedAccount coversOk entered enteredIndex seekIn wordTo struck struckIndex chainsOk leftOf leftAfter linkOk bytes dropped backed acquired Level.entered added freshLevel along goodOk lengthsOk leafOk entryOk nodeOk chunkOk leadsOk pairOk loanOk treesOk memoriesOk unitsOk soundOk climbed worded splitDown lentOk heldCount heldBytes accountOk gateOf sizeFor levelFor searchFrom foundFor sizeOk pairsRoom roomOk countOk objectsOk decideAsk freshLevels grownTables bookedTables takenTables deniedTables carryAsk planAsk askOf deliverGateOf memories chunkTables servedTables carryFate planDeliver carryDeliver deliverOf onLoanOk vacatedTree givenTables decideReturn planReturn releasedBy carryReturn returnOf freshTables fitOk setUpOf
+unfolding trailingZeros onesOk powerOk upTo bits powerUp levelOf alignmentOk storeOk buddyOk heapsUpto plusOf chargedOf releasedOf bearsOk agreesOk inserted partedOk leads vacancies unlinked linked metAfter ringLength deliveryOk chargedAccount releasedAccount coversOk firstIn freshIndex entered firstBefore enteredIndex seekIn wordTo struck struckIndex chainsOk leftOf leftAfter linkOk bytes dropped backed acquired Level.entered added freshLevel along goodOk lengthsOk leafOk entryOk nodeOk chunkOk leadsOk pairOk loanOk treesOk memoriesOk unitsOk soundOk climbed worded splitDown lentOk heldCount heldBytes accountOk gateOf sizeFor levelFor searchFrom foundFor sizeOk pairsRoom roomOk countOk objectsOk decideAsk freshLevels grownTables bookedTables takenTables deniedTables carryAsk planAsk askOf deliverGateOf memories chunkTables servedTables carryFate planDeliver carryDeliver deliverOf onLoanOk vacatedTree givenTables decideReturn planReturn releasedBy carryReturn returnOf freshTables fitOk setUpOf
 order-300 = refl
 
 block-300 : heard (first .said) (first .account) ≡ heard (Paper.block 1 0 0 512) (account 4096 4096 0 9 Nothing)
-unfolding trailingZeros onesOk powerOk upTo bits powerUp levelOf alignmentOk storeOk buddyOk heapsUpto plusOf chargedOf releasedOf bearsOk agreesOk inserted partedOk leads vacancies unlinked linked metAfter ringLength deliveryOk chargedAccount releasedAccount coversOk entered enteredIndex seekIn wordTo struck struckIndex chainsOk leftOf leftAfter linkOk bytes dropped backed acquired Level.entered added freshLevel along goodOk lengthsOk leafOk entryOk nodeOk chunkOk leadsOk pairOk loanOk treesOk memoriesOk unitsOk soundOk climbed worded splitDown lentOk heldCount heldBytes accountOk gateOf sizeFor levelFor searchFrom foundFor sizeOk pairsRoom roomOk countOk objectsOk decideAsk freshLevels grownTables bookedTables takenTables deniedTables carryAsk planAsk askOf deliverGateOf memories chunkTables servedTables carryFate planDeliver carryDeliver deliverOf onLoanOk vacatedTree givenTables decideReturn planReturn releasedBy carryReturn returnOf freshTables fitOk setUpOf
+unfolding trailingZeros onesOk powerOk upTo bits powerUp levelOf alignmentOk storeOk buddyOk heapsUpto plusOf chargedOf releasedOf bearsOk agreesOk inserted partedOk leads vacancies unlinked linked metAfter ringLength deliveryOk chargedAccount releasedAccount coversOk firstIn freshIndex entered firstBefore enteredIndex seekIn wordTo struck struckIndex chainsOk leftOf leftAfter linkOk bytes dropped backed acquired Level.entered added freshLevel along goodOk lengthsOk leafOk entryOk nodeOk chunkOk leadsOk pairOk loanOk treesOk memoriesOk unitsOk soundOk climbed worded splitDown lentOk heldCount heldBytes accountOk gateOf sizeFor levelFor searchFrom foundFor sizeOk pairsRoom roomOk countOk objectsOk decideAsk freshLevels grownTables bookedTables takenTables deniedTables carryAsk planAsk askOf deliverGateOf memories chunkTables servedTables carryFate planDeliver carryDeliver deliverOf onLoanOk vacatedTree givenTables decideReturn planReturn releasedBy carryReturn returnOf freshTables fitOk setUpOf
 block-300 = refl
 
 block-512 : heard (second .said) (second .account) ≡ heard (Paper.block 2 0 512 512) (account 4096 4096 0 9 Nothing)
-unfolding trailingZeros onesOk powerOk upTo bits powerUp levelOf alignmentOk storeOk buddyOk heapsUpto plusOf chargedOf releasedOf bearsOk agreesOk inserted partedOk leads vacancies unlinked linked metAfter ringLength deliveryOk chargedAccount releasedAccount coversOk entered enteredIndex seekIn wordTo struck struckIndex chainsOk leftOf leftAfter linkOk bytes dropped backed acquired Level.entered added freshLevel along goodOk lengthsOk leafOk entryOk nodeOk chunkOk leadsOk pairOk loanOk treesOk memoriesOk unitsOk soundOk climbed worded splitDown lentOk heldCount heldBytes accountOk gateOf sizeFor levelFor searchFrom foundFor sizeOk pairsRoom roomOk countOk objectsOk decideAsk freshLevels grownTables bookedTables takenTables deniedTables carryAsk planAsk askOf deliverGateOf memories chunkTables servedTables carryFate planDeliver carryDeliver deliverOf onLoanOk vacatedTree givenTables decideReturn planReturn releasedBy carryReturn returnOf freshTables fitOk setUpOf
+unfolding trailingZeros onesOk powerOk upTo bits powerUp levelOf alignmentOk storeOk buddyOk heapsUpto plusOf chargedOf releasedOf bearsOk agreesOk inserted partedOk leads vacancies unlinked linked metAfter ringLength deliveryOk chargedAccount releasedAccount coversOk firstIn freshIndex entered firstBefore enteredIndex seekIn wordTo struck struckIndex chainsOk leftOf leftAfter linkOk bytes dropped backed acquired Level.entered added freshLevel along goodOk lengthsOk leafOk entryOk nodeOk chunkOk leadsOk pairOk loanOk treesOk memoriesOk unitsOk soundOk climbed worded splitDown lentOk heldCount heldBytes accountOk gateOf sizeFor levelFor searchFrom foundFor sizeOk pairsRoom roomOk countOk objectsOk decideAsk freshLevels grownTables bookedTables takenTables deniedTables carryAsk planAsk askOf deliverGateOf memories chunkTables servedTables carryFate planDeliver carryDeliver deliverOf onLoanOk vacatedTree givenTables decideReturn planReturn releasedBy carryReturn returnOf freshTables fitOk setUpOf
 block-512 = refl
 
 next-512 : heard (third .said) (third .account) ≡ heard (Paper.block 3 0 1024 512) (account 4096 4096 0 9 Nothing)
-unfolding trailingZeros onesOk powerOk upTo bits powerUp levelOf alignmentOk storeOk buddyOk heapsUpto plusOf chargedOf releasedOf bearsOk agreesOk inserted partedOk leads vacancies unlinked linked metAfter ringLength deliveryOk chargedAccount releasedAccount coversOk entered enteredIndex seekIn wordTo struck struckIndex chainsOk leftOf leftAfter linkOk bytes dropped backed acquired Level.entered added freshLevel along goodOk lengthsOk leafOk entryOk nodeOk chunkOk leadsOk pairOk loanOk treesOk memoriesOk unitsOk soundOk climbed worded splitDown lentOk heldCount heldBytes accountOk gateOf sizeFor levelFor searchFrom foundFor sizeOk pairsRoom roomOk countOk objectsOk decideAsk freshLevels grownTables bookedTables takenTables deniedTables carryAsk planAsk askOf deliverGateOf memories chunkTables servedTables carryFate planDeliver carryDeliver deliverOf onLoanOk vacatedTree givenTables decideReturn planReturn releasedBy carryReturn returnOf freshTables fitOk setUpOf
+unfolding trailingZeros onesOk powerOk upTo bits powerUp levelOf alignmentOk storeOk buddyOk heapsUpto plusOf chargedOf releasedOf bearsOk agreesOk inserted partedOk leads vacancies unlinked linked metAfter ringLength deliveryOk chargedAccount releasedAccount coversOk firstIn freshIndex entered firstBefore enteredIndex seekIn wordTo struck struckIndex chainsOk leftOf leftAfter linkOk bytes dropped backed acquired Level.entered added freshLevel along goodOk lengthsOk leafOk entryOk nodeOk chunkOk leadsOk pairOk loanOk treesOk memoriesOk unitsOk soundOk climbed worded splitDown lentOk heldCount heldBytes accountOk gateOf sizeFor levelFor searchFrom foundFor sizeOk pairsRoom roomOk countOk objectsOk decideAsk freshLevels grownTables bookedTables takenTables deniedTables carryAsk planAsk askOf deliverGateOf memories chunkTables servedTables carryFate planDeliver carryDeliver deliverOf onLoanOk vacatedTree givenTables decideReturn planReturn releasedBy carryReturn returnOf freshTables fitOk setUpOf
 next-512 = refl
 
 one-back : heard (backOne .said) (backOne .account) ≡ heard (Paper.released 0) (account 4096 4096 0 9 Nothing)
-unfolding trailingZeros onesOk powerOk upTo bits powerUp levelOf alignmentOk storeOk buddyOk heapsUpto plusOf chargedOf releasedOf bearsOk agreesOk inserted partedOk leads vacancies unlinked linked metAfter ringLength deliveryOk chargedAccount releasedAccount coversOk entered enteredIndex seekIn wordTo struck struckIndex chainsOk leftOf leftAfter linkOk bytes dropped backed acquired Level.entered added freshLevel along goodOk lengthsOk leafOk entryOk nodeOk chunkOk leadsOk pairOk loanOk treesOk memoriesOk unitsOk soundOk climbed worded splitDown lentOk heldCount heldBytes accountOk gateOf sizeFor levelFor searchFrom foundFor sizeOk pairsRoom roomOk countOk objectsOk decideAsk freshLevels grownTables bookedTables takenTables deniedTables carryAsk planAsk askOf deliverGateOf memories chunkTables servedTables carryFate planDeliver carryDeliver deliverOf onLoanOk vacatedTree givenTables decideReturn planReturn releasedBy carryReturn returnOf freshTables fitOk setUpOf
+unfolding trailingZeros onesOk powerOk upTo bits powerUp levelOf alignmentOk storeOk buddyOk heapsUpto plusOf chargedOf releasedOf bearsOk agreesOk inserted partedOk leads vacancies unlinked linked metAfter ringLength deliveryOk chargedAccount releasedAccount coversOk firstIn freshIndex entered firstBefore enteredIndex seekIn wordTo struck struckIndex chainsOk leftOf leftAfter linkOk bytes dropped backed acquired Level.entered added freshLevel along goodOk lengthsOk leafOk entryOk nodeOk chunkOk leadsOk pairOk loanOk treesOk memoriesOk unitsOk soundOk climbed worded splitDown lentOk heldCount heldBytes accountOk gateOf sizeFor levelFor searchFrom foundFor sizeOk pairsRoom roomOk countOk objectsOk decideAsk freshLevels grownTables bookedTables takenTables deniedTables carryAsk planAsk askOf deliverGateOf memories chunkTables servedTables carryFate planDeliver carryDeliver deliverOf onLoanOk vacatedTree givenTables decideReturn planReturn releasedBy carryReturn returnOf freshTables fitOk setUpOf
 one-back = refl
 
 two-back : heard (backTwo .said) (backTwo .account) ≡ heard (Paper.released 0) (account 4096 4096 0 9 Nothing)
-unfolding trailingZeros onesOk powerOk upTo bits powerUp levelOf alignmentOk storeOk buddyOk heapsUpto plusOf chargedOf releasedOf bearsOk agreesOk inserted partedOk leads vacancies unlinked linked metAfter ringLength deliveryOk chargedAccount releasedAccount coversOk entered enteredIndex seekIn wordTo struck struckIndex chainsOk leftOf leftAfter linkOk bytes dropped backed acquired Level.entered added freshLevel along goodOk lengthsOk leafOk entryOk nodeOk chunkOk leadsOk pairOk loanOk treesOk memoriesOk unitsOk soundOk climbed worded splitDown lentOk heldCount heldBytes accountOk gateOf sizeFor levelFor searchFrom foundFor sizeOk pairsRoom roomOk countOk objectsOk decideAsk freshLevels grownTables bookedTables takenTables deniedTables carryAsk planAsk askOf deliverGateOf memories chunkTables servedTables carryFate planDeliver carryDeliver deliverOf onLoanOk vacatedTree givenTables decideReturn planReturn releasedBy carryReturn returnOf freshTables fitOk setUpOf
+unfolding trailingZeros onesOk powerOk upTo bits powerUp levelOf alignmentOk storeOk buddyOk heapsUpto plusOf chargedOf releasedOf bearsOk agreesOk inserted partedOk leads vacancies unlinked linked metAfter ringLength deliveryOk chargedAccount releasedAccount coversOk firstIn freshIndex entered firstBefore enteredIndex seekIn wordTo struck struckIndex chainsOk leftOf leftAfter linkOk bytes dropped backed acquired Level.entered added freshLevel along goodOk lengthsOk leafOk entryOk nodeOk chunkOk leadsOk pairOk loanOk treesOk memoriesOk unitsOk soundOk climbed worded splitDown lentOk heldCount heldBytes accountOk gateOf sizeFor levelFor searchFrom foundFor sizeOk pairsRoom roomOk countOk objectsOk decideAsk freshLevels grownTables bookedTables takenTables deniedTables carryAsk planAsk askOf deliverGateOf memories chunkTables servedTables carryFate planDeliver carryDeliver deliverOf onLoanOk vacatedTree givenTables decideReturn planReturn releasedBy carryReturn returnOf freshTables fitOk setUpOf
 two-back = refl
 
 three-back : heard (backThree .said) (backThree .account) ≡ heard (Paper.released 1) (account 0 4096 4096 10 Nothing)
-unfolding trailingZeros onesOk powerOk upTo bits powerUp levelOf alignmentOk storeOk buddyOk heapsUpto plusOf chargedOf releasedOf bearsOk agreesOk inserted partedOk leads vacancies unlinked linked metAfter ringLength deliveryOk chargedAccount releasedAccount coversOk entered enteredIndex seekIn wordTo struck struckIndex chainsOk leftOf leftAfter linkOk bytes dropped backed acquired Level.entered added freshLevel along goodOk lengthsOk leafOk entryOk nodeOk chunkOk leadsOk pairOk loanOk treesOk memoriesOk unitsOk soundOk climbed worded splitDown lentOk heldCount heldBytes accountOk gateOf sizeFor levelFor searchFrom foundFor sizeOk pairsRoom roomOk countOk objectsOk decideAsk freshLevels grownTables bookedTables takenTables deniedTables carryAsk planAsk askOf deliverGateOf memories chunkTables servedTables carryFate planDeliver carryDeliver deliverOf onLoanOk vacatedTree givenTables decideReturn planReturn releasedBy carryReturn returnOf freshTables fitOk setUpOf
+unfolding trailingZeros onesOk powerOk upTo bits powerUp levelOf alignmentOk storeOk buddyOk heapsUpto plusOf chargedOf releasedOf bearsOk agreesOk inserted partedOk leads vacancies unlinked linked metAfter ringLength deliveryOk chargedAccount releasedAccount coversOk firstIn freshIndex entered firstBefore enteredIndex seekIn wordTo struck struckIndex chainsOk leftOf leftAfter linkOk bytes dropped backed acquired Level.entered added freshLevel along goodOk lengthsOk leafOk entryOk nodeOk chunkOk leadsOk pairOk loanOk treesOk memoriesOk unitsOk soundOk climbed worded splitDown lentOk heldCount heldBytes accountOk gateOf sizeFor levelFor searchFrom foundFor sizeOk pairsRoom roomOk countOk objectsOk decideAsk freshLevels grownTables bookedTables takenTables deniedTables carryAsk planAsk askOf deliverGateOf memories chunkTables servedTables carryFate planDeliver carryDeliver deliverOf onLoanOk vacatedTree givenTables decideReturn planReturn releasedBy carryReturn returnOf freshTables fitOk setUpOf
 three-back = refl
 
 listed-back : row (backThree .list) ≡ row (50 ∷ 0 ∷ [])
-unfolding trailingZeros onesOk powerOk upTo bits powerUp levelOf alignmentOk storeOk buddyOk heapsUpto plusOf chargedOf releasedOf bearsOk agreesOk inserted partedOk leads vacancies unlinked linked metAfter ringLength deliveryOk chargedAccount releasedAccount coversOk entered enteredIndex seekIn wordTo struck struckIndex chainsOk leftOf leftAfter linkOk bytes dropped backed acquired Level.entered added freshLevel along goodOk lengthsOk leafOk entryOk nodeOk chunkOk leadsOk pairOk loanOk treesOk memoriesOk unitsOk soundOk climbed worded splitDown lentOk heldCount heldBytes accountOk gateOf sizeFor levelFor searchFrom foundFor sizeOk pairsRoom roomOk countOk objectsOk decideAsk freshLevels grownTables bookedTables takenTables deniedTables carryAsk planAsk askOf deliverGateOf memories chunkTables servedTables carryFate planDeliver carryDeliver deliverOf onLoanOk vacatedTree givenTables decideReturn planReturn releasedBy carryReturn returnOf freshTables fitOk setUpOf
+unfolding trailingZeros onesOk powerOk upTo bits powerUp levelOf alignmentOk storeOk buddyOk heapsUpto plusOf chargedOf releasedOf bearsOk agreesOk inserted partedOk leads vacancies unlinked linked metAfter ringLength deliveryOk chargedAccount releasedAccount coversOk firstIn freshIndex entered firstBefore enteredIndex seekIn wordTo struck struckIndex chainsOk leftOf leftAfter linkOk bytes dropped backed acquired Level.entered added freshLevel along goodOk lengthsOk leafOk entryOk nodeOk chunkOk leadsOk pairOk loanOk treesOk memoriesOk unitsOk soundOk climbed worded splitDown lentOk heldCount heldBytes accountOk gateOf sizeFor levelFor searchFrom foundFor sizeOk pairsRoom roomOk countOk objectsOk decideAsk freshLevels grownTables bookedTables takenTables deniedTables carryAsk planAsk askOf deliverGateOf memories chunkTables servedTables carryFate planDeliver carryDeliver deliverOf onLoanOk vacatedTree givenTables decideReturn planReturn releasedBy carryReturn returnOf freshTables fitOk setUpOf
 listed-back = refl
 
 level-31 : row (levelFor halves (2 ^ 39) 0 ∷ []) ≡ row (31 ∷ [])
-unfolding trailingZeros onesOk powerOk upTo bits powerUp levelOf alignmentOk storeOk buddyOk heapsUpto plusOf chargedOf releasedOf bearsOk agreesOk inserted partedOk leads vacancies unlinked linked metAfter ringLength deliveryOk chargedAccount releasedAccount coversOk entered enteredIndex seekIn wordTo struck struckIndex chainsOk leftOf leftAfter linkOk bytes dropped backed acquired Level.entered added freshLevel along goodOk lengthsOk leafOk entryOk nodeOk chunkOk leadsOk pairOk loanOk treesOk memoriesOk unitsOk soundOk climbed worded splitDown lentOk heldCount heldBytes accountOk gateOf sizeFor levelFor searchFrom foundFor sizeOk pairsRoom roomOk countOk objectsOk decideAsk freshLevels grownTables bookedTables takenTables deniedTables carryAsk planAsk askOf deliverGateOf memories chunkTables servedTables carryFate planDeliver carryDeliver deliverOf onLoanOk vacatedTree givenTables decideReturn planReturn releasedBy carryReturn returnOf freshTables fitOk setUpOf
+unfolding trailingZeros onesOk powerOk upTo bits powerUp levelOf alignmentOk storeOk buddyOk heapsUpto plusOf chargedOf releasedOf bearsOk agreesOk inserted partedOk leads vacancies unlinked linked metAfter ringLength deliveryOk chargedAccount releasedAccount coversOk firstIn freshIndex entered firstBefore enteredIndex seekIn wordTo struck struckIndex chainsOk leftOf leftAfter linkOk bytes dropped backed acquired Level.entered added freshLevel along goodOk lengthsOk leafOk entryOk nodeOk chunkOk leadsOk pairOk loanOk treesOk memoriesOk unitsOk soundOk climbed worded splitDown lentOk heldCount heldBytes accountOk gateOf sizeFor levelFor searchFrom foundFor sizeOk pairsRoom roomOk countOk objectsOk decideAsk freshLevels grownTables bookedTables takenTables deniedTables carryAsk planAsk askOf deliverGateOf memories chunkTables servedTables carryFate planDeliver carryDeliver deliverOf onLoanOk vacatedTree givenTables decideReturn planReturn releasedBy carryReturn returnOf freshTables fitOk setUpOf
 level-31 = refl
 
 past-31 : heard (askOf halves (account 0 0 0 10 Nothing) (2 ^ 39 + 1) 0 empty .said) (account 0 0 0 10 Nothing) ≡ heard (Paper.refusal 6 []) (account 0 0 0 10 Nothing)
-unfolding trailingZeros onesOk powerOk upTo bits powerUp levelOf alignmentOk storeOk buddyOk heapsUpto plusOf chargedOf releasedOf bearsOk agreesOk inserted partedOk leads vacancies unlinked linked metAfter ringLength deliveryOk chargedAccount releasedAccount coversOk entered enteredIndex seekIn wordTo struck struckIndex chainsOk leftOf leftAfter linkOk bytes dropped backed acquired Level.entered added freshLevel along goodOk lengthsOk leafOk entryOk nodeOk chunkOk leadsOk pairOk loanOk treesOk memoriesOk unitsOk soundOk climbed worded splitDown lentOk heldCount heldBytes accountOk gateOf sizeFor levelFor searchFrom foundFor sizeOk pairsRoom roomOk countOk objectsOk decideAsk freshLevels grownTables bookedTables takenTables deniedTables carryAsk planAsk askOf deliverGateOf memories chunkTables servedTables carryFate planDeliver carryDeliver deliverOf onLoanOk vacatedTree givenTables decideReturn planReturn releasedBy carryReturn returnOf freshTables fitOk setUpOf
+unfolding trailingZeros onesOk powerOk upTo bits powerUp levelOf alignmentOk storeOk buddyOk heapsUpto plusOf chargedOf releasedOf bearsOk agreesOk inserted partedOk leads vacancies unlinked linked metAfter ringLength deliveryOk chargedAccount releasedAccount coversOk firstIn freshIndex entered firstBefore enteredIndex seekIn wordTo struck struckIndex chainsOk leftOf leftAfter linkOk bytes dropped backed acquired Level.entered added freshLevel along goodOk lengthsOk leafOk entryOk nodeOk chunkOk leadsOk pairOk loanOk treesOk memoriesOk unitsOk soundOk climbed worded splitDown lentOk heldCount heldBytes accountOk gateOf sizeFor levelFor searchFrom foundFor sizeOk pairsRoom roomOk countOk objectsOk decideAsk freshLevels grownTables bookedTables takenTables deniedTables carryAsk planAsk askOf deliverGateOf memories chunkTables servedTables carryFate planDeliver carryDeliver deliverOf onLoanOk vacatedTree givenTables decideReturn planReturn releasedBy carryReturn returnOf freshTables fitOk setUpOf
 past-31 = refl
 
 pub split-worked : map (λ (d : Day). d .gives) splitting ≡ map (λ (d : Day). d .says) splitting

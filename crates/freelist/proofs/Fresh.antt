@@ -4,14 +4,14 @@ use mathlib.Core.Bool.{Bool, true, false}
 use mathlib.Core.List.{List, [], _∷_}
 use Prim.Native.Nat.{ℕ}
 use native.Mathlib.Omega.{arith}
-use lib.ListN.{length, set, replicate}
+use lib.ListN.{length, set}
 use Rattle.lists.proofs.Bools.{and-left, and-right}
 use Rattle.counter.specs.InTable.{FreeListIn}
 use Rattle.counter.specs.Paper as Paper
 use Rattle.counter.specs.Table.{freeListOk}
 use Rattle.counter.specs.declared.settings.FreeListSettings.{FreeListSettings}
 use Rattle.counter.proofs.Tables.{free-list-yes}
-use Rattle.slab.specs.Slab.{nowhere}
+use Rattle.book_rules.specs.Book.{freshIndex}
 use Rattle.freelist_rules.specs.Tables.{Tables, tables, mark, markAt, givenAt, madeAt, chunkSizeAt, placesAt, chunksAt, headWords, countAt, lengthsOk}
 use Rattle.freelist_outcomes.specs.SetUp.{setUp, freshHead, freshTables, fitOk, setUpOf}
 use Rattle.freelist_rules.proofs.Fits.{lengths-are}
@@ -47,14 +47,12 @@ module _ (s : FreeListSettings) (t : Tables) where
   pub fit-head : fitOk s t ≡ true → length (t .head) ≡ headWords
   fit-head e = lengths-are s t (fit-in e .1) .head
 
-  pub set-up-ready : (h r i : List ℕ) (at : ℕ) → fitOk s t ≡ true → at ≡ countAt s → h ≡ freshHead s → r ≡ set (t .regions) at 0 → i ≡ replicate (length (t .index)) nowhere
+  pub set-up-ready : (h r i : List ℕ) (at : ℕ) → fitOk s t ≡ true → at ≡ countAt s → h ≡ freshHead s → r ≡ set (t .regions) at 0 → i ≡ freshIndex (t .index)
       → setUp Paper.ready (tables h (t .loans) (t .chunks) r i) ≡ setUpOf s t
   unfolding setUpOf freshTables
   set-up-ready h r i at e a p q w =
-      let l = lengths-are s t (fit-in e .1) .index in
       let q′ = q ∙ ap (λ (k : ℕ). set (t .regions) k 0) a in
-      let w′ = w ∙ ap (λ (k : ℕ). replicate k nowhere) l in
-      (λ j. setUp Paper.ready (tables (p j) (t .loans) (t .chunks) (q′ j) (w′ j))) ∙ rw e refl
+      (λ j. setUp Paper.ready (tables (p j) (t .loans) (t .chunks) (q′ j) (w j))) ∙ rw e refl
 
   pub set-up-refused : fitOk s t ≡ false → setUp (Paper.refusal 1 []) t ≡ setUpOf s t
   unfolding setUpOf

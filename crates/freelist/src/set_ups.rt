@@ -74,7 +74,7 @@ pub fn set_up(
         let at = freelist_regions::count_at(s);
         fresh_head(s, head);
         words::put(regions, at, 0);
-        book::clear(index);
+        book::fresh_index(index);
         SetUpAnswer::Ready
     } else {
         SetUpAnswer::Refused(Refused {

@@ -5,16 +5,16 @@ use mathlib.Core.Bool.{Bool}
 use mathlib.Core.List.{List, [], _∷_}
 use Prim.Native.Nat.{ℕ, _+_, _≤_, _<_}
 use native.Mathlib.Omega.{arith}
-use lib.ListN.{length, getD, set, length-append, getD-replicate}
+use lib.ListN.{length, getD, set, length-append}
 use lib.Seq.{getD-set-same}
 use Rattle.words.specs.Rows.{rows, laid}
 use Rattle.words.proofs.Records.{length-laid, rows-laid}
 use Rattle.counter.specs.InTable.{FreeListIn}
 use Rattle.counter.specs.declared.settings.FreeListSettings.{FreeListSettings}
-use Rattle.slab.specs.Slab.{nowhere, Parted}
+use Rattle.slab.specs.Slab.{Parted}
 use Rattle.slab.proofs.Places.{parted-fresh}
 use Rattle.store_rules.specs.Loans.{loansOf}
-use Rattle.book_rules.specs.Book.{vacatedAt, indexWords, firstOf}
+use Rattle.book_rules.proofs.Firsts.{fresh-vacated, fresh-first}
 use Rattle.book_rules.proofs.Keeps.{fresh-chained}
 use Rattle.freelist_rules.specs.Records.{Store, chunk, chunkRow, regionRow}
 use Rattle.freelist_rules.specs.Pieces.{All}
@@ -58,11 +58,6 @@ module _ (s : FreeListSettings) (t : Tables) (fit : FreeListIn s) (lengths : Len
   unfolding freshTables storeOf loansOf ordered
   fresh-store = ap (λ (n : ℕ). record { given = 0; made = 0; size = s .start; loans = []; chunks = []; regions = rows regionRow n (set (t .regions) (countAt s) 0) }) fresh-count
 
-  -- no place was ever vacated, and no chain leads anywhere
-  fresh-index : (i : ℕ) → i < indexWords (s .store .loans) → getD (freshTables s t .index) i 0 ≡ nowhere
-  unfolding freshTables
-  fresh-index i h = getD-replicate (indexWords (s .store .loans)) i nowhere 0 h
-
   pub fresh-tables-sound : SoundTables s (freshTables s t)
   unfolding freshTables
   fresh-tables-sound =
@@ -71,8 +66,8 @@ module _ (s : FreeListSettings) (t : Tables) (fit : FreeListIn s) (lengths : Len
         marked = refl;
         chunks-fit = omega arith;
         regions-fit = omega (arith, fresh-count);
-        parted = subst (λ (v : ℕ). Parted (vacantIn u) (vacantAfterIn u) (record { places = 0; vacant = v }) (s .store .loans)) (sym (fresh-index vacatedAt (omega arith))) (parted-fresh (vacantIn u) (vacantAfterIn u) (s .store .loans));
-        chained = fresh-chained (u .loans) (u .index) (s .store .loans) 0 (λ i h. fresh-index (firstOf i) (omega arith));
+        parted = subst (λ (v : ℕ). Parted (vacantIn u) (vacantAfterIn u) (record { places = 0; vacant = v }) (s .store .loans)) (sym (fresh-vacated (t .index) (s .store .loans) (fit .store .loans-some) (lengths .index))) (parted-fresh (vacantIn u) (vacantAfterIn u) (s .store .loans));
+        chained = fresh-chained (u .loans) (u .index) (s .store .loans) 0 (λ i h. fresh-first (t .index) (s .store .loans) (fit .store .loans-some) (lengths .index) i);
         store = subst (Sound s) (sym fresh-store) (fresh-sound s fit);
       }
 

@@ -2,7 +2,7 @@
 use mathlib.Core.Bool.{Bool, true, false}
 use mathlib.Core.List.{List, []}
 use Prim.Native.Nat.{ℕ, _+_}
-use lib.ListN.{length, set}
+use lib.ListN.{length, getD, set}
 use lib.Seq.{sets}
 use Rattle.words.specs.Rows.{laid}
 use Rattle.counter.specs.Gate.{Verdict, pass, refuse}
@@ -17,17 +17,17 @@ pub use Rattle.book_rules.specs.Returns.{Plan, deny, back, decided, gated}
 use Rattle.freelist_rules.specs.Records.{region, chunkRow}
 use Rattle.freelist_rules.specs.Join.{insert}
 use Rattle.freelist_rules.specs.Release.{staying, leaving, remaining, memoriesOf, bytesOf}
-use Rattle.freelist_rules.specs.Tables.{Tables, tables, chunksAt, placesIn, storeOf, laidRegions}
+use Rattle.freelist_rules.specs.Tables.{Tables, tables, givenAt, chunksAt, placesIn, storeOf, laidRegions}
 use Rattle.store_rules.specs.declared.Region.{Region}
 use Rattle.freelist_outcomes.specs.Gate.{gateOf}
 
 -- the word of the index that leads to the loan with the block's serial
 abbrev pub wordFor : FreeListSettings → Block → Tables → ℕ
-wordFor s b t = Returns.wordFor (t .loans) (t .index) (s .store .loans) (placesIn t) b
+wordFor s b t = Returns.wordFor (t .loans) (t .index) (s .store .loans) (placesIn t) (getD (t .head) givenAt 0) b
 
 -- 7: "no loan has this serial, chunk, offset and size"
 unfoldable pub onLoanOk : FreeListSettings → Block → Tables → Bool
-onLoanOk s b t = Returns.onLoanOk (t .loans) (t .index) (s .store .loans) (placesIn t) b
+onLoanOk s b t = Returns.onLoanOk (t .loans) (t .index) (s .store .loans) (placesIn t) (getD (t .head) givenAt 0) b
 
 -- the loan that the word w leads to is struck out, and its bytes go back among the free regions
 unfoldable pub givenTables : FreeListSettings → Block → ℕ → Tables → Tables

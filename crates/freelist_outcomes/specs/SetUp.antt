@@ -2,13 +2,12 @@
 use mathlib.Core.Bool.{Bool, cond, _&&_}
 use mathlib.Core.List.{List, [], _∷_}
 use Prim.Native.Nat.{ℕ}
-use lib.ListN.{set, replicate}
+use lib.ListN.{set}
 use Rattle.counter.specs.Paper.{Said}
 use Rattle.counter.specs.Paper as Paper
 use Rattle.counter.specs.Table.{freeListOk}
 use Rattle.counter.specs.declared.settings.FreeListSettings.{FreeListSettings}
-use Rattle.slab.specs.Slab.{nowhere}
-use Rattle.book_rules.specs.Book.{indexWords}
+use Rattle.book_rules.specs.Book.{freshIndex}
 use Rattle.freelist_rules.specs.Tables.{Tables, tables, mark, countAt, lengthsOk}
 
 pub record SetUp : Type 0 where
@@ -22,10 +21,10 @@ setUp s t = record { said = s; tables = t }
 abbrev pub freshHead : FreeListSettings → List ℕ
 freshHead s = mark ∷ 0 ∷ 0 ∷ s .start ∷ 0 ∷ 0 ∷ []
 
--- no region; no chain leads anywhere
+-- no region; no loan is in the book
 unfoldable pub freshTables : FreeListSettings → Tables → Tables
 freshTables s t =
-    tables (freshHead s) (t .loans) (t .chunks) (set (t .regions) (countAt s) 0) (replicate (indexWords (s .store .loans)) nowhere)
+    tables (freshHead s) (t .loans) (t .chunks) (set (t .regions) (countAt s) 0) (freshIndex (t .index))
 
 -- 1, but for the account, which set-up does not take
 unfoldable pub fitOk : FreeListSettings → Tables → Bool

@@ -3,6 +3,7 @@ use mathlib.Core.Path.{_≡_, refl, sym, ap, _∙_}
 use mathlib.Core.Bool.{Bool, true}
 use mathlib.Core.List.{List, []}
 use Prim.Native.Nat.{ℕ}
+use lib.ListN.{getD}
 use Rattle.counter.specs.Account.{heapAt}
 use Rattle.counter.specs.Gate.{Verdict, pass, refuse, first}
 use Rattle.counter.specs.declared.account.Account.{Account}
@@ -15,7 +16,7 @@ use Rattle.store_rules.specs.declared.Share.{Share}
 use Rattle.store_rules.proofs.Shares.{held-heap}
 use Rattle.book_rules.specs.Returns as Returns
 use Rattle.freelist_rules.specs.Place.{Found, nowhere, at}
-use Rattle.freelist_rules.specs.Tables.{Tables, tables, placesIn, storeOf}
+use Rattle.freelist_rules.specs.Tables.{Tables, tables, placesIn, storeOf, givenAt}
 use Rattle.freelist_outcomes.specs.Gate.{gateOf}
 use Rattle.freelist_outcomes.specs.Return.{onLoanOk, decideReturn, planReturn}
 use Rattle.freelist_outcomes.specs.Ask.{roomOk, countOk, objectsOk, foundFor, askRow, planned, decideAsk, planAsk}
@@ -70,7 +71,7 @@ module _ (s : FreeListSettings) (a : Account) (b : Block) (t : Tables) (list : B
   unfolding planReturn
   return-shut n e = rw (sym e) refl
 
-  pub return-go : (places : ℕ) (p : Returns.Plan) → pass ≡ gateOf s a t list → places ≡ placesIn t
-      → p ≡ Returns.decideReturn (t .loans) (t .index) (s .store .loans) places b → p ≡ planReturn s a b t list
+  pub return-go : (places given : ℕ) (p : Returns.Plan) → pass ≡ gateOf s a t list → places ≡ placesIn t → given ≡ getD (t .head) givenAt 0
+      → p ≡ Returns.decideReturn (t .loans) (t .index) (s .store .loans) places given b → p ≡ planReturn s a b t list
   unfolding planReturn decideReturn onLoanOk
-  return-go places p e f d = d ∙ ap (λ (n : ℕ). Returns.decideReturn (t .loans) (t .index) (s .store .loans) n b) f ∙ rw (sym e) refl
+  return-go places given p e f g d = d ∙ (λ j. Returns.decideReturn (t .loans) (t .index) (s .store .loans) (f j) (g j) b) ∙ rw (sym e) refl

@@ -7,6 +7,7 @@ ghost use Rattle.store_rules.specs.Shares.{holder};
 use counter::Block;
 use counter::FreeListSettings;
 use counter::Gate;
+use freelist_rules::GIVEN_AT;
 use freelist_rules::PLACES_AT;
 use returning::Back;
 use store_rules::Share;
@@ -30,7 +31,8 @@ pub fn plan_return(
         Gate::Go => {
             let own = s.store;
             let places = words::word(head, PLACES_AT);
-            returning::decide(b, own.loans, places, loans, index)
+            let given = words::word(head, GIVEN_AT);
+            returning::decide(b, own.loans, places, given, loans, index)
         }
         Gate::Shut(refusal) => Back::Refuse(refusal),
     }

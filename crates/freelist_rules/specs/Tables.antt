@@ -14,7 +14,7 @@ use Rattle.slab.specs.Slab.{vacantAt, linkAt, Parted}
 use Rattle.slab.specs.Test.{partedOk}
 use Rattle.store_rules.specs.Loans.{loanWords, sizeAt, loansOf}
 use Rattle.store_rules.specs.declared.Loan.{Loan}
-use Rattle.book_rules.specs.Book.{entryWords, indexWords, vacantAfterAt, firstOf, nextOf, serialOf, slabOf}
+use Rattle.book_rules.specs.Book.{entryWords, indexWords, vacantAfterAt, nextOf, serialOf, slabOf, firstIn}
 use Rattle.book_rules.specs.Chains.{Chained, chainsOk}
 use Rattle.freelist_rules.specs.Records.{Store, chunkWords, regionWords, chunkRow, regionRow}
 use Rattle.freelist_rules.specs.Sound.{Sound}
@@ -124,7 +124,7 @@ abbrev pub vacantAfterIn : Tables → ℕ → ℕ
 vacantAfterIn t = linkAt (t .index) vacantAfterAt entryWords
 
 abbrev pub chainStart : Tables → ℕ → ℕ
-chainStart t i = getD (t .index) (firstOf i) 0
+chainStart t = firstIn (getD (t .head) givenAt 0) (t .index)
 
 abbrev pub chainNext : Tables → ℕ → ℕ
 chainNext t p = getD (t .index) (nextOf p) 0

@@ -22,7 +22,7 @@ use Rattle.distinct.specs.Column.{column, columnFrom}
 use Rattle.store_rules.specs.Loans.{loanWords, sizeAt}
 use Rattle.store_rules.specs.declared.Loan.{Loan}
 use Rattle.rounding_rules.proofs.Masks.{masked}
-use Rattle.book_rules.specs.Book.{entryWords, vacatedAt, vacantAfterAt, firstOf, nextOf, serialOf}
+use Rattle.book_rules.specs.Book.{entryWords, vacatedAt, vacantAfterAt, nextOf, serialOf, firstIn}
 use Rattle.book_rules.specs.Chains.{chainsOk}
 use Rattle.freelist_rules.specs.Records.{chunkRow}
 use Rattle.freelist_rules.specs.Pieces.{All}
@@ -117,7 +117,7 @@ partedBy s loans index n v =
 
 abbrev chainedBy : FreeListSettings → List ℕ → List ℕ → ℕ → ℕ → Bool
 chainedBy s loans index n given =
-    chainsOk (vacantAt loans sizeAt loanWords) (λ i. getD index (firstOf i) 0) (λ p. getD index (nextOf p) 0) (serialOf loans) (s .store .loans) n given
+    chainsOk (vacantAt loans sizeAt loanWords) (firstIn given index) (λ p. getD index (nextOf p) 0) (serialOf loans) (s .store .loans) n given
 
 pub parted-most : (s : FreeListSettings) (loans index : List ℕ) (r : Bool) (n v : ℕ) → r ≡ partedBy s loans index n v → r ≡ true → n ≤ s .store .loans
 unfolding partedOk

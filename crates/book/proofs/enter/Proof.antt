@@ -9,8 +9,8 @@ next-place-requires c κs = search needs
 rem-i : tie.Need-rem-i
 rem-i c = search needs
 
-cell-requires : tie.Need-cell-requires
-cell-requires c κs = search needs
+first-before-requires : tie.Need-first-before-requires
+first-before-requires c κs = search needs
 
 write-loan-requires : tie.Need-write-loan-requires
 write-loan-requires c κs = search needs
@@ -32,7 +32,7 @@ returns c =
     let g = f .before .before .before .before in
     let taken = g .next-place .ensures in
     let a = g .before .before .before .before .args in
-    (entered-places (a .places) (a .index .now) _ taken, (entered-loans (a .places) (a .index .now) _ _ _ _ taken (e .write-loan .ensures), entered-index (a .places) (a .index .now) _ (a .n) (a .l .serial) _ _ taken (f .cell .ensures) (d .put-first .ensures)))
+    (entered-places (a .places) (a .index .now) _ taken, (entered-loans (a .places) (a .index .now) _ _ _ _ taken (e .write-loan .ensures), entered-index (a .places) (a .index .now) _ (a .n) (a .l .serial) _ _ taken (f .first-before .ensures) (d .put-first .ensures)))
 
 pub enter-spec : {M : Type 1} → statement M
 enter-spec =
@@ -40,7 +40,7 @@ enter-spec =
     (tie.spec
     next-place-requires
     rem-i
-    cell-requires
+    first-before-requires
     write-loan-requires
     put-first-requires
     same-length

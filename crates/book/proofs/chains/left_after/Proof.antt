@@ -4,7 +4,7 @@ use native.Mathlib.Omega.{arith}
 use lib.ListN.{getD}
 use Rattle.slab.specs.Slab.{vacantAt}
 use Rattle.store_rules.specs.Loans.{loanWords, sizeAt}
-use Rattle.book_rules.specs.Book.{firstOf, nextOf, serialOf}
+use Rattle.book_rules.specs.Book.{nextOf, serialOf, firstIn}
 use Rattle.book_rules.specs.Chains.{leftAfter}
 use Rattle.book_rules.proofs.Following.{link-alone, link-serial, after-end, after-none, after-torn, after-on}
 use borrow.Author.Needs.{needs}
@@ -13,8 +13,8 @@ use Rattle.book.proofs.chains.left_after.Tie as tie
 
 abbrev Inv-loop : tie.InvT-loop
 Inv-loop loans index n places i given h k p₀ most₀ left₀ p most left =
-    leftAfter (vacantAt loans sizeAt loanWords) (λ i. getD index (firstOf i) 0) (λ p. getD index (nextOf p) 0) (serialOf loans) n places i given h k
-    ≡ leftAfter (vacantAt loans sizeAt loanWords) (λ i. getD index (firstOf i) 0) (λ p. getD index (nextOf p) 0) (serialOf loans) n places i most p left
+    leftAfter (vacantAt loans sizeAt loanWords) (firstIn given index) (λ p. getD index (nextOf p) 0) (serialOf loans) n places i given h k
+    ≡ leftAfter (vacantAt loans sizeAt loanWords) (firstIn given index) (λ p. getD index (nextOf p) 0) (serialOf loans) n places i most p left
 
 abbrev μ-loop : tie.MeasureT-loop
 μ-loop loans index n places i given h k p₀ most₀ left₀ p most left = left

@@ -6,7 +6,7 @@ use borrow.Author.Needs.{needs}
 use lib.ListN.{getD}
 use Rattle.slab.specs.Slab.{vacantAt}
 use Rattle.store_rules.specs.Loans.{loanWords, sizeAt}
-use Rattle.book_rules.specs.Book.{firstOf, nextOf, serialOf}
+use Rattle.book_rules.specs.Book.{nextOf, serialOf, firstIn}
 use Rattle.book_rules.specs.Chains.{leftOf}
 use Rattle.book_rules.proofs.Following.{of-none, of-torn, of-on}
 use Rattle.book.proofs.chains.left_of.Statement.{statement}
@@ -14,7 +14,7 @@ use Rattle.book.proofs.chains.left_of.Tie as tie
 
 abbrev Inv-loop : tie.InvT-loop
 Inv-loop loans index n places given k left₀ i₀ left i =
-    (i ≤ n) × (left ≡ leftOf (vacantAt loans sizeAt loanWords) (λ i. getD index (firstOf i) 0) (λ p. getD index (nextOf p) 0) (serialOf loans) n places given k i)
+    (i ≤ n) × (left ≡ leftOf (vacantAt loans sizeAt loanWords) (firstIn given index) (λ p. getD index (nextOf p) 0) (serialOf loans) n places given k i)
 
 abbrev μ-loop : tie.MeasureT-loop
 μ-loop loans index n places given k left₀ i₀ left i = n - i
@@ -22,8 +22,8 @@ abbrev μ-loop : tie.MeasureT-loop
 loop-holds : tie.Need-loop-holds Inv-loop μ-loop
 loop-holds c = (search needs, sym (of-none _ _ _ _ _ _ _ _))
 
-cell-requires : tie.Need-cell-requires Inv-loop μ-loop
-cell-requires c κs = search needs
+first-of-requires : tie.Need-first-of-requires Inv-loop μ-loop
+first-of-requires c κs = search needs
 
 left-after-requires : tie.Need-left-after-requires Inv-loop μ-loop
 left-after-requires c κs = search needs
@@ -54,7 +54,7 @@ left-of-spec =
     Inv-loop
     μ-loop
     loop-holds
-    cell-requires
+    first-of-requires
     left-after-requires
     add-i
     loop-less

@@ -20,8 +20,8 @@ fresh-tree-requires c κs =
     let a = i .before .before .before .before .before .before .before .before .before .before .args in
     fit-settings (a .s) (tables (a .head .now) (a .loans .now) (a .chunks .now) (a .index .now) (a .tree .now)) (sym (i .before .is-fit .ensures) ∙ i .if1 .taken)
 
-clear-requires : tie.Need-clear-requires
-clear-requires c κs = search needs
+fresh-index-requires : tie.Need-fresh-index-requires
+fresh-index-requires c κs = search needs
 
 same-length : tie.Need-same-length
 same-length c = search needs
@@ -39,7 +39,7 @@ returns c =
     let h = r .before .before .before .before in
     let i = h .before .before in
     let a = i .before .before .before .before .before .before .before .before .before .before .args in
-    set-up-ready (a .s) (tables (a .head .now) (a .loans .now) (a .chunks .now) (a .index .now) (a .tree .now)) _ _ _ (sym (i .before .is-fit .ensures) ∙ i .if1 .taken) (h .fresh-head .ensures) (r .fresh-tree .ensures) (n .clear .ensures)
+    set-up-ready (a .s) (tables (a .head .now) (a .loans .now) (a .chunks .now) (a .index .now) (a .tree .now)) _ _ _ (sym (i .before .is-fit .ensures) ∙ i .if1 .taken) (h .fresh-head .ensures) (r .fresh-tree .ensures) (n .fresh-index .ensures)
 
 same-length-4 : tie.Need-same-length-4
 same-length-4 c = search needs
@@ -60,7 +60,7 @@ set-up-spec =
     is-fit-requires
     fresh-head-requires
     fresh-tree-requires
-    clear-requires
+    fresh-index-requires
     same-length
     same-length-2
     same-length-3

@@ -23,8 +23,8 @@ fresh-head-requires c κs =
 put-requires : tie.Need-put-requires
 put-requires c κs = search needs
 
-clear-requires : tie.Need-clear-requires
-clear-requires c κs = search needs
+fresh-index-requires : tie.Need-fresh-index-requires
+fresh-index-requires c κs = search needs
 
 same-length : tie.Need-same-length
 same-length c = search needs
@@ -43,7 +43,7 @@ returns c =
     let k = h .before .before in
     let f = k .before .before in
     let a = f .before .before .before .before .before .before .before .before .before .args in
-    set-up-ready (a .s) (tables (a .head .now) (a .loans .now) (a .chunks .now) (a .regions .now) (a .index .now)) _ _ _ _ (sym (f .is-fit .ensures) ∙ k .before .if1 .taken) (k .count-at .ensures) (h .fresh-head .ensures) (r .put .ensures) (n .clear .ensures)
+    set-up-ready (a .s) (tables (a .head .now) (a .loans .now) (a .chunks .now) (a .regions .now) (a .index .now)) _ _ _ _ (sym (f .is-fit .ensures) ∙ k .before .if1 .taken) (k .count-at .ensures) (h .fresh-head .ensures) (r .put .ensures) (n .fresh-index .ensures)
 
 same-length-4 : tie.Need-same-length-4
 same-length-4 c = search needs
@@ -68,7 +68,7 @@ set-up-spec =
     count-at-requires
     fresh-head-requires
     put-requires
-    clear-requires
+    fresh-index-requires
     same-length
     same-length-2
     same-length-3

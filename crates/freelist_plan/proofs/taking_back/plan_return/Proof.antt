@@ -18,9 +18,12 @@ enum-told c = search needs
 word-requires : tie.Need-word-requires
 word-requires c κs = search needs
 
+word-requires-2 : tie.Need-word-requires-2
+word-requires-2 c κs = search needs
+
 decide-requires : tie.Need-decide-requires
 decide-requires c κs =
-    let m = c .before .before in
+    let m = c .before .before .before in
     let g = m .before .before in
     let a = g .before .before .before .before .before .before .args in
     let t = tables (a .head .now) (a .loans .now) (a .chunks .now) (a .regions .now) (a .index .now) in
@@ -32,11 +35,12 @@ enum-known-verdict c = search needs
 
 returns : tie.Need-returns
 returns c =
-    let w = c .before in
+    let v = c .before in
+    let w = v .before in
     let m = w .before .before in
     let g = m .before .before in
     let a = g .before .before .before .before .before .before .args in
-    return-go (a .s) (holder (a .s .store) (a .h)) (a .b) (tables (a .head .now) (a .loans .now) (a .chunks .now) (a .regions .now) (a .index .now)) (a .list) _ _ (sym (ap verdictOf (m .enum-told .given .1)) ∙ g .gate .ensures) (w .word .ensures) (c .decide .ensures)
+    return-go (a .s) (holder (a .s .store) (a .h)) (a .b) (tables (a .head .now) (a .loans .now) (a .chunks .now) (a .regions .now) (a .index .now)) (a .list) _ _ _ (sym (ap verdictOf (m .enum-told .given .1)) ∙ g .gate .ensures) (w .word .ensures) (v .word2 .ensures) (c .decide .ensures)
 
 returns-2 : tie.Need-returns-2
 returns-2 c =
@@ -47,4 +51,4 @@ returns-2 c =
 pub plan-return-spec : {M : Type 1} → statement M
 plan-return-spec =
     tie.close
-    (tie.spec gate-requires enum-told word-requires decide-requires enum-known-verdict returns returns-2)
+    (tie.spec gate-requires enum-told word-requires word-requires-2 decide-requires enum-known-verdict returns returns-2)
