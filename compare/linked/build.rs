@@ -9,17 +9,20 @@ use std::{
 
 mod untested;
 
-use untested::Says;
+use untested::{Says, Test};
 
 const WRITTEN: &str = "../../target/staticlib";
 const ARCHIVES: [&str; 3] = ["linked_list", "linked_buddy", "linked_rank"];
-/// The copies: of which archive, the word that their names begin with, the section whose function
-/// is a test, and what it says at once in the copy.
-const COPIES: [(&str, &str, &str, Says); 4] = [
-    ("linked_list", "untested3", ".text.freelist_test::is_sound", Says::Yes),
-    ("linked_buddy", "untested3", ".text.buddy_test::is_sound", Says::Yes),
-    ("linked_list", "ungated14", ".text.freelist_gate::gating::gate", Says::Go),
-    ("linked_buddy", "ungated14", ".text.buddy_gate::gating::gate", Says::Go),
+/// Whether every heap is in 01's table is a part of test 1, which the exported calls ask ahead of the
+/// gate.
+const HEAPS: Test = (".text.wire_account::heaps_in_table", Says::Yes);
+/// The copies: of which archive, the word that their names begin with, and the functions that are
+/// tests.
+const COPIES: [(&str, &str, &[Test]); 4] = [
+    ("linked_list", "untested3", &[(".text.freelist_test::is_sound", Says::Yes)]),
+    ("linked_buddy", "untested3", &[(".text.buddy_test::is_sound", Says::Yes)]),
+    ("linked_list", "ungated14", &[(".text.freelist_gate::gating::gate", Says::Go), HEAPS]),
+    ("linked_buddy", "ungated14", &[(".text.buddy_gate::gating::gate", Says::Go), HEAPS]),
 ];
 
 fn main() {
@@ -42,10 +45,10 @@ fn main() {
 fn link_copies(folder: &Path) {
     let out = PathBuf::from(env::var_os("OUT_DIR").expect("cargo names a folder"));
     println!("cargo::rustc-link-search=native={}", out.display());
-    for (name, word, section, says) in COPIES {
+    for (name, word, tests) in COPIES {
         let path = folder.join(format!("lib{name}.a"));
         let archive = fs::read(&path).unwrap_or_else(|error| panic!("{}: {error}", path.display()));
-        let copy = untested::copy(&archive, word, section, says)
+        let copy = untested::copy(&archive, word, tests)
             .unwrap_or_else(|error| panic!("{}: {error}", path.display()));
         fs::write(out.join(format!("lib{name}_{word}_for_timing_only.a")), copy)
             .unwrap_or_else(|error| panic!("{}: {error}", out.display()));

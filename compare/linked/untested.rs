@@ -1,4 +1,4 @@
-//! Copies of the archives, for timing only: in a copy one function, a test, says at once that all is
+//! Copies of the archives, for timing only: in a copy some functions, tests, say at once that all is
 //! well, and the exported names begin with another word, so that a program links both. A copy lies
 //! in the folder of cargo's build and is never shipped: it takes a torn store for a sound one.
 
@@ -25,7 +25,10 @@ const RELOCATION: usize = 24;
 /// The word that exported names begin with.
 const SHIPPED: &str = "tibrezkam";
 
-/// What a function says at once in a copy.
+/// The section of a function that is a test, and what it says at once in a copy.
+pub type Test = (&'static str, Says);
+
+/// What a test says at once.
 #[derive(Clone, Copy)]
 pub enum Says {
     /// A test: yes.
@@ -60,21 +63,29 @@ struct Section {
     about: usize,
 }
 
-/// The archive with names that begin with another word, and with the function in this section
-/// saying at once what it is to say.
-pub fn copy(archive: &[u8], word: &str, section: &str, says: Says) -> Result<Vec<u8>, String> {
+/// The archive with names that begin with another word, and with these tests saying at once what
+/// they are to say.
+pub fn copy(archive: &[u8], word: &str, tests: &[Test]) -> Result<Vec<u8>, String> {
+    let mut copy = archive.to_vec();
+    for &(section, says) in tests {
+        let (place, code) = place(archive, section, says)?;
+        copy[place..place + code.len()].copy_from_slice(code);
+    }
+    rename(&mut copy, word)?;
+    Ok(copy)
+}
+
+/// Where the function of a section begins, and what is to be written there.
+fn place(archive: &[u8], section: &str, says: Says) -> Result<(usize, &'static [u8]), String> {
     let mut places = Vec::new();
     for (at, object) in objects(archive)? {
         let code = says.code(number(object, PROCESSOR, 2)?)?;
         places.extend(function(object, section, code.len())?.map(|place| (at + place, code)));
     }
-    let [(place, code)] = places[..] else {
-        return Err(format!("{} sections are named {section}", places.len()));
-    };
-    let mut copy = archive.to_vec();
-    copy[place..place + code.len()].copy_from_slice(code);
-    rename(&mut copy, word)?;
-    Ok(copy)
+    match places[..] {
+        [place] => Ok(place),
+        _ => Err(format!("{} sections are named {section}", places.len())),
+    }
 }
 
 /// The archive's objects, each with its place. Other members are its index of names.

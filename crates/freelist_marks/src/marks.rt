@@ -59,7 +59,8 @@ fn turn(list: &mut [u64], m: usize)
     }
 }
 
-// The chunks that go, listed: each region that stays sends the first of those listed so far to the back.
+// The chunks that go, listed: each region that stays sends the first of those listed so far to the back. Most regions do not
+// start at 0, and are passed by at once.
 pub fn mark(
     chunks: &[u64],
     k: usize,
@@ -78,7 +79,13 @@ pub fn mark(
     let mut m = 0;
     let mut bytes = 0u64;
     while i < n {
-        if goes_at(chunks, k, regions, i, spare & (i + 1 == n)) {
+        let start = words::cell(regions, REGION_START_AT, REGION_WORDS, i);
+        let goes = if start == 0 {
+            goes_at(chunks, k, regions, i, spare & (i + 1 == n))
+        } else {
+            false
+        };
+        if goes {
             let r = region_at(regions, i);
             let c = find_chunk(chunks, k, r.chunk);
             words::put(list, m, c.memory);

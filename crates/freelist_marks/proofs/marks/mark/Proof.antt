@@ -1,12 +1,15 @@
 use borrow.Author.Needs.{needs}
 use mathlib.Core.Path.{ap, _∙_}
-use Prim.Native.Nat.{_-_, _≤_}
+use mathlib.Core.Bool.{_&&_}
+use mathlib.Core.Logic.{⊎-elim}
+use Prim.Native.Nat.{_+_, _-_, _≤_}
 use native.Mathlib.Omega.{arith}
+use lib.Dec.{eqb}
 use Rattle.words.specs.Rows.{rows}
 use Rattle.words.proofs.Records.{length-rows}
 use Rattle.freelist_rules.specs.Records.{chunkRow, regionRow}
 use Rattle.store_rules.specs.declared.Chunk.{Chunk}
-use Rattle.freelist_marks.proofs.Finding.{memory-numbered}
+use Rattle.freelist_marks.proofs.Finding.{goes-not, memory-numbered}
 use Rattle.freelist_marks.proofs.Marking.{Marking, marking-none, marking-done, marking-length, marking-room, marking-turns, marking-stays, marking-goes}
 use Rattle.freelist_marks.proofs.marks.mark.Statement.{statement}
 use Rattle.freelist_marks.proofs.marks.mark.Tie as tie
@@ -21,6 +24,9 @@ loop-holds : tie.Need-loop-holds Inv-loop μ-loop
 loop-holds c =
     let a = c .before .before .before .args in
     (omega arith, marking-none (rows chunkRow (a .k) (a .chunks .now)) (a .spare) (rows regionRow (a .n) (a .regions .now)) (a .list .now))
+
+cell-requires : tie.Need-cell-requires Inv-loop μ-loop
+cell-requires c κs = search needs
 
 add-goes-at : tie.Need-add-goes-at Inv-loop μ-loop
 add-goes-at c = search needs
@@ -38,12 +44,12 @@ put-requires : tie.Need-put-requires Inv-loop μ-loop
 put-requires c κs = search needs
 
 add-m : tie.Need-add-m Inv-loop μ-loop
-add-m c = let l = c .before .before .before .before .before .before .before .before .before in omega (arith, l .loop .inv .1 .within)
+add-m c = let l = c .before .before .before .before .before .before .before .before .before .before in omega (arith, l .loop .inv .1 .within)
 
 add-bytes : tie.Need-add-bytes Inv-loop μ-loop
 add-bytes c =
     let r = c .before .before .before .before .before .before in
-    let l = r .before .before .before .before in
+    let l = r .before .before .before .before .before in
     let s = l .before .before .before .before in
     let a = s .args in
     omega (
@@ -67,12 +73,12 @@ loop-again c =
     let r = d .before in
     let f = r .before in
     let g = f .before in
-    let l = g .before .before in
+    let l = g .before .before .before in
     let s = l .before .before .before .before in
     let a = s .args in (
       omega arith,
       marking-goes (rows chunkRow (a .k) (a .chunks .now)) (a .spare) (a .regions .now) (a .n) (l .loop .i) (search needs) (a .list .now) (s .pre .1)
-          (omega (arith, length-rows chunkRow (a .k) (a .chunks .now), s .pre .0)) (l .loop .list) (l .loop .m) (l .loop .bytes) (l .loop .inv .1) _ (g .goes-at .ensures) (f .if1 .taken) (r .region-at .result) (r .region-at .ensures)
+          (omega (arith, length-rows chunkRow (a .k) (a .chunks .now), s .pre .0)) (l .loop .list) (l .loop .m) (l .loop .bytes) (l .loop .inv .1) _ (⊎-elim (λ w. w .2 ∙ w .1 .ensures) (λ w. w .1 ∙ goes-not (a .chunks .now) (a .regions .now) (a .k) (l .loop .i) (s .pre .1 .numbers) (a .spare && eqb (l .loop .i + 1) (a .n)) _ (g .before .cell .ensures) (w .0 .left)) (g .if1 .came)) (f .if2 .taken) (r .region-at .result) (r .region-at .ensures)
           _
           (ap (λ (z : Chunk). z .memory) (d .find-chunk .ensures) ∙ memory-numbered (r .region-at .result) (rows chunkRow (a .k) (a .chunks .now)))
           _
@@ -81,7 +87,7 @@ loop-again c =
 
 turn-requires : tie.Need-turn-requires Inv-loop μ-loop
 turn-requires c κs =
-    let l = c .before .before .before .before in
+    let l = c .before .before .before .before .before in
     let s = l .before .before .before .before in
     let a = s .args in
     marking-turns (rows chunkRow (a .k) (a .chunks .now)) (a .spare) (a .regions .now) (a .n) (l .loop .i) (search needs) (a .list .now) (s .pre .1)
@@ -98,12 +104,12 @@ loop-again-2 c =
     let p = c .before .before in
     let f = p .before .before in
     let g = f .before in
-    let l = g .before .before in
+    let l = g .before .before .before in
     let s = l .before .before .before .before in
     let a = s .args in (
       omega arith,
       marking-stays (rows chunkRow (a .k) (a .chunks .now)) (a .spare) (a .regions .now) (a .n) (l .loop .i) (search needs) (a .list .now) (s .pre .1)
-          (omega (arith, length-rows chunkRow (a .k) (a .chunks .now), s .pre .0)) (l .loop .list) (l .loop .m) (l .loop .bytes) (l .loop .inv .1) _ (g .goes-at .ensures) (f .if1 .left) _ (p .turn .ensures),
+          (omega (arith, length-rows chunkRow (a .k) (a .chunks .now), s .pre .0)) (l .loop .list) (l .loop .m) (l .loop .bytes) (l .loop .inv .1) _ (⊎-elim (λ w. w .2 ∙ w .1 .ensures) (λ w. w .1 ∙ goes-not (a .chunks .now) (a .regions .now) (a .k) (l .loop .i) (s .pre .1 .numbers) (a .spare && eqb (l .loop .i + 1) (a .n)) _ (g .before .cell .ensures) (w .0 .left)) (g .if1 .came)) (f .if2 .left) _ (p .turn .ensures),
     )
 
 same-length : tie.Need-same-length Inv-loop μ-loop
@@ -126,6 +132,7 @@ mark-spec =
     Inv-loop
     μ-loop
     loop-holds
+    cell-requires
     add-goes-at
     goes-at-requires
     region-at-requires
