@@ -4,28 +4,19 @@
 
 mod clock;
 mod side;
+mod stores;
 
 use {
     clock::{repeat, timed},
     compare::{
         bare::{Bare, BareTypes},
-        settings::{Kind, Settings},
+        settings::Kind,
     },
-    linked::{
-        ffi::{self, Engines, SHIPPED, UNGATED, UNTESTED},
-        ranking::ROWS,
-        store::Store,
-    },
+    linked::{ffi, ranking::ROWS, store::Store},
     side::{Lender, Ours, Side},
     std::hint::black_box,
+    stores::{settings, KINDS, LIVE, OURS},
 };
-
-const LIVE: [usize; 3] = [16, 128, 500];
-const CHUNK: u64 = 1 << 21;
-const KINDS: [(&str, Kind); 2] = [
-    ("buddy", Kind::Buddy { minimal: 64, initial: CHUNK, pairs: 256 }),
-    ("free list", Kind::FreeList { start_chunk: CHUNK, final_chunk: CHUNK }),
-];
 
 /// Property words of memory types: eleven with many alike, and each of the 16 ranked ones twice.
 const FEW_TYPES: [u8; 11] = [0, 0, 0, 0, 0, 0, 0, 1, 1, 6, 14];
@@ -33,9 +24,6 @@ const MANY_TYPES: [u8; 32] = [
     0, 7, 14, 5, 12, 3, 10, 1, 8, 15, 6, 13, 4, 11, 2, 9, //
     0, 7, 14, 5, 12, 3, 10, 1, 8, 15, 6, 13, 4, 11, 2, 9,
 ];
-
-/// Ours, as they are timed.
-const OURS: [&Engines; 3] = [&SHIPPED, &UNTESTED, &UNGATED];
 
 /// The least nanoseconds of a call: ours, ours without test 3, ours without the gate, and the crate's.
 type Best = [f64; 4];
@@ -68,21 +56,6 @@ fn print_row(engine: &str, call: &str, live: usize, [ours, untested, ungated, of
     let test = (ours - untested) / of_crate;
     print!("{engine:<11}{call:<9}{live:>5}{ours:>11.1}{untested:>10.1}{ungated:>10.1}");
     println!("{of_crate:>10.1}{tested:>12.2}{between:>14.2}{test:>14.1}");
-}
-
-fn settings(kind: Kind) -> Settings {
-    Settings {
-        kind,
-        store: 1,
-        memory_type: 0,
-        properties: 1,
-        heap: 0,
-        atom_mask: 0,
-        loans: 512,
-        chunks: 64,
-        heap_size: 1 << 40,
-        objects: 64,
-    }
 }
 
 /// Asks of a torn store, and while an order is open: ours refuse the one by test 3 and the other by

@@ -62,8 +62,8 @@ impl<L: Lender> Side<L> {
         Side { lender, blocks, random, exchanged: live / EXCHANGED, ask, take_back }
     }
 
-    /// Times a batch of rounds.
-    pub fn batch(&mut self) {
+    /// Times a batch of rounds. Answers how many calls of each kind were in it.
+    pub fn batch(&mut self) -> usize {
         let rounds = BATCH / self.exchanged;
         let (mut ask, mut take_back) = (0.0, 0.0);
         for _ in 0..rounds {
@@ -71,9 +71,10 @@ impl<L: Lender> Side<L> {
             take_back += self.time_returns();
             ask += self.time_asks();
         }
-        let calls = (rounds * self.exchanged) as f64;
-        self.ask = self.ask.min(ask / calls);
-        self.take_back = self.take_back.min(take_back / calls);
+        let calls = rounds * self.exchanged;
+        self.ask = self.ask.min(ask / calls as f64);
+        self.take_back = self.take_back.min(take_back / calls as f64);
+        calls
     }
 
     fn time_returns(&mut self) -> f64 {
