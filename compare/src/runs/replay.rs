@@ -14,7 +14,7 @@ use {
         fs::{self, File},
         io,
         path::Path,
-        process::Command,
+        process::{self, Command},
         thread,
         time::{Duration, Instant},
     },
@@ -71,8 +71,8 @@ pub fn run(program: &Path, seed: u64, count: u64, limit: Duration) -> Verdict {
 
 /// What the program prints for a tape on its standard input.
 fn replay(program: &Path, tape: &[u8]) -> io::Result<String> {
-    // each thread has a tape of its own
-    let file = format!("target/replay-{:?}.tape", thread::current().id());
+    // each thread of each run has a tape of its own
+    let file = format!("target/replay-{}-{:?}.tape", process::id(), thread::current().id());
     fs::write(&file, tape)?;
     let output = Command::new(program).stdin(File::open(&file)?).output()?;
     fs::remove_file(&file)?;
