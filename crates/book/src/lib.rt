@@ -5,13 +5,14 @@ mod kept;
 pub use chains::is_chained;
 pub use kept::is_kept;
 ghost use mathlib.Core.Path.{_≡_};
-ghost use Prim.Native.Nat.{_≤_, _<_};
-ghost use lib.ListN.{set};
+ghost use Prim.Native.Nat.{_%_, _≤_, _<_};
+ghost use lib.ListN.{length, set};
 ghost use Rattle.counter.specs.Limits.{loansMost};
 ghost use Rattle.words.specs.Words.{cellOf};
 ghost use Rattle.words.specs.Rows.{row, written};
-ghost use Rattle.store_rules.specs.Loans.{loanRow};
-ghost use Rattle.book_rules.specs.Book.{entryWords, vacatedAt, vacantAfterAt, firstOf, nextOf, freshIndex, takenOf, entered, firstBefore, enteredIndex, wordTo, struck, struckIndex};
+ghost use Rattle.store_rules.specs.Loans.{loanWords, sizeAt, loanRow};
+ghost use Rattle.book_rules.specs.Ready.{Opens, Strikes};
+ghost use Rattle.book_rules.specs.Book.{entryWords, vacatedAt, vacantAfterAt, indexWords, firstOf, nextOf, freshIndex, takenOf, entered, firstBefore, enteredIndex, wordTo, struck, struckIndex};
 use slab::NOWHERE;
 use slab::Slab;
 use slab::Taken;
@@ -50,8 +51,24 @@ pub fn next_place(places: u64, index: &[u64]) -> Taken
     s.insert(index, VACANT_AFTER_AT, ENTRY_WORDS)
 }
 
-// The loan at a place.
+// The loan at a place. One test serves for its four words.
 pub fn loan_at(loans: &[u64], p: usize) -> Loan
+    ensures { λ r. ⌜ r ≡ row loanRow p (now (loans .entry)) ⌝ }
+{
+    if p < loans.len() / LOAN_WORDS {
+        let at = LOAN_WORDS * p;
+        return Loan {
+            serial: loans[at],
+            chunk: loans[at + 1],
+            offset: loans[at + 2],
+            size: loans[at + 3],
+        };
+    }
+    loan_by_words(loans, p)
+}
+
+// The same, each word by itself.
+fn loan_by_words(loans: &[u64], p: usize) -> Loan
     ensures { λ r. ⌜ r ≡ row loanRow p (now (loans .entry)) ⌝ }
 {
     Loan {
@@ -63,50 +80,66 @@ pub fn loan_at(loans: &[u64], p: usize) -> Loan
 }
 
 // A loan written at its place.
-pub fn write_loan(loans: &mut [u64], p: usize, l: Loan)
+fn write_loan(loans: &mut [u64], p: usize, l: Loan)
+    requires { ⌜ cellOf sizeAt loanWords p < length (now loans) ⌝ }
     ensures { λ _. ⌜ now (loans .exit) ≡ written loanRow p l (now (loans .entry)) ⌝ }
 {
-    words::put_cell(loans, 0, LOAN_WORDS, p, l.serial);
-    words::put_cell(loans, 1, LOAN_WORDS, p, l.chunk);
-    words::put_cell(loans, 2, LOAN_WORDS, p, l.offset);
-    words::put_cell(loans, 3, LOAN_WORDS, p, l.size);
+    let at = LOAN_WORDS * p;
+    loans[at] = l.serial;
+    loans[at + 1] = l.chunk;
+    loans[at + 2] = l.offset;
+    loans[at + 3] = l.size;
 }
 
 // The loan takes the next place, and becomes the first of its chain. Answers how many places were ever used.
 pub fn enter(loans: &mut [u64], index: &mut [u64], n: usize, places: u64, l: Loan) -> u64
-    requires { ⌜ (0 < n) × (n ≤ loansMost) ⌝ }
+    requires { ⌜ Opens n (takenOf places (now index) .place) (now loans) (now index) ⌝ }
     ensures { λ r. ⌜ r ≡ takenOf places (now (index .entry)) .slab .places ⌝ }
     ensures { λ _. ⌜ now (loans .exit) ≡ entered places (now (index .entry)) l (now (loans .entry)) ⌝ }
     ensures { λ _. ⌜ now (index .exit) ≡ enteredIndex n places (l .serial) (now (index .entry)) ⌝ }
 {
     let t = next_place(places, index);
     let s = t.slab;
+    enter_at(loans, index, n, t, l);
+    s.places
+}
+
+// The same at the place that is told.
+pub fn enter_at(loans: &mut [u64], index: &mut [u64], n: usize, t: Taken, l: Loan)
+    requires { ⌜ Opens n (t .place) (now loans) (now index) ⌝ }
+    ensures { λ _. ⌜ now (loans .exit) ≡ written loanRow (t .place) l (now (loans .entry)) ⌝ }
+    ensures { λ _. ⌜ now (index .exit) ≡ set (set (set (now (index .entry)) vacatedAt (t .slab .vacant)) (nextOf (t .place)) (firstBefore n (l .serial) (now (index .entry)))) (firstOf (l .serial % n)) (t .place) ⌝ }
+{
+    let s = t.slab;
     let i = l.serial % n as u64;
     let first = first_before(index, n, l.serial);
     write_loan(loans, t.place as usize, l);
     put_first(index, i as usize, t.place, first, s.vacant);
-    s.places
 }
 
 // The first of the chain that this serial comes into: serials below n are each the first of theirs.
 fn first_before(index: &[u64], n: usize, serial: u64) -> u64
-    requires { ⌜ (0 < n) × (n ≤ loansMost) ⌝ }
+    requires { ⌜ (0 < n) × (n ≤ loansMost) × (length (now index) ≡ indexWords n) ⌝ }
     ensures { λ r. ⌜ r ≡ firstBefore n serial (now (index .entry)) ⌝ }
 {
     if serial < n as u64 {
         return NOWHERE;
     }
     let i = serial % n as u64;
-    words::cell(index, FIRST_AT, ENTRY_WORDS, i as usize)
+    let at = FIRST_AT + ENTRY_WORDS * i as usize;
+    index[at]
 }
 
 // The place p is the first of chain i from now on, before the one that was.
 fn put_first(index: &mut [u64], i: usize, p: u64, first: u64, vacated: u64)
+    requires { ⌜ (firstOf i < length (now index)) × (nextOf p < length (now index)) ⌝ }
     ensures { λ _. ⌜ now (index .exit) ≡ set (set (set (now (index .entry)) vacatedAt vacated) (nextOf p) first) (firstOf i) p ⌝ }
 {
-    words::put(index, VACATED_AT, vacated);
-    words::put_cell(index, NEXT_AT, ENTRY_WORDS, p as usize, first);
-    words::put_cell(index, FIRST_AT, ENTRY_WORDS, i, p);
+    let next = NEXT_AT + ENTRY_WORDS * p as usize;
+    let at = FIRST_AT + ENTRY_WORDS * i;
+    index[VACATED_AT] = vacated;
+    index[next] = first;
+    index[at] = p;
 }
 
 // The word of the index that leads to the loan with this serial, or NOWHERE: a serial that was not given has none. At most `places` turns, so that links that
@@ -126,7 +159,7 @@ pub fn word_to(loans: &[u64], index: &[u64], n: usize, places: u64, given: u64, 
         if places <= p {
             return NOWHERE;
         }
-        if words::cell(loans, SERIAL_AT, LOAN_WORDS, p as usize) == serial {
+        if words::word(loans, SERIAL_AT + LOAN_WORDS * p as usize) == serial {
             return at as u64;
         }
         at = NEXT_AT + ENTRY_WORDS * p as usize;
@@ -135,23 +168,27 @@ pub fn word_to(loans: &[u64], index: &[u64], n: usize, places: u64, given: u64, 
     NOWHERE
 }
 
-// The loan that the word at `at` leads to is struck out: its place is vacant.
-pub fn strike(loans: &mut [u64], index: &mut [u64], at: usize)
+// The loan at p, which the word at `at` leads to, is struck out: its place is vacant.
+pub fn strike(loans: &mut [u64], index: &mut [u64], at: usize, p: u64)
+    requires { ⌜ Strikes at p (now loans) (now index) ⌝ }
     ensures { λ _. ⌜ now (loans .exit) ≡ struck at (now (index .entry)) (now (loans .entry)) ⌝ }
     ensures { λ _. ⌜ now (index .exit) ≡ struckIndex at (now (index .entry)) ⌝ }
 {
-    let p = words::word(index, at);
-    let next = words::cell(index, NEXT_AT, ENTRY_WORDS, p as usize);
-    let vacated = words::word(index, VACATED_AT);
-    words::put_cell(loans, SIZE_AT, LOAN_WORDS, p as usize, 0);
+    let onward = NEXT_AT + ENTRY_WORDS * p as usize;
+    let next = index[onward];
+    let vacated = index[VACATED_AT];
+    let size = SIZE_AT + LOAN_WORDS * p as usize;
+    loans[size] = 0;
     pass_over(index, at, p, next, vacated);
 }
 
 // The word at `at` leads past p from now on, and p is the place vacated last.
 fn pass_over(index: &mut [u64], at: usize, p: u64, next: u64, vacated: u64)
+    requires { ⌜ (at < length (now index)) × (cellOf vacantAfterAt entryWords p < length (now index)) ⌝ }
     ensures { λ _. ⌜ now (index .exit) ≡ set (set (set (now (index .entry)) at next) (cellOf vacantAfterAt entryWords p) vacated) vacatedAt p ⌝ }
 {
-    words::put(index, at, next);
-    words::put_cell(index, VACANT_AFTER_AT, ENTRY_WORDS, p as usize, vacated);
-    words::put(index, VACATED_AT, p);
+    let after = VACANT_AFTER_AT + ENTRY_WORDS * p as usize;
+    index[at] = next;
+    index[after] = vacated;
+    index[VACATED_AT] = p;
 }

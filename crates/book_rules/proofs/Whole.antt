@@ -1,7 +1,7 @@
 -- Loans read and written word by word are read and written whole. Assumes nothing.
-use mathlib.Core.Path.{_≡_, _∙_}
+use mathlib.Core.Path.{_≡_, ap, _∙_}
 use mathlib.Core.List.{List}
-use Prim.Native.Nat.{ℕ, suc, _*_}
+use Prim.Native.Nat.{ℕ, suc, _+_, _*_}
 use native.Mathlib.Omega.{arith}
 use lib.ListN.{getD, set, drop}
 use Rattle.words.specs.Words.{cellOf}
@@ -22,6 +22,13 @@ module _ (t : List ℕ) (p : ℕ) where
       let w = word 3 d h in
       (λ j. loan (x j) (y j) (z j) (w j))
 
+  -- its words one after the other
+  read-on : (k i : ℕ) → i ≡ cellOf k loanWords p → getD t i 0 ≡ getD t (cellOf k loanWords p) 0
+  read-on k i e = ap (λ (j : ℕ). getD t j 0) e
+
+  pub loan-along : loan (getD t (loanWords * p) 0) (getD t (loanWords * p + 1) 0) (getD t (loanWords * p + 2) 0) (getD t (loanWords * p + 3) 0) ≡ row loanRow p t
+  loan-along = loan-read _ _ _ _ (read-on 0 (loanWords * p) (omega arith)) (read-on 1 (loanWords * p + 1) (omega arith)) (read-on 2 (loanWords * p + 2) (omega arith)) (read-on 3 (loanWords * p + 3) (omega arith))
+
   here : cellOf 0 loanWords p ≡ loanWords * p
   here = omega arith
 
@@ -38,6 +45,9 @@ module _ (t : List ℕ) (p : ℕ) where
       → w ≡ written loanRow p (loan a b c d) t
   loan-written a b c d x y z w e f g h = h ∙ rw (g, f, e, here, next, third, fourth)
 
--- three stores, one after the other
-pub three-stored : (t x y z : List ℕ) (i j k a b c : ℕ) → x ≡ set t i a → y ≡ set x j b → z ≡ set y k c → z ≡ set (set (set t i a) j b) k c
-three-stored t x y z i j k a b c e f g = g ∙ rw (f, e)
+  pub written-along : (a b c d : ℕ) → set (set (set (set t (loanWords * p) a) (loanWords * p + 1) b) (loanWords * p + 2) c) (loanWords * p + 3) d ≡ written loanRow p (loan a b c d) t
+  written-along a b c d =
+      let e : loanWords * p + 1 ≡ suc (loanWords * p) = omega arith in
+      let f : loanWords * p + 2 ≡ suc (suc (loanWords * p)) = omega arith in
+      let g : loanWords * p + 3 ≡ suc (suc (suc (loanWords * p))) = omega arith in
+      (λ j. set (set (set (set t (loanWords * p) a) (e j) b) (f j) c) (g j) d)

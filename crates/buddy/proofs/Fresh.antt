@@ -8,7 +8,6 @@ use lib.ListN.{length, set}
 use Rattle.lists.proofs.Bools.{and-left, and-right}
 use Rattle.counter.specs.InTable.{BuddyIn}
 use Rattle.counter.specs.Paper as Paper
-use Rattle.counter.specs.Paper.{Said}
 use Rattle.counter.specs.Table.{buddyOk}
 use Rattle.counter.specs.declared.settings.BuddySettings.{BuddySettings}
 use Rattle.counter.proofs.Tables.{buddy-yes}
@@ -16,7 +15,7 @@ use Rattle.slab.specs.Slab.{nowhere}
 use Rattle.book_rules.specs.Book.{freshIndex}
 use Rattle.buddy_stores.specs.Tables.{Tables, tables, mark, markAt, givenAt, levelsAt, placesAt, chunkPlacesAt, headWords, chunksFrom, initialLevels, lengthsOk}
 use Rattle.buddy_outcomes.specs.Ask.{freshLevels}
-use Rattle.buddy_outcomes.specs.SetUp.{SetUp, setUp, freshHead, freshTables, fitOk, setUpOf}
+use Rattle.buddy_outcomes.specs.SetUp.{setUp, freshHead, freshTables, fitOk, setUpOf}
 use Rattle.buddy_outcomes.proofs.Passing.{lengths-are}
 
 pub head-fresh : (s : BuddySettings) (t : List ℕ) (n : ℕ) → length t ≡ headWords → n ≡ initialLevels s

@@ -1,5 +1,5 @@
 -- A block taken back leaves the tables as they are defined. Assumes nothing.
-use mathlib.Core.Path.{_≡_, sym, ap, _∙_}
+use mathlib.Core.Path.{_≡_, refl, sym, ap, _∙_}
 use mathlib.Core.Bool.{Bool, true, false, cond}
 use mathlib.Core.List.{List, []}
 use Prim.Native.Nat.{ℕ, _+_, _-_, _*_}
@@ -32,10 +32,12 @@ module _ (s : BuddySettings) (b : Block) (w : ℕ) (head index tree : List ℕ) 
       let e : node ≡ getD tree (nodesFrom s + getD index w 0) 0 = reads ∙ (λ j. getD tree (beside j + leads j) 0) in
       (λ j. climbed (s .pairs) (top j - low j) (low j) (e j) tree)
 
-  module _ (loans chunks t₁ : List ℕ) (freed : Bool) (out : freed ≡ climbed (s .pairs) (levels - level) level node tree .freed) (up : t₁ ≡ climbed (s .pairs) (levels - level) level node tree .tree) where
-    pub freed-is : freed ≡ climbFor s b w (tables head [] [] index tree) .freed
-    freed-is = out ∙ ap (λ (x : Climbed). x .freed) climb-is
+-- the tables when the block is taken back, by what the climb came to
+module _ (s : BuddySettings) (b : Block) (w : ℕ) (head loans chunks index tree t₁ : List ℕ) (freed : Bool) where
+  abbrev Climb : Climbed
+  Climb = climbFor s b w (tables head [] [] index tree)
 
+  module _ (out : freed ≡ Climb .freed) (rose : t₁ ≡ Climb .tree) where
     abbrev after : Climbed → Tables
     after x =
         tables head (struck w index loans)
@@ -49,13 +51,13 @@ module _ (s : BuddySettings) (b : Block) (w : ℕ) (head index tree : List ℕ) 
         → l′ ≡ struck w index loans → i′ ≡ struckIndex w index → tables head l′ c′ i′ t′ ≡ givenTables s b w (tables head loans chunks index tree)
     unfolding givenTables
     by f e l′ c′ i′ t′ c t l i =
-        let o : f ≡ climbed (s .pairs) (levels - level) level node tree .freed = sym e ∙ out in
-        (λ j. tables head (l j) (c j) (i j) (t j)) ∙ (λ j. after (record { freed = o j; tree = up j })) ∙ (λ j. after (climb-is j))
+        let o : f ≡ Climb .freed = sym e ∙ out in
+        (λ j. tables head (l j) (c j) (i j) (t j)) ∙ (λ j. after (record { freed = o j; tree = rose j }))
 
     pub given-freed : freed ≡ true → (l′ c′ i′ t′ : List ℕ) → c′ ≡ set chunks (cellOf chunkSizeAt chunkWords (b .chunk)) 0 → t′ ≡ vacatedTree s (b .chunk) t₁
         → l′ ≡ struck w index loans → i′ ≡ struckIndex w index → tables head l′ c′ i′ t′ ≡ givenTables s b w (tables head loans chunks index tree)
     given-freed e = by true e
 
-    pub given-kept : freed ≡ false → (l′ c′ i′ t′ : List ℕ) → c′ ≡ chunks → t′ ≡ t₁
-        → l′ ≡ struck w index loans → i′ ≡ struckIndex w index → tables head l′ c′ i′ t′ ≡ givenTables s b w (tables head loans chunks index tree)
-    given-kept e = by false e
+    pub given-kept : freed ≡ false → (l′ i′ : List ℕ) → l′ ≡ struck w index loans → i′ ≡ struckIndex w index
+        → tables head l′ chunks i′ t₁ ≡ givenTables s b w (tables head loans chunks index tree)
+    given-kept e l′ i′ = by false e l′ chunks i′ t₁ refl refl

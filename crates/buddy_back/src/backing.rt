@@ -1,11 +1,12 @@
-// A block taken back: its node climbs, a chunk that is wholly free goes, and the loan is struck out of the book.
+// A block taken back: its node climbs and the loan is struck out of the book; and a chunk that is wholly free goes.
 ghost use mathlib.Core.Path.{_≡_};
 ghost use mathlib.Core.List.{[]};
 ghost use lib.ListN.{set};
 ghost use Rattle.counter.specs.InTable.{BuddyIn};
 ghost use Rattle.words.specs.Words.{cellOf};
 ghost use Rattle.buddy_stores.specs.Tables.{tables, chunkWords, chunkSizeAt};
-ghost use Rattle.buddy_outcomes.specs.Return.{climbFor, vacatedTree, givenTables};
+ghost use Rattle.book_rules.specs.Book.{struck, struckIndex};
+ghost use Rattle.buddy_outcomes.specs.Return.{climbFor, vacatedTree};
 ghost use Rattle.buddy_ready.specs.Ready.{Backs};
 use buddy_stores::AFTER_AT;
 use buddy_stores::CHUNK_SIZE_AT;
@@ -16,7 +17,7 @@ use counter::Block;
 use counter::BuddySettings;
 
 // The chunk at c is gone, and its place the one vacated last.
-fn vacate(s: BuddySettings, c: u64, chunks: &mut [u64], tree: &mut [u64])
+pub fn vacate(s: BuddySettings, c: u64, chunks: &mut [u64], tree: &mut [u64])
     requires { ⌜ BuddyIn s ⌝ }
     ensures { λ _. ⌜ now (chunks .exit) ≡ set (now (chunks .entry)) (cellOf chunkSizeAt chunkWords c) 0 ⌝ }
     ensures { λ _. ⌜ now (tree .exit) ≡ vacatedTree s c (now (tree .entry)) ⌝ }
@@ -28,30 +29,28 @@ fn vacate(s: BuddySettings, c: u64, chunks: &mut [u64], tree: &mut [u64])
     words::put(tree, at, c);
 }
 
-// The block that the word at `at` of the index leads to, at this loan place. Answers whether its chunk went with it.
+// The block that the word at `at` of the index leads to, at this loan place. Answers whether its chunk is wholly free then, and has to
+// go with it.
 pub fn take_back(
     s: BuddySettings,
     b: Block,
     at: usize,
     head: &[u64],
     loans: &mut [u64],
-    chunks: &mut [u64],
     index: &mut [u64],
     tree: &mut [u64],
 ) -> bool
-    requires { ⌜ Backs s b at (tables (now head) [] [] (now index) []) ⌝ }
+    requires { ⌜ Backs s b at (tables (now head) (now loans) [] (now index) []) ⌝ }
     ensures { λ r. ⌜ r ≡ climbFor s b at (tables (now (head .entry)) [] [] (now (index .entry)) (now (tree .entry))) .freed ⌝ }
-    ensures { λ _. ⌜ tables (now (head .entry)) (now (loans .exit)) (now (chunks .exit)) (now (index .exit)) (now (tree .exit)) ≡ givenTables s b at (tables (now (head .entry)) (now (loans .entry)) (now (chunks .entry)) (now (index .entry)) (now (tree .entry))) ⌝ }
+    ensures { λ _. ⌜ now (tree .exit) ≡ climbFor s b at (tables (now (head .entry)) [] [] (now (index .entry)) (now (tree .entry))) .tree ⌝ }
+    ensures { λ _. ⌜ (now (loans .exit) ≡ struck at (now (index .entry)) (now (loans .entry))) × (now (index .exit) ≡ struckIndex at (now (index .entry))) ⌝ }
 {
     let own = s.store;
     let levels = words::word(head, LEVELS_AT) as usize;
     let level = rounding::level(b.size, s.minimal) as usize;
     let nodes = buddy_shape::nodes_from(s.pairs, own.chunks);
-    let node = words::word(tree, nodes + words::word(index, at) as usize);
-    let freed = buddy_moves::climb(tree, s.pairs, level, levels - level, node);
-    if freed {
-        vacate(s, b.chunk, chunks, tree);
-    }
-    book::strike(loans, index, at);
-    freed
+    let p = words::word(index, at);
+    let node = words::word(tree, nodes + p as usize);
+    book::strike(loans, index, at, p);
+    buddy_moves::climb(tree, s.pairs, level, levels - level, node)
 }

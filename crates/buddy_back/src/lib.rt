@@ -2,3 +2,4 @@
 mod backing;
 
 pub use backing::take_back;
+pub use backing::vacate;

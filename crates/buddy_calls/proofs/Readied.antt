@@ -99,17 +99,17 @@ module _ (s : BuddySettings) (a : Account) (size mask : ℕ) (t : Tables) where
   pub nine-grows : (n : ℕ) → planAsk s a size mask t ≡ deny n → eqb n 9 ≡ true → Grows s size mask (t .head)
   nine-grows n e y = ask-grows (deny n) (eqb-true n 9 y) e
 
-  ask-lends : (i : ℕ) → planAsk s a size mask t ≡ take i → Lends s (sizeFor s size mask) (levelFor s size mask) i (tables (t .head) [] [] (t .index) (t .tree))
+  ask-lends : (i : ℕ) → planAsk s a size mask t ≡ take i → Lends s (sizeFor s size mask) (levelFor s size mask) i (tables (t .head) (t .loans) [] (t .index) (t .tree))
   ask-lends i e =
       let w = went (take i) tt e in
       let P = gate-passed s a t true (sym (w .0)) in
-      lends-rest s (sizeFor s size mask) (levelFor s size mask) i t [] [] (lends-ready s (heapAt a (s .store .heap)) (a .objects) size mask t (P .lent .settings) (P .lent .lengths) (P .sound) i (w .1))
+      lends-rest s (sizeFor s size mask) (levelFor s size mask) i t [] (lends-ready s (heapAt a (s .store .heap)) (a .objects) size mask t (P .lent .settings) (P .lent .lengths) (P .sound) i (w .1))
 
   -- of the size and level that the plan tells
-  pub ask-serves : (i z lev : ℕ) → planAsk s a size mask t ≡ take i → z ≡ sizeFor s size mask → lev ≡ levelFor s size mask → Lends s z lev i (tables (t .head) [] [] (t .index) (t .tree))
+  pub ask-serves : (i z lev : ℕ) → planAsk s a size mask t ≡ take i → z ≡ sizeFor s size mask → lev ≡ levelFor s size mask → Lends s z lev i (tables (t .head) (t .loans) [] (t .index) (t .tree))
   ask-serves i z lev e p q =
-      subst (λ (x : ℕ). Lends s x lev i (tables (t .head) [] [] (t .index) (t .tree))) (sym p)
-      (subst (λ (x : ℕ). Lends s (sizeFor s size mask) x i (tables (t .head) [] [] (t .index) (t .tree))) (sym q) (ask-lends i e))
+      subst (λ (x : ℕ). Lends s x lev i (tables (t .head) (t .loans) [] (t .index) (t .tree))) (sym p)
+      (subst (λ (x : ℕ). Lends s (sizeFor s size mask) x i (tables (t .head) (t .loans) [] (t .index) (t .tree))) (sym q) (ask-lends i e))
 
 -- ---- a delivery
 

@@ -30,10 +30,19 @@ use Rattle.buddy_stores.specs.Tables.{Tables, tables, givenAt, levelsAt, places
 use Rattle.buddy_outcomes.specs.Ask.{Found, at, nowhere, sizeFor, levelFor, searchFrom, foundAt, foundFor, fitsAt, sizeOk, pairsRoom, chunkSpot, roomAt, roomOk, countAt, countOk, objectsOk, orderAt, lateAt, plannedAt, decideAsk}
 use Rattle.buddy_outcomes.proofs.Rounds.{level-low}
 use Rattle.buddy_outcomes.proofs.Searches.{search-at}
-use Rattle.buddy_decide.specs.Plans.{Sized, NoTake}
+use Rattle.buddy_decide.specs.Plans.{planOf, Sized, NoTake, Tells, LookTake, LookSized, LookOf}
+use Rattle.buddy_decide.specs.declared.deciding.Looked.{Looked}
+use Rattle.buddy_decide.specs.declared.deciding.Looked.the-variants as L
+use Rattle.buddy_decide.specs.declared.deciding.Needing.{Needing}
 use Rattle.buddy_decide.specs.declared.deciding.Plan as Decided
 use Rattle.buddy_decide.specs.declared.deciding.Plan.the-variants.{Refuse, Take, Buy}
 use Rattle.buddy_seek.proofs.Reading.{pairs-read}
+
+-- what tells of one plan tells of its equal
+tells-same : (s : BuddySettings) (z l : ℕ) (t : Tables) (p q : Heap → ℕ → Plan ℕ) (r : Looked) → ((h : Heap) (objects : ℕ) → p h objects ≡ q h objects) → Tells s z l t p r → Tells s z l t q r
+tells-same s z l t p q (L.Refuse k) e f = λ h objects. f h objects ∙ e h objects
+tells-same s z l t p q (L.Take k) e f = (λ h objects. f .0 h objects ∙ e h objects, f .1, f .2)
+tells-same s z l t p q (L.Need n) e f = (f .0, f .1, λ h objects. f .2 h objects ∙ e h objects)
 
 -- the size is below that of level 32
 module _ (s : BuddySettings) (size b : ℕ) (e : b ≡ bytes (s .minimal) levelsMost) where
@@ -125,12 +134,25 @@ module _ (s : BuddySettings) (level : ℕ) (head index tree : List ℕ) where
       fewer i true false = refl
       fewer i false g = refl
 
-      pub sized-at : (i : ℕ) (f : Found) (p : Plan ℕ) → fitsAt levelsMost s size ≡ true → f ≡ at i → p ≡ Taking i → p ≡ Sizing f
+      sized-at : (i : ℕ) (f : Found) → fitsAt levelsMost s size ≡ true → f ≡ at i → Taking i ≡ Sizing f
       unfolding objectsOk
-      sized-at i f p e g t = t ∙ fewer i (roomAt s level now (at i)) (ltb (getD head givenAt 0) spent) ∙ rw (e, g) refl
+      sized-at i f e g = fewer i (roomAt s level now (at i)) (ltb (getD head givenAt 0) spent) ∙ rw (e, g) refl
 
-      pub sized-nowhere : (f : Found) (p : Plan ℕ) → fitsAt levelsMost s size ≡ true → f ≡ nowhere → p ≡ Buying → p ≡ Sizing f
-      sized-nowhere f p e g t = t ∙ rw (e, g) refl
+      sized-nowhere : (f : Found) → fitsAt levelsMost s size ≡ true → f ≡ nowhere → Buying ≡ Sizing f
+      sized-nowhere f e g = rw (e, g) refl
+
+  -- the code's level is that of the size, l
+  module _ (size l : ℕ) (d : level ≡ l) (fits : fitsAt levelsMost s size ≡ true) where
+    pub look-at : (i : ℕ) (r : Looked) → foundAt s level now ≡ at i → LookTake s size level i now r → LookSized s size l now r
+    look-at i r g f =
+        subst (λ (x : ℕ). LookSized s size x now r) d
+        (tells-same s size level now (λ h objects. Taking i) (λ h objects. Sizing h objects size (foundAt s level now)) r (λ h objects. sized-at h objects size i (foundAt s level now) fits g) f)
+
+    pub look-nowhere : foundAt s level now ≡ nowhere → (h : Heap) (objects : ℕ)
+        → Buying h objects ≡ plannedAt s l now (foundAt s l now) (first ((fitsAt levelsMost s size, 6) ∷ lateAt s h objects l now (foundAt s l now)))
+    look-nowhere g h objects =
+        sized-nowhere h objects size (foundAt s level now) fits g
+        ∙ ap (λ (x : ℕ). plannedAt s x now (foundAt s x now) (first ((fitsAt levelsMost s size, 6) ∷ lateAt s h objects x now (foundAt s x now)))) d
 
 -- ---- where the search ended
 
@@ -139,7 +161,7 @@ pub found-low : (s : BuddySettings) (tree : List ℕ) (level levels i : ℕ) →
 found-low s tree level levels i a b e = let r = search-at s tree level (levels - level) i e in (r .0, omega (arith, r .0, r .1))
 
 -- what orders a chunk takes no block
-pub none-sized : (p : Decided.Plan) (z l : ℕ) → NoTake p → Sized z l p
+none-sized : (p : Decided.Plan) (z l : ℕ) → NoTake p → Sized z l p
 none-sized (Refuse r) z l n = tt
 none-sized (Take t) z l n = absurd n
 none-sized (Buy b) z l n = tt
@@ -170,10 +192,6 @@ module _ (s : BuddySettings) (size mask : ℕ) where
         let k = level-low s fit size mask (and-both (ltb 0 size) (fitsAt levelsMost s (sizeFor s size mask)) (lt-ltb 0 size some) g) in
         subst (λ (x : ℕ). levelOf x (s .minimal) < levelsMost) (sym d) k
 
-    pub sized-for : (p : Decided.Plan) → Sized z (levelOf z (s .minimal)) p → Sized (sizeFor s size mask) (levelFor s size mask) p
-    unfolding levelFor
-    sized-for p q = subst (λ (x : ℕ). Sized x (levelOf x (s .minimal)) p) d q
-
 module _ (s : BuddySettings) (h : Heap) (objects size mask : ℕ) (head index tree : List ℕ) where
   abbrev all : Tables
   all = tables head [] [] index tree
@@ -199,5 +217,18 @@ module _ (s : BuddySettings) (h : Heap) (objects size mask : ℕ) (head index tr
   unfolding decideAsk sizeOk roomOk countOk levelFor foundFor
   sized e some = rw (e, lt-ltb 0 size some) refl
 
-  pub decide-sized : (z : ℕ) (p : Plan ℕ) → z ≡ sizeFor s size mask → alignmentOk mask ≡ true → 0 < size → p ≡ Then z → p ≡ decideAsk s h objects size mask all
-  decide-sized z p d e some t = t ∙ ap Then d ∙ sized e some
+-- z is the size looked for
+pub look-sized : (s : BuddySettings) (size mask : ℕ) (head index tree : List ℕ) (z : ℕ) (r : Looked) → z ≡ sizeFor s size mask → alignmentOk mask ≡ true → 0 < size
+    → LookSized s z (levelOf z (s .minimal)) (tables head [] [] index tree) r → LookOf s size mask (tables head [] [] index tree) r
+unfolding levelFor
+look-sized s size mask head index tree z r d e some f =
+    let t = tables head [] [] index tree in
+    tells-same s (sizeFor s size mask) (levelFor s size mask) t (λ h objects. Then s h objects size mask head index tree (sizeFor s size mask)) (λ h objects. decideAsk s h objects size mask t) r
+    (λ h objects. sized s h objects size mask head index tree e some)
+    (subst (λ (x : ℕ). LookSized s x (levelOf x (s .minimal)) t r) d f)
+
+-- where a chunk is needed, what its tests come to is the plan, and takes no block
+pub look-buys : (s : BuddySettings) (size mask : ℕ) (t : Tables) (n : Needing) (h : Heap) (objects : ℕ) (p : Decided.Plan) → LookOf s size mask t (L.Need n)
+    → planOf p ≡ plannedAt s (n .level) t nowhere (first (lateAt s h objects (n .level) t nowhere)) → NoTake p
+    → (planOf p ≡ decideAsk s h objects size mask t) × Sized (sizeFor s size mask) (levelFor s size mask) p
+look-buys s size mask t n h objects p f e none = (e ∙ f .2 h objects, none-sized p (sizeFor s size mask) (levelFor s size mask) none)

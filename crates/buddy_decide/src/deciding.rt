@@ -1,18 +1,18 @@
 // What an ask comes to, by the tests 5, 6, 8, 10 and 9, once the gate is passed.
 ghost use mathlib.Core.Path.{_≡_};
 ghost use mathlib.Core.Bool.{true};
-ghost use mathlib.Core.List.{[], _∷_};
+ghost use mathlib.Core.List.{[]};
 ghost use Prim.Native.Nat.{_≤_, _<_};
 ghost use lib.Dec.{ltb};
 ghost use lib.ListN.{getD};
 ghost use Rattle.rounding_rules.specs.Raising.{levelOf};
 ghost use Rattle.counter.specs.Gate.{first};
 ghost use Rattle.counter.specs.InTable.{BuddyIn};
-ghost use Rattle.counter.specs.Limits.{levelsMost, spent};
+ghost use Rattle.counter.specs.Limits.{levelsMost};
 ghost use Rattle.book_rules.specs.Book.{takenOf};
-ghost use Rattle.buddy_stores.specs.Tables.{tables, givenAt, levelsAt, placesAt};
-ghost use Rattle.buddy_outcomes.specs.Ask.{nowhere, at, levelFor, sizeFor, foundAt, fitsAt, roomAt, lateAt, orderAt, plannedAt, decideAsk};
-ghost use Rattle.buddy_decide.specs.Plans.{planOf, Sized, NoTake};
+ghost use Rattle.buddy_stores.specs.Tables.{tables, levelsAt, placesAt};
+ghost use Rattle.buddy_outcomes.specs.Ask.{nowhere, levelFor, sizeFor, fitsAt, roomAt, lateAt, orderAt, plannedAt, decideAsk};
+ghost use Rattle.buddy_decide.specs.Plans.{planOf, Sized, NoTake, LookTake, LookSized, LookOf};
 use buddy_seek::Found;
 use buddy_stores::CHUNK_PLACES_AT;
 use buddy_stores::GIVEN_AT;
@@ -38,6 +38,19 @@ pub enum Plan {
     Buy(u64),
 }
 
+// A chunk of so many bytes is needed, for an ask of this level.
+pub struct Needing {
+    pub level: u64,
+    pub order: u64,
+}
+
+// What an ask comes to short of what a new chunk asks of heap and objects.
+pub enum Looked {
+    Refuse(Refusal),
+    Take(Taking),
+    Need(Needing),
+}
+
 // Whether a loan place is left.
 fn has_place(s: BuddySettings, head: &[u64], index: &[u64]) -> bool
     ensures { λ r. ⌜ r ≡ ltb (takenOf (getD (now (head .entry)) placesAt 0) (now (index .entry)) .place) (s .store .loans) ⌝ }
@@ -48,7 +61,7 @@ fn has_place(s: BuddySettings, head: &[u64], index: &[u64]) -> bool
 }
 
 // The head pair of a level serves.
-fn decide_take(
+fn look_take(
     s: BuddySettings,
     size: u64,
     level: u64,
@@ -56,22 +69,21 @@ fn decide_take(
     head: &[u64],
     index: &[u64],
     tree: &[u64],
-) -> Plan
+) -> Looked
     requires { ⌜ BuddyIn s × (getD (now head) levelsAt 0 ≤ levelsMost) × (level ≤ from) × (from ≤ levelsMost) ⌝ }
-    ensures { λ r. ⌜ planOf r ≡ plannedAt s level (tables (now (head .entry)) [] [] (now (index .entry)) (now (tree .entry))) (at from) (first ((roomAt s level (tables (now (head .entry)) [] [] (now (index .entry)) (now (tree .entry))) (at from), 8) ∷ (ltb (getD (now (head .entry)) givenAt 0) spent, 10) ∷ [])) ⌝ }
-    ensures { λ r. ⌜ Sized size level r ⌝ }
+    ensures { λ r. ⌜ LookTake s size level from (tables (now (head .entry)) [] [] (now (index .entry)) (now (tree .entry))) r ⌝ }
 {
     let levels = words::word(head, LEVELS_AT);
     if !has_place(s, head, index) {
-        return Plan::Refuse(Refusal::Full);
+        return Looked::Refuse(Refusal::Full);
     }
     if !buddy_seek::has_pairs(s.pairs, level, from - level, levels, tree) {
-        return Plan::Refuse(Refusal::Full);
+        return Looked::Refuse(Refusal::Full);
     }
     if words::word(head, GIVEN_AT) == u64::MAX {
-        return Plan::Refuse(Refusal::Count);
+        return Looked::Refuse(Refusal::Count);
     }
-    Plan::Take(Taking {
+    Looked::Take(Taking {
         size: size,
         level: level,
         from: from,
@@ -93,7 +105,7 @@ fn has_room(s: BuddySettings, level: u64, head: &[u64], index: &[u64], tree: &[u
 }
 
 // None does: a chunk of so many bytes is needed.
-fn decide_buy(
+pub fn decide_buy(
     s: BuddySettings,
     h: Heap,
     objects: u32,
@@ -121,31 +133,51 @@ fn decide_buy(
 }
 
 // An ask for so many bytes, a power of two.
-fn decide_sized(
-    s: BuddySettings,
-    h: Heap,
-    objects: u32,
-    size: u64,
-    head: &[u64],
-    index: &[u64],
-    tree: &[u64],
-) -> Plan
+fn look_sized(s: BuddySettings, size: u64, head: &[u64], index: &[u64], tree: &[u64]) -> Looked
     requires { ⌜ BuddyIn s × (getD (now head) levelsAt 0 ≤ levelsMost) × (fitsAt levelsMost s size ≡ true → levelOf size (s .minimal) < levelsMost) ⌝ }
-    ensures { λ r. ⌜ planOf r ≡ plannedAt s (levelOf size (s .minimal)) (tables (now (head .entry)) [] [] (now (index .entry)) (now (tree .entry))) (foundAt s (levelOf size (s .minimal)) (tables (now (head .entry)) [] [] (now (index .entry)) (now (tree .entry)))) (first ((fitsAt levelsMost s size, 6) ∷ lateAt s h objects (levelOf size (s .minimal)) (tables (now (head .entry)) [] [] (now (index .entry)) (now (tree .entry))) (foundAt s (levelOf size (s .minimal)) (tables (now (head .entry)) [] [] (now (index .entry)) (now (tree .entry)))))) ⌝ }
-    ensures { λ r. ⌜ Sized size (levelOf size (s .minimal)) r ⌝ }
+    ensures { λ r. ⌜ LookSized s size (levelOf size (s .minimal)) (tables (now (head .entry)) [] [] (now (index .entry)) (now (tree .entry))) r ⌝ }
 {
     if buddy_shape::node_bytes(s.minimal, LEVELS_MOST as u64) <= size {
-        return Plan::Refuse(Refusal::Size);
+        return Looked::Refuse(Refusal::Size);
     }
     let level = rounding::level(size, s.minimal) as u64;
     let levels = words::word(head, LEVELS_AT);
     let found = buddy_seek::seek(s.minimal, s.pairs, level, levels, tree);
     match found {
-        Found::At(_, from) => decide_take(s, size, level, from, head, index, tree),
-        Found::Order(order) => decide_buy(s, h, objects, level, order, head, index, tree),
+        Found::At(_, from) => look_take(s, size, level, from, head, index, tree),
+        Found::Order(order) => Looked::Need(Needing {
+            level: level,
+            order: order,
+        }),
     }
 }
 
+// Heap and objects are left out: only an ask that needs a chunk is tested by them.
+pub fn look(
+    s: BuddySettings,
+    size: u64,
+    mask: u64,
+    head: &[u64],
+    index: &[u64],
+    tree: &[u64],
+) -> Looked
+    requires { ⌜ BuddyIn s × (getD (now head) levelsAt 0 ≤ levelsMost) ⌝ }
+    ensures { λ r. ⌜ LookOf s size mask (tables (now (head .entry)) [] [] (now (index .entry)) (now (tree .entry))) r ⌝ }
+{
+    if !counter::is_alignment(mask) {
+        return Looked::Refuse(Refusal::Mask);
+    }
+    if size == 0 {
+        return Looked::Refuse(Refusal::Size);
+    }
+    let raised = buddy_seek::size_for(s, size, mask);
+    match raised {
+        Raised::To(z) => look_sized(s, z, head, index, tree),
+        Raised::Overflow => Looked::Refuse(Refusal::Size),
+    }
+}
+
+// The same with heap and objects: the whole plan.
 pub fn decide(
     s: BuddySettings,
     h: Heap,
@@ -160,15 +192,10 @@ pub fn decide(
     ensures { λ r. ⌜ planOf r ≡ decideAsk s h objects size mask (tables (now (head .entry)) [] [] (now (index .entry)) (now (tree .entry))) ⌝ }
     ensures { λ r. ⌜ Sized (sizeFor s size mask) (levelFor s size mask) r ⌝ }
 {
-    if !counter::is_alignment(mask) {
-        return Plan::Refuse(Refusal::Mask);
-    }
-    if size == 0 {
-        return Plan::Refuse(Refusal::Size);
-    }
-    let raised = buddy_seek::size_for(s, size, mask);
-    match raised {
-        Raised::To(z) => decide_sized(s, h, objects, z, head, index, tree),
-        Raised::Overflow => Plan::Refuse(Refusal::Size),
+    let looked = look(s, size, mask, head, index, tree);
+    match looked {
+        Looked::Refuse(r) => Plan::Refuse(r),
+        Looked::Take(t) => Plan::Take(t),
+        Looked::Need(n) => decide_buy(s, h, objects, n.level, n.order, head, index, tree),
     }
 }

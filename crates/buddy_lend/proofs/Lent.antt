@@ -1,7 +1,7 @@
 -- The ready side of a level's head pair, as the code reads it, and the tables when a block of it is lent. Assumes nothing.
 use mathlib.Core.Path.{_≡_, sym, ap, subst, _∙_}
 use mathlib.Core.List.{List, []}
-use Prim.Native.Nat.{ℕ, _+_, _-_, _*_, _^_, _≤_, _<_}
+use Prim.Native.Nat.{ℕ, _+_, _-_, _^_, _≤_, _<_}
 use lib.ListN.{getD}
 use borrow.Author.Tests.{eq-eqb, ne-eqb}
 use Rattle.counter.specs.Limits.{pairsMost}
@@ -11,9 +11,9 @@ use Rattle.store_rules.specs.Loans.{loan}
 use Rattle.store_rules.specs.declared.Loan.{Loan}
 use Rattle.book_rules.specs.Book.{takenOf}
 use Rattle.buddy_trees.specs.Trees.{bytes}
-use Rattle.buddy_rules.specs.Nodes.{Ent, nodeOf}
+use Rattle.buddy_rules.specs.Nodes.{Ent}
 use Rattle.buddy_rules.specs.Levels.{sideOf, baseOf}
-use Rattle.buddy_levels_rules.specs.Level.{entOf, ringAt, ringHead, acquired}
+use Rattle.buddy_levels_rules.specs.Level.{tagAt, pairCell, entOf, ringAt, ringHead, acquired}
 use Rattle.buddy_levels.specs.Pairs.{entFrom}
 use Rattle.buddy_levels.specs.declared.pairs.Pair.{Pair}
 use Rattle.buddy_stores.specs.Tables.{Tables, tables, givenAt, placesAt, levelAfter, levelFrom}
@@ -43,15 +43,9 @@ module _ (s : BuddySettings) (i : ℕ) (tree : List ℕ) (base : ℕ) (at : base
   pub off-low : entOf (levelFrom s i) tree (ringHead (levelFrom s i) tree) .off ≤ 2 ^ 62 → e .off ≤ 2 ^ 62
   off-low l = let q : e .off ≡ entOf (levelFrom s i) tree (ringHead (levelFrom s i) tree) .off = ap (λ (x : Ent). x .off) ent-is in rw q l
 
-  -- its ready side, as a node
-  node-is : (n : ℕ) → n ≡ nodeOf h (sideOf (e .tag)) → n ≡ readyNode (s .pairs) i tree
-  node-is n q = q ∙ (λ j. nodeOf (ring-is j) (sideOf (ent-is j .tag)))
-
-  pub node-left : (n : ℕ) → e .tag ≡ 2 → n ≡ 2 * h → n ≡ readyNode (s .pairs) i tree
-  node-left n t q = node-is n (q ∙ sym (simp (eq-eqb (e .tag) 2 t)))
-
-  pub node-right : (n : ℕ) → (e .tag ≡ 2 → ⊥) → n ≡ 2 * h + 1 → n ≡ readyNode (s .pairs) i tree
-  node-right n t q = node-is n (q ∙ sym (simp (ne-eqb (e .tag) 2 t)))
+  -- at which side it is ready
+  pub side-is : sideOf (e .tag) ≡ sideOf (getD tree (pairCell (levelFrom s i) tagAt h) 0)
+  side-is = ap (λ (x : Ent). sideOf (x .tag)) reads ∙ ap (λ (b : ℕ). sideOf (getD tree (pairCell b tagAt h) 0)) at
 
   module _ (size : ℕ) (head : List ℕ) (o : ℕ) (from : o ≡ baseOf (s .minimal) (entFrom e) i) (g : ℕ) (given : g ≡ getD head givenAt 0) where
     abbrev Served : Loan
@@ -61,28 +55,22 @@ module _ (s : BuddySettings) (i : ℕ) (tree : List ℕ) (base : ℕ) (at : base
     pub loan-is : loan (g + 1) (e .chunk) o size ≡ Served
     loan-is = (λ j. loan (given j + 1) (e .chunk) (from j) size) ∙ (λ j. loan (getD head givenAt 0 + 1) (ent-is j .chunk) (baseOf (s .minimal) (ent-is j) i) size)
 
-    module _ (node : ℕ) (ready : node ≡ readyNode (s .pairs) i tree) (t₁ : List ℕ) (took : t₁ ≡ acquired base 0 tree) (level : ℕ) where
-      took-is : t₁ ≡ acquired (levelFrom s i) 0 tree
-      took-is = took ∙ ap (λ (b : ℕ). acquired b 0 tree) at
+    module _ (level : ℕ) where
+      abbrev RoomyAt : Loan → Type 0
+      RoomyAt l = Roomy (s .pairs) level (l .chunk) (l .offset) (readyNode (s .pairs) i tree) (i - level) (acquired (levelFrom s i) 0 tree)
 
-      abbrev RoomyAt : Loan → ℕ → List ℕ → Type 0
-      RoomyAt l n t = Roomy (s .pairs) level (l .chunk) (l .offset) n (i - level) t
-
-      pub lends-roomy : RoomyAt Served (readyNode (s .pairs) i tree) (acquired (levelFrom s i) 0 tree) → Roomy (s .pairs) level (e .chunk) o node (i - level) t₁
-      lends-roomy r =
-          subst (λ (t : List ℕ). Roomy (s .pairs) level (e .chunk) o node (i - level) t) (sym took-is)
-          (subst (λ (n : ℕ). Roomy (s .pairs) level (e .chunk) o n (i - level) (acquired (levelFrom s i) 0 tree)) (sym ready)
-          (subst (λ (l : Loan). RoomyAt l (readyNode (s .pairs) i tree) (acquired (levelFrom s i) 0 tree)) (sym loan-is) r))
+      pub lends-roomy : RoomyAt Served → RoomyAt (loan (g + 1) (e .chunk) o size)
+      lends-roomy r = subst RoomyAt (sym loan-is) r
 
       module _ (loans index : List ℕ) (k : Taken) (next : k ≡ takenOf (getD head placesAt 0) index) where
-        -- the split from the node that was read
-        abbrev cutBy : Loan → ℕ → ℕ → List ℕ → Cut
-        cutBy l p n t = splitDown (s .pairs) level (l .chunk) (l .offset) p n (i - level) t
+        -- the split from the ready side
+        abbrev cutBy : Loan → ℕ → Cut
+        cutBy l p = splitDown (s .pairs) level (l .chunk) (l .offset) p (readyNode (s .pairs) i tree) (i - level) (acquired (levelFrom s i) 0 tree)
 
         abbrev bookedBy : Loan → Cut → Tables
         bookedBy l c = bookedTables s (l .chunk) (l .offset) size c (tables head loans [] index [])
 
-        pub lent-done : (n : ℕ) (t₂ h′ l′ i′ t′ : List ℕ) → n ≡ cutBy (loan (g + 1) (e .chunk) o size) (k .place) node t₁ .node → t₂ ≡ cutBy (loan (g + 1) (e .chunk) o size) (k .place) node t₁ .tree
+        pub lent-done : (n : ℕ) (t₂ h′ l′ i′ t′ : List ℕ) → n ≡ cutBy (loan (g + 1) (e .chunk) o size) (k .place) .node → t₂ ≡ cutBy (loan (g + 1) (e .chunk) o size) (k .place) .tree
             → tables h′ l′ [] i′ t′ ≡ bookedTables s (e .chunk) o size (record { node = n; tree = t₂ }) (tables head loans [] index [])
             → tables h′ l′ [] i′ t′ ≡ takenAt s size level (tables head loans [] index tree) i
         unfolding bookedTables
@@ -90,4 +78,4 @@ module _ (s : BuddySettings) (i : ℕ) (tree : List ℕ) (base : ℕ) (at : base
             let l = loan (g + 1) (e .chunk) o size in
             d
             ∙ (λ j. bookedBy l (record { node = a j; tree = b j }))
-            ∙ (λ j. bookedBy (loan-is j) (cutBy (loan-is j) (next j .place) (ready j) (took-is j)))
+            ∙ (λ j. bookedBy (loan-is j) (cutBy (loan-is j) (next j .place)))

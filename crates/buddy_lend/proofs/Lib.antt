@@ -1,2 +1,3 @@
 pub mod Booked
 pub mod Lent
+pub mod Sides

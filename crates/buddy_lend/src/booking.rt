@@ -1,34 +1,47 @@
-// A loan entered in the book under the next serial, and its node beside the tree.
+// A loan entered in the book under its serial, and its node beside the tree.
 ghost use mathlib.Core.Path.{_≡_};
-ghost use mathlib.Core.List.{[]};
-ghost use Prim.Native.Nat.{_+_};
-ghost use lib.ListN.{getD};
-ghost use Rattle.buddy_stores.specs.Tables.{tables, givenAt};
-ghost use Rattle.buddy_outcomes.specs.Ask.{bookedTables};
-ghost use Rattle.buddy_ready.specs.Ready.{Enters};
+ghost use Prim.Native.Nat.{_+_, _%_, _<_};
+ghost use lib.ListN.{set};
+ghost use Rattle.counter.specs.InTable.{BuddyIn};
+ghost use Rattle.counter.specs.Limits.{loansMost};
+ghost use Rattle.words.specs.Rows.{written};
+ghost use Rattle.store_rules.specs.Loans.{loanRow};
+ghost use Rattle.book_rules.specs.Book.{vacatedAt, firstOf, nextOf, firstBefore};
+ghost use Rattle.book_rules.specs.Ready.{Opens};
+ghost use Rattle.buddy_stores.specs.Tables.{givenAt, placesAt, nodesFrom};
 use buddy_stores::GIVEN_AT;
 use buddy_stores::PLACES_AT;
 use counter::BuddySettings;
+use slab::Taken;
 use store_rules::Loan;
 
+// The node of the loan at this place.
+pub fn put_node(s: BuddySettings, place: u64, node: u64, tree: &mut [u64])
+    requires { ⌜ BuddyIn s × (place < loansMost) ⌝ }
+    ensures { λ _. ⌜ now (tree .exit) ≡ set (now (tree .entry)) (nodesFrom s + place) node ⌝ }
+{
+    let own = s.store;
+    let at = buddy_shape::nodes_from(s.pairs, own.chunks) + place as usize;
+    words::put(tree, at, node);
+}
+
+// The loan takes a place of a book of n, and its serial and the places then used are told by the head. Small enough to be made in its
+// callers, so that settings and tables are not handed on.
 pub fn book_loan(
-    s: BuddySettings,
+    n: usize,
+    taken: Taken,
     l: Loan,
-    node: u64,
     head: &mut [u64],
     loans: &mut [u64],
     index: &mut [u64],
-    tree: &mut [u64],
 )
-    requires { ⌜ Enters s (tables (now head) [] [] (now index) []) × (l .serial ≡ getD (now head) givenAt 0 + 1) ⌝ }
-    ensures { λ _. ⌜ tables (now (head .exit)) (now (loans .exit)) [] (now (index .exit)) (now (tree .exit)) ≡ bookedTables s (l .chunk) (l .offset) (l .size) (record { node = node; tree = now (tree .entry) }) (tables (now (head .entry)) (now (loans .entry)) [] (now (index .entry)) []) ⌝ }
+    requires { ⌜ Opens n (taken .place) (now loans) (now index) ⌝ }
+    ensures { λ _. ⌜ now (head .exit) ≡ set (set (now (head .entry)) givenAt (l .serial)) placesAt (taken .slab .places) ⌝ }
+    ensures { λ _. ⌜ now (loans .exit) ≡ written loanRow (taken .place) l (now (loans .entry)) ⌝ }
+    ensures { λ _. ⌜ now (index .exit) ≡ set (set (set (now (index .entry)) vacatedAt (taken .slab .vacant)) (nextOf (taken .place)) (firstBefore n (l .serial) (now (index .entry)))) (firstOf (l .serial % n)) (taken .place) ⌝ }
 {
-    let own = s.store;
-    let places = words::word(head, PLACES_AT);
-    let taken = book::next_place(places, index);
-    let at = buddy_shape::nodes_from(s.pairs, own.chunks) + taken.place as usize;
-    words::put(tree, at, node);
-    let used = book::enter(loans, index, own.loans, places, l);
+    let after = taken.slab;
+    book::enter_at(loans, index, n, taken, l);
     words::put(head, GIVEN_AT, l.serial);
-    words::put(head, PLACES_AT, used);
+    words::put(head, PLACES_AT, after.places);
 }

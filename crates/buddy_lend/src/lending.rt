@@ -38,7 +38,7 @@ pub fn lend(
     index: &mut [u64],
     tree: &mut [u64],
 ) -> Loan
-    requires { ⌜ Lends s size level from (tables (now head) [] [] (now index) (now tree)) ⌝ }
+    requires { ⌜ Lends s size level from (tables (now head) (now loans) [] (now index) (now tree)) ⌝ }
     ensures { λ r. ⌜ r ≡ loanAt s size (tables (now (head .entry)) [] [] [] (now (tree .entry))) from ⌝ }
     ensures { λ _. ⌜ tables (now (head .exit)) (now (loans .exit)) [] (now (index .exit)) (now (tree .exit)) ≡ takenAt s size level (tables (now (head .entry)) (now (loans .entry)) [] (now (index .entry)) (now (tree .entry))) from ⌝ }
 {
@@ -46,7 +46,6 @@ pub fn lend(
     let h = words::word(tree, base + RING_AT);
     let e = buddy_levels::pair_at(tree, base, h);
     let offset = side_from(s, e, from as u64);
-    let node = if e.tag == 2 { 2 * h } else { 2 * h + 1 };
     let taken = book::next_place(words::word(head, PLACES_AT), index);
     let l = Loan {
         serial: words::word(head, GIVEN_AT) + 1,
@@ -54,17 +53,19 @@ pub fn lend(
         offset: offset,
         size: size,
     };
-    buddy_levels::acquire(tree, base, 0);
-    let n = buddy_moves::split_down(
+    let n = crate::taking::take_side(
         tree,
         s.pairs,
         level,
-        from - level,
+        from,
+        h,
+        e.tag == 2,
         l.chunk,
         l.offset,
         taken.place,
-        node,
     );
-    crate::booking::book_loan(s, l, n, head, loans, index, tree);
+    let own = s.store;
+    crate::booking::put_node(s, taken.place, n, tree);
+    crate::booking::book_loan(own.loans, taken, l, head, loans, index);
     l
 }

@@ -1,12 +1,9 @@
 -- What the code of a level has done where it returns. Assumes nothing.
-use mathlib.Core.Path.{_≡_, sym, ap, _∙_}
+use mathlib.Core.Path.{_≡_, ap, _∙_}
 use mathlib.Core.Bool.{Bool, true, false}
 use mathlib.Core.List.{List}
-use Prim.Native.Nat.{ℕ, _+_, _<_}
-use native.Mathlib.Omega.{arith}
-use lib.Dec.{eqb}
+use Prim.Native.Nat.{ℕ, _+_}
 use lib.ListN.{getD, set}
-use borrow.Author.Tests.{eq-eqb, ne-eqb}
 use Rattle.slab.specs.Slab.{nowhere, inserted}
 use Rattle.slab.specs.declared.Taken.{Taken}
 use Rattle.ring_rules.specs.Ring.{alone}
@@ -39,22 +36,6 @@ use Rattle.buddy_levels_rules.specs.Level.{
   freshLevel,
 }
 
--- ---- the side that is ready
-
-pub ready-left : (x : ℕ) (n : ℕ) → x ≡ n → x ≡ 2 → leftAt ≡ sideAt (sideOf n)
-ready-left x n e f = sym (simp (eq-eqb n 2 (sym e ∙ f)))
-
-pub ready-right : (x : ℕ) (n : ℕ) → x ≡ n → (x ≡ 2 → ⊥) → rightAt ≡ sideAt (sideOf n)
-ready-right x n e f = sym (simp (ne-eqb n 2 (λ s. f (e ∙ s))))
-
--- and it is a field of the pair
-pub side-field : (s n : ℕ) → s ≡ sideAt (sideOf n) → s < pairWords
-side-field s n e = rw e (by (eqb n 2))
-  where
-    by : (l : Bool) → sideAt (sideBy l) < pairWords
-    by true = omega arith
-    by false = omega arith
-
 -- ---- what the stores, one after the other, have made of a level that begins at b of t
 
 module _ (b : ℕ) (t : List ℕ) where
@@ -75,9 +56,16 @@ module _ (b : ℕ) (t : List ℕ) where
     unfolding backed
     right-backed d f g = g ∙ rw (f, e, d)
 
-  pub head-acquired : (w h s : ℕ) (x y z : List ℕ) → h ≡ ringHead b t → s ≡ sideAt (sideOf (getD t (pairCell b tagAt h) 0)) → x ≡ leaves b h t → y ≡ set x (pairCell b tagAt h) 1 → z ≡ set y (pairCell b s h) w → z ≡ acquired b w t
-  unfolding acquired
-  head-acquired w h s x y z c d e f g = g ∙ rw (f, e, d, c)
+  module _ (w h : ℕ) (x y z : List ℕ) (l : Bool) (c : h ≡ ringHead b t) (s : sideBy l ≡ sideOf (getD t (pairCell b tagAt h) 0)) (e : x ≡ leaves b h t) (f : y ≡ set x (pairCell b tagAt h) 1) where
+    head-acquired : z ≡ set y (pairCell b (sideAt (sideBy l)) h) w → z ≡ acquired b w t
+    unfolding acquired
+    head-acquired g = g ∙ rw (f, e, s, c)
+
+    pub left-acquired : l ≡ true → z ≡ set y (pairCell b leftAt h) w → z ≡ acquired b w t
+    left-acquired d g = head-acquired (rw d g)
+
+    pub right-acquired : l ≡ false → z ≡ set y (pairCell b rightAt h) w → z ≡ acquired b w t
+    right-acquired d g = head-acquired (rw d g)
 
   pub alone-stood : (p : ℕ) (x y z : List ℕ) → x ≡ set t (pairCell b nextAt p) p → y ≡ set x (pairCell b prevAt p) p → z ≡ set y (b + ringAt) p → z ≡ alone (b + ringAt) (fieldAt b nextAt) (fieldAt b prevAt) pairWords p t
   alone-stood p x y z e f g = g ∙ rw (f, e)

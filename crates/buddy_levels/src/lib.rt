@@ -12,7 +12,7 @@ ghost use Prim.Native.Nat.{_+_, _≤_, _<_};
 ghost use lib.ListN.{getD, set};
 ghost use Rattle.buddy_rules.specs.Levels.{sideBy, sideOf};
 ghost use Rattle.ring_rules.specs.Ring.{alone};
-ghost use Rattle.buddy_levels_rules.specs.Level.{baseMost, pairWords, tagAt, chunkAt, offAt, leftAt, rightAt, nextAt, prevAt, upAt, ringAt, sideAt, fieldAt, pairCell, leaves, joins, spotIn, dropped, backed, acquired, entered, added, freshLevel};
+ghost use Rattle.buddy_levels_rules.specs.Level.{baseMost, pairWords, tagAt, chunkAt, offAt, leftAt, rightAt, nextAt, prevAt, upAt, ringAt, fieldAt, pairCell, ringHead, leaves, joins, spotIn, dropped, backed, acquired, entered, added, freshLevel};
 use slab::NOWHERE;
 use slab::Slab;
 use slab::Taken;
@@ -121,27 +121,18 @@ pub fn ready_pair(tree: &mut [u64], base: usize, p: u64, left: bool)
     }
 }
 
-// The head pair leaves the ring, exhausted: the node at its ready side has the word w.
-pub fn acquire(tree: &mut [u64], base: usize, w: u64)
+// The head pair h leaves the ring, exhausted: the node at its ready side, the left or the right one, has the word w.
+pub fn acquire(tree: &mut [u64], base: usize, h: u64, left: bool, w: u64)
     requires { ⌜ base ≤ baseMost ⌝ }
+    requires { ⌜ (h ≡ ringHead base (now tree)) × (sideBy left ≡ sideOf (getD (now tree) (pairCell base tagAt h) 0)) ⌝ }
     ensures { λ _. ⌜ now (tree .exit) ≡ acquired base w (now (tree .entry)) ⌝ }
 {
-    let h = words::word(tree, base + RING_AT);
-    let side = ready_at(tree, base, h);
     leave(tree, base, h);
     put_field(tree, base, TAG_AT, h, 1);
-    put_field(tree, base, side, h, w);
-}
-
-// The field of the node at which pair p is ready.
-fn ready_at(tree: &[u64], base: usize, p: u64) -> usize
-    requires { ⌜ base ≤ baseMost ⌝ }
-    ensures { λ r. ⌜ r ≡ sideAt (sideOf (getD (now (tree .entry)) (pairCell base tagAt p) 0)) ⌝ }
-{
-    if field(tree, base, TAG_AT, p) == 2 {
-        LEFT_AT
+    if left {
+        put_field(tree, base, LEFT_AT, h, w);
     } else {
-        RIGHT_AT
+        put_field(tree, base, RIGHT_AT, h, w);
     }
 }
 

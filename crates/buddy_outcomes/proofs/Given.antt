@@ -21,9 +21,9 @@ use Rattle.counter.specs.declared.settings.BuddySettings.{BuddySettings}
 use Rattle.slab.specs.Slab.{nowhere}
 use Rattle.store_rules.specs.Loans.{loanWords, serialAt, sizeAt}
 use Rattle.store_rules.specs.declared.Loan.{Loan}
-use Rattle.book_rules.specs.Book.{serialOf, wordTo, struck, struckIndex}
+use Rattle.book_rules.specs.Book.{indexWords, serialOf, wordTo, struck, struckIndex}
 use Rattle.book_rules.proofs.Changed.{vacant-now}
-use Rattle.book_rules.proofs.Keeps.{BookChained, BookParted, freeIn, struck-long, struck-wide, struck-chained, struck-parted}
+use Rattle.book_rules.proofs.Keeps.{BookChained, BookParted, freeIn, found, struck-long, struck-wide, struck-chained, struck-parted}
 use Rattle.buddy_trees.specs.Trees.{Tree, remove, bytes}
 use Rattle.buddy_rules.specs.Nodes as Nodes
 use Rattle.buddy_rules.specs.Returns.{Out}
@@ -72,6 +72,13 @@ module _ (s : BuddySettings) (t : Tables) (fit : BuddyIn s) (lengths : Lengths s
 
   pub room : k < n
   room = omega (arith, used .0, limit)
+
+  -- the word that leads to it is one of the index
+  pub word-in : w < indexWords n
+  word-in =
+      let serial : serialOf (t .loans) k ≡ b .serial = cell-row (t .loans) serialAt loanWords k ∙ ap (λ (d : Loan). d .serial) (on-loan-is s t fit lengths sound b on .1) in
+      subst (λ (x : ℕ). wordTo (t .loans) (t .index) n (placesIn t) (givenIn t) x < indexWords n) serial
+      (found (t .loans) (t .index) n (placesIn t) (givenIn t) (fit .store .loans-some) limit few (sound .chained) k (used .0) (used .1) .0)
 
   -- its words are the block's
   pub record Says : Type 0 where

@@ -4,11 +4,13 @@ ghost use Rattle.buddy_stores.specs.Tables.{tables};
 ghost use Rattle.buddy_outcomes.specs.Ask.{sizeFor, levelFor, planAsk};
 ghost use Rattle.buddy_decide.specs.Plans.{planOf, Sized};
 ghost use Rattle.store_rules.specs.Shares.{holder};
+use buddy_decide::Looked;
 use buddy_decide::Plan;
 use counter::BuddySettings;
 use counter::Gate;
 use store_rules::Share;
 
+// It looks first and decides on a chunk only then: few asks need one, and only those need the heap.
 pub fn plan_ask(
     s: BuddySettings,
     h: Share,
@@ -27,8 +29,24 @@ pub fn plan_ask(
     match g {
         Gate::Shut(refusal) => Plan::Refuse(refusal),
         Gate::Go => {
-            let heap = h.heap;
-            buddy_decide::decide(s, heap, h.objects, size, mask, head, index, tree)
+            let looked = buddy_decide::look(s, size, mask, head, index, tree);
+            match looked {
+                Looked::Refuse(r) => Plan::Refuse(r),
+                Looked::Take(t) => Plan::Take(t),
+                Looked::Need(n) => {
+                    let heap = h.heap;
+                    buddy_decide::decide_buy(
+                        s,
+                        heap,
+                        h.objects,
+                        n.level,
+                        n.order,
+                        head,
+                        index,
+                        tree,
+                    )
+                }
+            }
         }
     }
 }

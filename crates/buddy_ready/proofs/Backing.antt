@@ -1,6 +1,6 @@
 -- A block that is on loan can be taken back; and where its chunk goes, one more device object is still within the limit.
 -- Assumes nothing.
-use mathlib.Core.Path.{_≡_, sym, ap, _∙_}
+use mathlib.Core.Path.{_≡_, refl, sym, ap, _∙_}
 use mathlib.Core.Bool.{Bool, true, _&&_}
 use mathlib.Core.Logic.{⊎-elim}
 use mathlib.Core.List.{List}
@@ -26,7 +26,7 @@ use Rattle.buddy_stores.specs.Tables.{Tables, tables, Lengths, levelsIn, chunkP
 use Rattle.buddy_stores.specs.Sound.{Sound}
 use Rattle.buddy_outcomes.specs.Gate.{heldCount, heldBytes, accountOk}
 use Rattle.buddy_outcomes.specs.Return.{wordFor, onLoanOk, climbFor}
-use Rattle.buddy_outcomes.proofs.Given.{live, room, says, held, place}
+use Rattle.buddy_outcomes.proofs.Given.{live, room, word-in, says, held, place}
 use Rattle.buddy_outcomes.proofs.Passing.{Passed}
 use Rattle.buddy_ready.specs.Ready.{Backs}
 
@@ -49,11 +49,18 @@ module _ (s : BuddySettings) (b : Block) (t : Tables) (fit : BuddyIn s) (lengths
         below = omega (arith, e, level-in);
         low = sound .levels-most;
         place = omega (arith, room s t fit lengths sound b on, fit .store .loans-most);
+        strikes =
+            record {
+              leads = refl;
+              word = omega (arith, word-in s t fit lengths sound b on, lengths .index);
+              size = omega (arith, room s t fit lengths sound b on, lengths .loans);
+              after = omega (arith, room s t fit lengths sound b on, lengths .index);
+            };
       }
 
--- what is asked looks at head and index alone
-pub backs-rest : (s : BuddySettings) (b : Block) (w : ℕ) (t : Tables) (loans chunks tree : List ℕ) → Backs s b w t → Backs s b w (tables (t .head) loans chunks (t .index) tree)
-backs-rest s b w t loans chunks tree r = record { fit = r .fit; below = r .below; low = r .low; place = r .place }
+-- what is asked looks at no chunk and no tree
+pub backs-rest : (s : BuddySettings) (b : Block) (w : ℕ) (t : Tables) (chunks tree : List ℕ) → Backs s b w t → Backs s b w (tables (t .head) (t .loans) chunks (t .index) tree)
+backs-rest s b w t chunks tree r = record { fit = r .fit; below = r .below; low = r .low; place = r .place; strikes = r .strikes }
 
 -- ---- the device objects
 

@@ -11,6 +11,8 @@ use Rattle.counter.specs.declared.account.Heap.{Heap}
 use Rattle.counter.specs.declared.settings.BuddySettings.{BuddySettings}
 use Rattle.slab.specs.Slab.{nowhere}
 use Rattle.store_rules.specs.Orders.{take}
+use Rattle.book_rules.specs.Book.{takenOf}
+use Rattle.book_rules.specs.Ready.{Opens}
 use Rattle.buddy_trees.specs.Trees.{up}
 use Rattle.buddy_rules.specs.Nodes.{Ent}
 use Rattle.buddy_rules.specs.Levels.{sideOf}
@@ -19,7 +21,7 @@ use Rattle.buddy_levels_rules.specs.Level.{ringHead, acquired, part}
 use Rattle.buddy_levels_rules.proofs.Cells.{pair-used}
 use Rattle.buddy_levels_rules.proofs.Ops.{levelOps}
 use Rattle.buddy_levels_rules.proofs.Rings.{head-mem}
-use Rattle.buddy_stores.specs.Tables.{Tables, tables, Lengths, levelsIn, levelFrom, pairsIn, highIn}
+use Rattle.buddy_stores.specs.Tables.{Tables, tables, Lengths, levelsIn, placesIn, levelFrom, pairsIn, highIn}
 use Rattle.buddy_stores.specs.Moves.{readyNode}
 use Rattle.buddy_stores.specs.Sound.{Sound}
 use Rattle.buddy_stores.proofs.Splitting.{tree-short, head-used, head-low, acquire-in}
@@ -33,6 +35,12 @@ use Rattle.buddy_outcomes.proofs.Searches.{room-place}
 use Rattle.buddy_outcomes.proofs.Taken.{level-some, first, height, pair}
 use Rattle.buddy_ready.specs.Ready.{Lends}
 use Rattle.buddy_ready.proofs.Rooming.{roomy}
+
+-- the book is as long as the settings say, so a loan can be entered where a place is left
+pub opens : (s : BuddySettings) (t : Tables) → BuddyIn s → Lengths s t → takenOf (placesIn t) (t .index) .place < s .store .loans
+    → Opens (s .store .loans) (takenOf (placesIn t) (t .index) .place) (t .loans) (t .index)
+opens s t fit lengths room =
+    record { some = fit .store .loans-some; most = fit .store .loans-most; loans-long = lengths .loans; index-long = lengths .index; place = room }
 
 module _ (s : BuddySettings) (t : Tables) (fit : BuddyIn s) (lengths : Lengths s t) (sound : Sound s t) (size mask i : ℕ) (w : Takes s size mask t i) where
   abbrev lev : ℕ
@@ -101,7 +109,7 @@ module _ (s : BuddySettings) (t : Tables) (fit : BuddyIn s) (lengths : Lengths s
   lends : Lends s (sizeFor s size mask) (levelFor s size mask) i t
   lends =
       record {
-        enters = record { fit = fit; serial = w .serial; place = room-place s t size mask (at i) (w .room) };
+        enters = record { fit = fit; serial = w .serial; opens = opens s t fit lengths (room-place s t size mask (at i) (w .room)) };
         below = found .0;
         low = low;
         pair = omega (arith, below, fit .pairs-most);
@@ -113,11 +121,11 @@ pub lends-ready : (s : BuddySettings) (h : Heap) (objects size mask : ℕ) (t : 
     → Lends s (sizeFor s size mask) (levelFor s size mask) i t
 lends-ready s h objects size mask t fit lengths sound i e = lends s t fit lengths sound size mask i (takes s h objects size mask t i e)
 
--- what is asked looks at head, index and tree alone
-pub lends-rest : (s : BuddySettings) (z l i : ℕ) (t : Tables) (loans chunks : List ℕ) → Lends s z l i t → Lends s z l i (tables (t .head) loans chunks (t .index) (t .tree))
-lends-rest s z l i t loans chunks r =
+-- what is asked looks at no chunk
+pub lends-rest : (s : BuddySettings) (z l i : ℕ) (t : Tables) (chunks : List ℕ) → Lends s z l i t → Lends s z l i (tables (t .head) (t .loans) chunks (t .index) (t .tree))
+lends-rest s z l i t chunks r =
     record {
-      enters = record { fit = r .enters .fit; serial = r .enters .serial; place = r .enters .place };
+      enters = record { fit = r .enters .fit; serial = r .enters .serial; opens = r .enters .opens };
       below = r .below;
       low = r .low;
       pair = r .pair;

@@ -23,6 +23,7 @@ use Rattle.buddy_outcomes.proofs.Chunked.{chunked, chunked-lengths, chunked-lev
 use Rattle.buddy_outcomes.proofs.Delivered.{more, most, grown-sound, count, place, spot, pair}
 use Rattle.buddy_outcomes.proofs.Plans.{Buys, buys}
 use Rattle.buddy_ready.specs.Ready.{Serves}
+use Rattle.buddy_ready.proofs.Lending.{opens}
 use Rattle.buddy_ready.proofs.Rooming.{roomy}
 
 module _ (s : BuddySettings) (t : Tables) (fit : BuddyIn s) (lengths : Lengths s t) (sound : Sound s t) (size mask z : ℕ) (b : Buys s size mask t z) where
@@ -61,7 +62,7 @@ module _ (s : BuddySettings) (t : Tables) (fit : BuddyIn s) (lengths : Lengths s
     serves : Serves s (levelFor s size mask) memory z (grownTables s (grownFor s size mask t) t)
     serves =
         record {
-          enters = record { fit = fit; serial = serial; place = place s t fit lengths sound size mask z b };
+          enters = record { fit = fit; serial = serial; opens = opens s grown fit (grown-lengths s t fit lengths sound (grownFor s size mask t)) (place s t fit lengths sound size mask z b) };
           below = tall;
           low = low;
           chunk = omega (arith, spot s t fit lengths sound size mask z b, fit .store .chunks-most);

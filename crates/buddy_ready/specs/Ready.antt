@@ -1,5 +1,5 @@
--- What the code that writes a buddy store's tables asks of them, so that no number it makes overflows; proofs/ shows
--- that a passed gate and a decided call give it. Assumes nothing: these are definitions.
+-- What the code that writes a buddy store's tables asks of them, so that no number it makes overflows and the words of the book are
+-- there; proofs/ shows that a passed gate and a decided call give it. Assumes nothing: these are definitions.
 use Prim.Native.Nat.{ℕ, _-_, _^_, _≤_, _<_}
 use lib.ListN.{getD}
 use Rattle.rounding_rules.specs.Raising.{levelOf}
@@ -9,6 +9,7 @@ use Rattle.counter.specs.declared.answers.Block.{Block}
 use Rattle.counter.specs.declared.settings.BuddySettings.{BuddySettings}
 use Rattle.slab.specs.Slab.{nowhere}
 use Rattle.book_rules.specs.Book.{takenOf}
+use Rattle.book_rules.specs.Ready.{Opens, Strikes}
 use Rattle.buddy_levels_rules.specs.Level.{ringHead, spotIn, acquired}
 use Rattle.buddy_stores.specs.Tables.{Tables, givenIn, levelsIn, placesIn, levelFrom}
 use Rattle.buddy_stores.specs.Moves.{readyNode}
@@ -20,7 +21,7 @@ use Rattle.buddy_outcomes.specs.Deliver.{chunkTables}
 pub record Enters (s : BuddySettings) (t : Tables) : Type 0 where
   pub fit : BuddyIn s
   pub serial : givenIn t < spent
-  pub place : takenOf (placesIn t) (t .index) .place < s .store .loans
+  pub opens : Opens (s .store .loans) (takenOf (placesIn t) (t .index) .place) (t .loans) (t .index)
 
 -- the head pair of level i can serve z bytes of level l
 pub record Lends (s : BuddySettings) (z l i : ℕ) (t : Tables) : Type 0 where
@@ -46,3 +47,4 @@ pub record Backs (s : BuddySettings) (b : Block) (w : ℕ) (t : Tables) : Type 0
   pub below : levelOf (b .size) (s .minimal) ≤ levelsIn t
   pub low : levelsIn t ≤ levelsMost
   pub place : getD (t .index) w 0 < loansMost
+  pub strikes : Strikes w (getD (t .index) w 0) (t .loans) (t .index)

@@ -1,8 +1,9 @@
 // The search upward for a level with a ready side, and whether there are pairs for the split down.
 ghost use mathlib.Core.Path.{_≡_};
 ghost use mathlib.Core.List.{[]};
-ghost use Prim.Native.Nat.{_+_, _^_, _≤_, _<_};
+ghost use Prim.Native.Nat.{_+_, _^_, max, _≤_, _<_};
 ghost use Rattle.counter.specs.Limits.{levelsMost, pairsMost, minimalBits};
+ghost use Rattle.buddy_trees.specs.Trees.{bytes};
 ghost use Rattle.buddy_shape.specs.Seen.{read, looked};
 ghost use Rattle.buddy_outcomes.specs.Ask.{pairsRoom, chunkSpot};
 ghost use Rattle.buddy_seek.specs.Sought.{sought};
@@ -20,17 +21,24 @@ pub enum Found {
     Order(u64),
 }
 
+// The chunk to order where no level serves: twice a node of the top level, which is the asked one where there are no more.
+fn order_size(minimal: u64, level: u64, levels: u64) -> u64
+    requires { ⌜ (minimal ≤ 2 ^ minimalBits) × (level < levelsMost) × (levels ≤ levelsMost) ⌝ }
+    ensures { λ r. ⌜ r ≡ bytes minimal (max levels (level + 1)) ⌝ }
+{
+    let top = if levels <= level { level + 1 } else { levels };
+    buddy_shape::node_bytes(minimal, top)
+}
+
 // From this level on: the first with a ready side ends the search.
 pub fn seek(minimal: u64, pairs: usize, level: u64, levels: u64, tree: &[u64]) -> Found
     requires { ⌜ (minimal ≤ 2 ^ minimalBits) × (pairs ≤ pairsMost) × (level < levelsMost) × (levels ≤ levelsMost) ⌝ }
     ensures { λ r. ⌜ r ≡ sought minimal pairs level levels (now (tree .entry)) ⌝ }
 {
-    let top = if levels <= level { level + 1 } else { levels };
-    let order = buddy_shape::node_bytes(minimal, top);
     let mut l = level;
     let found = loop {
         if levels <= l {
-            break Found::Order(order);
+            break Found::Order(order_size(minimal, level, levels));
         }
         let head = words::word(tree, level_from(pairs, l as usize) + RING_AT);
         if head != NOWHERE {

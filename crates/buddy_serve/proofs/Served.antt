@@ -19,7 +19,7 @@ use Rattle.buddy_shape.specs.Seen.{read, looked}
 use Rattle.buddy_moves.specs.Roomy.{Roomy}
 use Rattle.buddy_outcomes.specs.Ask.{chunkSpot, bookedTables}
 use Rattle.buddy_outcomes.specs.Deliver.{chunkTables, servedAt}
-use Rattle.buddy_ready.specs.Ready.{Enters}
+use Rattle.buddy_lend.proofs.Booked.{taken-is}
 
 module _ (pairs at : ℕ) (e : at ≡ levelWords pairs * levelsMost) (tree : List ℕ) where
   -- the words of a chunk place in the tree
@@ -77,17 +77,12 @@ module _ (s : BuddySettings) (memory bytes : ℕ) (head loans chunks index tree 
   pub same-given : getD h₁ givenAt 0 ≡ getD head givenAt 0
   same-given = ap (λ (t : List ℕ). getD t givenAt 0) head-is ∙ getD-set-other head chunkPlacesAt givenAt (chunkSpot s Before .slab .places) 0 (λ e. omega arith)
 
-  pub same-places : getD h₁ placesAt 0 ≡ getD head placesAt 0
+  same-places : getD h₁ placesAt 0 ≡ getD head placesAt 0
   same-places = ap (λ (t : List ℕ). getD t placesAt 0) head-is ∙ getD-set-other head chunkPlacesAt placesAt (chunkSpot s Before .slab .places) 0 (λ e. omega arith)
 
-  -- the loan can still be entered
-  pub still-enters : Enters s Before → Enters s (tables h₁ [] [] index [])
-  still-enters e =
-      record {
-        fit = e .fit;
-        serial = rw same-given (e .serial);
-        place = subst (λ (n : ℕ). takenOf n index .place < s .store .loans) (sym same-places) (e .place);
-      }
+  -- the next place of the book is the same
+  pub still-next : (places : ℕ) → places ≡ getD head placesAt 0 → (k : Taken) → k ≡ takenOf places index → k ≡ takenOf (getD h₁ placesAt 0) index
+  still-next places used k next = taken-is h₁ index places (used ∙ sym same-places) k next
 
   now-is : tables h₁ loans c₁ index t₁ ≡ chunkTables s memory bytes Before
   unfolding chunkTables

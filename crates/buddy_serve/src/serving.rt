@@ -106,6 +106,8 @@ pub fn serve(
         taken.place,
         NOWHERE,
     );
-    buddy_lend::book_loan(s, l, n, head, loans, index, tree);
+    let own = s.store;
+    buddy_lend::put_node(s, taken.place, n, tree);
+    buddy_lend::book_loan(own.loans, taken, l, head, loans, index);
     l
 }

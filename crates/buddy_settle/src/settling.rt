@@ -34,9 +34,10 @@ pub fn carry_return(
     requires { ⌜ Backs s b at (tables (now head) (now loans) (now chunks) (now index) (now tree)) × (climbFor s b at (tables (now head) (now loans) (now chunks) (now index) (now tree)) .freed ≡ true → h .objects + 1 ≤ objectsMost) × (0 < length (now list)) ⌝ }
     ensures { λ r. ⌜ listed (releaseSaid (r .answer)) (holder (s .store) (r .share)) (tables (now (head .entry)) (now (loans .exit)) (now (chunks .exit)) (now (index .exit)) (now (tree .exit))) (now (list .exit)) ≡ releasedBy s (holder (s .store) h) b at (tables (now (head .entry)) (now (loans .entry)) (now (chunks .entry)) (now (index .entry)) (now (tree .entry))) (now (list .entry)) ⌝ }
 {
-    let memory = words::cell(chunks, MEMORY_AT, CHUNK_WORDS, b.chunk as usize);
-    let bytes = words::cell(chunks, CHUNK_SIZE_AT, CHUNK_WORDS, b.chunk as usize);
-    if buddy_back::take_back(s, b, at, head, loans, chunks, index, tree) {
+    if buddy_back::take_back(s, b, at, head, loans, index, tree) {
+        let memory = words::cell(chunks, MEMORY_AT, CHUNK_WORDS, b.chunk as usize);
+        let bytes = words::cell(chunks, CHUNK_SIZE_AT, CHUNK_WORDS, b.chunk as usize);
+        buddy_back::vacate(s, b.chunk, chunks, tree);
         words::put(list, 0, memory);
         return store::settle(h, 1, bytes);
     }

@@ -9,6 +9,7 @@ use lib.ListN.{length, getD}
 use borrow.Author.Tests.{eqb-true}
 use Rattle.lists.proofs.Bools.{and-left, and-right}
 use Rattle.counter.specs.Account.{heapAt}
+use Rattle.counter.specs.InTable.{FreeListIn}
 use Rattle.counter.specs.Gate.{Verdict, pass, refuse}
 use Rattle.counter.specs.Paper.{Said}
 use Rattle.counter.specs.Paper as Paper
@@ -30,14 +31,16 @@ use Rattle.store_rules.specs.Tests.{orderFor, gateRow}
 use Rattle.store_rules.specs.declared.Loan.{Loan}
 use Rattle.store_rules.specs.declared.Share.{Share}
 use Rattle.store_rules.proofs.Shares.{held-charged, held-lost}
-use Rattle.freelist_rules.specs.Tables.{Tables, tables, countAt, storeOf, soundOk}
+use Rattle.book_rules.specs.Book.{takenOf}
+use Rattle.book_rules.specs.Ready.{Opens}
+use Rattle.freelist_rules.specs.Tables.{Tables, tables, placesAt, countAt, lengthsOk, placesIn, storeOf, soundOk, SoundTables}
 use Rattle.freelist_rules.specs.Walk.{memories}
 use Rattle.freelist_rules.proofs.Tested.{tables-yes}
 use Rattle.freelist_outcomes.specs.Ask.{decideAsk, loanFrom, takenTables}
 use Rattle.freelist_outcomes.specs.Deliver.{Arrival, deny, go, stillOk, deliverGateOf, deliveredTables, carryFate, decideDeliver, gated, planDeliver, carryDeliver, deliverOf}
 use Rattle.freelist_outcomes.specs.Gate.{lentOk, accountOk}
 use Rattle.freelist_place.specs.Ready.{Adds, Lends}
-use Rattle.freelist_ready.proofs.Adding.{adds-ready, delivered-ready}
+use Rattle.freelist_ready.proofs.Adding.{adds-ready, delivered-ready, ordered-opens, places-stay}
 use Rattle.freelist_rules.proofs.Fits.{regions-length}
 use Rattle.freelist_outcomes.proofs.Passing.{lent-in}
 
@@ -92,16 +95,27 @@ module _ (s : FreeListSettings) (a : Account) (o : Outcome) (t : Tables) (k : Ke
       let w = passed (gateRow lent (orderFor (s .store .number) (a .order)) (sound && stillOk s a t (a .order)) (accountOk s a t)) (gate-passed .0) in
       (w .0, w .1 .1 .0)
 
+  fits : FreeListIn s × (lengthsOk s t ≡ true)
+  fits = lent-in s a t (held .0)
+
+  yes : SoundTables s t
+  yes = tables-yes s t (fits .0) (and-left sound _ (held .1))
+
+  -- the kept ask comes to the order that is open
+  bought : decideAsk s (heapAt a (s .store .heap)) (a .objects) (k .ask .size) (k .ask .mask) t ≡ Orders.buy (k .order .size)
+  bought =
+      let still : stillOk s a t (Kept k) ≡ true = ap (stillOk s a t) (sym open-order) ∙ and-right sound (stillOk s a t (a .order)) (held .1) in
+      leads-bought (s .store) (k .order) (decideAsk s (heapAt a (s .store .heap)) (a .objects) (k .ask .size) (k .ask .mask) t) still
+
   pub arrived-ready : (memory : ℕ) → Adds s (t .head) (t .chunks) (t .regions) × Lends s (k .ask .size) (k .ask .mask) (length (storeOf s t .regions)) (deliveredTables s memory (k .order .size) t .head) (deliveredTables s memory (k .order .size) t .regions)
   arrived-ready memory =
-      let h = heapAt a (s .store .heap) in
-      let fits = lent-in s a t (held .0) in
-      let yes = tables-yes s t (fits .0) (and-left sound _ (held .1)) in
-      let still : stillOk s a t (Kept k) ≡ true = ap (stillOk s a t) (sym open-order) ∙ and-right sound (stillOk s a t (a .order)) (held .1) in
-      let buys = leads-bought (s .store) (k .order) (decideAsk s h (a .objects) (k .ask .size) (k .ask .mask) t) still in (
-        adds-ready s h (a .objects) (k .ask .size) (k .ask .mask) t (fits .0) (fits .1) yes (k .order .size) buys,
-        delivered-ready s h (a .objects) (k .ask .size) (k .ask .mask) t (fits .0) (fits .1) yes (k .order .size) buys memory,
+      let h = heapAt a (s .store .heap) in (
+        adds-ready s h (a .objects) (k .ask .size) (k .ask .mask) t (fits .0) (fits .1) yes (k .order .size) bought,
+        delivered-ready s h (a .objects) (k .ask .size) (k .ask .mask) t (fits .0) (fits .1) yes (k .order .size) bought memory,
       )
+
+  pub arrived-opens : Opens (s .store .loans) (takenOf (placesIn t) (t .index) .place) (t .loans) (t .index)
+  arrived-opens = ordered-opens s (heapAt a (s .store .heap)) (a .objects) (k .ask .size) (k .ask .mask) t (fits .0) (fits .1) yes (k .order .size) bought
 
 -- ---- what is left
 
@@ -144,6 +158,14 @@ module _ (s : FreeListSettings) (h : Share) (k : KeptOrder) (memory : ℕ) (head
       let g = added-rest s memory (k .order .size) head loans chunks regions index h₁ c₁ r₁ f in
       subst (λ (t : Tables). Lends s (k .ask .size) (k .ask .mask) i (t .head) (t .regions)) (sym g)
       (subst (λ (j : ℕ). Lends s (k .ask .size) (k .ask .mask) j (added .head) (added .regions)) (sym (last-is i e)) l)
+
+  -- and the loan takes the place that it would have taken before
+  pub opens-now : (h₁ c₁ r₁ : List ℕ) → tables h₁ [] c₁ r₁ [] ≡ deliveredTables s memory (k .order .size) (tables head [] chunks regions [])
+      → Opens (s .store .loans) (takenOf (getD head placesAt 0) index .place) loans index
+      → Opens (s .store .loans) (takenOf (getD h₁ placesAt 0) index .place) loans index
+  opens-now h₁ c₁ r₁ f o =
+      let same : getD h₁ placesAt 0 ≡ getD head placesAt 0 = ap (λ (t : Tables). placesIn t) f ∙ places-stay s memory (k .order .size) (tables head [] chunks regions []) in
+      subst (λ (places : ℕ). Opens (s .store .loans) (takenOf places index .place) loans index) (sym same) o
 
   pub kept-done : (i : ℕ) (h₁ c₁ r₁ h₂ l₂ r₂ i₂ : List ℕ) (share paid : Share) (order : OpenOrder) (l : Loan) (said : Said) → i ≡ getD regions (countAt s) 0
       → paid ≡ chargedShare h (k .order .size)

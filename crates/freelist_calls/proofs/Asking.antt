@@ -2,7 +2,7 @@
 use mathlib.Core.Path.{_≡_, sym, ap, _∙_}
 use mathlib.Core.List.{List, []}
 use Prim.Native.Nat.{ℕ}
-use lib.ListN.{set}
+use lib.ListN.{getD, set}
 use Rattle.counter.specs.Paper.{Said}
 use Rattle.counter.specs.Paper as Paper
 use Rattle.counter.specs.declared.account.Account.{Account}
@@ -11,10 +11,12 @@ use Rattle.store_rules.specs.Orders.{Plan, deny, take, buy, orderFrom}
 use Rattle.store_rules.specs.Outcomes.{out, blockSaid}
 use Rattle.store_rules.specs.Shares.{askLeft}
 use Rattle.store_rules.specs.declared.Loan.{Loan}
-use Rattle.freelist_rules.specs.Tables.{Tables, tables, chunkSizeAt, storeOf}
+use Rattle.book_rules.specs.Book.{takenOf}
+use Rattle.book_rules.specs.Ready.{Opens}
+use Rattle.freelist_rules.specs.Tables.{Tables, tables, chunkSizeAt, placesAt, storeOf}
 use Rattle.freelist_outcomes.specs.Ask.{loanFrom, takenTables, orderedTables, carryAsk, planAsk, askOf}
 use Rattle.freelist_place.specs.Ready.{Lends}
-use Rattle.freelist_ready.proofs.Lending.{lends-ready}
+use Rattle.freelist_ready.proofs.Lending.{lends-ready, opens-ready}
 use Rattle.freelist_outcomes.proofs.Plans.{plan-take}
 use Rattle.counter.specs.Account.{heapAt}
 
@@ -35,6 +37,11 @@ module _ (s : FreeListSettings) (a : Account) (size mask : ℕ) (head loans chun
   ask-lends i e =
       let w = plan-take s a size mask now i (sym e) in
       lends-ready s (heapAt a (s .store .heap)) (a .objects) size mask now (w .0 .settings) (w .0 .lengths) (w .0 .sound) i (w .1)
+
+  pub ask-opens : (i : ℕ) → take i ≡ planAsk s a size mask now → Opens (s .store .loans) (takenOf (getD head placesAt 0) index .place) loans index
+  ask-opens i e =
+      let w = plan-take s a size mask now i (sym e) in
+      opens-ready s (heapAt a (s .store .heap)) (a .objects) size mask now (w .0 .settings) (w .0 .lengths) i (w .1)
 
   pub ask-taken : (i : ℕ) (l : Loan) (w : Said) (h′ l′ r′ i′ : List ℕ) → take i ≡ planAsk s a size mask now
       → l ≡ loanFrom s size mask (tables head [] [] regions []) i → tables h′ l′ [] r′ i′ ≡ takenTables s size mask (tables head loans [] regions index) i

@@ -1,11 +1,11 @@
 -- What a return and a clean-up that are carried rest on, and what they come to. Assumes nothing.
-use mathlib.Core.Path.{_≡_, refl, sym, ap, _∙_}
+use mathlib.Core.Path.{_≡_, refl, sym, ap, subst, _∙_}
 use mathlib.Core.Bool.{Bool, true, false, cond}
 use mathlib.Core.Logic.{⊎-elim}
 use mathlib.Core.List.{List, []}
 use Prim.Native.Nat.{ℕ, _≤_}
 use native.Mathlib.Omega.{arith}
-use lib.ListN.{length}
+use lib.ListN.{length, getD}
 use borrow.Author.Tests.{leb-true}
 use Rattle.lists.proofs.Bools.{told, true-false}
 use Rattle.counter.specs.Account.{heapAt}
@@ -17,6 +17,7 @@ use Rattle.counter.specs.declared.answers.Block.{Block}
 use Rattle.counter.specs.declared.settings.FreeListSettings.{FreeListSettings}
 use Rattle.store_rules.specs.Outcomes.{Listed, listed, listOk}
 use Rattle.store_rules.specs.Shares.{holding, holder}
+use Rattle.book_rules.specs.Ready.{Strikes}
 use Rattle.freelist_rules.specs.Pieces.{total}
 use Rattle.freelist_rules.specs.Tables.{Tables, tables, chunksIn, storeOf}
 use Rattle.store_rules.specs.declared.Chunk.{Chunk}
@@ -24,7 +25,7 @@ use Rattle.store_rules.specs.declared.Share.{Share}
 use Rattle.freelist_outcomes.specs.Gate.{accountOk, gateOf}
 use Rattle.freelist_outcomes.specs.Return.{Plan, deny, back, wordFor, onLoanOk, givenTables, decideReturn, gated, planReturn, releaseOf, carryReturn, returnOf, carryCleanUp, cleanUpOf}
 use Rattle.freelist_place.specs.Ready.{Backs}
-use Rattle.freelist_ready.proofs.Backing.{backs-ready}
+use Rattle.freelist_ready.proofs.Backing.{backs-ready, strikes-ready}
 use Rattle.freelist_ready.proofs.Releasing.{cleaned-ready, cleaned-bounds, cleaned-objects, returned-ready, returned-bounds, returned-objects}
 use Rattle.freelist_outcomes.proofs.Passing.{Passed, gate-passed}
 use Rattle.freelist_calls.specs.Frees.{joined, Frees}
@@ -38,6 +39,9 @@ isBack (back w) = true
 
 not-denied : (w n : ℕ) → back w ≡ deny n → ⊥
 not-denied w n e = true-false true refl (ap isBack e)
+
+same-back : (v w : ℕ) → back v ≡ back w → v ≡ w
+same-back v w e = cc
 
 module _ (s : FreeListSettings) (a : Account) (b : Block) (t : Tables) (list : Bool) (w : ℕ) (e : back w ≡ planReturn s a b t list) where
   passes : pass ≡ gateOf s a t list
@@ -58,6 +62,11 @@ module _ (s : FreeListSettings) (a : Account) (b : Block) (t : Tables) (list : B
       ⊎-elim (λ o. o)
       (λ o. absurd (not-denied w 7 (decided ∙ ap (λ (x : Bool). cond x (back (wordFor s b t)) (deny 7)) o)))
       (told (onLoanOk s b t))
+
+  -- the word is the one that was found
+  word-is : w ≡ wordFor s b t
+  unfolding decideReturn
+  word-is = same-back w (wordFor s b t) (decided ∙ ap (λ (x : Bool). cond x (back (wordFor s b t)) (deny 7)) on-loan)
 
 -- ---- the facts
 
@@ -92,6 +101,11 @@ module _ (s : FreeListSettings) (h : Share) (t : Tables) (list : List ℕ) (few 
 
     pub returned-backs : Backs s b (t .regions)
     returned-backs = backs-ready s t (gate .settings) (gate .sound) b lent (gate .lengths)
+
+    pub returned-strikes : Strikes w (getD (t .index) w 0) (t .loans) (t .index)
+    returned-strikes =
+        subst (λ (v : ℕ). Strikes v (getD (t .index) v 0) (t .loans) (t .index)) (sym (word-is s held b t (listOk (s .store) list) w e))
+        (strikes-ready s t (gate .settings) (gate .sound) b lent (gate .lengths))
 
     pub returned-frees : Frees s (h .objects) (t .head) (t .chunks) (joined s b (t .regions)) list
     unfolding givenTables storeOf accountOk holding

@@ -1,11 +1,13 @@
 // A delivery: the chunk is added and lent from, or the order is lost.
 ghost use mathlib.Core.Path.{_≡_};
-ghost use lib.ListN.{length};
+ghost use lib.ListN.{length, getD};
 ghost use Rattle.counter.specs.Paper.{deliverSaid};
 ghost use Rattle.counter.specs.declared.account.OpenOrder.the-variants.{Kept};
 ghost use Rattle.store_rules.specs.Delivery as Delivery;
 ghost use Rattle.store_rules.specs.Outcomes.{out};
-ghost use Rattle.freelist_rules.specs.Tables.{tables, storeOf};
+ghost use Rattle.book_rules.specs.Book.{takenOf};
+ghost use Rattle.book_rules.specs.Ready.{Opens};
+ghost use Rattle.freelist_rules.specs.Tables.{tables, placesAt, storeOf};
 ghost use Rattle.freelist_outcomes.specs.Deliver.{deliveredTables, carryFate, deliverOf};
 ghost use Rattle.freelist_place.specs.Ready.{Adds, Lends};
 ghost use Rattle.store_rules.specs.Shares.{holding};
@@ -30,6 +32,7 @@ fn keep_chunk(
     index: &mut [u64],
 ) -> DeliveredShare
     requires { ⌜ Adds s (now head) (now chunks) (now regions) × Lends s (k .ask .size) (k .ask .mask) (length (storeOf s (tables (now head) (now loans) (now chunks) (now regions) (now index)) .regions)) (deliveredTables s memory (k .order .size) (tables (now head) (now loans) (now chunks) (now regions) (now index)) .head) (deliveredTables s memory (k .order .size) (tables (now head) (now loans) (now chunks) (now regions) (now index)) .regions) ⌝ }
+    requires { ⌜ Opens (s .store .loans) (takenOf (getD (now head) placesAt 0) (now index) .place) (now loans) (now index) ⌝ }
     ensures { λ r. ⌜ out (deliverSaid (r .answer)) (holding (s .store) (r .share) (r .order)) (tables (now (head .exit)) (now (loans .exit)) (now (chunks .exit)) (now (regions .exit)) (now (index .exit))) ≡ carryFate s (holding (s .store) h (Kept k)) k (tables (now (head .entry)) (now (loans .entry)) (now (chunks .entry)) (now (regions .entry)) (now (index .entry))) (Delivery.kept memory) ⌝ }
 {
     let ask = k.ask;

@@ -2,8 +2,10 @@
 ghost use mathlib.Core.Path.{_≡_};
 ghost use mathlib.Core.Bool.{true, false};
 ghost use mathlib.Core.List.{[]};
+ghost use lib.ListN.{getD};
 ghost use Rattle.counter.specs.Paper.{releaseSaid};
 ghost use Rattle.store_rules.specs.Outcomes.{listed};
+ghost use Rattle.book_rules.specs.Ready.{Strikes};
 ghost use Rattle.freelist_rules.specs.Tables.{tables};
 ghost use Rattle.freelist_outcomes.specs.Return.{givenTables, releaseOf, returnOf, cleanUpOf};
 ghost use Rattle.freelist_place.specs.Ready.{Backs};
@@ -53,6 +55,7 @@ fn carry_return(
     list: &mut [u64],
 ) -> ReleasedShare
     requires { ⌜ Backs s b (now regions) × Frees s (h .objects) (now head) (now chunks) (joined s b (now regions)) (now list) ⌝ }
+    requires { ⌜ Strikes at (getD (now index) at 0) (now loans) (now index) ⌝ }
     ensures { λ r. ⌜ listed (releaseSaid (r .answer)) (holder (s .store) (r .share)) (tables (now (head .exit)) (now (loans .exit)) (now (chunks .exit)) (now (regions .exit)) (now (index .exit))) (now (list .exit)) ≡ releaseOf s (holder (s .store) h) true (givenTables s b at (tables (now (head .entry)) (now (loans .entry)) (now (chunks .entry)) (now (regions .entry)) (now (index .entry)))) (now (list .entry)) ⌝ }
 {
     freelist_place::take_back(s, b, at, loans, regions, index);

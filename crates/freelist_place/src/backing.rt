@@ -1,6 +1,8 @@
 // A block taken back: struck out of the book, and its bytes put among the free regions.
 ghost use mathlib.Core.Path.{_≡_};
 ghost use mathlib.Core.List.{[]};
+ghost use lib.ListN.{getD};
+ghost use Rattle.book_rules.specs.Ready.{Strikes};
 ghost use Rattle.freelist_rules.specs.Tables.{tables};
 ghost use Rattle.freelist_outcomes.specs.Return.{givenTables};
 ghost use Rattle.freelist_place.specs.Ready.{Backs};
@@ -18,6 +20,7 @@ pub fn take_back(
     index: &mut [u64],
 )
     requires { ⌜ Backs s b (now regions) ⌝ }
+    requires { ⌜ Strikes at (getD (now index) at 0) (now loans) (now index) ⌝ }
     ensures { λ _. ⌜ tables [] (now (loans .exit)) [] (now (regions .exit)) (now (index .exit)) ≡ givenTables s b at (tables [] (now (loans .entry)) [] (now (regions .entry)) (now (index .entry))) ⌝ }
 {
     let free = Region {
@@ -26,5 +29,5 @@ pub fn take_back(
         end: b.offset + b.size,
     };
     crate::counted::join(s, regions, free);
-    book::strike(loans, index, at);
+    book::strike(loans, index, at, words::word(index, at));
 }

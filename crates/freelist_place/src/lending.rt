@@ -2,7 +2,9 @@
 ghost use mathlib.Core.Path.{_≡_};
 ghost use mathlib.Core.List.{[]};
 ghost use Prim.Native.Nat.{_+_};
-ghost use lib.ListN.{set};
+ghost use lib.ListN.{getD, set};
+ghost use Rattle.book_rules.specs.Book.{takenOf};
+ghost use Rattle.book_rules.specs.Ready.{Opens};
 ghost use Rattle.freelist_rules.specs.Tables.{tables, givenAt, placesAt};
 ghost use Rattle.freelist_outcomes.specs.Ask.{loanFrom, takenTables};
 ghost use Rattle.freelist_place.specs.Ready.{Lends};
@@ -50,6 +52,7 @@ pub fn lend(
     index: &mut [u64],
 ) -> Loan
     requires { ⌜ Lends s size mask i (now head) (now regions) ⌝ }
+    requires { ⌜ Opens (s .store .loans) (takenOf (getD (now head) placesAt 0) (now index) .place) (now loans) (now index) ⌝ }
     ensures { λ r. ⌜ r ≡ loanFrom s size mask (tables (now (head .entry)) [] [] (now (regions .entry)) []) i ⌝ }
     ensures { λ _. ⌜ tables (now (head .exit)) (now (loans .exit)) [] (now (regions .exit)) (now (index .exit)) ≡ takenTables s size mask (tables (now (head .entry)) (now (loans .entry)) [] (now (regions .entry)) (now (index .entry))) i ⌝ }
 {

@@ -1,5 +1,5 @@
--- A block that is on loan may go back among the free regions. Assumes nothing.
-use mathlib.Core.Path.{_≡_}
+-- A block that is on loan may go back among the free regions, and its loan can be struck out of the book. Assumes nothing.
+use mathlib.Core.Path.{_≡_, refl, subst}
 use mathlib.Core.Bool.{true}
 use mathlib.Core.List.{List, [], _∷_}
 use Prim.Native.Nat.{ℕ, zero, suc, _+_, _<_}
@@ -8,16 +8,21 @@ use lib.ListN.{length, getD}
 use Rattle.counter.specs.InTable.{FreeListIn}
 use Rattle.counter.specs.declared.answers.Block.{Block}
 use Rattle.counter.specs.declared.settings.FreeListSettings.{FreeListSettings}
+use Rattle.slab.specs.Slab.{nowhere}
+use Rattle.book_rules.specs.Book.{indexWords, wordTo}
+use Rattle.book_rules.specs.Ready.{Strikes}
+use Rattle.book_rules.proofs.Keeps.{found}
 use Rattle.freelist_rules.specs.Pieces.{lo, hi, Rising}
 use Rattle.freelist_rules.specs.Steps.{noRegion}
-use Rattle.freelist_rules.specs.Tables.{Tables, lengthsOk, storeOf, SoundTables, regionsOf}
+use Rattle.freelist_rules.specs.Tables.{Tables, givenAt, lengthsOk, placesIn, storeOf, SoundTables, regionsOf}
 use Rattle.store_rules.specs.declared.Region.{Region}
 use Rattle.freelist_rules.proofs.Base.{at-in}
 use Rattle.freelist_rules.proofs.Facts.{Low, region-low}
-use Rattle.freelist_rules.proofs.Fits.{regions-fit}
+use Rattle.freelist_rules.proofs.Fits.{lengths-are, regions-fit}
 use Rattle.freelist_rules.proofs.Inserts.{rising-at}
-use Rattle.freelist_outcomes.specs.Return.{onLoanOk}
+use Rattle.freelist_outcomes.specs.Return.{wordFor, onLoanOk}
 use Rattle.freelist_outcomes.proofs.Backs.{back-room, block-low}
+use Rattle.freelist_outcomes.proofs.Loaned.{block-leads}
 use Rattle.freelist_regions.specs.Order.{RegionsStand}
 use Rattle.freelist_place.specs.Ready.{Backs}
 
@@ -47,4 +52,26 @@ module _ (s : FreeListSettings) (t : Tables) (fit : FreeListIn s) (sound : Sound
         low = omega (arith, block-low s t fit sound b lent);
         short = omega (arith, block-low s t fit sound b lent);
         room = back-room s t fit sound b lent;
+      }
+
+  -- the word that was found stands in the index
+  word-inside : wordFor s b t < indexWords (s .store .loans)
+  word-inside =
+      let n = s .store .loans in
+      let given = getD (t .head) givenAt 0 in
+      let at = block-leads s t fit sound b lent in
+      let few : n < nowhere = omega (arith, fit .store .loans-most) in
+      let f = found (t .loans) (t .index) n (placesIn t) given (fit .store .loans-some) (sound .parted .limit) few (sound .chained) (getD (t .index) (wordFor s b t) 0) (at .0) (at .1) in
+      subst (λ (k : ℕ). wordTo (t .loans) (t .index) n (placesIn t) given k < indexWords n) (at .2) (f .0)
+
+  -- and leads to a place below the limit
+  pub strikes-ready : lengthsOk s t ≡ true → Strikes (wordFor s b t) (getD (t .index) (wordFor s b t) 0) (t .loans) (t .index)
+  strikes-ready lengths =
+      let long = lengths-are s t lengths in
+      let at = block-leads s t fit sound b lent in
+      record {
+        leads = refl;
+        word = omega (arith, word-inside, long .index);
+        size = omega (arith, at .0, sound .parted .limit, long .loans);
+        after = omega (arith, at .0, sound .parted .limit, long .index);
       }

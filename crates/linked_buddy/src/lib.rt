@@ -1,4 +1,5 @@
 // A buddy's calls for programs in other languages: numbers and slices of words alone. specs/Calls says what each leaves.
+// The heaps are walked before the settings are read, so that those are not kept over the walk.
 ghost use mathlib.Core.Path.{_≡_};
 ghost use Rattle.buddy_stores.specs.Tables.{tables};
 ghost use Rattle.wire_rules.specs.Wire.{saidOut};
@@ -46,9 +47,9 @@ pub extern "C" fn tibrezkam_buddy_ask(
     ensures { λ _. ⌜ now (answer .exit) ≡ saidOut (linkedAsk (now (settings .entry)) (now (account .entry)) size mask (tables (now (head .entry)) (now (loans .entry)) (now (chunks .entry)) (now (index .entry)) (now (tree .entry))) .said) (now (answer .entry)) ⌝ }
 {
     if wire::is_settings(settings, BUDDY_WORDS) & wire_account::is_account(account) {
+        let table = wire_account::heaps_in_table(account);
         let s = wire::read_buddy(settings);
         let own = s.store;
-        let table = wire_account::heaps_in_table(account);
         let h = wire_account::read_share(account, own, table);
         let said = buddy_calls::ask(s, h, size, mask, head, loans, chunks, index, tree);
         wire_account::put_asked(account, size, mask, said);
@@ -80,9 +81,9 @@ pub extern "C" fn tibrezkam_buddy_deliver(
         & wire_account::is_account(account)
         & wire::is_outcome(what, mapping)
     {
+        let table = wire_account::heaps_in_table(account);
         let s = wire::read_buddy(settings);
         let own = s.store;
-        let table = wire_account::heaps_in_table(account);
         let h = wire_account::read_share(account, own, table);
         let o = wire::read_outcome(what, memory, mapping);
         let order = wire_account::read_order(account);
@@ -119,9 +120,9 @@ pub extern "C" fn tibrezkam_buddy_return(
     ensures { λ _. ⌜ now (answer .exit) ≡ saidOut (linkedReturn (now (settings .entry)) (now (account .entry)) (record { serial = serial; chunk = chunk; offset = offset; size = size }) (tables (now (head .entry)) (now (loans .entry)) (now (chunks .entry)) (now (index .entry)) (now (tree .entry))) (now (list .entry)) .said) (now (answer .entry)) ⌝ }
 {
     if wire::is_settings(settings, BUDDY_WORDS) & wire_account::is_account(account) {
+        let table = wire_account::heaps_in_table(account);
         let s = wire::read_buddy(settings);
         let own = s.store;
-        let table = wire_account::heaps_in_table(account);
         let h = wire_account::read_share(account, own, table);
         let b = Block {
             serial: serial,

@@ -3,7 +3,7 @@
 ghost use mathlib.Core.Path.{_≡_};
 ghost use Prim.Native.Nat.{_≤_, _<_};
 ghost use lib.ListN.{set};
-ghost use Rattle.words.specs.Words.{widest, atMost};
+ghost use Rattle.words.specs.Words.{widest, atMost, cellOf};
 ghost use Rattle.ring_rules.specs.Ring.{unlinked, linked};
 ghost use Rattle.ring_rules.specs.Test.{ringLength};
 use slab::NOWHERE;
@@ -38,15 +38,44 @@ pub fn link(t: &mut [u64], head: u64, next_at: u64, prev_at: u64, step: u64, p: 
 {
     let h = words::word(t, head as usize);
     if h == NOWHERE {
-        words::put_cell(t, next_at as usize, step as usize, p as usize, p);
-        words::put_cell(t, prev_at as usize, step as usize, p as usize, p);
+        put_links(t, next_at, prev_at, step, p, p, p);
         words::put(t, head as usize, p);
     } else {
         let q = words::cell(t, prev_at as usize, step as usize, h as usize);
         words::put_cell(t, prev_at as usize, step as usize, h as usize, p);
         words::put_cell(t, next_at as usize, step as usize, q as usize, p);
-        words::put_cell(t, next_at as usize, step as usize, p as usize, h);
-        words::put_cell(t, prev_at as usize, step as usize, p as usize, q);
+        put_links(t, next_at, prev_at, step, p, h, q);
+    }
+}
+
+// The links of p: the place after it and the one before it.
+fn put_links(t: &mut [u64], next_at: u64, prev_at: u64, step: u64, p: u64, next: u64, prev: u64)
+    requires { ⌜ (0 < step) × (step ≤ widest) × («next_at» ≤ atMost) × («prev_at» ≤ atMost) ⌝ }
+    ensures { λ _. ⌜ now (t .exit) ≡ set (set (now (t .entry)) (cellOf «next_at» step p) next) (cellOf «prev_at» step p) prev ⌝ }
+{
+    let i = p as usize;
+    if i < t.len() {
+        let from = step as usize * i;
+        put_both(
+            t,
+            next_at as usize + from,
+            prev_at as usize + from,
+            next,
+            prev,
+        );
+    }
+}
+
+// Two words put, one after the other, each nowhere past the end. Where both are there, neither needs a test of its own.
+fn put_both(t: &mut [u64], a: usize, b: usize, v: u64, w: u64)
+    ensures { λ _. ⌜ now (t .exit) ≡ set (set (now (t .entry)) a v) b w ⌝ }
+{
+    if (a < t.len()) & (b < t.len()) {
+        t[a] = v;
+        t[b] = w;
+    } else {
+        words::put(t, a, v);
+        words::put(t, b, w);
     }
 }
 

@@ -2,9 +2,9 @@
 -- same are left alike. Assumes nothing.
 use mathlib.Core.Path.{_≡_, refl, sym, ap, subst, _∙_}
 use mathlib.Core.Bool.{Bool, true, false, cond, _&&_}
-use mathlib.Core.Logic.{_⊎_, inl, inr, ⊎-elim}
+use mathlib.Core.Logic.{_⊎_, ⊎-elim}
 use mathlib.Core.List.{List, [], _∷_}
-use Prim.Native.Nat.{ℕ, zero, suc, _-_, _+_, _<_, _≤_}
+use Prim.Native.Nat.{ℕ, _-_, _+_, _<_, _≤_}
 use native.Mathlib.Omega.{arith}
 use lib.Dec.{ltb}
 use lib.ListN.{length, getD, set, getD-replicate}
@@ -19,10 +19,9 @@ use Rattle.counter.specs.declared.account.Heap.{Heap}
 use Rattle.counter.specs.declared.account.OpenOrder.{OpenOrder}
 use Rattle.counter.specs.declared.account.OpenOrder.the-variants.{Nothing}
 use Rattle.counter.specs.declared.settings.StoreSettings.{StoreSettings}
-use Rattle.counter.proofs.Tables.{heaps-each}
 use Rattle.heap.specs.Heap.{chargedOf, releasedOf}
 use Rattle.store_rules.specs.Outcomes.{withOrder, chargedAccount, backAccount, lostAccount, releasedAccount}
-use Rattle.store_rules.specs.Shares.{shareOf, withShare, overHeap, others, holding, orderBy, holder, closedShare, chargedShare, backShare, lostShare, releasedShare, Alike, takenOver}
+use Rattle.store_rules.specs.Shares.{shareOf, withShare, overHeap, others, holding, orderBy, holder, chargedShare, backShare, lostShare, releasedShare, Alike, takenOver}
 use Rattle.store_rules.specs.Tests.{noOrder}
 use Rattle.store_rules.specs.declared.Share.{Share}
 use Rattle.store_rules.proofs.Accounts.{settled-own, settled-other, settled-length, settled-heaps, own-in}

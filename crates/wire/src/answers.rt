@@ -25,7 +25,8 @@ const REFUSED: u64 = 4;
 
 const RANKED: u64 = 5;
 
-fn tell(w: &mut [u64], what: u64, a: u64, b: u64, c: u64, d: u64)
+// Six words, each where there is room for it.
+fn tell_by_words(w: &mut [u64], what: u64, a: u64, b: u64, c: u64, d: u64)
     ensures { λ _. ⌜ now (w .exit) ≡ answerOut what a b c d (now (w .entry)) ⌝ }
 {
     words::put(w, 0, what);
@@ -34,6 +35,22 @@ fn tell(w: &mut [u64], what: u64, a: u64, b: u64, c: u64, d: u64)
     words::put(w, 3, c);
     words::put(w, 4, d);
     words::put(w, 5, 0);
+}
+
+// The same, under one test where there is room for all six.
+fn tell(w: &mut [u64], what: u64, a: u64, b: u64, c: u64, d: u64)
+    ensures { λ _. ⌜ now (w .exit) ≡ answerOut what a b c d (now (w .entry)) ⌝ }
+{
+    if 5 < w.len() {
+        w[0] = what;
+        w[1] = a;
+        w[2] = b;
+        w[3] = c;
+        w[4] = d;
+        w[5] = 0;
+    } else {
+        tell_by_words(w, what, a, b, c, d);
+    }
 }
 
 fn tell_refused(w: &mut [u64], r: Refused)

@@ -33,21 +33,25 @@ pub fn narrow(n: u64) -> u32
 pub fn is_settings(w: &[u64], n: usize) -> bool
     ensures { λ r. ⌜ r ≡ settingsOk n (now (w .entry)) ⌝ }
 {
-    (w.len() == n) & (is_narrow(w, 0) & (is_narrow(w, 1) & is_narrow(w, 2)))
+    if w.len() != n {
+        return false;
+    }
+    is_narrow(w, 0) & (is_narrow(w, 1) & is_narrow(w, 2))
 }
 
+// The seven words that every store's settings begin with. That there are so many is known, so no word needs a test of its own.
 fn read_store(w: &[u64], n: usize) -> StoreSettings
-    requires { ⌜ settingsOk n (now w) ≡ true ⌝ }
+    requires { ⌜ (settingsOk n (now w) ≡ true) × (7 ≤ n) ⌝ }
     ensures { λ r. ⌜ r ≡ storeIn (now (w .entry)) ⌝ }
 {
     StoreSettings {
-        number: narrow(words::word(w, 0)),
-        kind: narrow(words::word(w, 1)),
-        properties: narrow(words::word(w, 2)),
-        heap: words::word(w, 3) as usize,
-        atom: words::word(w, 4),
-        loans: words::word(w, 5) as usize,
-        chunks: words::word(w, 6) as usize,
+        number: narrow(w[0]),
+        kind: narrow(w[1]),
+        properties: narrow(w[2]),
+        heap: w[3] as usize,
+        atom: w[4],
+        loans: w[5] as usize,
+        chunks: w[6] as usize,
     }
 }
 
@@ -57,8 +61,8 @@ pub fn read_free_list(w: &[u64]) -> FreeListSettings
 {
     FreeListSettings {
         store: read_store(w, LIST_WORDS),
-        start: words::word(w, 7),
-        last: words::word(w, 8),
+        start: w[7],
+        last: w[8],
     }
 }
 
@@ -68,8 +72,8 @@ pub fn read_buddy(w: &[u64]) -> BuddySettings
 {
     BuddySettings {
         store: read_store(w, BUDDY_WORDS),
-        minimal: words::word(w, 7),
-        initial: words::word(w, 8),
-        pairs: words::word(w, 9) as usize,
+        minimal: w[7],
+        initial: w[8],
+        pairs: w[9] as usize,
     }
 }

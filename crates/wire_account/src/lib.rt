@@ -48,8 +48,10 @@ const ACCOUNT_WORDS: usize = 104;
 pub fn is_account(w: &[u64]) -> bool
     ensures { λ r. ⌜ r ≡ accountOk (now (w .entry)) ⌝ }
 {
-    (w.len() == ACCOUNT_WORDS)
-        & is_narrow(w, OBJECTS_AT)
+    if w.len() != ACCOUNT_WORDS {
+        return false;
+    }
+    is_narrow(w, OBJECTS_AT)
         & (words::word(w, OPEN_AT) <= 1)
         & is_narrow(w, ORDER_STORE_AT)
         & is_narrow(w, ORDER_KIND_AT)

@@ -31,22 +31,26 @@ pub record Right (w : List ℕ) : Type 0 where
   pub kind-most : getD w orderKindAt 0 ≤ narrowMost
   pub map-most : getD w orderMapAt 0 ≤ 1
 
--- six tests, put together from the left or from the right
-six : (a b c d e f : Bool) → (((((a && b) && c) && d) && e) && f) ≡ (a && (b && (c && (d && (e && f)))))
-six false b c d e f = refl
-six true false c d e f = refl
-six true true false d e f = refl
-six true true true false e f = refl
-six true true true true e f = refl
+-- five tests, put together from the left or from the right
+five : (a b c d e : Bool) → ((((a && b) && c) && d) && e) ≡ (a && (b && (c && (d && e))))
+five false b c d e = refl
+five true false c d e = refl
+five true true false d e = refl
+five true true true d e = refl
 
--- the test, as the code makes it
-pub account-told : (w : List ℕ) (b d e : Bool) (n m : ℕ) → b ≡ narrowOk w objectsAt → n ≡ getD w openAt 0 → d ≡ narrowOk w orderStoreAt → e ≡ narrowOk w orderKindAt
-    → m ≡ getD w orderMapAt 0
-    → (((((eqb (length w) accountWords && b) && leb n 1) && d) && e) && leb m 1) ≡ accountOk w
+-- the test, as the code makes it where there are as many words as there are to be
+pub account-told : (w : List ℕ) (b d e : Bool) (n m : ℕ) → length w ≡ accountWords → b ≡ narrowOk w objectsAt → n ≡ getD w openAt 0 → d ≡ narrowOk w orderStoreAt
+    → e ≡ narrowOk w orderKindAt → m ≡ getD w orderMapAt 0
+    → ((((b && leb n 1) && d) && e) && leb m 1) ≡ accountOk w
 unfolding accountOk
-account-told w b d e n m hb hn hd he hm =
-    rw (hb, hn, hd, he, hm)
-    (six (eqb (length w) accountWords) (narrowOk w objectsAt) (leb (getD w openAt 0) 1) (narrowOk w orderStoreAt) (narrowOk w orderKindAt) (leb (getD w orderMapAt 0) 1))
+account-told w b d e n m l hb hn hd he hm =
+    rw (eq-eqb (length w) accountWords l, hb, hn, hd, he, hm)
+    (five (narrowOk w objectsAt) (leb (getD w openAt 0) 1) (narrowOk w orderStoreAt) (narrowOk w orderKindAt) (leb (getD w orderMapAt 0) 1))
+
+-- and where there are not
+pub account-not : (w : List ℕ) → (length w ≡ accountWords → ⊥) → false ≡ accountOk w
+unfolding accountOk
+account-not w l = rw (ne-eqb (length w) accountWords l)
 
 -- words that pass the test are right
 pub right-yes : (w : List ℕ) → accountOk w ≡ true → Right w

@@ -1,13 +1,18 @@
--- What words that are settings say of the fields of 32 bits. Assumes nothing.
+-- What words that are settings say of their number and of the fields of 32 bits. Assumes nothing.
 use mathlib.Core.Path.{_≡_}
 use mathlib.Core.Bool.{true, _&&_}
 use mathlib.Core.List.{List}
 use Prim.Native.Nat.{ℕ, _≤_}
 use lib.Dec.{eqb}
 use lib.ListN.{length, getD}
-use borrow.Author.Tests.{leb-true}
+use borrow.Author.Tests.{leb-true, eqb-true}
 use Rattle.lists.proofs.Bools.{and-left, and-right}
 use Rattle.wire_rules.specs.Wire.{narrowMost, narrowOk, settingsOk}
+
+-- words that pass as settings are as many as there are to be
+pub settings-whole : (n : ℕ) (w : List ℕ) → settingsOk n w ≡ true → length w ≡ n
+unfolding settingsOk
+settings-whole n w e = eqb-true (length w) n (and-left (eqb (length w) n) (narrowOk w 0 && (narrowOk w 1 && narrowOk w 2)) e)
 
 -- number, memory type and properties are of 32 bits
 pub record Narrow (w : List ℕ) : Type 0 where

@@ -1,30 +1,46 @@
-use Rattle.words.specs.Words.{cellOf}
-use Rattle.book_rules.specs.Book.{entryWords, vacatedAt, vacantAfterAt}
-use Rattle.book_rules.proofs.Whole.{three-stored}
+use native.Mathlib.Omega.{arith}
+use lib.ListN.{length-set}
 use borrow.Author.Needs.{needs}
 use Rattle.book.proofs.pass_over.Statement.{statement}
 use Rattle.book.proofs.pass_over.Tie as tie
 
-put-requires : tie.Need-put-requires
-put-requires c κs = search needs
+mul-after : tie.Need-mul-after
+mul-after c = search needs
 
-put-cell-requires : tie.Need-put-cell-requires
-put-cell-requires c κs = search needs
+add-after : tie.Need-add-after
+add-after c = search needs
 
-put-requires-2 : tie.Need-put-requires-2
-put-requires-2 c κs = search needs
+mul-index : tie.Need-mul-index
+mul-index c = search needs
+
+slice-write-index : tie.Need-slice-write-index
+slice-write-index c = search needs
+
+mul-index-2 : tie.Need-mul-index-2
+mul-index-2 c = search needs
+
+slice-write-index-2 : tie.Need-slice-write-index-2
+slice-write-index-2 c = search needs
+
+slice-write-index-3 : tie.Need-slice-write-index-3
+slice-write-index-3 c = simp (length-set, length-set) (omega arith)
 
 same-length : tie.Need-same-length
 same-length c = search needs
 
 returns : tie.Need-returns
-returns c =
-    let d = c .before .before in
-    let e = d .before .before .before .before in
-    let f = e .before .before .before .before in
-    let a = f .before .before .before .args in
-    three-stored (a .index .now) _ _ _ (a .at) (cellOf vacantAfterAt entryWords (a .p)) vacatedAt (a .next) (a .vacated) (a .p) (f .put .ensures) (e .put-cell .ensures) (d .put2 .ensures)
+returns c = search needs
 
 pub pass-over-spec : {M : Type 1} → statement M
 pass-over-spec =
-    tie.close (tie.spec put-requires put-cell-requires put-requires-2 same-length returns)
+    tie.close
+    (tie.spec
+    mul-after
+    add-after
+    mul-index
+    slice-write-index
+    mul-index-2
+    slice-write-index-2
+    slice-write-index-3
+    same-length
+    returns)

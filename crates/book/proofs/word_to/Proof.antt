@@ -46,14 +46,14 @@ returns-2 c =
     let o : 0 < b .left = omega arith in
     sym (b .inv ∙ seek-past _ _ _ _ _ _ _ (c .before .word .ensures) o (c .if2 .taken))
 
-cell-requires : tie.Need-cell-requires Inv-loop μ-loop
-cell-requires c κs = search needs
+word-requires-2 : tie.Need-word-requires-2 Inv-loop μ-loop
+word-requires-2 c κs = search needs
 
 returns-3 : tie.Need-returns-3 Inv-loop μ-loop
 returns-3 c =
     let b = c .before .before .before .before .before .loop in
     let o : 0 < b .left = omega arith in
-    let e = sym (c .before .cell .ensures) ∙ c .if3 .taken in
+    let e = sym (c .before .word2 .ensures) ∙ c .if3 .taken in
     sym (b .inv ∙ seek-here _ _ _ _ _ _ _ (c .before .before .before .word .ensures) o (c .before .before .if2 .left) e)
 
 mul-at-2 : tie.Need-mul-at-2 Inv-loop μ-loop
@@ -72,13 +72,19 @@ loop-again : tie.Need-loop-again Inv-loop μ-loop
 loop-again c =
     let b = c .before .before .before .before .before .loop in
     let o : 0 < b .left = omega arith in
-    b .inv ∙ seek-on _ _ _ _ _ _ _ (c .before .before .before .word .ensures) o (c .before .before .if2 .left) (λ z. c .if3 .left (c .before .cell .ensures ∙ z))
+    b .inv ∙ seek-on _ _ _ _ _ _ _ (c .before .before .before .word .ensures) o (c .before .before .if2 .left) (λ z. c .if3 .left (c .before .word2 .ensures ∙ z))
 
 returns-4 : tie.Need-returns-4 Inv-loop μ-loop
 returns-4 c =
     let b = c .before .loop in
     let o : b .left ≤ 0 = omega arith in
     sym (b .inv ∙ seek-none _ _ _ _ _ _ o)
+
+mul-word : tie.Need-mul-word Inv-loop μ-loop
+mul-word c = search needs
+
+add-word : tie.Need-add-word Inv-loop μ-loop
+add-word c = search needs
 
 pub word-to-spec : {M : Type 1} → statement M
 word-to-spec =
@@ -93,7 +99,9 @@ word-to-spec =
     loop-holds
     word-requires
     returns-2
-    cell-requires
+    mul-word
+    add-word
+    word-requires-2
     returns-3
     mul-at-2
     add-at-2

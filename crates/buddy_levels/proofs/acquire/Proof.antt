@@ -1,18 +1,7 @@
-use lib.ListN.{getD}
-use Rattle.buddy_levels_rules.specs.Level.{tagAt, pairCell}
-use Rattle.buddy_levels.proofs.Steps.{side-field, head-acquired}
+use Rattle.buddy_levels.proofs.Steps.{left-acquired, right-acquired}
 use borrow.Author.Needs.{needs}
 use Rattle.buddy_levels.proofs.acquire.Statement.{statement}
 use Rattle.buddy_levels.proofs.acquire.Tie as tie
-
-add-word : tie.Need-add-word
-add-word c = search needs
-
-word-requires : tie.Need-word-requires
-word-requires c κs = search needs
-
-ready-at-requires : tie.Need-ready-at-requires
-ready-at-requires c κs = search needs
 
 leave-requires : tie.Need-leave-requires
 leave-requires c κs = search needs
@@ -21,11 +10,10 @@ put-field-requires : tie.Need-put-field-requires
 put-field-requires c κs = search needs
 
 put-field-requires-2 : tie.Need-put-field-requires-2
-put-field-requires-2 c κs =
-    let d = c .before .before .before .before .before .before .before .before .before in
-    let h = d .before .before in
-    let a = h .before .before .before .args in
-    (search needs, side-field _ (getD (a .tree .now) (pairCell (a .base) tagAt (h .word .result)) 0) (d .ready-at .ensures))
+put-field-requires-2 c κs = search needs
+
+put-field-requires-3 : tie.Need-put-field-requires-3
+put-field-requires-3 c κs = search needs
 
 same-length : tie.Need-same-length
 same-length c = search needs
@@ -33,22 +21,35 @@ same-length c = search needs
 returns : tie.Need-returns
 returns c =
     let d = c .before .before in
-    let e = d .before .before .before .before in
+    let i = d .before .before in
+    let e = i .before .before .before in
     let f = e .before .before .before .before in
-    let g = f .before .before in
-    let h = g .before .before in
-    let a = h .before .before .before .args in
-    head-acquired (a .base) (a .tree .now) (a .w) _ _ _ _ _ (h .word .ensures) (g .ready-at .ensures) (f .leave .ensures) (e .put-field .ensures) (d .put-field2 .ensures)
+    let s = f .before .before .before in
+    let a = s .args in
+    left-acquired (a .base) (a .tree .now) (a .w) (a .h) _ _ _ _ (s .pre .1 .0) (s .pre .1 .1) (f .leave .ensures) (e .put-field .ensures) (i .if1 .taken) (d .put-field2 .ensures)
+
+same-length-2 : tie.Need-same-length-2
+same-length-2 c = search needs
+
+returns-2 : tie.Need-returns-2
+returns-2 c =
+    let d = c .before .before in
+    let i = d .before .before in
+    let e = i .before .before .before in
+    let f = e .before .before .before .before in
+    let s = f .before .before .before in
+    let a = s .args in
+    right-acquired (a .base) (a .tree .now) (a .w) (a .h) _ _ _ _ (s .pre .1 .0) (s .pre .1 .1) (f .leave .ensures) (e .put-field .ensures) (i .if1 .left) (d .put-field3 .ensures)
 
 pub acquire-spec : {M : Type 1} → statement M
 acquire-spec =
     tie.close
     (tie.spec
-    add-word
-    word-requires
-    ready-at-requires
     leave-requires
     put-field-requires
     put-field-requires-2
+    put-field-requires-3
     same-length
-    returns)
+    returns
+    same-length-2
+    returns-2)

@@ -14,21 +14,21 @@ is-account-requires c κs = search needs
 is-outcome-requires : tie.Need-is-outcome-requires
 is-outcome-requires c κs = search needs
 
-read-buddy-requires : tie.Need-read-buddy-requires
-read-buddy-requires c κs =
-    let j = c in
-    let q = j .before .before in
-    let p = q .before .before in
-    let a = p .before .before .before .before .before .before .before .before .before .args in
-    settings-right (a .settings .now) (a .account .now) _ _ (p .is-settings .ensures) (q .is-account .ensures) (and-left _ _ (j .if1 .taken))
-
 heaps-in-table-requires : tie.Need-heaps-in-table-requires
 heaps-in-table-requires c κs =
-    let j = c .before .before .before in
+    let j = c .before in
     let q = j .before .before in
     let p = q .before .before in
     let a = p .before .before .before .before .before .before .before .before .before .args in
     account-right (a .settings .now) (a .account .now) _ _ (p .is-settings .ensures) (q .is-account .ensures) (and-left _ _ (j .if1 .taken))
+
+read-buddy-requires : tie.Need-read-buddy-requires
+read-buddy-requires c κs =
+    let j = c .before .before in
+    let q = j .before .before in
+    let p = q .before .before in
+    let a = p .before .before .before .before .before .before .before .before .before .args in
+    settings-right (a .settings .now) (a .account .now) _ _ (p .is-settings .ensures) (q .is-account .ensures) (and-left _ _ (j .if1 .taken))
 
 read-share-requires : tie.Need-read-share-requires
 read-share-requires c κs =
@@ -36,7 +36,7 @@ read-share-requires c κs =
     let q = j .before .before in
     let p = q .before .before in
     let a = p .before .before .before .before .before .before .before .before .before .args in
-    (account-right (a .settings .now) (a .account .now) _ _ (p .is-settings .ensures) (q .is-account .ensures) (and-left _ _ (j .if1 .taken)), c .before .heaps-in-table .ensures)
+    (account-right (a .settings .now) (a .account .now) _ _ (p .is-settings .ensures) (q .is-account .ensures) (and-left _ _ (j .if1 .taken)), c .before .before .before .heaps-in-table .ensures)
 
 read-outcome-requires : tie.Need-read-outcome-requires
 read-outcome-requires c κs = search needs
@@ -99,8 +99,8 @@ returns c =
     let n = m .before .before .before .before .before .before in
     let o = n .before .before in
     let h = o .before in
-    let f = h .before .before .before .before .before in
-    let j = f .before in
+    let f = h .before .before .before in
+    let j = f .before .before .before in
     let z = j .before in
     let q = z .before in
     let p = q .before .before in
@@ -130,8 +130,8 @@ tibrezkam-buddy-deliver-spec =
     is-settings-requires
     is-account-requires
     is-outcome-requires
-    read-buddy-requires
     heaps-in-table-requires
+    read-buddy-requires
     read-share-requires
     read-outcome-requires
     read-order-requires

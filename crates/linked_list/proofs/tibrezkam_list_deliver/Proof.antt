@@ -15,21 +15,21 @@ is-account-requires c κs = search needs
 is-outcome-requires : tie.Need-is-outcome-requires
 is-outcome-requires c κs = search needs
 
-read-free-list-requires : tie.Need-read-free-list-requires
-read-free-list-requires c κs =
-    let j = c in
-    let q = j .before .before in
-    let p = q .before .before in
-    let a = p .before .before .before .before .before .before .before .before .before .args in
-    all-right listWords (a .settings .now) (a .account .now) _ _ _ (p .is-settings .ensures) (q .is-account .ensures) (j .if1 .taken) .0
-
 heaps-in-table-requires : tie.Need-heaps-in-table-requires
 heaps-in-table-requires c κs =
-    let j = c .before .before .before in
+    let j = c .before in
     let q = j .before .before in
     let p = q .before .before in
     let a = p .before .before .before .before .before .before .before .before .before .args in
     all-right listWords (a .settings .now) (a .account .now) _ _ _ (p .is-settings .ensures) (q .is-account .ensures) (j .if1 .taken) .1
+
+read-free-list-requires : tie.Need-read-free-list-requires
+read-free-list-requires c κs =
+    let j = c .before .before in
+    let q = j .before .before in
+    let p = q .before .before in
+    let a = p .before .before .before .before .before .before .before .before .before .args in
+    all-right listWords (a .settings .now) (a .account .now) _ _ _ (p .is-settings .ensures) (q .is-account .ensures) (j .if1 .taken) .0
 
 read-share-requires : tie.Need-read-share-requires
 read-share-requires c κs =
@@ -37,7 +37,7 @@ read-share-requires c κs =
     let q = j .before .before in
     let p = q .before .before in
     let a = p .before .before .before .before .before .before .before .before .before .args in
-    (all-right listWords (a .settings .now) (a .account .now) _ _ _ (p .is-settings .ensures) (q .is-account .ensures) (j .if1 .taken) .1, c .before .heaps-in-table .ensures)
+    (all-right listWords (a .settings .now) (a .account .now) _ _ _ (p .is-settings .ensures) (q .is-account .ensures) (j .if1 .taken) .1, c .before .before .before .heaps-in-table .ensures)
 
 read-outcome-requires : tie.Need-read-outcome-requires
 read-outcome-requires c κs = search needs
@@ -100,8 +100,8 @@ returns c =
     let n = m .before .before .before .before .before .before in
     let o = n .before .before in
     let h = o .before in
-    let f = h .before .before .before .before .before in
-    let j = f .before in
+    let f = h .before .before .before in
+    let j = f .before .before .before in
     let z = j .before in
     let q = z .before in
     let p = q .before .before in
@@ -131,8 +131,8 @@ tibrezkam-list-deliver-spec =
     is-settings-requires
     is-account-requires
     is-outcome-requires
-    read-free-list-requires
     heaps-in-table-requires
+    read-free-list-requires
     read-share-requires
     read-outcome-requires
     read-order-requires

@@ -1,3 +1,4 @@
+use mathlib.Core.Path.{refl}
 use borrow.Author.Needs.{needs}
 use Rattle.ring_rules.proofs.Steps.{link-first, link-last}
 use Rattle.ring.proofs.link.Statement.{statement}
@@ -6,11 +7,8 @@ use Rattle.ring.proofs.link.Tie as tie
 word-requires : tie.Need-word-requires
 word-requires c κs = search needs
 
-put-cell-requires : tie.Need-put-cell-requires
-put-cell-requires c κs = search needs
-
-put-cell-requires-2 : tie.Need-put-cell-requires-2
-put-cell-requires-2 c κs = search needs
+put-links-requires : tie.Need-put-links-requires
+put-links-requires c κs = search needs
 
 put-requires : tie.Need-put-requires
 put-requires c κs = search needs
@@ -18,17 +16,14 @@ put-requires c κs = search needs
 cell-requires : tie.Need-cell-requires
 cell-requires c κs = search needs
 
-put-cell-requires-3 : tie.Need-put-cell-requires-3
-put-cell-requires-3 c κs = search needs
+put-cell-requires : tie.Need-put-cell-requires
+put-cell-requires c κs = search needs
 
-put-cell-requires-4 : tie.Need-put-cell-requires-4
-put-cell-requires-4 c κs = search needs
+put-cell-requires-2 : tie.Need-put-cell-requires-2
+put-cell-requires-2 c κs = search needs
 
-put-cell-requires-5 : tie.Need-put-cell-requires-5
-put-cell-requires-5 c κs = search needs
-
-put-cell-requires-6 : tie.Need-put-cell-requires-6
-put-cell-requires-6 c κs = search needs
+put-links-requires-2 : tie.Need-put-links-requires-2
+put-links-requires-2 c κs = search needs
 
 same-length : tie.Need-same-length
 same-length c = search needs
@@ -37,11 +32,10 @@ returns : tie.Need-returns
 returns c =
     let d = c .before .before in
     let e = d .before .before .before .before in
-    let f = e .before .before .before .before in
-    let g = f .before .before in
+    let g = e .before .before in
     let a = g .before .before .before .before .args in
     link-first (a .head) (a .next-at) (a .prev-at) (a .step) (a .p) (a .t .now) _ _ _ _
-    (g .before .word .ensures) (g .if1 .taken) (f .put-cell .ensures) (e .put-cell2 .ensures) (d .put .ensures)
+    (g .before .word .ensures) (g .if1 .taken) refl (e .put-links .ensures) (d .put .ensures)
 
 same-length-2 : tie.Need-same-length-2
 same-length-2 c = search needs
@@ -51,26 +45,23 @@ returns-2 c =
     let d = c .before .before in
     let e = d .before .before .before .before in
     let f = e .before .before .before .before in
-    let g = f .before .before .before .before in
-    let k = g .before .before in
+    let k = f .before .before in
     let l = k .before .before in
     let a = l .before .before .before .before .args in
     link-last (a .head) (a .next-at) (a .prev-at) (a .step) (a .p) (a .t .now) _ _ _ _ _ _
-    (l .before .word .ensures) (l .if1 .left) (k .cell .ensures) (g .put-cell3 .ensures) (f .put-cell4 .ensures) (e .put-cell5 .ensures) (d .put-cell6 .ensures)
+    (l .before .word .ensures) (l .if1 .left) (k .cell .ensures) (f .put-cell .ensures) (e .put-cell2 .ensures) refl (d .put-links2 .ensures)
 
 pub link-spec : {M : Type 1} → statement M
 link-spec =
     tie.close
     (tie.spec
     word-requires
-    put-cell-requires
-    put-cell-requires-2
+    put-links-requires
     put-requires
     cell-requires
-    put-cell-requires-3
-    put-cell-requires-4
-    put-cell-requires-5
-    put-cell-requires-6
+    put-cell-requires
+    put-cell-requires-2
+    put-links-requires-2
     same-length
     returns
     same-length-2

@@ -1,76 +1,62 @@
 use borrow.Author.Needs.{needs}
-use mathlib.Core.Path.{sym, _∙_}
-use Rattle.lists.proofs.Bools.{not-yes, not-no}
-use Rattle.counter.proofs.Tables.{alignment-yes}
-use Rattle.buddy_decide.proofs.Tests.{decide-mask, decide-zero, decide-over, size-is, level-below, decide-sized, sized-for}
+use mathlib.Core.List.{[]}
+use mathlib.Core.Path.{subst}
+use Rattle.buddy_stores.specs.Tables.{tables}
+use Rattle.buddy_decide.specs.Plans.{LookOf}
+use Rattle.buddy_decide.proofs.Tests.{look-buys}
 use Rattle.buddy_decide.proofs.deciding.decide.Statement.{statement}
 use Rattle.buddy_decide.proofs.deciding.decide.Tie as tie
 
-is-alignment-requires : tie.Need-is-alignment-requires
-is-alignment-requires c κs = search needs
+look-requires : tie.Need-look-requires
+look-requires c κs = search needs
+
+enum-known-looked : tie.Need-enum-known-looked
+enum-known-looked c = search needs
+
+enum-known-looked-2 : tie.Need-enum-known-looked-2
+enum-known-looked-2 c = search needs
+
+enum-known-looked-3 : tie.Need-enum-known-looked-3
+enum-known-looked-3 c = search needs
+
+decide-buy-requires : tie.Need-decide-buy-requires
+decide-buy-requires c κs =
+    let k = c .before .before .before in
+    let b = k .before .before .before .before in
+    let a = b .args in
+    let f = subst (LookOf (a .s) (a .size) (a .mask) (tables (a .head .now) [] [] (a .index .now) (a .tree .now))) (c .before .looked3 .given .1) (k .look .ensures) in
+    (b .pre .0, b .pre .1, f .0, f .1)
 
 returns : tie.Need-returns
 returns c =
-    let m = c .before in
-    let a = m .before .before .before .before .args in
-    (decide-mask (a .s) (a .h) (a .objects) (a .size) (a .mask) (a .head .now) (a .index .now) (a .tree .now) (sym (m .is-alignment .ensures) ∙ not-yes _ (c .if1 .taken)), tt)
+    let k = c .before .before .before in
+    let a = k .before .before .before .before .args in
+    let f = subst (LookOf (a .s) (a .size) (a .mask) (tables (a .head .now) [] [] (a .index .now) (a .tree .now))) (c .before .looked .given .1) (k .look .ensures) in
+    (f (a .h) (a .objects), tt)
 
 returns-2 : tie.Need-returns-2
 returns-2 c =
-    let m = c .before .before in
-    let a = m .before .before .before .before .args in
-    (decide-zero (a .s) (a .h) (a .objects) (a .size) (a .mask) (a .head .now) (a .index .now) (a .tree .now) (sym (m .is-alignment .ensures) ∙ not-no _ (c .before .if1 .left)) (c .if2 .taken), tt)
-
-size-for-requires : tie.Need-size-for-requires
-size-for-requires c κs =
-    let m = c .before .before in
-    let b = m .before .before .before .before in
-    (b .pre .0, alignment-yes (b .args .mask) (sym (m .is-alignment .ensures) ∙ not-no _ (c .before .if1 .left)))
-
-enum-known-raised : tie.Need-enum-known-raised
-enum-known-raised c = search needs
-
-decide-sized-requires : tie.Need-decide-sized-requires
-decide-sized-requires c κs =
-    let z = c .before .before .before in
-    let m = z .before .before .before in
-    let b = m .before .before .before .before in
-    let a = b .args in
-    let size = size-is (a .s) (a .size) (a .mask) _ (z .size-for .ensures) _ (c .before .raised .given .1) in
-    (b .pre .0, b .pre .1, level-below (a .s) (a .size) (a .mask) _ size (b .pre .0) (search needs))
-
-enum-told : tie.Need-enum-told
-enum-told c = search needs
+    let k = c .before .before .before in
+    let a = k .before .before .before .before .args in
+    let f = subst (LookOf (a .s) (a .size) (a .mask) (tables (a .head .now) [] [] (a .index .now) (a .tree .now))) (c .before .looked2 .given .1) (k .look .ensures) in
+    (f .0 (a .h) (a .objects), (f .1, f .2))
 
 returns-3 : tie.Need-returns-3
 returns-3 c =
-    let z = c .before .before .before .before in
-    let m = z .before .before .before in
-    let b = m .before .before .before .before in
-    let a = b .args in
-    let size = size-is (a .s) (a .size) (a .mask) _ (z .size-for .ensures) _ (c .before .before .raised .given .1) in
-    let aligned = sym (m .is-alignment .ensures) ∙ not-no _ (z .before .before .if1 .left) in
-    (decide-sized (a .s) (a .h) (a .objects) (a .size) (a .mask) (a .head .now) (a .index .now) (a .tree .now) _ _ size aligned (search needs) (c .decide-sized .ensures .0), sized-for (a .s) (a .size) (a .mask) _ size (c .decide-sized .result) (c .decide-sized .ensures .1))
-
-returns-4 : tie.Need-returns-4
-returns-4 c =
-    let z = c .before .before in
-    let m = z .before .before .before in
-    let b = m .before .before .before .before in
-    let a = b .args in
-    let aligned = sym (m .is-alignment .ensures) ∙ not-no _ (z .before .before .if1 .left) in
-    (decide-over (a .s) (a .h) (a .objects) (a .size) (a .mask) (a .head .now) (a .index .now) (a .tree .now) _ (z .size-for .ensures) (b .pre .0) aligned (search needs) (c .enum-told .given .1), tt)
+    let k = c .before .before .before .before in
+    let a = k .before .before .before .before .args in
+    let f = subst (LookOf (a .s) (a .size) (a .mask) (tables (a .head .now) [] [] (a .index .now) (a .tree .now))) (c .before .before .looked3 .given .1) (k .look .ensures) in
+    look-buys (a .s) (a .size) (a .mask) (tables (a .head .now) [] [] (a .index .now) (a .tree .now)) _ (a .h) (a .objects) (c .decide-buy .result) f (c .decide-buy .ensures .0) (c .decide-buy .ensures .1)
 
 pub decide-spec : {M : Type 1} → statement M
 decide-spec =
     tie.close
     (tie.spec
-    is-alignment-requires
+    look-requires
+    enum-known-looked
+    enum-known-looked-2
+    enum-known-looked-3
+    decide-buy-requires
     returns
     returns-2
-    size-for-requires
-    enum-known-raised
-    decide-sized-requires
-    enum-told
-    returns-3
-    returns-4)
+    returns-3)

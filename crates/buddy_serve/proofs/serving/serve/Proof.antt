@@ -1,10 +1,11 @@
 use borrow.Author.Needs.{needs}
-use mathlib.Core.Path.{ap, _∙_}
+use mathlib.Core.Path.{sym, ap, subst}
 use Prim.Native.Nat.{ℕ, _+_}
 use native.Mathlib.Omega.{arith}
-use Rattle.book_rules.specs.Book.{takenOf}
-use Rattle.buddy_lend.proofs.Booked.{place-in}
-use Rattle.buddy_serve.proofs.Served.{same-given, still-enters, still-roomy, loan-done, served-done}
+use Rattle.slab.specs.declared.Taken.{Taken}
+use Rattle.book_rules.specs.Ready.{Opens}
+use Rattle.buddy_lend.proofs.Booked.{taken-is, place-in, booked-done}
+use Rattle.buddy_serve.proofs.Served.{same-given, still-next, still-roomy, loan-done, served-done}
 use Rattle.buddy_serve.proofs.serving.serve.Statement.{statement}
 use Rattle.buddy_serve.proofs.serving.serve.Tie as tie
 
@@ -23,8 +24,8 @@ add-chunk-requires c κs = search needs
 word-requires-3 : tie.Need-word-requires-3
 word-requires-3 c κs = search needs
 
-add-t31 : tie.Need-add-t31
-add-t31 c =
+add-t32 : tie.Need-add-t32
+add-t32 c =
     let m = c .before .before .before .before .before .before .before .before in
     let k = m .before .before .before .before in
     let p = k .before .before in
@@ -44,20 +45,30 @@ split-down-requires c κs =
     let w = p .before .before in
     let b = w .before .before .before .before .before .before .before in
     let a = b .args in
-    let place = place-in (a .s) (a .head .now) (a .index .now) _ (p .word2 .ensures) _ (k .next-place .ensures) (b .pre .enters .place) in (
+    let next = taken-is (a .head .now) (a .index .now) _ (p .word2 .ensures) _ (k .next-place .ensures) in
+    let place = place-in (a .s) (a .head .now) (a .index .now) _ next (b .pre .enters .opens .place) in (
       (b .pre .enters .fit .pairs-most, omega (arith, w .word .ensures, b .pre .below, b .pre .low), omega (arith, place, b .pre .enters .fit .store .loans-most)),
       still-roomy (a .s) (a .memory) (a .bytes) (a .head .now) (a .loans .now) (a .chunks .now) (a .index .now) (a .tree .now) _ _ _ (m .add-chunk .ensures .1) _ (w .word .ensures) _ (m .add-chunk .ensures .0) (a .level) (b .pre .roomy),
     )
 
+put-node-requires : tie.Need-put-node-requires
+put-node-requires c κs =
+    let k = c .before .before .before .before .before .before .before .before .before .before .before .before .before .before .before .before .before .before in
+    let p = k .before .before in
+    let b = p .before .before .before .before .before .before .before .before .before in
+    let a = b .args in
+    let next = taken-is (a .head .now) (a .index .now) _ (p .word2 .ensures) _ (k .next-place .ensures) in
+    let place = place-in (a .s) (a .head .now) (a .index .now) _ next (b .pre .enters .opens .place) in
+    (b .pre .enters .fit, omega (arith, place, b .pre .enters .fit .store .loans-most))
+
 book-loan-requires : tie.Need-book-loan-requires
 book-loan-requires c κs =
-    let m = c .before .before .before .before .before .before .before .before .before .before .before .before .before .before .before .before in
-    let k = m .before .before .before .before in
+    let k = c .before .before .before .before .before .before .before .before .before .before .before .before .before .before .before .before .before .before .before .before .before .before .before .before in
     let p = k .before .before in
-    let w = p .before .before in
-    let b = w .before .before .before .before .before .before .before in
+    let b = p .before .before .before .before .before .before .before .before .before in
     let a = b .args in
-    (still-enters (a .s) (a .memory) (a .bytes) (a .head .now) (a .loans .now) (a .chunks .now) (a .index .now) (a .tree .now) _ _ _ (m .add-chunk .ensures .1) (b .pre .enters), ap (λ (x : ℕ). x + 1) (c .before .before .before .before .before .before .before .before .word3 .ensures))
+    let next = taken-is (a .head .now) (a .index .now) _ (p .word2 .ensures) _ (k .next-place .ensures) in
+    subst (λ (x : Taken). Opens (a .s .store .loans) (x .place) (a .loans .now) (a .index .now)) (sym next) (b .pre .enters .opens)
 
 same-length : tie.Need-same-length
 same-length c = search needs
@@ -76,17 +87,21 @@ same-length-5 c = search needs
 
 returns : tie.Need-returns
 returns c =
-    let m = c .before .before .before .before .before .before .before .before .before .before .before .before .before .before .before .before .before .before .before .before .before .before .before .before .before in
+    let d = c .before .before .before .before .before .before in
+    let q = d .before .before .before .before .before .before in
+    let n = q .before .before .before .before .before in
+    let g = n .before .before in
+    let m = g .before .before .before .before .before .before .before .before in
     let k = m .before .before .before .before in
     let p = k .before .before in
     let w = p .before .before in
     let b = w .before .before .before .before .before .before .before in
     let a = b .args in
-    let g = c .before .before .before .before .before .before .before .before .before .before .before .before .before .before .before .before .before in
-    let n = c .before .before .before .before .before .before .before .before .before .before .before .before .before .before .before in
-    let next = k .next-place .ensures ∙ ap (λ (x : ℕ). takenOf x (a .index .now)) (p .word2 .ensures) in (
+    let next = taken-is (a .head .now) (a .index .now) _ (p .word2 .ensures) _ (k .next-place .ensures) in
+    let still = still-next (a .s) (a .memory) (a .bytes) (a .head .now) (a .loans .now) (a .chunks .now) (a .index .now) (a .tree .now) _ _ _ (m .add-chunk .ensures .1) _ (p .word2 .ensures) _ (k .next-place .ensures) in
+    let booked = booked-done (a .s) _ (a .index .now) _ still _ (ap (λ (x : ℕ). x + 1) (g .word3 .ensures)) _ (a .loans .now) _ _ _ _ _ (q .put-node .ensures) (d .book-loan .ensures .0) (d .book-loan .ensures .1 .0) (d .book-loan .ensures .1 .1) in (
       loan-done (a .s) (a .memory) (a .bytes) (a .head .now) (a .loans .now) (a .chunks .now) (a .index .now) (a .tree .now) _ _ _ (m .add-chunk .ensures .1) _ (w .word .ensures) _ (m .add-chunk .ensures .0) (a .level) (a .size) _ (g .word3 .ensures),
-      served-done (a .s) (a .memory) (a .bytes) (a .head .now) (a .loans .now) (a .chunks .now) (a .index .now) (a .tree .now) _ _ _ (m .add-chunk .ensures .1) _ (w .word .ensures) _ (m .add-chunk .ensures .0) (a .level) _ next (a .size) _ _ _ _ _ _ (n .split-down .ensures .0) (n .split-down .ensures .1) (c .before .before .before .before .before .before .before .before .book-loan .ensures),
+      served-done (a .s) (a .memory) (a .bytes) (a .head .now) (a .loans .now) (a .chunks .now) (a .index .now) (a .tree .now) _ _ _ (m .add-chunk .ensures .1) _ (w .word .ensures) _ (m .add-chunk .ensures .0) (a .level) _ next (a .size) _ _ _ _ _ _ (n .split-down .ensures .0) (n .split-down .ensures .1) booked,
     )
 
 pub serve-spec : {M : Type 1} → statement M
@@ -98,9 +113,10 @@ serve-spec =
     next-place-requires
     add-chunk-requires
     word-requires-3
-    add-t31
+    add-t32
     sub-split-down
     split-down-requires
+    put-node-requires
     book-loan-requires
     same-length
     same-length-2

@@ -2,7 +2,7 @@ use borrow.Author.Needs.{needs}
 use mathlib.Core.Path.{sym, ap, _∙_}
 use Rattle.store_rules.specs.Shares.{holder}
 use Rattle.freelist_decide.specs.Plans.{planOf}
-use Rattle.freelist_calls.proofs.Asking.{ask-lends, ask-refused, ask-taken, ask-ordered}
+use Rattle.freelist_calls.proofs.Asking.{ask-lends, ask-opens, ask-refused, ask-taken, ask-ordered}
 use Rattle.freelist_calls.proofs.asks.ask.Statement.{statement}
 use Rattle.freelist_calls.proofs.asks.ask.Tie as tie
 
@@ -22,7 +22,10 @@ lend-requires : tie.Need-lend-requires
 lend-requires c κs =
     let p = c .before .before .before .before .before .before .before in
     let a = p .before .before .before .before .before .before .before .before .before .before .args in
-    ask-lends (a .s) (holder (a .s .store) (a .h)) (a .size) (a .mask) (a .head .now) (a .loans .now) (a .chunks .now) (a .regions .now) (a .index .now) _ (sym (ap planOf (c .before .before .before .before .before .plan2 .given .1)) ∙ p .plan-ask .ensures)
+    let e = sym (ap planOf (c .before .before .before .before .before .plan2 .given .1)) ∙ p .plan-ask .ensures in (
+      ask-lends (a .s) (holder (a .s .store) (a .h)) (a .size) (a .mask) (a .head .now) (a .loans .now) (a .chunks .now) (a .regions .now) (a .index .now) _ e,
+      ask-opens (a .s) (holder (a .s .store) (a .h)) (a .size) (a .mask) (a .head .now) (a .loans .now) (a .chunks .now) (a .regions .now) (a .index .now) _ e,
+    )
 
 answer-block-requires : tie.Need-answer-block-requires
 answer-block-requires c κs = search needs

@@ -3,7 +3,7 @@ use mathlib.Core.Path.{sym, ap, _∙_}
 use Rattle.store_rules.specs.Shares.{holding}
 use Rattle.freelist_rules.specs.Tables.{tables}
 use Rattle.store.specs.Comings.{comingOf}
-use Rattle.freelist_calls.proofs.Arriving.{arrived-ready, refused-done, went-done, lost-done}
+use Rattle.freelist_calls.proofs.Arriving.{arrived-ready, arrived-opens, refused-done, went-done, lost-done}
 use Rattle.freelist_calls.proofs.deliveries.deliver.Statement.{statement}
 use Rattle.freelist_calls.proofs.deliveries.deliver.Tie as tie
 
@@ -23,7 +23,10 @@ keep-chunk-requires : tie.Need-keep-chunk-requires
 keep-chunk-requires c κs =
     let p = c .before .before .before .before .before .before .before .before .before in
     let a = p .before .before .before .before .before .before .before .before .before .before .before .args in
-    arrived-ready (a .s) (holding (a .s .store) (a .h) (a .order)) (a .o) (tables (a .head .now) (a .loans .now) (a .chunks .now) (a .regions .now) (a .index .now)) _ _ (sym (p .plan-deliver .ensures) ∙ ap comingOf (c .before .before .before .before .before .before .before .coming2 .given .1)) _
+    let e = sym (p .plan-deliver .ensures) ∙ ap comingOf (c .before .before .before .before .before .before .before .coming2 .given .1) in (
+      arrived-ready (a .s) (holding (a .s .store) (a .h) (a .order)) (a .o) (tables (a .head .now) (a .loans .now) (a .chunks .now) (a .regions .now) (a .index .now)) _ _ e _,
+      arrived-opens (a .s) (holding (a .s .store) (a .h) (a .order)) (a .o) (tables (a .head .now) (a .loans .now) (a .chunks .now) (a .regions .now) (a .index .now)) _ _ e,
+    )
 
 enum-known-coming-3 : tie.Need-enum-known-coming-3
 enum-known-coming-3 c = search needs

@@ -1,6 +1,6 @@
 use borrow.Author.Needs.{needs}
 use mathlib.Core.Path.{_∙_}
-use Rattle.freelist_calls.proofs.Arriving.{lends-now, kept-done}
+use Rattle.freelist_calls.proofs.Arriving.{lends-now, opens-now, kept-done}
 use Rattle.freelist_calls.proofs.deliveries.keep_chunk.Statement.{statement}
 use Rattle.freelist_calls.proofs.deliveries.keep_chunk.Tie as tie
 
@@ -18,8 +18,10 @@ lend-requires c κs =
     let d = c .before .before .before .before .before .before .before .before .before .before in
     let n = d .before .before .before .before .before in
     let b = n .before .before .before .before .before .before .before .before .before in
-    let a = b .args in
-    lends-now (a .s) (a .h) (a .k) (a .memory) (a .head .now) (a .loans .now) (a .chunks .now) (a .regions .now) (a .index .now) _ _ _ _ (n .region-count .ensures) (d .add-chunk .ensures) (b .pre .1)
+    let a = b .args in (
+      lends-now (a .s) (a .h) (a .k) (a .memory) (a .head .now) (a .loans .now) (a .chunks .now) (a .regions .now) (a .index .now) _ _ _ _ (n .region-count .ensures) (d .add-chunk .ensures) (b .pre .0 .1),
+      opens-now (a .s) (a .h) (a .k) (a .memory) (a .head .now) (a .loans .now) (a .chunks .now) (a .regions .now) (a .index .now) _ _ _ (d .add-chunk .ensures) (b .pre .1),
+    )
 
 deliver-block-requires : tie.Need-deliver-block-requires
 deliver-block-requires c κs = search needs

@@ -18,7 +18,7 @@ let-go-requires c κs =
     let a = b .args in
     subst (λ (r : List ℕ). Frees (a .s) (a .h .objects) (a .head .now) (a .chunks .now) r (a .list .now))
     (sym (joined-is (a .s) (holder (a .s .store) (a .h)) (a .b) _ (a .loans .now) (a .regions .now) (a .index .now) _ _ _ (k .take-back .ensures)))
-    (b .pre .1)
+    (b .pre .0 .1)
 
 same-length : tie.Need-same-length
 same-length c = search needs

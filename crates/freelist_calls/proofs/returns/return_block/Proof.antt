@@ -6,7 +6,7 @@ use Rattle.counter.specs.Limits.{objectsMost}
 use Rattle.store_rules.specs.Shares.{holder}
 use Rattle.freelist_rules.specs.Tables.{tables}
 use Rattle.returning.specs.Backs.{backOf}
-use Rattle.freelist_calls.proofs.Returning.{returned-backs, returned-frees, return-refused, return-done}
+use Rattle.freelist_calls.proofs.Returning.{returned-backs, returned-strikes, returned-frees, return-refused, return-done}
 use Rattle.freelist_calls.proofs.returns.return_block.Statement.{statement}
 use Rattle.freelist_calls.proofs.returns.return_block.Tie as tie
 
@@ -29,10 +29,9 @@ carry-return-requires c κs =
     let b = p .before .before .before .before .before .before .before .before .before .before .before .before .before .before in
     let a = b .args in
     let few : a .h .objects ≤ objectsMost = omega (arith, b .good .1) in
-    let e = sym (ap backOf (w .plan2 .given .1)) ∙ p .plan-return .ensures in (
-      returned-backs (a .s) (a .h) (tables (a .head .now) (a .loans .now) (a .chunks .now) (a .regions .now) (a .index .now)) (a .list .now) few (a .b) _ e,
-      returned-frees (a .s) (a .h) (tables (a .head .now) (a .loans .now) (a .chunks .now) (a .regions .now) (a .index .now)) (a .list .now) few (a .b) _ e,
-    )
+    let e = sym (ap backOf (w .plan2 .given .1)) ∙ p .plan-return .ensures in
+    let t = tables (a .head .now) (a .loans .now) (a .chunks .now) (a .regions .now) (a .index .now) in
+    ((returned-backs (a .s) (a .h) t (a .list .now) few (a .b) _ e, returned-frees (a .s) (a .h) t (a .list .now) few (a .b) _ e), returned-strikes (a .s) (a .h) t (a .list .now) few (a .b) _ e)
 
 same-length : tie.Need-same-length
 same-length c = search needs

@@ -3,11 +3,14 @@ use Rattle.freelist_place.proofs.Writing.{given-done}
 use Rattle.freelist_place.proofs.backing.take_back.Statement.{statement}
 use Rattle.freelist_place.proofs.backing.take_back.Tie as tie
 
-add-t8 : tie.Need-add-t8
-add-t8 c = search needs
+add-strike : tie.Need-add-strike
+add-strike c = search needs
 
 join-requires : tie.Need-join-requires
 join-requires c κs = search needs
+
+word-requires : tie.Need-word-requires
+word-requires c κs = search needs
 
 strike-requires : tie.Need-strike-requires
 strike-requires c κs = search needs
@@ -24,11 +27,19 @@ same-length-3 c = search needs
 returns : tie.Need-returns
 returns c =
     let k = c .before .before .before .before in
-    let j = k .before .before .before .before .before in
+    let j = k .before .before .before .before .before .before .before in
     let a = j .before .before .before .before .before .before .args in
     given-done (a .s) (a .b) (a .at) (a .loans .now) (a .regions .now) (a .index .now) _ _ _ (j .join .ensures) (k .strike .ensures .0) (k .strike .ensures .1)
 
 pub take-back-spec : {M : Type 1} → statement M
 take-back-spec =
     tie.close
-    (tie.spec add-t8 join-requires strike-requires same-length same-length-2 same-length-3 returns)
+    (tie.spec
+    add-strike
+    join-requires
+    word-requires
+    strike-requires
+    same-length
+    same-length-2
+    same-length-3
+    returns)

@@ -1,4 +1,8 @@
 use borrow.Author.Needs.{needs}
+use mathlib.Core.Path.{sym, subst}
+use Prim.Native.Nat.{ℕ}
+use Rattle.book_rules.specs.Book.{takenOf}
+use Rattle.book_rules.specs.Ready.{Opens}
 use Rattle.freelist_place.proofs.Serving.{lent-done}
 use Rattle.freelist_place.proofs.lending.lend.Statement.{statement}
 use Rattle.freelist_place.proofs.lending.lend.Tie as tie
@@ -13,7 +17,11 @@ cut-requires : tie.Need-cut-requires
 cut-requires c κs = search needs
 
 enter-requires : tie.Need-enter-requires
-enter-requires c κs = search needs
+enter-requires c κs =
+    let w = c .before .before .before .before .before .before .before in
+    let b = w .before .before .before .before .before .before .before .before .before in
+    let a = b .args in
+    subst (λ (places : ℕ). Opens (a .s .store .loans) (takenOf places (a .index .now) .place) (a .loans .now) (a .index .now)) (sym (w .word .ensures)) (b .pre .1)
 
 count-loan-requires : tie.Need-count-loan-requires
 count-loan-requires c κs = search needs

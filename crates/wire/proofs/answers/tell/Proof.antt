@@ -1,49 +1,57 @@
 use borrow.Author.Needs.{needs}
-use Rattle.wire_rules.proofs.Told.{six-set}
+use mathlib.Core.Path.{refl}
+use native.Mathlib.Omega.{arith}
+use lib.ListN.{length-set}
+use Rattle.wire_rules.specs.Wire.{answerOut}
 use Rattle.wire.proofs.answers.tell.Statement.{statement}
 use Rattle.wire.proofs.answers.tell.Tie as tie
 
-put-requires : tie.Need-put-requires
-put-requires c κs = search needs
+slice-write-w : tie.Need-slice-write-w
+slice-write-w c = search needs
 
-put-requires-2 : tie.Need-put-requires-2
-put-requires-2 c κs = search needs
+slice-write-w-2 : tie.Need-slice-write-w-2
+slice-write-w-2 c = simp length-set (omega arith)
 
-put-requires-3 : tie.Need-put-requires-3
-put-requires-3 c κs = search needs
+slice-write-w-3 : tie.Need-slice-write-w-3
+slice-write-w-3 c = simp length-set (omega arith)
 
-put-requires-4 : tie.Need-put-requires-4
-put-requires-4 c κs = search needs
+slice-write-w-4 : tie.Need-slice-write-w-4
+slice-write-w-4 c = simp length-set (omega arith)
 
-put-requires-5 : tie.Need-put-requires-5
-put-requires-5 c κs = search needs
+slice-write-w-5 : tie.Need-slice-write-w-5
+slice-write-w-5 c = simp length-set (omega arith)
 
-put-requires-6 : tie.Need-put-requires-6
-put-requires-6 c κs = search needs
+slice-write-w-6 : tie.Need-slice-write-w-6
+slice-write-w-6 c = simp length-set (omega arith)
+
+tell-by-words-requires : tie.Need-tell-by-words-requires
+tell-by-words-requires c κs = search needs
 
 same-length : tie.Need-same-length
 same-length c = search needs
 
 returns : tie.Need-returns
-returns c =
-    let p6 = c .before .before in
-    let p5 = p6 .before .before .before .before in
-    let p4 = p5 .before .before .before .before in
-    let p3 = p4 .before .before .before .before in
-    let p2 = p3 .before .before .before .before in
-    let p1 = p2 .before .before .before .before in
-    let a = p1 .before .before .before .args in
-    six-set (a .w .now) _ _ _ _ _ _ (a .what) (a .a) (a .b) (a .c) (a .d) (p1 .put .ensures) (p2 .put2 .ensures) (p3 .put3 .ensures) (p4 .put4 .ensures) (p5 .put5 .ensures) (p6 .put6 .ensures)
+unfolding answerOut
+returns c = refl
+
+same-length-2 : tie.Need-same-length-2
+same-length-2 c = search needs
+
+returns-2 : tie.Need-returns-2
+returns-2 c = c .before .before .tell-by-words .ensures
 
 pub tell-spec : {M : Type 1} → statement M
 tell-spec =
     tie.close
     (tie.spec
-    put-requires
-    put-requires-2
-    put-requires-3
-    put-requires-4
-    put-requires-5
-    put-requires-6
+    slice-write-w
+    slice-write-w-2
+    slice-write-w-3
+    slice-write-w-4
+    slice-write-w-5
+    slice-write-w-6
+    tell-by-words-requires
     same-length
-    returns)
+    returns
+    same-length-2
+    returns-2)

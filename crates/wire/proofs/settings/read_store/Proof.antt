@@ -1,63 +1,70 @@
-use borrow.Author.Needs.{needs}
+use Prim.Native.Nat.{_≤_}
 use native.Mathlib.Omega.{arith}
-use Rattle.wire_rules.proofs.Settled.{settings-narrow}
+use lib.ListN.{length}
+use Rattle.wire_rules.proofs.Settled.{Narrow, settings-whole, settings-narrow}
 use Rattle.wire.proofs.settings.read_store.Statement.{statement}
 use Rattle.wire.proofs.settings.read_store.Tie as tie
 
-word-requires : tie.Need-word-requires
-word-requires c κs = search needs
+-- there are at least as many words as are read
+seven-words : (s : tie.Start) → 7 ≤ length (s .args .w .now)
+seven-words s = omega (arith, settings-whole (s .args .n) (s .args .w .now) (s .pre .0), s .pre .1)
+
+narrow-words : (s : tie.Start) → Narrow (s .args .w .now)
+narrow-words s = settings-narrow (s .args .n) (s .args .w .now) (s .pre .0)
+
+shared-slice-read-narrow : tie.Need-shared-slice-read-narrow
+shared-slice-read-narrow c = omega (arith, seven-words (c .before .before))
 
 narrow-requires : tie.Need-narrow-requires
 narrow-requires c κs =
-    let s = c .before .before in
-    let n = settings-narrow (s .args .n) (s .args .w .now) (s .pre) in
+    let n = narrow-words (c .before .before) in
     omega (arith, n .number-most, n .kind-most, n .properties-most)
 
-word-requires-2 : tie.Need-word-requires-2
-word-requires-2 c κs = search needs
+shared-slice-read-narrow-2 : tie.Need-shared-slice-read-narrow-2
+shared-slice-read-narrow-2 c = omega (arith, seven-words (c .before .before .before .before))
 
 narrow-requires-2 : tie.Need-narrow-requires-2
 narrow-requires-2 c κs =
-    let s = c .before .before .before .before in
-    let n = settings-narrow (s .args .n) (s .args .w .now) (s .pre) in
+    let n = narrow-words (c .before .before .before .before) in
     omega (arith, n .number-most, n .kind-most, n .properties-most)
 
-word-requires-3 : tie.Need-word-requires-3
-word-requires-3 c κs = search needs
+shared-slice-read-narrow-3 : tie.Need-shared-slice-read-narrow-3
+shared-slice-read-narrow-3 c = omega (arith, seven-words (c .before .before .before .before .before .before))
 
 narrow-requires-3 : tie.Need-narrow-requires-3
 narrow-requires-3 c κs =
-    let s = c .before .before .before .before .before .before in
-    let n = settings-narrow (s .args .n) (s .args .w .now) (s .pre) in
+    let n = narrow-words (c .before .before .before .before .before .before) in
     omega (arith, n .number-most, n .kind-most, n .properties-most)
 
-word-requires-4 : tie.Need-word-requires-4
-word-requires-4 c κs = search needs
+shared-slice-read-t13 : tie.Need-shared-slice-read-t13
+shared-slice-read-t13 c = omega (arith, seven-words (c .before .before .before .before .before .before .before .before))
 
-word-requires-5 : tie.Need-word-requires-5
-word-requires-5 c κs = search needs
+shared-slice-read-t16 : tie.Need-shared-slice-read-t16
+shared-slice-read-t16 c = omega (arith, seven-words (c .before .before .before .before .before .before .before .before .before))
 
-word-requires-6 : tie.Need-word-requires-6
-word-requires-6 c κs = search needs
+shared-slice-read-t18 : tie.Need-shared-slice-read-t18
+shared-slice-read-t18 c = omega (arith, seven-words (c .before .before .before .before .before .before .before .before .before .before))
 
-word-requires-7 : tie.Need-word-requires-7
-word-requires-7 c κs = search needs
+shared-slice-read-t21 : tie.Need-shared-slice-read-t21
+shared-slice-read-t21 c = omega (arith, seven-words (c .before .before .before .before .before .before .before .before .before .before .before))
 
 returns : tie.Need-returns
-returns c = cc
+returns c =
+    let p = c .before .before .before .before in
+    rw (p .before .before .before .before .narrow .ensures, p .before .before .narrow2 .ensures, p .narrow3 .ensures)
 
 pub read-store-spec : {M : Type 1} → statement M
 read-store-spec =
     tie.close
     (tie.spec
-    word-requires
+    shared-slice-read-narrow
     narrow-requires
-    word-requires-2
+    shared-slice-read-narrow-2
     narrow-requires-2
-    word-requires-3
+    shared-slice-read-narrow-3
     narrow-requires-3
-    word-requires-4
-    word-requires-5
-    word-requires-6
-    word-requires-7
+    shared-slice-read-t13
+    shared-slice-read-t16
+    shared-slice-read-t18
+    shared-slice-read-t21
     returns)

@@ -2,8 +2,8 @@ use borrow.Author.Needs.{needs}
 use mathlib.Core.Path.{refl, sym, _∙_}
 use Rattle.lists.proofs.Bools.{not-yes, not-no}
 use Rattle.buddy_decide.proofs.Tests.{pairs-are, take-full, take-none, take-spent, take-go}
-use Rattle.buddy_decide.proofs.deciding.decide_take.Statement.{statement}
-use Rattle.buddy_decide.proofs.deciding.decide_take.Tie as tie
+use Rattle.buddy_decide.proofs.deciding.look_take.Statement.{statement}
+use Rattle.buddy_decide.proofs.deciding.look_take.Tie as tie
 
 word-requires : tie.Need-word-requires
 word-requires c κs = search needs
@@ -15,7 +15,7 @@ returns : tie.Need-returns
 returns c =
     let p = c .before in
     let a = p .before .before .before .before .before .args in
-    (take-full (a .s) (a .level) (a .head .now) (a .index .now) (a .tree .now) (a .from) (sym (p .has-place .ensures) ∙ not-yes _ (c .if1 .taken)), tt)
+    λ h objects. take-full (a .s) (a .level) (a .head .now) (a .index .now) (a .tree .now) (a .from) (sym (p .has-place .ensures) ∙ not-yes _ (c .if1 .taken))
 
 sub-has-pairs : tie.Need-sub-has-pairs
 sub-has-pairs c = search needs
@@ -29,7 +29,7 @@ returns-2 c =
     let p = r .before .before in
     let w = p .before in
     let a = w .before .before .before .before .args in
-    (take-none (a .s) (a .level) (a .head .now) (a .index .now) (a .tree .now) (a .from) (sym (p .has-place .ensures) ∙ not-no _ (r .before .if1 .left)) (sym (pairs-are (a .s) (a .level) (a .head .now) (a .index .now) (a .tree .now) _ _ _ (w .word .ensures) (r .has-pairs .ensures)) ∙ not-yes _ (c .if2 .taken)), tt)
+    λ h objects. take-none (a .s) (a .level) (a .head .now) (a .index .now) (a .tree .now) (a .from) (sym (p .has-place .ensures) ∙ not-no _ (r .before .if1 .left)) (sym (pairs-are (a .s) (a .level) (a .head .now) (a .index .now) (a .tree .now) _ _ _ (w .word .ensures) (r .has-pairs .ensures)) ∙ not-yes _ (c .if2 .taken))
 
 word-requires-2 : tie.Need-word-requires-2
 word-requires-2 c κs = search needs
@@ -41,7 +41,7 @@ returns-3 c =
     let p = r .before .before in
     let w = p .before in
     let a = w .before .before .before .before .args in
-    (take-spent (a .s) (a .level) (a .head .now) (a .index .now) (a .tree .now) (a .from) _ (sym (p .has-place .ensures) ∙ not-no _ (r .before .if1 .left)) (sym (pairs-are (a .s) (a .level) (a .head .now) (a .index .now) (a .tree .now) _ _ _ (w .word .ensures) (r .has-pairs .ensures)) ∙ not-no _ (g .before .if2 .left)) (g .word2 .ensures) (c .if3 .taken), tt)
+    λ h objects. take-spent (a .s) (a .level) (a .head .now) (a .index .now) (a .tree .now) (a .from) _ (sym (p .has-place .ensures) ∙ not-no _ (r .before .if1 .left)) (sym (pairs-are (a .s) (a .level) (a .head .now) (a .index .now) (a .tree .now) _ _ _ (w .word .ensures) (r .has-pairs .ensures)) ∙ not-no _ (g .before .if2 .left)) (g .word2 .ensures) (c .if3 .taken)
 
 returns-4 : tie.Need-returns-4
 returns-4 c =
@@ -50,10 +50,10 @@ returns-4 c =
     let p = r .before .before in
     let w = p .before in
     let a = w .before .before .before .before .args in
-    (take-go (a .s) (a .level) (a .head .now) (a .index .now) (a .tree .now) (a .from) _ (sym (p .has-place .ensures) ∙ not-no _ (r .before .if1 .left)) (sym (pairs-are (a .s) (a .level) (a .head .now) (a .index .now) (a .tree .now) _ _ _ (w .word .ensures) (r .has-pairs .ensures)) ∙ not-no _ (g .before .if2 .left)) (g .word2 .ensures) (search needs), (refl, refl))
+    (λ h objects. take-go (a .s) (a .level) (a .head .now) (a .index .now) (a .tree .now) (a .from) _ (sym (p .has-place .ensures) ∙ not-no _ (r .before .if1 .left)) (sym (pairs-are (a .s) (a .level) (a .head .now) (a .index .now) (a .tree .now) _ _ _ (w .word .ensures) (r .has-pairs .ensures)) ∙ not-no _ (g .before .if2 .left)) (g .word2 .ensures) (search needs), refl, refl)
 
-pub decide-take-spec : {M : Type 1} → statement M
-decide-take-spec =
+pub look-take-spec : {M : Type 1} → statement M
+look-take-spec =
     tie.close
     (tie.spec
     word-requires

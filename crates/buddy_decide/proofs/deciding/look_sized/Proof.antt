@@ -1,17 +1,14 @@
 use borrow.Author.Needs.{needs}
-use mathlib.Core.Path.{ap, _∙_, subst}
-use Prim.Native.Nat.{ℕ}
 use mathlib.Core.List.{[]}
 use native.Mathlib.Omega.{arith}
 use Rattle.rounding_rules.specs.Raising.{levelOf}
 use Rattle.rounding_rules.proofs.Masks.{power-top}
 use Rattle.buddy_stores.specs.Tables.{tables}
 use Rattle.buddy_outcomes.specs.Ask.{foundAt}
-use Rattle.buddy_decide.specs.Plans.{Sized}
 use Rattle.buddy_seek.proofs.Reading.{sought-at, sought-order}
-use Rattle.buddy_decide.proofs.Tests.{Sizing, fits-yes, sized-not, sized-at, sized-nowhere, found-low, none-sized}
-use Rattle.buddy_decide.proofs.deciding.decide_sized.Statement.{statement}
-use Rattle.buddy_decide.proofs.deciding.decide_sized.Tie as tie
+use Rattle.buddy_decide.proofs.Tests.{fits-yes, sized-not, found-low, look-at, look-nowhere}
+use Rattle.buddy_decide.proofs.deciding.look_sized.Statement.{statement}
+use Rattle.buddy_decide.proofs.deciding.look_sized.Tie as tie
 
 cast-node-bytes : tie.Need-cast-node-bytes
 cast-node-bytes c = search needs
@@ -23,7 +20,7 @@ returns : tie.Need-returns
 returns c =
     let n = c .before in
     let a = n .before .before .before .before .args in
-    (sized-not (a .s) (levelOf (a .size) (a .s .minimal)) (a .head .now) (a .index .now) (a .tree .now) (a .h) (a .objects) (a .size) (foundAt (a .s) (levelOf (a .size) (a .s .minimal)) (tables (a .head .now) [] [] (a .index .now) (a .tree .now))) _ (n .node-bytes .ensures .0) (c .if1 .taken), tt)
+    λ h objects. sized-not (a .s) (levelOf (a .size) (a .s .minimal)) (a .head .now) (a .index .now) (a .tree .now) h objects (a .size) (foundAt (a .s) (levelOf (a .size) (a .s .minimal)) (tables (a .head .now) [] [] (a .index .now) (a .tree .now))) _ (n .node-bytes .ensures .0) (c .if1 .taken)
 
 level-requires : tie.Need-level-requires
 level-requires c κs = search needs
@@ -46,8 +43,8 @@ seek-requires c κs =
 enum-known-found : tie.Need-enum-known-found
 enum-known-found c = search needs
 
-decide-take-requires : tie.Need-decide-take-requires
-decide-take-requires c κs =
+look-take-requires : tie.Need-look-take-requires
+look-take-requires c κs =
     let k = c .before .before .before in
     let w = k .before in
     let v = w .before in
@@ -62,18 +59,6 @@ decide-take-requires c κs =
 enum-known-found-2 : tie.Need-enum-known-found-2
 enum-known-found-2 c = search needs
 
-decide-buy-requires : tie.Need-decide-buy-requires
-decide-buy-requires c κs =
-    let k = c .before .before .before in
-    let w = k .before in
-    let v = w .before in
-    let n = v .before .before in
-    let b = n .before .before .before .before in
-    let a = b .args in
-    let fits = fits-yes (a .s) (a .size) _ (n .node-bytes .ensures .0) (v .before .if1 .left) in
-    let found = sought-order (a .s) _ (a .head .now) (a .tree .now) _ _ (w .word .ensures) (k .seek .ensures) _ (c .before .found2 .given .1) in
-    (b .pre .0, b .pre .1, omega (arith, v .level .ensures, b .pre .2 fits), found .1)
-
 returns-2 : tie.Need-returns-2
 returns-2 c =
     let k = c .before .before .before .before in
@@ -84,14 +69,12 @@ returns-2 c =
     let a = b .args in
     let l = v .level .result in
     let fits = fits-yes (a .s) (a .size) _ (n .node-bytes .ensures .0) (v .before .if1 .left) in
-    let found = sought-at (a .s) l (a .head .now) (a .tree .now) _ _ (w .word .ensures) (k .seek .ensures) _ _ (c .before .before .found .given .1) in (
-      sized-at (a .s) l (a .head .now) (a .index .now) (a .tree .now) (a .h) (a .objects) (a .size) _ _ _ fits found (c .decide-take .ensures .0) ∙ ap (λ (x : ℕ). Sizing (a .s) x (a .head .now) (a .index .now) (a .tree .now) (a .h) (a .objects) (a .size) (foundAt (a .s) x (tables (a .head .now) [] [] (a .index .now) (a .tree .now)))) (v .level .ensures),
-      subst (λ (x : ℕ). Sized (a .size) x (c .decide-take .result)) (v .level .ensures) (c .decide-take .ensures .1),
-    )
+    let found = sought-at (a .s) l (a .head .now) (a .tree .now) _ _ (w .word .ensures) (k .seek .ensures) _ _ (c .before .before .found .given .1) in
+    look-at (a .s) l (a .head .now) (a .index .now) (a .tree .now) (a .size) _ (v .level .ensures) fits _ (c .look-take .result) found (c .look-take .ensures)
 
 returns-3 : tie.Need-returns-3
 returns-3 c =
-    let k = c .before .before .before .before in
+    let k = c .before .before .before in
     let w = k .before in
     let v = w .before in
     let n = v .before .before in
@@ -99,13 +82,11 @@ returns-3 c =
     let a = b .args in
     let l = v .level .result in
     let fits = fits-yes (a .s) (a .size) _ (n .node-bytes .ensures .0) (v .before .if1 .left) in
-    let found = sought-order (a .s) l (a .head .now) (a .tree .now) _ _ (w .word .ensures) (k .seek .ensures) _ (c .before .before .found2 .given .1) in (
-      sized-nowhere (a .s) l (a .head .now) (a .index .now) (a .tree .now) (a .h) (a .objects) (a .size) _ _ fits (found .0) (c .decide-buy .ensures .0) ∙ ap (λ (x : ℕ). Sizing (a .s) x (a .head .now) (a .index .now) (a .tree .now) (a .h) (a .objects) (a .size) (foundAt (a .s) x (tables (a .head .now) [] [] (a .index .now) (a .tree .now)))) (v .level .ensures),
-      none-sized (c .decide-buy .result) (a .size) (levelOf (a .size) (a .s .minimal)) (c .decide-buy .ensures .1),
-    )
+    let found = sought-order (a .s) l (a .head .now) (a .tree .now) _ _ (w .word .ensures) (k .seek .ensures) _ (c .before .found2 .given .1) in
+    (omega (arith, v .level .ensures, b .pre .2 fits), found .1, look-nowhere (a .s) l (a .head .now) (a .index .now) (a .tree .now) (a .size) _ (v .level .ensures) fits (found .0))
 
-pub decide-sized-spec : {M : Type 1} → statement M
-decide-sized-spec =
+pub look-sized-spec : {M : Type 1} → statement M
+look-sized-spec =
     tie.close
     (tie.spec
     cast-node-bytes
@@ -116,8 +97,7 @@ decide-sized-spec =
     word-requires
     seek-requires
     enum-known-found
-    decide-take-requires
+    look-take-requires
     enum-known-found-2
-    decide-buy-requires
     returns-2
     returns-3)

@@ -1,0 +1,47 @@
+use native.Mathlib.Omega.{arith}
+use native.Mathlib.Nat.{mod-lt}
+use mathlib.Core.Path.{ap, _∙_}
+use Prim.Native.Nat.{ℕ, _%_}
+use lib.ListN.{set}
+use Rattle.book_rules.specs.Book.{vacatedAt, firstOf, nextOf}
+use borrow.Author.Needs.{needs}
+use Rattle.book.proofs.enter_at.Statement.{statement}
+use Rattle.book.proofs.enter_at.Tie as tie
+
+rem-i : tie.Need-rem-i
+rem-i c = search needs
+
+first-before-requires : tie.Need-first-before-requires
+first-before-requires c κs = search needs
+
+write-loan-requires : tie.Need-write-loan-requires
+write-loan-requires c κs = search needs
+
+put-first-requires : tie.Need-put-first-requires
+put-first-requires c κs = let o = c .before .before .before .before .before .before .before .before .before .before .before in let q = o .pre in (omega (arith, mod-lt (o .args .l .serial) (q .some), q .index-long), omega (arith, q .place, q .index-long))
+
+same-length : tie.Need-same-length
+same-length c = search needs
+
+same-length-2 : tie.Need-same-length-2
+same-length-2 c = search needs
+
+returns : tie.Need-returns
+returns c =
+    let d = c .before .before in
+    let e = d .before .before .before .before in
+    let f = e .before .before in
+    let a = f .before .before .before .before .before .before .args in
+    (e .write-loan .ensures, d .put-first .ensures ∙ ap (λ (x : ℕ). set (set (set (a .index .now) vacatedAt (a .t .slab .vacant)) (nextOf (a .t .place)) x) (firstOf (a .l .serial % a .n)) (a .t .place)) (f .first-before .ensures))
+
+pub enter-at-spec : {M : Type 1} → statement M
+enter-at-spec =
+    tie.close
+    (tie.spec
+    rem-i
+    first-before-requires
+    write-loan-requires
+    put-first-requires
+    same-length
+    same-length-2
+    returns)

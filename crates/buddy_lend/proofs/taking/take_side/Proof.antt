@@ -1,0 +1,106 @@
+use borrow.Author.Needs.{needs}
+use mathlib.Core.Path.{sym, ap, _∙_}
+use mathlib.Core.Logic.{⊎-elim}
+use Prim.Native.Nat.{ℕ}
+use lib.ListN.{getD}
+use Rattle.buddy_rules.specs.Levels.{sideOf}
+use Rattle.buddy_levels_rules.specs.Level.{tagAt, pairCell, ringHead}
+use Rattle.buddy_stores.specs.Moves.{Cut}
+use Rattle.buddy_lend.proofs.Sides.{node-left, node-right, took-whole, still-roomy, took-split}
+use Rattle.buddy_lend.proofs.taking.take_side.Statement.{statement}
+use Rattle.buddy_lend.proofs.taking.take_side.Tie as tie
+
+level-from-requires : tie.Need-level-from-requires
+level-from-requires c κs = search needs
+
+mul-node : tie.Need-mul-node
+mul-node c = search needs
+
+mul-node-2 : tie.Need-mul-node-2
+mul-node-2 c = search needs
+
+add-node : tie.Need-add-node
+add-node c = search needs
+
+mul-acquire : tie.Need-mul-acquire
+mul-acquire c = search needs
+
+add-acquire : tie.Need-add-acquire
+add-acquire c = search needs
+
+acquire-requires : tie.Need-acquire-requires
+acquire-requires c κs =
+    let f = c .before .before .before in
+    let b = f .before .before in
+    let a = b .args in
+    let at = sym (f .level-from .ensures .0) in
+    (search needs, (b .pre .1 .0 .0 ∙ ap (λ (x : ℕ). ringHead x (a .tree .now)) at, b .pre .1 .0 .1 ∙ ap (λ (x : ℕ). sideOf (getD (a .tree .now) (pairCell x tagAt (a .h)) 0)) at))
+
+acquire-requires-2 : tie.Need-acquire-requires-2
+acquire-requires-2 c κs =
+    let f = c .before .before .before in
+    let b = f .before .before in
+    let a = b .args in
+    let at = sym (f .level-from .ensures .0) in
+    (search needs, (b .pre .1 .0 .0 ∙ ap (λ (x : ℕ). ringHead x (a .tree .now)) at, b .pre .1 .0 .1 ∙ ap (λ (x : ℕ). sideOf (getD (a .tree .now) (pairCell x tagAt (a .h)) 0)) at))
+
+sub-split-down : tie.Need-sub-split-down
+sub-split-down c = search needs
+
+split-down-requires : tie.Need-split-down-requires
+split-down-requires c κs =
+    let q = c .before .before .before in
+    let i = q .before .before .before in
+    let f = i .before in
+    let b = f .before .before in
+    let a = b .args in
+    let node = ⊎-elim (λ x. node-left (a .pairs) (a .from) (a .tree .now) (a .h) (a .left) (b .pre .1 .0 .0) (b .pre .1 .0 .1) _ (x .0 .taken) (x .1)) (λ x. node-right (a .pairs) (a .from) (a .tree .now) (a .h) (a .left) (b .pre .1 .0 .0) (b .pre .1 .0 .1) _ (x .0 .left) (x .1)) (i .if1 .came) in
+    (search needs, still-roomy (a .pairs) (a .from) (a .tree .now) (a .level) (a .chunk) (a .offset) (a .loan) _ _ node (f .level-from .ensures .0) _ (q .acquire2 .ensures) (b .pre .1 .1))
+
+same-length : tie.Need-same-length
+same-length c = search needs
+
+returns : tie.Need-returns
+returns c =
+    let q = c .before .before in
+    let i = q .before .before .before in
+    let f = i .before in
+    let b = f .before .before in
+    let a = b .args in
+    let node = ⊎-elim (λ x. node-left (a .pairs) (a .from) (a .tree .now) (a .h) (a .left) (b .pre .1 .0 .0) (b .pre .1 .0 .1) _ (x .0 .taken) (x .1)) (λ x. node-right (a .pairs) (a .from) (a .tree .now) (a .h) (a .left) (b .pre .1 .0 .0) (b .pre .1 .0 .1) _ (x .0 .left) (x .1)) (i .if1 .came) in
+    let whole = took-whole (a .pairs) (a .from) (a .tree .now) (a .level) (a .chunk) (a .offset) (a .loan) _ _ node (f .level-from .ensures .0) _ (q .before .before .if2 .taken) (q .acquire .ensures) in
+    (sym (ap (λ (x : Cut). x .node) whole), sym (ap (λ (x : Cut). x .tree) whole))
+
+same-length-2 : tie.Need-same-length-2
+same-length-2 c = search needs
+
+returns-2 : tie.Need-returns-2
+returns-2 c =
+    let d = c .before .before in
+    let q = d .before .before .before .before in
+    let i = q .before .before .before in
+    let f = i .before in
+    let b = f .before .before in
+    let a = b .args in
+    let node = ⊎-elim (λ x. node-left (a .pairs) (a .from) (a .tree .now) (a .h) (a .left) (b .pre .1 .0 .0) (b .pre .1 .0 .1) _ (x .0 .taken) (x .1)) (λ x. node-right (a .pairs) (a .from) (a .tree .now) (a .h) (a .left) (b .pre .1 .0 .0) (b .pre .1 .0 .1) _ (x .0 .left) (x .1)) (i .if1 .came) in
+    let split = took-split (a .pairs) (a .from) (a .tree .now) (a .level) (a .chunk) (a .offset) (a .loan) _ _ node (f .level-from .ensures .0) _ (q .acquire2 .ensures) in
+    (d .split-down .ensures .0 ∙ ap (λ (x : Cut). x .node) split, d .split-down .ensures .1 ∙ ap (λ (x : Cut). x .tree) split)
+
+pub take-side-spec : {M : Type 1} → statement M
+take-side-spec =
+    tie.close
+    (tie.spec
+    level-from-requires
+    mul-node
+    mul-node-2
+    add-node
+    mul-acquire
+    add-acquire
+    acquire-requires
+    acquire-requires-2
+    sub-split-down
+    split-down-requires
+    same-length
+    returns
+    same-length-2
+    returns-2)

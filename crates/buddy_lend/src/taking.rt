@@ -1,0 +1,41 @@
+// The ready side of a level's head pair, taken and split down to the asked level.
+ghost use mathlib.Core.Path.{_≡_};
+ghost use Prim.Native.Nat.{_-_, _≤_, _<_};
+ghost use lib.ListN.{getD};
+ghost use Rattle.counter.specs.Limits.{levelsMost, pairsMost, loansMost};
+ghost use Rattle.buddy_rules.specs.Levels.{sideBy, sideOf};
+ghost use Rattle.buddy_levels_rules.specs.Level.{tagAt, pairCell, ringHead, acquired};
+ghost use Rattle.buddy_stores.specs.Tables.{levelAfter};
+ghost use Rattle.buddy_stores.specs.Moves.{readyNode, splitDown};
+ghost use Rattle.buddy_moves.specs.Roomy.{Roomy};
+use buddy_shape::level_from;
+
+// The head pair h of the level `from`, ready at its left or its right. A side of the asked level itself is the loan's at once.
+// Answers the loan's node.
+pub fn take_side(
+    tree: &mut [u64],
+    pairs: usize,
+    level: usize,
+    from: usize,
+    h: u64,
+    left: bool,
+    chunk: u64,
+    offset: u64,
+    loan: u64,
+) -> u64
+    requires { ⌜ (pairs ≤ pairsMost) × (level ≤ from) × (from < levelsMost) × (loan < loansMost) × (h < pairsMost) ⌝ }
+    requires { ⌜ (h ≡ ringHead (levelAfter pairs from) (now tree)) × (sideBy left ≡ sideOf (getD (now tree) (pairCell (levelAfter pairs from) tagAt h) 0)) ⌝ }
+    requires { ⌜ Roomy pairs level chunk offset (readyNode pairs from (now tree)) (from - level) (acquired (levelAfter pairs from) 0 (now tree)) ⌝ }
+    ensures { λ r. ⌜ r ≡ splitDown pairs level chunk offset loan (readyNode pairs from (now (tree .entry))) (from - level) (acquired (levelAfter pairs from) 0 (now (tree .entry))) .node ⌝ }
+    ensures { λ _. ⌜ now (tree .exit) ≡ splitDown pairs level chunk offset loan (readyNode pairs from (now (tree .entry))) (from - level) (acquired (levelAfter pairs from) 0 (now (tree .entry))) .tree ⌝ }
+{
+    let base = level_from(pairs, from);
+    let node = if left { 2 * h } else { 2 * h + 1 };
+    if from == level {
+        buddy_levels::acquire(tree, base, h, left, 2 * loan + 1);
+        node
+    } else {
+        buddy_levels::acquire(tree, base, h, left, 0);
+        buddy_moves::split_down(tree, pairs, level, from - level, chunk, offset, loan, node)
+    }
+}
