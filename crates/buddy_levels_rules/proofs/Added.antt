@@ -13,7 +13,8 @@ use Rattle.lists.proofs.Bools.{same?, lt-or-le}
 use Rattle.slab.specs.Slab.{nowhere, changed, Parted}
 use Rattle.slab.specs.declared.Slab.{Slab}
 use Rattle.slab.proofs.Places.{chain-same, changed-here, changed-other, still-free, insert-last, inserted-parted}
-use Rattle.buddy_levels_rules.specs.Level.{usedAt, pairWords, tagAt, chunkAt, offAt, leftAt, rightAt, nextAt, prevAt, upAt, levelWords, fieldAt, pairCell, entOf, pairIn, ringHead, slabIn, spotIn, added, vacantIn, vacantAfter, Good}
+use Rattle.ring_rules.specs.Ring.{RingOf}
+use Rattle.buddy_levels_rules.specs.Level.{ringAt, usedAt, pairWords, tagAt, chunkAt, offAt, leftAt, rightAt, nextAt, prevAt, upAt, levelWords, fieldAt, pairCell, entOf, pairIn, ringHead, slabIn, spotIn, added, vacantIn, vacantAfter, Good}
 use Rattle.buddy_levels_rules.proofs.Stores.{puts, length-puts, kept, latest, reads}
 use Rattle.buddy_levels_rules.proofs.Rows.{addedRow, added-puts}
 use Rattle.buddy_levels_rules.proofs.Cells.{plain-in, ent-same, pair-used, pair-unused}
@@ -149,6 +150,13 @@ module _ (b c o n w : ℕ) (t : List ℕ) where
       ready = λ x m. ⊎-elim (λ q. rw (q, now inside 8 (omega arith)) (omega arith)) (λ i. absurd i) m;
       all = λ x h k. ⊎-elim (λ q. inl q) (λ ne. absurd (omega (arith, none e x ne h))) (same? x p);
     }
+
+    -- the new pair is linked to itself, and is the head
+    pub added-alone : RingOf (b + ringAt) (fieldAt b nextAt) (fieldAt b prevAt) pairWords (added b c o n w t) (p ∷ [])
+    added-alone = rw (added-puts b c o n w t) (record {
+      ring = record { closed = ((now inside 13 (omega arith), now inside 14 (omega arith)), tt); distinct = (tt, tt) };
+      first = now inside 0 (omega arith);
+    })
 
     pub added-good : ringHead b t ≡ nowhere → Good b pairs (added b c o n w t)
     added-good e = rw (added-puts b c o n w t) (good-both b pairs t′ (readies e) parted)

@@ -61,7 +61,7 @@ module _ (b p : ℕ) (t : List ℕ) where
   left : (i : ℕ) → NotIn i (stored (droppedRow b p t)) → getD (dropped b p t) i 0 ≡ getD (leaves b p t) i 0
   left i o = ap (λ u. getD u i 0) (dropped-puts b p t) ∙ kept (leaves b p t) (droppedRow b p t) i o
 
-  links : SameLinks b (leaves b p t) (dropped b p t)
+  pub links : SameLinks b (leaves b p t) (dropped b p t)
   links = (
     left (b + ringAt) ((λ e. omega arith), ((λ e. omega arith), ((λ e. omega arith), tt))),
     λ x. (

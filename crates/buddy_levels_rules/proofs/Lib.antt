@@ -14,3 +14,4 @@ pub mod Within
 pub mod Parts
 pub mod Fresh
 pub mod Decides
+pub mod Ringed

@@ -39,3 +39,7 @@ pub mod Fewer
 pub mod Ended
 pub mod Denied
 pub mod Shares
+pub mod Sizes
+pub mod Seen
+pub mod Ringing
+pub mod Deliveries

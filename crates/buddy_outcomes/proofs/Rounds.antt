@@ -35,7 +35,7 @@ bits-few (suc w) (suc x) h =
     rw e (omega (arith, two-pow-succ (bits w (suc x / 2))))
 
 -- a multiple that is not 0 is a unit or more
-unit-least : (x m : ℕ) → x % (m + 1) ≡ 0 → 0 < x → m + 1 ≤ x
+pub unit-least : (x m : ℕ) → x % (m + 1) ≡ 0 → 0 < x → m + 1 ≤ x
 unit-least x m e h = ⊎-elim (λ l. let z : x % (m + 1) ≡ x = mod-eq-of-lt l in absurd (omega arith)) (λ l. l) (lt-or-le x (m + 1))
 
 module _ (s : BuddySettings) (fit : BuddyIn s) where

@@ -37,14 +37,14 @@ use Rattle.buddy_stores.proofs.Abstract.{storeOf, levels-in, treeIn, so
 
 -- node n of level l is a side of a pair in use that is taken: its twin is free and the pair is ready, or the pair is
 -- exhausted; and so on above, as A says
-record Step (E : ℕ → ℕ → Ent) (l n : ℕ) (A : Type 0) : Type 0 where
+pub record Step (E : ℕ → ℕ → Ent) (l n : ℕ) (A : Type 0) : Type 0 where
   pub used : 0 < E l (n / 2) .tag
   pub ready : word (other (sideIn n)) (E l (n / 2)) ≡ 0 → 1 < E l (n / 2) .tag
   pub exhausted : (word (other (sideIn n)) (E l (n / 2)) ≡ 0 → ⊥) → E l (n / 2) .tag ≡ 1
   pub above : A
 
 -- as far as f levels up, or to the chunk's top
-abbrev Path : (ℕ → ℕ → Ent) → ℕ → ℕ → ℕ → Type 0
+abbrev pub Path : (ℕ → ℕ → Ent) → ℕ → ℕ → ℕ → Type 0
 Path E zero l n = Unit {0}
 Path E (suc f) l n = (n ≡ nowhere) ⊎ Step E l n (Path E f (suc l) (E l (n / 2) .up))
 
@@ -53,7 +53,7 @@ path-top E zero l = tt
 path-top E (suc f) l = inl refl
 
 -- what is done below leaves it
-path-same : (E E′ : ℕ → ℕ → Ent) (f l n : ℕ) → ((i p : ℕ) → l ≤ i → E′ i p ≡ E i p) → Path E f l n → Path E′ f l n
+pub path-same : (E E′ : ℕ → ℕ → Ent) (f l n : ℕ) → ((i p : ℕ) → l ≤ i → E′ i p ≡ E i p) → Path E f l n → Path E′ f l n
 path-same E E′ zero l n e p = tt
 path-same E E′ (suc f) l n e (inl z) = inl z
 path-same E E′ (suc f) l n e (inr z) =
@@ -214,3 +214,19 @@ module _ (s : BuddySettings) (small : s .pairs ≤ 2 ^ 32) where
       (λ i j b. A .good i (omega arith) .1)
       (path-loan u (entries (levelOps (s .pairs) small) (storeOf s small t .levels)) (loanIn s t) c (highIn s t c) 0 nowhere (topIn s t c) (levelsIn t - highIn s t c) T y k (levelsIn t - loanIn s t k .lev) (A .rep c) (A .has k h) refl (omega arith)
       (path-top (entries (levelOps (s .pairs) small) (storeOf s small t .levels)) (levelsIn t - highIn s t c) (highIn s t c)))
+
+  -- the way up from a loan's node, as far as the levels go
+  pub loan-path : (t : Tables) → BuddyIn s → Lengths s t → Sound s t → (k : ℕ) → liveIn t k ≡ true
+      → (loanIn s t k .lev ≤ levelsIn t) × Path (entries (levelOps (s .pairs) small) (storeOf s small t .levels)) (levelsIn t - loanIn s t k .lev) (loanIn s t k .lev) (loanIn s t k .node)
+  loan-path t fit len S k h =
+      let u = s .minimal in
+      let A = sound-store s small t fit len S in
+      let c = loanIn s t k .chunk in
+      let y = piece (loanIn s t k) k in
+      let T = treeIn t (S .standing .trees) c in
+      let x : highIn s t c ≤ levelsIn t = A .tall c in
+      let z : loanIn s t k .lev ≤ highIn s t c = has-in u (highIn s t c) 0 T y (A .has k h) .2 in (
+        omega arith,
+        path-loan u (entries (levelOps (s .pairs) small) (storeOf s small t .levels)) (loanIn s t) c (highIn s t c) 0 nowhere (topIn s t c) (levelsIn t - highIn s t c) T y k (levelsIn t - loanIn s t k .lev) (A .rep c) (A .has k h) refl (omega arith)
+            (path-top (entries (levelOps (s .pairs) small) (storeOf s small t .levels)) (levelsIn t - highIn s t c) (highIn s t c)),
+      )

@@ -13,3 +13,5 @@ pub mod Splitting
 pub mod Viewed
 pub mod Named
 pub mod Onces
+pub mod Frees
+pub mod Ringing

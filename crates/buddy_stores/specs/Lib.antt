@@ -3,3 +3,4 @@ pub mod Sound
 pub mod Test
 pub mod Moves
 pub mod Views
+pub mod Rings
