@@ -12,3 +12,4 @@ pub mod Cutting
 pub mod Keeps
 pub mod Uses
 pub mod Keeping
+pub mod Entering

@@ -7,4 +7,6 @@ pub mod Leaving
 pub mod Booking
 pub mod Keeping
 pub mod Ending
+pub mod Telling
+pub mod Delivering
 pub mod Engine

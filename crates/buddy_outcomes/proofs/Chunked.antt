@@ -143,12 +143,12 @@ module _ (s : BuddySettings) (t : Tables) (fit : BuddyIn s) (lengths : Lengths s
         getD-set-other first (cellOf chunkSizeAt chunkWords p) (cellOf chunkSizeAt chunkWords b) z 0 (λ e. n (omega arith))
         ∙ getD-set-other (t .chunks) (cellOf memoryAt chunkWords p) (cellOf chunkSizeAt chunkWords b) memory 0 (λ e. omega arith)
 
-    pub memory-here : memoryIn chunked p ≡ memory
+    pub memory-here : memoryIn chunked (chunkSpot s t .place) ≡ memory
     memory-here =
         getD-set-other first (cellOf chunkSizeAt chunkWords p) (cellOf memoryAt chunkWords p) z 0 (λ e. omega arith)
         ∙ getD-set-same (t .chunks) (cellOf memoryAt chunkWords p) memory 0 (omega (arith, lengths .chunks))
 
-    pub memory-other : (b : ℕ) → (b ≡ p → ⊥) → memoryIn chunked b ≡ memoryIn t b
+    pub memory-other : (b : ℕ) → (b ≡ chunkSpot s t .place → ⊥) → memoryIn chunked b ≡ memoryIn t b
     memory-other b n =
         getD-set-other first (cellOf chunkSizeAt chunkWords p) (cellOf memoryAt chunkWords b) z 0 (λ e. omega arith)
         ∙ getD-set-other (t .chunks) (cellOf memoryAt chunkWords p) (cellOf memoryAt chunkWords b) memory 0 (λ e. n (omega arith))

@@ -87,7 +87,7 @@ module _ (s : BuddySettings) (t : Tables) (fit : BuddyIn s) (lengths : Lengths s
       ∙ spot-same _ (grownTables s n t .tree) (t .tree) (placeAt s afterAt) placeWords in
       omega (arith, e, room-chunk s t size mask Ask.nowhere (b .room) refl)
 
-  empty : (j : ℕ) → levelFor s size mask ≤ j → j < levelsIn (grownTables s n t) → ringHead (levelFrom s j) (grownTables s n t .tree) ≡ Slab.nowhere
+  pub empty : (j : ℕ) → levelFor s size mask ≤ j → j < levelsIn (grownTables s n t) → ringHead (levelFrom s j) (grownTables s n t .tree) ≡ Slab.nowhere
   unfolding foundFor
   empty j h g =
       grown-head s t fit lengths sound n more most j (omega (arith, count))

@@ -43,3 +43,5 @@ pub mod Sizes
 pub mod Seen
 pub mod Ringing
 pub mod Deliveries
+pub mod Comes
+pub mod Deliverable

@@ -1,7 +1,7 @@
 -- Serials count up from 1 in a store, and none is given twice, whatever calls of whichever engines are made. Assumes nothing.
 use mathlib.Core.Path.{_≡_, refl, sym, ap, subst, _∙_}
 use mathlib.Core.Logic.{⊎-elim}
-use mathlib.Core.List.{List, [], _∷_, _++_, List·Memᴰ·head, List·Memᴰ·tail}
+use mathlib.Core.List.{List, [], _∷_, _++_}
 use Prim.Native.Nat.{ℕ, zero, suc, _+_, _≤_, _<_}
 use native.Mathlib.Omega.{arith}
 use lib.ListN.{length, length-append}
@@ -10,12 +10,12 @@ use Rattle.lists.specs.Members.{NotIn, Distinct}
 use Rattle.lists.proofs.Bools.{same?}
 use Rattle.counter.specs.Paper as Paper
 use Rattle.counter.specs.declared.account.Account.{Account}
-use Rattle.store_rules.specs.Outcomes.{Listed}
+use Rattle.store_rules.specs.Outcomes.{Listed, listed}
 use Rattle.engines.specs.Engines.{Engine}
 use Rattle.engines.specs.Histories.{State, storeAt, Visit, done, step, run, NoSetUp, serialsAt}
 use Rattle.engines.specs.Serials.{serialSaid, upFrom, Counted}
-use Rattle.engines.specs.Shapes.{Lent, markOf, Call, setsUp, does, Marked}
-use Rattle.engines.proofs.Visits.{stores-stay, store-here, store-other}
+use Rattle.engines.specs.Shapes.{Lent, Begun, markOf, Call, setsUp, does, Marked, lentList}
+use Rattle.engines.proofs.Visits.{set-up?, set-up-refused, stores-stay, store-here, store-other}
 
 -- ---- numbers that count up
 
@@ -61,24 +61,37 @@ module _ (K : Type 0) (E : K → Engine) (differ : (i j : K) → E i .shape .mar
   -- ---- over one call
 
   -- of any of the engines, on tables with engine e's mark: the serials given are the next ones, and the mark stays
-  pub call-counts : (e : K) (a : Account) (t : Lent) (f : K) (s : E f .shape .Settings) (c : Call (E f .shape .Own)) → (c ≡ setsUp → ⊥) → Marked (E e .shape) t
+  pub call-counts : (e : K) (a : Account) (t : Lent) (f : K) (s : E f .shape .Settings) (c : Call (E f .shape .Own)) → (c ≡ setsUp → does (E f .shape) s a t c .said ≡ Paper.ready → ⊥) → Marked (E e .shape) t
       → Counted (E e .shape) t (does (E f .shape) s a t c .tables) (does (E f .shape) s a t c .said)
-  call-counts e a t f s c n k = ⊎-elim own other (same? (markOf t) (E f .shape .mark))
+  call-counts e a t f s c old k = ⊎-elim first later (set-up? c)
     where
-      own : markOf t ≡ E f .shape .mark → Counted (E e .shape) t (does (E f .shape) s a t c .tables) (does (E f .shape) s a t c .said)
-      own m =
+      -- a call that is refused
+      unmoved : (n : ℕ) (list : List ℕ) → does (E f .shape) s a t c ≡ listed (Paper.refusal n []) a t list → Counted (E e .shape) t (does (E f .shape) s a t c .tables) (does (E f .shape) s a t c .said)
+      unmoved n list q =
+          subst (λ (d : Listed Lent). Counted (E e .shape) t (d .tables) (d .said)) (sym q)
+          (record { gives = omega arith; nexts = refl; marks = k })
+
+      first : c ≡ setsUp → Counted (E e .shape) t (does (E f .shape) s a t c .tables) (does (E f .shape) s a t c .said)
+      first q =
+          let d = ap (does (E f .shape) s a t) q in
+          let w = set-up-refused (E f) s t (λ r. old q (ap (λ (x : Listed Lent). x .said) d ∙ r)) in
+          unmoved (w .0) [] (d ∙ ap (λ (r : Begun). listed (r .said) a (r .tables) []) (w .1))
+
+      own : (c ≡ setsUp → ⊥) → markOf t ≡ E f .shape .mark → Counted (E e .shape) t (does (E f .shape) s a t c .tables) (does (E f .shape) s a t c .said)
+      own n m =
           subst (λ (x : K). Counted (E x .shape) t (does (E f .shape) s a t c .tables) (does (E f .shape) s a t c .said)) (differ f e (sym m ∙ k))
           (E f .counts .counted s a t c n m)
 
-      other : (markOf t ≡ E f .shape .mark → ⊥) → Counted (E e .shape) t (does (E f .shape) s a t c .tables) (does (E f .shape) s a t c .said)
-      other m =
-          subst (λ (d : Listed Lent). Counted (E e .shape) t (d .tables) (d .said)) (sym (E f .refuses .foreign s a t c n m .1))
-          (record { gives = omega arith; nexts = refl; marks = k })
+      other : (c ≡ setsUp → ⊥) → (markOf t ≡ E f .shape .mark → ⊥) → Counted (E e .shape) t (does (E f .shape) s a t c .tables) (does (E f .shape) s a t c .said)
+      other n m = let w = E f .refuses .foreign s a t c n m in unmoved (w .0) (lentList c) (w .1)
+
+      later : (c ≡ setsUp → ⊥) → Counted (E e .shape) t (does (E f .shape) s a t c .tables) (does (E f .shape) s a t c .said)
+      later n = ⊎-elim (own n) (other n) (same? (markOf t) (E f .shape .mark))
 
   -- ---- over a history
 
   module _ (i : ℕ) (e : K) where
-    module _ (w : State) (v : Visit K E) (f : v .at ≡ i → v .call ≡ setsUp → ⊥) (h : i < length (w .stores)) (m : Marked (E e .shape) (storeAt w i)) where
+    module _ (w : State) (v : Visit K E) (f : v .at ≡ i → v .call ≡ setsUp → done K E w v .said ≡ Paper.ready → ⊥) (h : i < length (w .stores)) (m : Marked (E e .shape) (storeAt w i)) where
       -- the store's own call
       here : v .at ≡ i → Counted (E e .shape) (storeAt w i) (done K E w v .tables) (done K E w v .said)
       here q =
@@ -94,15 +107,15 @@ module _ (K : Type 0) (E : K → Engine) (differ : (i j : K) → E i .shape .mar
           ⊎-elim (λ q. subst (Marked (E e .shape)) (sym (left q)) (here q .marks)) (λ n. subst (Marked (E e .shape)) (sym (store-other K E w v i n)) m)
           (same? (v .at) i)
 
-    -- over any history that does not set store i, one of engine e, up anew, its serials count up by one from how many were given
-    pub counts-up : (w : State) (vs : List (Visit K E)) → NoSetUp K E i vs → i < length (w .stores) → Marked (E e .shape) (storeAt w i) → CountsUp K E i e w vs
+    -- over any history in which no set-up of store i, one of engine e, is accepted, its serials count up by one from how many were given
+    pub counts-up : (w : State) (vs : List (Visit K E)) → NoSetUp K E i w vs → i < length (w .stores) → Marked (E e .shape) (storeAt w i) → CountsUp K E i e w vs
     counts-up w [] f h k = record { next = refl; given = omega arith }
     counts-up w (v ∷ vs) f h k =
-        let now = f v (List·Memᴰ·head refl) in
-        let later = counts-up (step K E w v) vs (λ u m. f u (List·Memᴰ·tail m)) (omega (arith, stores-stay K E w v)) (mark-stays w v now h k) in
+        let now = f .0 in
+        let later = counts-up (step K E w v) vs (f .1) (omega (arith, stores-stay K E w v)) (mark-stays w v now h k) in
         ⊎-elim (own now later) (other later) (same? (v .at) i)
       where
-        own : (v .at ≡ i → v .call ≡ setsUp → ⊥) → CountsUp K E i e (step K E w v) vs → v .at ≡ i → CountsUp K E i e w (v ∷ vs)
+        own : (v .at ≡ i → v .call ≡ setsUp → done K E w v .said ≡ Paper.ready → ⊥) → CountsUp K E i e (step K E w v) vs → v .at ≡ i → CountsUp K E i e w (v ∷ vs)
         own now later q =
             let xs = serialSaid (done K E w v .said) in
             let ys = serialsAt K E i (step K E w v) vs in
@@ -130,14 +143,14 @@ module _ (K : Type 0) (E : K → Engine) (differ : (i j : K) → E i .shape .mar
             }
 
     -- none is given twice
-    pub never-twice : (w : State) (vs : List (Visit K E)) → NoSetUp K E i vs → i < length (w .stores) → Marked (E e .shape) (storeAt w i) → Distinct (serialsAt K E i w vs)
+    pub never-twice : (w : State) (vs : List (Visit K E)) → NoSetUp K E i w vs → i < length (w .stores) → Marked (E e .shape) (storeAt w i) → Distinct (serialsAt K E i w vs)
     never-twice w vs f h k =
         subst Distinct (sym (counts-up w vs f h k .next)) (up-distinct (givenAt K E i e w) (length (serialsAt K E i w vs)))
 
     -- ---- from set-up on
 
     -- they are 1, 2, 3 and so on, whatever calls of any of the engines are made
-    pub from-one : (w : State) (s : E e .shape .Settings) (vs : List (Visit K E)) → i < length (w .stores) → done K E w (setting K E i e s) .said ≡ Paper.ready → NoSetUp K E i vs
+    pub from-one : (w : State) (s : E e .shape .Settings) (vs : List (Visit K E)) → i < length (w .stores) → done K E w (setting K E i e s) .said ≡ Paper.ready → NoSetUp K E i (step K E w (setting K E i e s)) vs
         → serialsAt K E i (step K E w (setting K E i e s)) vs ≡ upFrom 0 (length (serialsAt K E i (step K E w (setting K E i e s)) vs))
     from-one w s vs h r f =
         let v = setting K E i e s in

@@ -2,9 +2,15 @@
 pub mod Shutting
 pub mod Booking
 pub mod Visits
+pub mod Taking
+pub mod Noting
 pub mod NeverAgain
 pub mod CountUp
 pub mod HeapAndObjects
+pub mod Told
+pub mod Mixing
+pub mod MixedTold
+pub mod Delivering
 pub mod Unique
 pub mod HandedBack
 pub mod AnyOrder

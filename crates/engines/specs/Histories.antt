@@ -7,11 +7,11 @@ use Prim.Native.Nat.{ℕ, _+_}
 use lib.Dec.{eqb}
 use lib.ListN.{getD, set, take}
 use Rattle.counter.specs.Paper.{Said}
+use Rattle.counter.specs.Paper as Paper
 use Rattle.counter.specs.declared.account.Account.{Account}
 use Rattle.counter.specs.declared.answers.Block.{Block}
 use Rattle.heap.specs.History.{Entry}
 use Rattle.store_rules.specs.Outcomes.{Listed, toFree}
-use Rattle.store_rules.specs.Views.{All}
 use Rattle.engines.specs.Books.{books, takes}
 use Rattle.engines.specs.Engines.{Engine}
 use Rattle.engines.specs.Serials.{serialSaid}
@@ -57,9 +57,10 @@ module _ (K : Type 0) (E : K → Engine) where
   saids w [] = []
   saids w (v ∷ vs) = done w v .said ∷ saids (step w v) vs
 
-  -- none of the calls sets store i up anew
-  abbrev pub NoSetUp : ℕ → List Visit → Type 0
-  NoSetUp i vs = All (λ (v : Visit). v .at ≡ i → v .call ≡ setsUp → ⊥) vs
+  -- no set-up of store i is accepted
+  abbrev pub NoSetUp : ℕ → State → List Visit → Type 0
+  NoSetUp i w [] = Unit {0}
+  NoSetUp i w (v ∷ vs) = (v .at ≡ i → v .call ≡ setsUp → done w v .said ≡ Paper.ready → ⊥) × NoSetUp i (step w v) vs
 
   -- the serials that store i gives, in order
   abbrev pub serialsAt : ℕ → State → List Visit → List ℕ

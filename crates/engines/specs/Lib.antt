@@ -5,5 +5,9 @@ pub mod Keeps
 pub mod Serials
 pub mod Books
 pub mod Ends
+pub mod Tells
+pub mod Delivers
 pub mod Engines
 pub mod Histories
+pub mod Ledger
+pub mod Pools

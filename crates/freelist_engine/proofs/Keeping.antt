@@ -113,7 +113,7 @@ good-block s size mask t v cs serial number offset len given loans chunks good =
     }
 
 -- an ask leaves the held chunks
-ask-chunks : (s : FreeListSettings) (a : Account) (size mask : ℕ) (t : Tables) (r : Out Tables) → AskComes s a size mask t r → storeOf s t .chunks ≡ storeOf s (r .tables) .chunks
+pub ask-chunks : (s : FreeListSettings) (a : Account) (size mask : ℕ) (t : Tables) (r : Out Tables) → AskComes s a size mask t r → storeOf s t .chunks ≡ storeOf s (r .tables) .chunks
 ask-chunks s a size mask t _ (AskComes.denied n) = refl
 ask-chunks s a size mask t _ (lends i p v) =
     sym (ap (λ (x : Store). x .chunks) (taken-store s t (p .settings) (lengths-are s t (p .lengths)) (p .sound) size mask i (v .aligned) (v .some) (v .place) (v .found)))

@@ -7,4 +7,6 @@ pub mod Booking
 pub mod Keeping
 pub mod Handing
 pub mod Ending
+pub mod Telling
+pub mod Delivering
 pub mod Engine

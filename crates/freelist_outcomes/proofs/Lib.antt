@@ -18,3 +18,4 @@ pub mod Accounts
 pub mod Again
 pub mod Told
 pub mod Shares
+pub mod Deliverable

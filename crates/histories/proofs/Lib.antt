@@ -2,5 +2,6 @@
 pub mod Both
 pub mod NeverAgain
 pub mod Serials
+pub mod Told
 pub mod HeapAndObjects
 pub mod AnyOrder

@@ -1,4 +1,4 @@
--- A block that was returned is never taken again, whatever calls of either engine come between, but set-up of its tables.
+-- A block that was returned is never taken again, whatever calls of either engine come between, but an accepted set-up of its tables.
 -- Assumes nothing.
 use mathlib.Core.Path.{_≡_, ap}
 use mathlib.Core.Logic.{_⊎_}
@@ -23,11 +23,11 @@ use Rattle.buddy_engine.specs.Shape.{asBuddy, buddyShape}
 use Rattle.histories.proofs.Both.{both, Call, differ}
 
 -- a block was returned to a free list at store i, and then any calls were made, of either engine, at any stores, with any
--- settings, arguments and answers, but no set-up of store i: its next return, with any settings and list, is refused and
+-- settings, arguments and answers, but no accepted set-up of store i: its next return, with any settings and list, is refused and
 -- changes nothing: as 7, or as one of the earlier rows 1 to 4
 pub list-never-again : (w : State) (i : ℕ) → i < length (w .stores) → (s : FreeListSettings) (b : Block) (list : List ℕ) (n : ℕ)
     → FreeList.returnOf s (w .account) b (asList (storeAt w i)) list .said ≡ Paper.released n
-    → (vs : List Call) → NoSetUp Kind.Engine both i vs → (s′ : FreeListSettings) (list′ : List ℕ)
+    → (vs : List Call) → NoSetUp Kind.Engine both i (step Kind.Engine both w (handBack Kind.Engine both i Kind.freeList s (b, list))) vs → (s′ : FreeListSettings) (list′ : List ℕ)
     → let u = run Kind.Engine both (step Kind.Engine both w (handBack Kind.Engine both i Kind.freeList s (b, list))) vs in
     (m : ℕ) × (FreeList.returnOf s′ (u .account) b (asList (storeAt u i)) list′ ≡ listed (Paper.refusal m []) (u .account) (asList (storeAt u i)) list′)
     × ((m ≡ 7) ⊎ Given (listRows listShape s′ (u .account) (storeAt u i) list′) m)
@@ -38,7 +38,7 @@ list-never-again w i here s b list n taken vs f s′ list′ =
 -- and the same of a buddy store
 pub buddy-never-again : (w : State) (i : ℕ) → i < length (w .stores) → (s : BuddySettings) (b : Block) (list : List ℕ) (n : ℕ)
     → Buddy.returnOf s (w .account) b (asBuddy (storeAt w i)) list .said ≡ Paper.released n
-    → (vs : List Call) → NoSetUp Kind.Engine both i vs → (s′ : BuddySettings) (list′ : List ℕ)
+    → (vs : List Call) → NoSetUp Kind.Engine both i (step Kind.Engine both w (handBack Kind.Engine both i Kind.buddy s (b, list))) vs → (s′ : BuddySettings) (list′ : List ℕ)
     → let u = run Kind.Engine both (step Kind.Engine both w (handBack Kind.Engine both i Kind.buddy s (b, list))) vs in
     (m : ℕ) × (Buddy.returnOf s′ (u .account) b (asBuddy (storeAt u i)) list′ ≡ listed (Paper.refusal m []) (u .account) (asBuddy (storeAt u i)) list′)
     × ((m ≡ 7) ⊎ Given (listRows buddyShape s′ (u .account) (storeAt u i) list′) m)

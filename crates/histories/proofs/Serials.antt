@@ -1,4 +1,4 @@
--- Serials of a store of either engine: over any history that does not set it up anew they count up by one and are never given
+-- Serials of a store of either engine: over any history in which no set-up of it is accepted they count up by one and are never given
 -- twice, from 1 where it was set up. Assumes nothing.
 use mathlib.Core.Path.{_≡_}
 use mathlib.Core.List.{List}
@@ -15,15 +15,15 @@ use Rattle.engines.proofs.CountUp.{CountsUp, setting}
 use Rattle.histories.proofs.Both.{both, Call, differ}
 
 -- the serials that store i gives are the next ones after those given, in order
-pub counts-up : (i : ℕ) (e : Kind.Engine) (w : State) (vs : List Call) → NoSetUp Kind.Engine both i vs → i < length (w .stores) → Marked (both e .shape) (storeAt w i) → CountsUp Kind.Engine both i e w vs
+pub counts-up : (i : ℕ) (e : Kind.Engine) (w : State) (vs : List Call) → NoSetUp Kind.Engine both i w vs → i < length (w .stores) → Marked (both e .shape) (storeAt w i) → CountsUp Kind.Engine both i e w vs
 counts-up i e w vs f here m = Up.counts-up Kind.Engine both differ i e w vs f here m
 
 -- none is given twice
-pub never-twice : (i : ℕ) (e : Kind.Engine) (w : State) (vs : List Call) → NoSetUp Kind.Engine both i vs → i < length (w .stores) → Marked (both e .shape) (storeAt w i) → Distinct (serialsAt Kind.Engine both i w vs)
+pub never-twice : (i : ℕ) (e : Kind.Engine) (w : State) (vs : List Call) → NoSetUp Kind.Engine both i w vs → i < length (w .stores) → Marked (both e .shape) (storeAt w i) → Distinct (serialsAt Kind.Engine both i w vs)
 never-twice i e w vs f here m = Up.never-twice Kind.Engine both differ i e w vs f here m
 
 -- of a store that was set up they are 1, 2, 3 and so on
 pub from-one : (i : ℕ) (e : Kind.Engine) (w : State) (s : both e .shape .Settings) (vs : List Call) → i < length (w .stores)
-    → done Kind.Engine both w (setting Kind.Engine both i e s) .said ≡ Paper.ready → NoSetUp Kind.Engine both i vs
+    → done Kind.Engine both w (setting Kind.Engine both i e s) .said ≡ Paper.ready → NoSetUp Kind.Engine both i (step Kind.Engine both w (setting Kind.Engine both i e s)) vs
     → let u = step Kind.Engine both w (setting Kind.Engine both i e s) in serialsAt Kind.Engine both i u vs ≡ upFrom 0 (length (serialsAt Kind.Engine both i u vs))
 from-one i e w s vs here ready f = Up.from-one Kind.Engine both differ i e w s vs here ready f

@@ -1,0 +1,237 @@
+-- What an ask and a delivery of a buddy store come to, and what they do to its loans and chunks. Assumes nothing.
+use mathlib.Core.Path.{_≡_, refl, sym, ap, ap₂, subst, _∙_}
+use mathlib.Core.Bool.{Bool, true, false}
+use mathlib.Core.Logic.{_⊎_, inl, inr, ⊎-elim, _↔_}
+use mathlib.Core.List.{List, [], List·Memᴰ}
+use Prim.Native.Nat.{ℕ, _+_, _*_, _<_}
+use native.Mathlib.Omega.{arith}
+use lib.Dec.{eqb, ltb}
+use lib.ListN.{length}
+use borrow.Author.Tests.{ltb-true, ne-eqb}
+use Rattle.lists.proofs.Bools.{told, true-false, and-left, same?}
+use Rattle.counter.specs.Account.{heapAt}
+use Rattle.counter.specs.Gate.{Verdict, pass, refuse}
+use Rattle.counter.specs.InTable.{BuddyIn}
+use Rattle.counter.specs.Paper as Paper
+use Rattle.counter.specs.declared.account.Account.{Account}
+use Rattle.counter.specs.declared.account.KeptOrder.{KeptOrder}
+use Rattle.counter.specs.declared.account.OpenOrder.{OpenOrder}
+use Rattle.counter.specs.declared.account.OpenOrder.the-variants.{Nothing, Kept}
+use Rattle.counter.specs.declared.answers.Mapping.{Mapping}
+use Rattle.counter.specs.declared.answers.Mapping.the-variants as M
+use Rattle.counter.specs.declared.answers.Memory.{Memory}
+use Rattle.counter.specs.declared.answers.Outcome.{Outcome}
+use Rattle.counter.specs.declared.answers.Outcome.the-variants as O
+use Rattle.counter.specs.declared.settings.BuddySettings.{BuddySettings}
+use Rattle.store_rules.specs.Delivery.{kept, lost, buddy, fateOf, backOf, deliveryOk}
+use Rattle.store_rules.specs.Loans.{loanWords, loan, loansOf}
+use Rattle.store_rules.specs.Orders.{Plan, deny, take, buy}
+use Rattle.store_rules.specs.Outcomes.{Out, out, blockSaid}
+use Rattle.store_rules.specs.Views.{View, chunk}
+use Rattle.store_rules.specs.declared.Chunk.{Chunk}
+use Rattle.store_rules.specs.declared.Loan.{Loan}
+use Rattle.book_rules.specs.Book.{takenOf, entered}
+use Rattle.book_rules.proofs.Entering.{Amid, entered-amid}
+use Rattle.book_rules.proofs.Keeps.{BookParted}
+use Rattle.buddy_trees.specs.Trees.{bytes}
+use Rattle.buddy_stores.specs.Moves.{Cut}
+use Rattle.buddy_stores.specs.Sound.{Sound}
+use Rattle.buddy_stores.specs.Tables.{Tables, Lengths, placesAt, headWords, givenIn, levelsIn, placesIn, chunkPlacesIn, memories, heldIn}
+use Rattle.buddy_stores.specs.Views.{loansIn, chunksIn}
+use Rattle.buddy_stores.proofs.Viewed.{chunkAt, held-seen, seen-held}
+use Rattle.buddy_outcomes.specs.Ask as Ask
+use Rattle.buddy_outcomes.specs.Ask.{sizeFor, grownFor, sizeOk, chunkSpot, grownTables, bookedTables, loanFrom, takenTables, deniedTables, decideAsk, carryAsk, planAsk, askOf}
+use Rattle.buddy_outcomes.specs.Deliver as Deliver
+use Rattle.buddy_outcomes.specs.Deliver.{chunkTables, loanIn, servedTables, carryFate, decideDeliver, deliverGateOf, planDeliver, carryDeliver, deliverOf}
+use Rattle.buddy_outcomes.specs.Gate.{gateOf}
+use Rattle.buddy_outcomes.proofs.Changed.{grown-lengths}
+use Rattle.buddy_outcomes.proofs.Chunked.{chunked, size-here, size-other, memory-here, memory-other, held-here, held-other, spot-dead}
+use Rattle.buddy_outcomes.proofs.Delivered.{grown-sound, count, place, spot, gate-sound, opened}
+use Rattle.buddy_outcomes.proofs.Heads.{chunk-word, chunk-head, booked-places}
+use Rattle.buddy_outcomes.proofs.Lendings.{grown-view, booked-chunks}
+use Rattle.buddy_outcomes.proofs.Passing.{Lent, Passed, gate-passed}
+use Rattle.buddy_outcomes.proofs.Plans.{Takes, takes, Buys}
+use Rattle.buddy_outcomes.proofs.Rounds.{size-enough}
+use Rattle.buddy_outcomes.proofs.Searches.{room-place}
+
+-- ---- an ask
+
+pub data AskComes (s : BuddySettings) (a : Account) (size mask : ℕ) (t : Tables) : Out Tables → Type 0 where
+  denied : (n : ℕ) → AskComes s a size mask t (out (Paper.refusal n []) a (deniedTables s size mask n t))
+  lends : (i : ℕ) → Passed s a t true → Takes s size mask t i → AskComes s a size mask t (out (blockSaid (loanFrom s size mask t i)) a (takenTables s size mask t i))
+  orders : (z : ℕ) → Passed s a t true → decideAsk s (heapAt a (s .store .heap)) (a .objects) size mask t ≡ buy z → AskComes s a size mask t (carryAsk s a size mask t (buy z))
+
+module _ (s : BuddySettings) (a : Account) (size mask : ℕ) (t : Tables) where
+  abbrev decided : Plan ℕ
+  decided = decideAsk s (heapAt a (s .store .heap)) (a .objects) size mask t
+
+  after-gate : (v : Verdict) (p : Plan ℕ) → gateOf s a t true ≡ v → decided ≡ p → AskComes s a size mask t (carryAsk s a size mask t (Ask.gated v p))
+  unfolding carryAsk
+  after-gate (refuse n) p g e = denied n
+  after-gate pass (deny n) g e = denied n
+  after-gate pass (take i) g e = lends i (gate-passed s a t true (sym g)) (takes s (heapAt a (s .store .heap)) (a .objects) size mask t i e)
+  after-gate pass (buy z) g e = orders z (gate-passed s a t true (sym g)) e
+
+  pub ask-comes : AskComes s a size mask t (askOf s a size mask t)
+  unfolding askOf planAsk
+  ask-comes = after-gate (gateOf s a t true) decided refl refl
+
+-- ---- a delivery
+
+pub data DeliverComes (s : BuddySettings) (a : Account) (o : Outcome) (t : Tables) : Out Tables → Type 0 where
+  early : (n : ℕ) → DeliverComes s a o t (out (Paper.refusal n []) a t)
+  loses : (k : KeptOrder) (n : ℕ) (charged : Bool) (back : List ℕ) → DeliverComes s a o t (carryFate s a k t (lost n charged back))
+  keeps : (k : KeptOrder) (m : Memory) → o ≡ O.Made m → a .order ≡ Kept k → Lent s a t → Sound s t → Buys s (k .ask .size) (k .ask .mask) t (k .order .size)
+      → DeliverComes s a o t (carryFate s a k t (kept (m .number)))
+
+module _ (s : BuddySettings) (a : Account) (o : Outcome) (t : Tables) where
+  fated : (k : KeptOrder) → a .order ≡ Kept k → deliverGateOf s a t ≡ pass → (x : Outcome) → o ≡ x → DeliverComes s a o t (carryFate s a k t (fateOf buddy x))
+  fated k e g O.OutOfDevice f = loses k 11 false []
+  fated k e g O.OutOfHost f = loses k 12 false []
+  fated k e g (O.Made m) f = by (m .mapping) refl
+    where
+      stays : DeliverComes s a o t (carryFate s a k t (kept (m .number)))
+      stays =
+          let sound = gate-sound s a t g in
+          let p = opened s a o t sound k e g in
+          keeps k m f e (p .lent) sound (p .buys-it)
+
+      by : (x : Mapping) → m .mapping ≡ x → DeliverComes s a o t (carryFate s a k t (fateOf buddy (O.Made m)))
+      by M.Mapped q = rw q stays
+      by M.NotWanted q = rw q stays
+      by M.Failed q = rw q (loses k 12 true (backOf buddy M.Failed (m .number)))
+      by M.OutOfDevice q = rw q (loses k 11 true (backOf buddy M.OutOfDevice (m .number)))
+      by M.OutOfHost q = rw q (loses k 12 true (backOf buddy M.OutOfHost (m .number)))
+
+  abbrev held : List ℕ
+  held = memories t (chunkPlacesIn t)
+
+  after-delivery : (v : Verdict) → deliverGateOf s a t ≡ v → (x : OpenOrder) → a .order ≡ x → DeliverComes s a o t (carryDeliver s a t (Deliver.gated v (decideDeliver o held x)))
+  unfolding carryDeliver
+  after-delivery (refuse n) g x e = early n
+  after-delivery pass g Nothing e = early 2
+  after-delivery pass g (Kept k) e = ⊎-elim (λ d. rw d (fated k e g o refl)) (λ d. rw d (early 13)) (told (deliveryOk (k .order .map) held o))
+
+  pub deliver-comes : DeliverComes s a o t (deliverOf s a o t)
+  unfolding deliverOf planDeliver
+  deliver-comes = after-delivery (deliverGateOf s a t) refl (a .order) refl
+
+-- ---- the loans
+
+-- grown levels change none, nor any chunk
+pub grown-loans : (s : BuddySettings) (n : ℕ) (t : Tables) → loansIn (grownTables s n t) ≡ loansIn t
+grown-loans s n t = ap (λ (v : View). v .loans) (grown-view s n t)
+
+pub grown-chunks : (s : BuddySettings) (n : ℕ) (t : Tables) → chunksIn (grownTables s n t) ≡ chunksIn t
+grown-chunks s n t = ap (λ (v : View). v .chunks) (grown-view s n t)
+
+pub denied-tables : (s : BuddySettings) (size mask n : ℕ) (t : Tables) → (deniedTables s size mask n t ≡ grownTables s (grownFor s size mask t) t) ⊎ (deniedTables s size mask n t ≡ t)
+unfolding deniedTables
+denied-tables s size mask n t = ⊎-elim (λ e. inl (rw e)) (λ e. inr (rw e)) (told (eqb n 9))
+
+-- a loan that is entered stands amid those that there were
+booked-amid : (s : BuddySettings) (t : Tables) (c o size : ℕ) (cut : Cut) → BuddyIn s → length (t .head) ≡ headWords → length (t .loans) ≡ loanWords * s .store .loans → BookParted (t .loans) (t .index) (s .store .loans) (placesIn t)
+    → takenOf (placesIn t) (t .index) .place < s .store .loans → (size ≡ 0 → ⊥) → Amid (loan (givenIn t + 1) c o size) (loansIn t) (loansIn (bookedTables s c o size cut t))
+unfolding bookedTables
+booked-amid s t c o size cut fit head long parted room some =
+    let l : Loan = loan (givenIn t + 1) c o size in
+    let e = booked-places s t c o size cut head in
+    subst (λ (k : ℕ). Amid l (loansIn t) (loansOf k (entered (placesIn t) (t .index) l (t .loans)))) (sym e)
+    (entered-amid l (ne-eqb size 0 some) (t .loans) (t .index) (s .store .loans) (placesIn t) (omega (arith, fit .store .loans-most)) parted room (omega (arith, long)))
+
+-- no block is empty
+size-some : (s : BuddySettings) → BuddyIn s → (size mask : ℕ) → sizeOk s size mask ≡ true → sizeFor s size mask ≡ 0 → ⊥
+unfolding sizeOk
+size-some s fit size mask e z = omega (arith, ltb-true 0 size (and-left (ltb 0 size) _ e), size-enough s fit size mask e)
+
+pub taken-amid : (s : BuddySettings) (t : Tables) → BuddyIn s → Lengths s t → Sound s t → (size mask i : ℕ) → Takes s size mask t i → Amid (loanFrom s size mask t i) (loansIn t) (loansIn (takenTables s size mask t i))
+unfolding takenTables
+taken-amid s t fit lengths sound size mask i w =
+    booked-amid s t _ _ _ _ fit (lengths .head) (lengths .loans) (sound .loans-parted) (room-place s t size mask (Ask.at i) (w .room)) (size-some s fit size mask (w .sized))
+
+module _ (s : BuddySettings) (t : Tables) (fit : BuddyIn s) (lengths : Lengths s t) (sound : Sound s t) (size mask z memory : ℕ) (b : Buys s size mask t z) where
+  abbrev g : Tables
+  g = grownTables s (grownFor s size mask t) t
+
+  g-lengths : Lengths s g
+  g-lengths = grown-lengths s t fit lengths sound (grownFor s size mask t)
+
+  g-sound : Sound s g
+  g-sound = grown-sound s t fit lengths sound size mask z b
+
+  abbrev u : Tables
+  u = chunked s g fit g-lengths memory z
+
+  abbrev p : ℕ
+  p = chunkSpot s g .place
+
+  is : chunkTables s memory z g ≡ u
+  unfolding chunkTables
+  is = refl
+
+  same-places : placesIn (chunkTables s memory z g) ≡ placesIn g
+  same-places = chunk-word s memory z g placesAt (λ e. omega arith)
+
+  same-given : givenIn (chunkTables s memory z g) ≡ givenIn g
+  same-given = chunk-word s memory z g 1 (λ e. omega arith)
+
+  same-loans : loansIn (chunkTables s memory z g) ≡ loansIn t
+  unfolding chunkTables
+  same-loans = ap (λ (k : ℕ). loansOf k (g .loans)) same-places ∙ grown-loans s (grownFor s size mask t) t
+
+  -- the new chunk's block stands amid the loans that there were
+  pub served-amid : Amid (loanIn s size mask g) (loansIn t) (loansIn (servedTables s size mask memory z g))
+  unfolding servedTables chunkTables
+  served-amid =
+      let v : Tables = chunkTables s memory z g in
+      let A = booked-amid s v p 0 (sizeFor s size mask) _ fit (chunk-head s memory z g ∙ g-lengths .head) (g-lengths .loans)
+      (subst (BookParted (g .loans) (g .index) (s .store .loans)) (sym same-places) (g-sound .loans-parted))
+      (subst (λ (k : ℕ). takenOf k (g .index) .place < s .store .loans) (sym same-places) (place s t fit lengths sound size mask z b))
+      (size-some s fit size mask (b .sized)) in
+      subst (λ (n : ℕ). Amid (loan (n + 1) p 0 (sizeFor s size mask)) (loansIn t) (loansIn (servedTables s size mask memory z g))) same-given
+      (subst (λ (ls : List Loan). Amid (loan (givenIn v + 1) p 0 (sizeFor s size mask)) ls (loansIn (servedTables s size mask memory z g))) same-loans A)
+
+  -- ---- the chunks
+
+  room : p < s .store .chunks
+  room = spot s t fit lengths sound size mask z b
+
+  tall : 0 < levelsIn g
+  tall = omega (arith, count s t fit lengths sound size mask z b)
+
+  is-chunk : z ≡ bytes (s .minimal) (levelsIn g)
+  is-chunk = sym (b .order) ∙ ap (bytes (s .minimal)) (sym (count s t fit lengths sound size mask z b))
+
+  new-here : chunkAt u p ≡ chunk p memory z
+  new-here = ap₂ (chunk p) (memory-here s g fit g-lengths memory z room) (size-here s g fit g-lengths memory z room)
+
+  old-there : (n : ℕ) → (n ≡ p → ⊥) → chunkAt u n ≡ chunkAt g n
+  old-there n o = ap₂ (chunk n) (memory-other s g fit g-lengths memory z room n o) (size-other s g fit g-lengths memory z room n o)
+
+  -- they are those before, and the new one
+  chunked-chunks : (d : Chunk) → List·Memᴰ d (chunksIn u) ↔ (List·Memᴰ d (chunksIn g) ⊎ (d ≡ chunk p memory z))
+  chunked-chunks d = (there, ⊎-elim back new)
+    where
+      there : List·Memᴰ d (chunksIn u) → List·Memᴰ d (chunksIn g) ⊎ (d ≡ chunk p memory z)
+      there m =
+          let w = seen-held u d m in
+          ⊎-elim
+          (λ e. inr (w .1 ∙ ap (chunkAt u) e ∙ new-here))
+          (λ n. inl (subst (λ (x : Chunk). List·Memᴰ x (chunksIn g)) (sym (w .1 ∙ old-there (d .number) n)) (held-seen g (d .number) (sym (held-other s g fit g-lengths memory z room g-sound tall is-chunk (d .number) n) ∙ w .0))))
+          (same? (d .number) p)
+
+      back : List·Memᴰ d (chunksIn g) → List·Memᴰ d (chunksIn u)
+      back m =
+          let w = seen-held g d m in
+          let n : d .number ≡ p → ⊥ = λ e. true-false (heldIn g (d .number)) (w .0) (ap (heldIn g) e ∙ spot-dead s g fit g-lengths memory z room g-sound tall is-chunk) in
+          subst (λ (x : Chunk). List·Memᴰ x (chunksIn u)) (sym (w .1 ∙ sym (old-there (d .number) n))) (held-seen u (d .number) (held-other s g fit g-lengths memory z room g-sound tall is-chunk (d .number) n ∙ w .0))
+
+      new : d ≡ chunk p memory z → List·Memᴰ d (chunksIn u)
+      new e = subst (λ (x : Chunk). List·Memᴰ x (chunksIn u)) (sym (e ∙ sym new-here)) (held-seen u p (held-here s g fit g-lengths memory z room g-sound tall is-chunk))
+
+  pub served-chunks : (d : Chunk) → List·Memᴰ d (chunksIn (servedTables s size mask memory z g)) ↔ (List·Memᴰ d (chunksIn t) ⊎ (d ≡ chunk (chunkSpot s g .place) memory z))
+  unfolding servedTables
+  served-chunks d =
+      let e : chunksIn (servedTables s size mask memory z g) ≡ chunksIn u = booked-chunks s _ _ _ _ (chunkTables s memory z g) ∙ ap chunksIn is in
+      subst (λ (cs : List Chunk). List·Memᴰ d cs ↔ (List·Memᴰ d (chunksIn t) ⊎ (d ≡ chunk p memory z))) (sym e)
+      (subst (λ (cs : List Chunk). List·Memᴰ d (chunksIn u) ↔ (List·Memᴰ d cs ⊎ (d ≡ chunk p memory z))) (grown-chunks s (grownFor s size mask t) t) (chunked-chunks d))
