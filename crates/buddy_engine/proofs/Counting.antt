@@ -2,7 +2,7 @@
 -- nothing.
 use mathlib.Core.Path.{_≡_, refl, sym, ap, _∙_}
 use mathlib.Core.Bool.{Bool, true, false, cond}
-use mathlib.Core.Logic.{_⊎_, inl, inr, ⊎-elim}
+use mathlib.Core.Logic.{_⊎_}
 use mathlib.Core.List.{List, []}
 use Prim.Native.Nat.{ℕ}
 use native.Mathlib.Omega.{arith}
@@ -15,21 +15,18 @@ use Rattle.counter.specs.declared.account.Account.{Account}
 use Rattle.counter.specs.declared.answers.Block.{Block}
 use Rattle.counter.specs.declared.settings.BuddySettings.{BuddySettings}
 use Rattle.counter.proofs.Papers.{kindOf}
-use Rattle.counter.proofs.Reasoned.{given-alike}
 use Rattle.store_rules.specs.Loans.{loanWords}
 use Rattle.store_rules.specs.Outcomes.{listed}
 use Rattle.store_rules.specs.declared.Loan.{Loan}
 use Rattle.engines.specs.Serials.{Gone, Counted, Counts}
 use Rattle.engines.specs.Rows.{listRows}
-use Rattle.engines.specs.Shapes.{Lent, Call, setsUp, asks, delivers, returns, others, does, Marked}
+use Rattle.engines.specs.Shapes.{Lent, Call, setsUp, asks, delivers, returns, others, does, Marked, wordsOf}
 use Rattle.buddy_stores.specs.Tables.{Tables, mark, markAt, givenIn}
 use Rattle.buddy_stores.proofs.Viewed.{loanAt, live-loan, loan-live}
-use Rattle.buddy_outcomes.specs.Refusals.{listReasons}
 use Rattle.buddy_outcomes.specs.SetUp.{setUp, freshTables, fitOk, setUpOf}
 use Rattle.buddy_outcomes.proofs.Gone as Buddy
 use Rattle.buddy_outcomes.proofs.Gone.{ask-gone, deliver-gone, return-gone-stays}
 use Rattle.buddy_engine.specs.Shape.{asBuddy, asLent, listedAs, buddyShape}
-use Rattle.buddy_engine.proofs.Rowed.{list-alike}
 use Rattle.buddy_engine.proofs.Stepping.{Stepped, ask-stepped, deliver-stepped, return-stepped}
 
 -- ---- set-up
@@ -83,10 +80,10 @@ gone-stays k s a t (returns b list) f g = gone-seen k _ (return-gone-stays s a b
 gone-stays k s a t (others c list) f g = absurd c
 
 gone-refused : (s : BuddySettings) (a : Account) (b : Block) (t : Lent) (list : List ℕ) → Gone buddyShape (b .serial) t
-    → (n : ℕ) × (does buddyShape s a t (returns b list) ≡ listed (Paper.refusal n []) a t list) × ((n ≡ 7) ⊎ Given (listRows buddyShape s a t list) n)
+    → (n : ℕ) × (does buddyShape s a t (returns b list) ≡ listed (Paper.refusal n []) a t list) × ((n ≡ 7) ⊎ Given (listRows (wordsOf buddyShape) s a t list) n)
 gone-refused s a b t list g =
     let r = Buddy.gone-refused s a b (asBuddy t) list (gone-placed (b .serial) t g) in
-    (r .0, ap listedAs (r .1), ⊎-elim (λ e. inl e) (λ g. inr (given-alike (listReasons s a (asBuddy t) list) (listRows buddyShape s a t list) (list-alike s t a list) (r .0) .0 g)) (r .2))
+    (r .0, ap listedAs (r .1), r .2)
 
 -- the buddy gives serials as an engine has to
 pub counts : Counts buddyShape

@@ -1,7 +1,6 @@
 -- The buddy is an engine.
 pub mod Stepping
 pub mod Counting
-pub mod Rowed
 pub mod Refusing
 pub mod Leaving
 pub mod Booking

@@ -2,7 +2,7 @@
 -- tables too. Assumes nothing.
 use mathlib.Core.Path.{_≡_, refl, ap, _∙_}
 use mathlib.Core.Bool.{Bool, true, _&&_}
-use mathlib.Core.Logic.{_↔_, Iff·trans}
+use mathlib.Core.Logic.{_↔_}
 use mathlib.Core.List.{List, []}
 use Prim.Native.Nat.{ℕ, _≤_, _<_}
 use native.Mathlib.Omega.{arith}
@@ -16,12 +16,12 @@ use Rattle.counter.specs.declared.account.Account.{Account}
 use Rattle.counter.specs.declared.answers.Block.{Block}
 use Rattle.counter.specs.declared.answers.Outcome.{Outcome}
 use Rattle.counter.specs.declared.settings.BuddySettings.{BuddySettings}
-use Rattle.counter.proofs.Reasoned.{clear-first, given-alike, clear-alike}
+use Rattle.counter.proofs.Reasoned.{clear-first}
 use Rattle.store_rules.specs.Outcomes.{Out, out, listed, listOk}
 use Rattle.store_rules.specs.Tests.{noOrder, orderFor, gateRow}
 use Rattle.engines.specs.Refuses.{Refuses}
-use Rattle.engines.specs.Rows.{gateRows, keptRows, askRows, deliverRows, returnRows}
-use Rattle.engines.specs.Shapes.{Lent, Call, setsUp, asks, delivers, returns, others, does, Marked, lentList}
+use Rattle.engines.specs.Rows.{gateRows, keptRows}
+use Rattle.engines.specs.Shapes.{Lent, Call, setsUp, asks, delivers, returns, others, does, Marked, lentList, wordsOf}
 use Rattle.engines.proofs.Shutting.{shut}
 use Rattle.buddy_stores.specs.Tables.{Tables, mark, markAt}
 use Rattle.buddy_stores.specs.Views.{viewOf}
@@ -29,14 +29,13 @@ use Rattle.buddy_stores.specs.Test.{soundRow, soundOk}
 use Rattle.buddy_outcomes.specs.Gate.{lentOk, accountOk, gateOf}
 use Rattle.buddy_outcomes.specs.Ask.{grownFor, deniedTables, carryAsk, planAsk, askOf}
 use Rattle.buddy_outcomes.specs.Deliver.{stillOk, deliverGateOf, planDeliver, carryDeliver, deliverOf}
-use Rattle.buddy_outcomes.specs.Refusals.{gateReasons, keptReasons, askReasons, deliverReasons, returnReasons}
+use Rattle.buddy_outcomes.specs.Refusals.{buddyWords}
 use Rattle.buddy_outcomes.specs.Return.{planReturn, carryReturn, returnOf}
 use Rattle.buddy_outcomes.proofs.Denied.{kept-decided, deliver-refused, deliver-lost}
 use Rattle.buddy_outcomes.proofs.Gated.{gate-decided}
 use Rattle.buddy_outcomes.proofs.Lendings.{grown-view}
 use Rattle.buddy_outcomes.proofs.Refused.{set-up-refused, ask-refused, return-refused, set-up-leaves, ask-leaves, ask-leaves-grown, deliver-leaves, return-leaves}
 use Rattle.buddy_engine.specs.Shape.{asBuddy, begunAs, outAs, listedAs, buddyShape}
-use Rattle.buddy_engine.proofs.Rowed.{gate-alike, ask-alike, kept-alike, deliver-alike, return-alike}
 
 -- ---- tables without the mark
 
@@ -84,19 +83,17 @@ foreign s a t (others c list) f m = absurd c
 
 -- ---- the tests 1 to 4
 
-gate-clear : (s : BuddySettings) (a : Account) (t : Lent) → (gateOf s a (asBuddy t) true ≡ pass) ↔ Clear (gateRows buddyShape s a t)
+gate-clear : (s : BuddySettings) (a : Account) (t : Lent) → (gateOf s a (asBuddy t) true ≡ pass) ↔ Clear (gateRows (wordsOf buddyShape) s a t)
 unfolding gateOf
 gate-clear s a t =
     let u = asBuddy t in
-    Iff·trans (clear-first (gateRow (lentOk s a u && true) (noOrder (a .order)) (soundOk s u) (accountOk s a u)) (gateReasons s a u) (gate-decided s a u))
-    (clear-alike (gateReasons s a u) (gateRows buddyShape s a t) (gate-alike s t a))
+    clear-first (gateRow (lentOk s a u && true) (noOrder (a .order)) (soundOk s u) (accountOk s a u)) (gateRows buddyWords s a u) (gate-decided s a u)
 
-deliver-clear : (s : BuddySettings) (a : Account) (t : Lent) → (deliverGateOf s a (asBuddy t) ≡ pass) ↔ Clear (keptRows buddyShape s a t)
+deliver-clear : (s : BuddySettings) (a : Account) (t : Lent) → (deliverGateOf s a (asBuddy t) ≡ pass) ↔ Clear (keptRows (wordsOf buddyShape) s a t)
 unfolding deliverGateOf
 deliver-clear s a t =
     let u = asBuddy t in
-    Iff·trans (clear-first (gateRow (lentOk s a u) (orderFor (s .store .number) (a .order)) (soundOk s u && stillOk s a u (a .order)) (accountOk s a u)) (keptReasons s a u) (kept-decided s a u))
-    (clear-alike (keptReasons s a u) (keptRows buddyShape s a t) (kept-alike s t a))
+    clear-first (gateRow (lentOk s a u) (orderFor (s .store .number) (a .order)) (soundOk s u && stillOk s a u (a .order)) (accountOk s a u)) (keptRows buddyWords s a u) (kept-decided s a u)
 
 -- the buddy refuses as an engine has to
 pub refuses : Refuses buddyShape
@@ -104,11 +101,11 @@ refuses =
     record {
       set-up-refused = λ s t n. set-up-refused s (asBuddy t) n;
       ask-refused = λ s a size mask t n.
-          Iff·trans (ask-refused s a size mask (asBuddy t) n) (given-alike (askReasons s a size mask (asBuddy t)) (askRows buddyShape s a size mask t) (ask-alike s t a size mask) n);
+          ask-refused s a size mask (asBuddy t) n;
       deliver-refused = λ s a o t n.
-          Iff·trans (deliver-refused s a o (asBuddy t) n) (given-alike (deliverReasons s a o (asBuddy t)) (deliverRows buddyShape s a o t) (deliver-alike s t a o) n);
+          deliver-refused s a o (asBuddy t) n;
       return-refused = λ s a b t list n.
-          Iff·trans (return-refused s a b (asBuddy t) list n) (given-alike (returnReasons s a b (asBuddy t) list) (returnRows buddyShape s a b t list) (return-alike s t a b list) n);
+          return-refused s a b (asBuddy t) list n;
       other-refused = λ s a c t list n. absurd c;
       gate-clear = gate-clear;
       deliver-clear = deliver-clear;

@@ -1,7 +1,7 @@
 -- An ask's tests 5, 6, 8, 10 and 9 decide 01's rows, and when an ask comes to an order, in the paper's words. Assumes nothing.
 use mathlib.Core.Path.{_≡_, refl, sym, ap, _∙_}
 use mathlib.Core.Bool.{true, false, _||_, not}
-use mathlib.Core.Logic.{_↔_, Iff·trans}
+use mathlib.Core.Logic.{_↔_, Iff·trans, ⊎-elim, inl, inr}
 use Prim.Native.Nat.{ℕ}
 use lib.Dec.{ltb}
 use Rattle.counter.specs.Gate.{pass, Row, first}
@@ -21,7 +21,8 @@ use Rattle.buddy_trees.specs.Trees.{bytes}
 use Rattle.buddy_stores.specs.Sound.{Sound}
 use Rattle.buddy_stores.specs.Tables.{Tables, Lengths, givenIn}
 use Rattle.buddy_outcomes.specs.Ask.{nowhere, needs, sizeFor, foundFor, orderFor, sizeOk, countOk, objectsOk, askRow, planned, decideAsk}
-use Rattle.buddy_outcomes.specs.Refusals.{SizeOff, Needed, Spent, NoObject, askTests}
+use Rattle.buddy_outcomes.specs.Refusals.{SizeOff, Needed, buddyWords}
+use Rattle.engines.specs.Rows.{NoObject, Spent, askTests}
 use Rattle.buddy_outcomes.proofs.Fitted.{needs-when}
 use Rattle.buddy_outcomes.proofs.Plans.{planned-buy}
 use Rattle.buddy_outcomes.proofs.Roomed.{needs-none, full-when}
@@ -38,19 +39,21 @@ module _ (s : BuddySettings) (t : Tables) (fit : BuddyIn s) (lengths : Lengths s
   needed a z = Iff·trans (needs-none (foundFor s size mask t)) (needs-when s t fit lengths sound size mask a z)
 
   -- 10
-  spent-off : alignmentOk mask ≡ true → sizeOk s size mask ≡ true → (countOk s h size mask t (foundFor s size mask t) ≡ false) ↔ Spent s h size mask t
+  spent-off : alignmentOk mask ≡ true → sizeOk s size mask ≡ true → (countOk s h size mask t (foundFor s size mask t) ≡ false) ↔ Spent buddyWords s h size mask t
   unfolding countOk
   spent-off a z =
-      off-and (ltb (givenIn t) spent) (not (needs (foundFor s size mask t)) || bearsOk h (orderFor s size mask t)) (off-less (givenIn t) spent)
-      (off-where (needs (foundFor s size mask t)) (bearsOk h (orderFor s size mask t)) (needed a z) (bears-off h (orderFor s size mask t)))
+      Iff·trans
+      (off-and (ltb (givenIn t) spent) (not (needs (foundFor s size mask t)) || bearsOk h (orderFor s size mask t)) (off-less (givenIn t) spent)
+      (off-where (needs (foundFor s size mask t)) (bearsOk h (orderFor s size mask t)) (needed a z) (bears-off h (orderFor s size mask t))))
+      (⊎-elim (λ x. inl x) (λ x. inr (x .0, ⊎-elim (λ y. inl y) (λ y. inr (inl y)) (x .1))), ⊎-elim (λ x. inl x) (λ x. inr (x .0, ⊎-elim (λ y. inl y) (⊎-elim (λ y. inr y) (λ y. absurd y)) (x .1))))
 
   -- 9
-  object-off : alignmentOk mask ≡ true → sizeOk s size mask ≡ true → (objectsOk objects (foundFor s size mask t) ≡ false) ↔ NoObject s objects size mask t
+  object-off : alignmentOk mask ≡ true → sizeOk s size mask ≡ true → (objectsOk objects (foundFor s size mask t) ≡ false) ↔ NoObject buddyWords s objects size mask t
   unfolding objectsOk
   object-off a z =
       off-where (needs (foundFor s size mask t)) (ltb 0 objects) (needed a z) (off-some objects)
 
-  pub ask-decided : Decides (askRow s h objects size mask t (foundFor s size mask t)) (askTests s h objects size mask t)
+  pub ask-decided : Decides (askRow s h objects size mask t (foundFor s size mask t)) (askTests buddyWords s h objects size mask t)
   ask-decided = (
     refl,
     mask-off mask,
@@ -61,20 +64,20 @@ module _ (s : BuddySettings) (t : Tables) (fit : BuddyIn s) (lengths : Lengths s
   tests = askRow s h objects size mask t (foundFor s size mask t)
 
   -- an ask comes to an order exactly when none of its rows speaks and a chunk is needed, and to the order for that
-  pub ask-buys : (z : ℕ) → (decideAsk s h objects size mask t ≡ buy z) ↔ (Clear (askTests s h objects size mask t) × Needed s size mask t × (z ≡ orderFor s size mask t))
+  pub ask-buys : (z : ℕ) → (decideAsk s h objects size mask t ≡ buy z) ↔ (Clear (askTests buddyWords s h objects size mask t) × Needed s size mask t × (z ≡ orderFor s size mask t))
   unfolding decideAsk
   ask-buys z = (there, back)
     where
-      clear : (first tests ≡ pass) ↔ Clear (askTests s h objects size mask t)
-      clear = clear-first tests (askTests s h objects size mask t) ask-decided
+      clear : (first tests ≡ pass) ↔ Clear (askTests buddyWords s h objects size mask t)
+      clear = clear-first tests (askTests buddyWords s h objects size mask t) ask-decided
 
       lacks : first tests ≡ pass → (foundFor s size mask t ≡ nowhere) ↔ Needed s size mask t
       lacks e = let w = passed tests e in needs-when s t fit lengths sound size mask (w .0) (w .1 .0)
 
-      there : planned s size mask t (foundFor s size mask t) (first tests) ≡ buy z → Clear (askTests s h objects size mask t) × Needed s size mask t × (z ≡ orderFor s size mask t)
+      there : planned s size mask t (foundFor s size mask t) (first tests) ≡ buy z → Clear (askTests buddyWords s h objects size mask t) × Needed s size mask t × (z ≡ orderFor s size mask t)
       there e = let w = planned-buy s size mask t z (foundFor s size mask t) (first tests) e in (clear .0 (w .1), lacks (w .1) .0 (w .0), w .2)
 
-      back : Clear (askTests s h objects size mask t) × Needed s size mask t × (z ≡ orderFor s size mask t) → planned s size mask t (foundFor s size mask t) (first tests) ≡ buy z
+      back : Clear (askTests buddyWords s h objects size mask t) × Needed s size mask t × (z ≡ orderFor s size mask t) → planned s size mask t (foundFor s size mask t) (first tests) ≡ buy z
       back w =
           let p = clear .1 (w .0) in
           let f = lacks p .1 (w .1) in

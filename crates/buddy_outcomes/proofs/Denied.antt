@@ -1,8 +1,8 @@
 -- Exactly when a delivery to a buddy store is refused with each number, and what 11 and 12 leave. Assumes nothing.
-use mathlib.Core.Path.{_≡_, refl, ap, _∙_}
+use mathlib.Core.Path.{_≡_, refl, ap, _∙_, subst}
 use mathlib.Core.Bool.{true, false, _&&_}
 use mathlib.Core.Logic.{_⊎_, ⊎-elim, _↔_, Iff·trans}
-use mathlib.Core.List.{List, [], _∷_, _++_}
+use mathlib.Core.List.{List, [], _∷_, _++_, map}
 use Prim.Native.Nat.{ℕ}
 use native.Mathlib.Omega.{arith}
 use Rattle.lists.proofs.Bools.{told, true-false, and-left, and-right, and-both}
@@ -37,9 +37,13 @@ use Rattle.buddy_outcomes.specs.Ask.{decideAsk}
 use Rattle.buddy_outcomes.specs.Ask as A
 use Rattle.buddy_outcomes.specs.Deliver.{stillOk, deliverGateOf, asOrdered, carryFate, decideDeliver, planDeliver, carryDeliver, deliverOf}
 use Rattle.buddy_outcomes.specs.Deliver as D
-use Rattle.buddy_outcomes.specs.Refusals.{Needed, askTests, Leads, keptReasons, deliverReasons}
+use Rattle.buddy_outcomes.specs.Refusals.{Needed, buddyWords}
+use Rattle.engines.specs.Rows.{Leads, askTests, deliverRows, keptRows}
 use Rattle.buddy_outcomes.proofs.Asked.{ask-buys}
 use Rattle.buddy_outcomes.proofs.Gated.{in-table, short}
+use Rattle.buddy_outcomes.proofs.Counting.{memories-is}
+use Rattle.buddy_stores.specs.Views.{chunksIn}
+use Rattle.store_rules.specs.declared.Chunk.{Chunk}
 
 -- ---- what 11 and 12 leave
 
@@ -95,26 +99,26 @@ module _ (s : BuddySettings) (a : Account) (t : Tables) where
       gateRow (lentOk s a t) (orderFor (s .store .number) (a .order)) (soundOk s t && stillOk s a t (a .order)) (accountOk s a t)
 
   -- 3: the store is sound and the kept ask leads to the order
-  leads : BuddyIn s → Lengths s t → ((soundOk s t && stillOk s a t (a .order)) ≡ true) ↔ (Sound s t × Leads s a t)
+  leads : BuddyIn s → Lengths s t → ((soundOk s t && stillOk s a t (a .order)) ≡ true) ↔ (Sound s t × Leads buddyWords s a t)
   leads fit lengths = (there, back)
     where
       bought : Sound s t → (k : KeptOrder) (z : ℕ) → (decideAsk s (heapAt a (s .store .heap)) (a .objects) (k .ask .size) (k .ask .mask) t ≡ buy z)
-          ↔ (Clear (askTests s (heapAt a (s .store .heap)) (a .objects) (k .ask .size) (k .ask .mask) t) × Needed s (k .ask .size) (k .ask .mask) t × (z ≡ A.orderFor s (k .ask .size) (k .ask .mask) t))
+          ↔ (Clear (askTests buddyWords s (heapAt a (s .store .heap)) (a .objects) (k .ask .size) (k .ask .mask) t) × Needed s (k .ask .size) (k .ask .mask) t × (z ≡ A.orderFor s (k .ask .size) (k .ask .mask) t))
       bought sound k z = ask-buys s t fit lengths sound (heapAt a (s .store .heap)) (a .objects) (k .ask .size) (k .ask .mask) z
 
-      still : Sound s t → (ord : OpenOrder) → a .order ≡ ord → stillOk s a t ord ≡ true → Leads s a t
+      still : Sound s t → (ord : OpenOrder) → a .order ≡ ord → stillOk s a t ord ≡ true → Leads buddyWords s a t
       still sound Nothing q e = absurd (true-false false e refl)
       still sound (Kept k) q e =
           let p = leads-buy (s .store) (k .order) (decideAsk s (heapAt a (s .store .heap)) (a .objects) (k .ask .size) (k .ask .mask) t) e in
           let w = bought sound k (p .0) .0 (p .1) in
           record { kept = k; its = q; clear = w .0; needed = w .1; same = p .2 ∙ ap (orderFrom (s .store)) (w .2) }
 
-      there : (soundOk s t && stillOk s a t (a .order)) ≡ true → Sound s t × Leads s a t
+      there : (soundOk s t && stillOk s a t (a .order)) ≡ true → Sound s t × Leads buddyWords s a t
       there e =
           let sound = tables-yes s t fit (and-left (soundOk s t) (stillOk s a t (a .order)) e) in
           (sound, still sound (a .order) refl (and-right (soundOk s t) (stillOk s a t (a .order)) e))
 
-      back : Sound s t × Leads s a t → (soundOk s t && stillOk s a t (a .order)) ≡ true
+      back : Sound s t × Leads buddyWords s a t → (soundOk s t && stillOk s a t (a .order)) ≡ true
       back w =
           let l = w .1 in
           let k = l .kept in
@@ -125,7 +129,7 @@ module _ (s : BuddySettings) (a : Account) (t : Tables) where
           ∙ is-same-order (k .order) (orderFrom (s .store) z) (l .same))
 
   -- 1 to 4
-  pub kept-decided : Decides gates (keptReasons s a t)
+  pub kept-decided : Decides gates (keptRows buddyWords s a t)
   kept-decided = (
     refl,
     fails (lentOk s a t) (in-table s a t .0) (in-table s a t .1),
@@ -151,12 +155,12 @@ module _ (s : BuddySettings) (a : Account) (t : Tables) where
         arrival-tells buddy o held (s .store .number) (λ (p : D.Arrival). carryDeliver s a t p .said) n (λ m. tells-refused m n []) (λ k f. tells-fate s a k t f n) gates (a .order)
         (λ e. passed gates e .1 .0)
 
-    deliver-decided : Decides deliverRow (deliverReasons s a o t)
+    deliver-decided : Decides deliverRow (deliverRows buddyWords s a o t)
     deliver-decided =
-        decides-then gates (keptReasons s a t) ((welcomeOk held o (a .order), 13) ∷ fateRow o) (reason (UnwelcomeTo a held o) 13 (reason (DeviceOut o) 11 (reason (HostOut o) 12 none))) kept-decided
-        (λ _. (refl, unwelcomed a held o, (λ _. (refl, device-out o, (λ _. (refl, host-out o, (λ _. tt)))))))
+        decides-then gates (keptRows buddyWords s a t) ((welcomeOk held o (a .order), 13) ∷ fateRow o) (reason (UnwelcomeTo a (map (λ (c : Chunk). c .memory) (chunksIn t)) o) 13 (reason (DeviceOut o) 11 (reason (HostOut o) 12 none))) kept-decided
+        (λ _. (refl, subst (λ (ms : List ℕ). (welcomeOk held o (a .order) ≡ false) ↔ UnwelcomeTo a ms o) (memories-is t) (unwelcomed a held o), (λ _. (refl, device-out o, (λ _. (refl, host-out o, (λ _. tt)))))))
 
 -- a delivery is refused with n exactly when n is the number of the first of its rows, 1 to 4, 13, 11, 12, whose words hold
-pub deliver-refused : (s : BuddySettings) (a : Account) (o : Outcome) (t : Tables) (n : ℕ) → ((back : List ℕ) × (deliverOf s a o t .said ≡ Paper.refusal n back)) ↔ Given (deliverReasons s a o t) n
+pub deliver-refused : (s : BuddySettings) (a : Account) (o : Outcome) (t : Tables) (n : ℕ) → ((back : List ℕ) × (deliverOf s a o t .said ≡ Paper.refusal n back)) ↔ Given (deliverRows buddyWords s a o t) n
 deliver-refused s a o t n =
-    Iff·trans (deliver-tells s a t o n) (given-first (deliverRow s a t o) (deliverReasons s a o t) (deliver-decided s a t o) n)
+    Iff·trans (deliver-tells s a t o n) (given-first (deliverRow s a t o) (deliverRows buddyWords s a o t) (deliver-decided s a t o) n)

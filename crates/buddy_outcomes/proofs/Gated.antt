@@ -1,5 +1,5 @@
 -- The gate of a buddy store decides rows 1 to 4 of 01's table. Assumes nothing.
-use mathlib.Core.Path.{_≡_, refl}
+use mathlib.Core.Path.{_≡_, refl, subst, sym}
 use mathlib.Core.Bool.{Bool, true, false, _&&_}
 use mathlib.Core.Logic.{_↔_}
 use mathlib.Core.List.{List}
@@ -17,7 +17,7 @@ use Rattle.counter.specs.declared.account.Account.{Account}
 use Rattle.counter.specs.declared.settings.BuddySettings.{BuddySettings}
 use Rattle.counter.proofs.Tables.{buddy-all, heaps-each, each-heaps}
 use Rattle.store_rules.specs.Outcomes.{listOk}
-use Rattle.store_rules.specs.Refusals.{OrderOpen}
+use Rattle.store_rules.specs.Refusals.{OrderOpen, Uncovered}
 use Rattle.store_rules.specs.Tests.{noOrder, gateRow}
 use Rattle.store_rules.proofs.Refused.{fails, order-open, uncovered}
 use Rattle.buddy_stores.specs.Sound.{Sound}
@@ -25,8 +25,12 @@ use Rattle.buddy_stores.specs.Tables.{Tables, lengthsOk, chunkPlacesIn}
 use Rattle.buddy_stores.specs.Test.{soundOk}
 use Rattle.buddy_stores.proofs.Decides.{tables-yes, tables-all}
 use Rattle.buddy_outcomes.specs.Gate.{lentOk, heldCount, heldBytes, accountOk}
-use Rattle.buddy_outcomes.specs.Refusals.{InTable, WithList, Short, gateReasons, listReasons}
+use Rattle.buddy_outcomes.specs.Refusals.{InTable, buddyWords}
+use Rattle.engines.specs.Rows.{Short, WithList, gateRows, listRows}
 use Rattle.buddy_outcomes.proofs.Passing.{lent-in, are-lengths}
+use Rattle.buddy_outcomes.proofs.Counting.{count-is, bytes-is}
+use Rattle.buddy_stores.specs.Views.{chunksIn}
+use Rattle.store_rules.specs.Views.{sizes}
 
 -- ---- 1
 
@@ -59,7 +63,7 @@ in-table s a t = (there, back)
         (are-lengths s t (w .lengths)))
 
 module _ (s : BuddySettings) (a : Account) (t : Tables) where
-  with-list : (list : List ℕ) → ((lentOk s a t && listOk (s .store) list) ≡ true) ↔ WithList s a t list
+  with-list : (list : List ℕ) → ((lentOk s a t && listOk (s .store) list) ≡ true) ↔ WithList buddyWords s a t list
   with-list list = (
     (λ e. (
       in-table s a t .0 (and-left (lentOk s a t) (listOk (s .store) list) e),
@@ -70,14 +74,18 @@ module _ (s : BuddySettings) (a : Account) (t : Tables) where
 
   -- ---- 4
 
-  pub short : (accountOk s a t ≡ false) ↔ Short s a t
+  pub short : (accountOk s a t ≡ false) ↔ Short buddyWords s a t
   unfolding accountOk
-  short = uncovered (heapAt a (s .store .heap)) (a .objects) (heldCount t (chunkPlacesIn t)) (heldBytes t (chunkPlacesIn t))
+  short =
+      let h = heapAt a (s .store .heap) in
+      subst (λ (n : ℕ). (accountOk s a t ≡ false) ↔ Uncovered h (a .objects) n (sizes (chunksIn t))) (sym (count-is t))
+      (subst (λ (z : ℕ). (accountOk s a t ≡ false) ↔ Uncovered h (a .objects) (heldCount t (chunkPlacesIn t)) z) (sym (bytes-is t))
+      (uncovered h (a .objects) (heldCount t (chunkPlacesIn t)) (heldBytes t (chunkPlacesIn t))))
 
   -- ---- 1 to 4
 
   decided : (lent : Bool) {W : Type 0} → (lent ≡ true) ↔ W → (W → BuddyIn s)
-      → Decides (gateRow lent (noOrder (a .order)) (soundOk s t) (accountOk s a t)) (reason (W → ⊥) 1 (reason (OrderOpen a) 2 (reason (Sound s t → ⊥) 3 (reason (Short s a t) 4 none))))
+      → Decides (gateRow lent (noOrder (a .order)) (soundOk s t) (accountOk s a t)) (reason (W → ⊥) 1 (reason (OrderOpen a) 2 (reason (Sound s t → ⊥) 3 (reason (Short buddyWords s a t) 4 none))))
   decided lent w fit = (
     refl,
     fails lent (w .0) (w .1),
@@ -92,10 +100,10 @@ module _ (s : BuddySettings) (a : Account) (t : Tables) where
     )),
   )
 
-  pub list-decided : (list : List ℕ) → Decides (gateRow (lentOk s a t && listOk (s .store) list) (noOrder (a .order)) (soundOk s t) (accountOk s a t)) (listReasons s a t list)
-  list-decided list = decided (lentOk s a t && listOk (s .store) list) (with-list list) (λ (i : WithList s a t list). i .0 .settings)
+  pub list-decided : (list : List ℕ) → Decides (gateRow (lentOk s a t && listOk (s .store) list) (noOrder (a .order)) (soundOk s t) (accountOk s a t)) (listRows buddyWords s a t list)
+  list-decided list = decided (lentOk s a t && listOk (s .store) list) (with-list list) (λ (i : WithList buddyWords s a t list). i .0 .settings)
 
-  pub gate-decided : Decides (gateRow (lentOk s a t && true) (noOrder (a .order)) (soundOk s t) (accountOk s a t)) (gateReasons s a t)
+  pub gate-decided : Decides (gateRow (lentOk s a t && true) (noOrder (a .order)) (soundOk s t) (accountOk s a t)) (gateRows buddyWords s a t)
   gate-decided =
       decided (lentOk s a t && true)
       ((λ e. in-table s a t .0 (and-left (lentOk s a t) true e)), (λ w. and-both (lentOk s a t) true (in-table s a t .1 w) refl))

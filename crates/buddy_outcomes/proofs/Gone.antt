@@ -41,7 +41,8 @@ use Rattle.buddy_outcomes.specs.Ask as Ask
 use Rattle.buddy_outcomes.specs.Ask.{grownFor, decideAsk, grownTables, bookedTables, takenTables, deniedTables, carryAsk, planAsk, askOf}
 use Rattle.buddy_outcomes.specs.Deliver as Deliver
 use Rattle.buddy_outcomes.specs.Deliver.{deliverGateOf, chunkTables, servedTables, carryFate, decideDeliver, planDeliver, carryDeliver, deliverOf}
-use Rattle.buddy_outcomes.specs.Refusals.{Stale, listReasons}
+use Rattle.buddy_outcomes.specs.Refusals.{buddyWords}
+use Rattle.engines.specs.Rows.{Stale, listRows}
 use Rattle.buddy_outcomes.specs.Return.{wordFor, onLoanOk, givenTables, releasedBy, returnOf}
 use Rattle.buddy_outcomes.proofs.Booked.{lower}
 use Rattle.buddy_outcomes.proofs.Changed.{grown-lengths}
@@ -306,8 +307,8 @@ module _ (s : BuddySettings) (a : Account) (b : Block) (t : Tables) (list : List
           absurd (g .away (getD (t .index) (wordFor s b t) 0) (Back.live s t fit lengths (p .sound) b on) (Back.says s t fit lengths (p .sound) b on .serial))
 
   -- with nothing changed: as 7, or as one of the earlier rows 1 to 4
-  pub gone-refused : Gone (b .serial) t → (n : ℕ) × (returnOf s a b t list ≡ listed (Paper.refusal n []) a t list) × ((n ≡ 7) ⊎ Given (listReasons s a t list) n)
+  pub gone-refused : Gone (b .serial) t → (n : ℕ) × (returnOf s a b t list ≡ listed (Paper.refusal n []) a t list) × ((n ≡ 7) ⊎ Given (listRows buddyWords s a t list) n)
   gone-refused g =
       let r = gone-denied g in
-      let c = given-then (listReasons s a t list) (reason (Stale b t) 7 none) (r .0) (return-refused s a b t list (r .0) .0 (ap (λ (x : Listed Tables). x .said) (r .1))) in
+      let c = given-then (listRows buddyWords s a t list) (reason (Stale buddyWords s b t) 7 none) (r .0) (return-refused s a b t list (r .0) .0 (ap (λ (x : Listed Tables). x .said) (r .1))) in
       (r .0, r .1, ⊎-elim (λ e. inr e) (λ e. ⊎-elim (λ z. inl (z .1)) (λ z. absurd (z .1)) e) c)

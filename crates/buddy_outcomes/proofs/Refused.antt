@@ -2,14 +2,12 @@
 use mathlib.Core.Path.{_≡_, refl, sym, ap, subst, _∙_}
 use mathlib.Core.Bool.{Bool, true, false, cond, _&&_}
 use mathlib.Core.Logic.{⊎-elim, _↔_, Iff·trans}
-use mathlib.Core.List.{List, [], _∷_, _++_}
-use Prim.Native.Nat.{ℕ, _*_}
-use lib.ListN.{getD, drop}
+use mathlib.Core.List.{List, [], _∷_, _++_, List·Memᴰ}
+use Prim.Native.Nat.{ℕ}
+use lib.ListN.{getD}
 use lib.Seq.{sets}
 use borrow.Author.Tests.{ne-eqb}
 use Rattle.lists.proofs.Bools.{and-left, and-right, and-both}
-use Rattle.words.specs.Rows.{row}
-use Rattle.words.proofs.Records.{cell-row}
 use Rattle.counter.specs.Account.{heapAt}
 use Rattle.counter.specs.Gate.{Verdict, pass, refuse, Row, first}
 use Rattle.counter.specs.InTable.{BuddyIn}
@@ -26,7 +24,6 @@ use Rattle.counter.specs.declared.settings.BuddySettings.{BuddySettings}
 use Rattle.counter.proofs.Reasoned.{given-first, decides-then, andThen, first-then}
 use Rattle.counter.proofs.Tables.{buddy-yes, buddy-all}
 use Rattle.store_rules.specs.Delivery.{Fate, kept, lost, buddy, fateOf, deliveryOk}
-use Rattle.store_rules.specs.Loans.{loanWords, sizeAt, loanRow, loan}
 use Rattle.store_rules.specs.Orders.{Plan, deny, take, buy}
 use Rattle.store_rules.specs.Outcomes.{out, listed, listOk, releasedAccount}
 use Rattle.store_rules.specs.Tests.{noOrder, gateRow}
@@ -35,7 +32,7 @@ use Rattle.store_rules.proofs.Refused.{fails}
 use Rattle.store_rules.proofs.Said.{refuses, not-refused, said-number, Says, says-refused, says-passed}
 use Rattle.store_rules.proofs.Fates.{left}
 use Rattle.buddy_stores.specs.Sound.{Sound}
-use Rattle.buddy_stores.specs.Tables.{Tables, Lengths, lengthsOk, chunkPlacesIn, memories, memoryIn, chunkSizeIn, loanCell, liveIn}
+use Rattle.buddy_stores.specs.Tables.{Tables, Lengths, lengthsOk, chunkPlacesIn, memories, memoryIn, chunkSizeIn}
 use Rattle.buddy_stores.specs.Test.{soundOk}
 use Rattle.buddy_outcomes.specs.Gate.{lentOk, accountOk, gateOf}
 use Rattle.buddy_outcomes.specs.Ask.{Found, nowhere, at, foundFor, orderFor, askRow, planned, decideAsk, grownFor, grownTables, deniedTables, carryAsk, planAsk, askOf}
@@ -45,11 +42,15 @@ use Rattle.buddy_outcomes.specs.Deliver as D
 use Rattle.buddy_outcomes.specs.Return.{wordFor, onLoanOk, releasedBy, climbFor, givenTables, decideReturn, planReturn, carryReturn, returnOf}
 use Rattle.buddy_outcomes.specs.Return as R
 use Rattle.buddy_outcomes.specs.SetUp.{setUp, fitOk, setUpOf, freshTables}
-use Rattle.buddy_outcomes.specs.Refusals.{Stale, gateReasons, listReasons, askTests, askReasons, returnReasons, setUpReasons}
+use Rattle.buddy_outcomes.specs.Refusals.{buddyWords}
+use Rattle.engines.specs.Rows.{Stale, askRows, askTests, gateRows, listRows, returnRows, setUpRows}
 use Rattle.buddy_outcomes.proofs.Gated.{gate-decided, list-decided}
 use Rattle.buddy_outcomes.proofs.Asked.{ask-decided}
 use Rattle.buddy_outcomes.proofs.Loaned.{on-loan-is, is-on-loan}
 use Rattle.buddy_outcomes.proofs.Passing.{Passed, lengths-are, are-lengths, gate-passed}
+use Rattle.buddy_stores.specs.Views.{loansIn}
+use Rattle.store_rules.specs.Views.{loanOf}
+use Rattle.buddy_stores.proofs.Viewed.{live-loan, loan-live}
 
 -- ---- set-up
 
@@ -64,9 +65,9 @@ set-up-leaves s t n back = by (fitOk s t)
     by false e = ap (λ (k : ℕ). setUp (Paper.refusal k []) t) (said-number 1 n [] back e)
 
 -- set-up is refused only by 1, exactly when a value or a length is outside the table
-pub set-up-refused : (s : BuddySettings) (t : Tables) (n : ℕ) → (setUpOf s t .said ≡ Paper.refusal n []) ↔ Given (setUpReasons s t) n
+pub set-up-refused : (s : BuddySettings) (t : Tables) (n : ℕ) → (setUpOf s t .said ≡ Paper.refusal n []) ↔ Given (setUpRows buddyWords s t) n
 unfolding setUpOf fitOk
-set-up-refused s t n = Iff·trans (by (fitOk s t)) (given-first ((fitOk s t, 1) ∷ []) (setUpReasons s t) (refl, fails (fitOk s t) there back, (λ _. tt)) n)
+set-up-refused s t n = Iff·trans (by (fitOk s t)) (given-first ((fitOk s t, 1) ∷ []) (setUpRows buddyWords s t) (refl, fails (fitOk s t) there back, (λ _. tt)) n)
   where
     by : (b : Bool) → Says (cond b (setUp Paper.ready (freshTables s t)) (setUp (Paper.refusal 1 []) t) .said) (first ((b, 1) ∷ [])) n
     by true = says-passed Paper.ready n refl
@@ -104,25 +105,14 @@ return-leaves s a b t list n back = by (planReturn s a b t (listOk (s .store) li
     by (R.back w) e = not-refused (carryReturn s a b t list (R.back w) .said) n back (taken-said s a b w t list) e
 
 -- 7
-stale-is : (s : BuddySettings) (b : Block) (t : Tables) → BuddyIn s → Lengths s t → Sound s t → (onLoanOk s b t ≡ false) ↔ Stale b t
-stale-is s b t fit lengths sound = Iff·trans (fails (onLoanOk s b t) there (λ w. is-on-loan s t fit lengths sound b (w .0) (w .1) (w .2))) (not-one, no-one)
+stale-is : (s : BuddySettings) (b : Block) (t : Tables) → BuddyIn s → Lengths s t → Sound s t → (onLoanOk s b t ≡ false) ↔ Stale buddyWords s b t
+stale-is s b t fit lengths sound = fails (onLoanOk s b t) there back
   where
-    Lent : Type 0
-    Lent = (k : ℕ) × (liveIn t k ≡ true) × (row loanRow k (t .loans) ≡ loan (b .serial) (b .chunk) (b .offset) (b .size))
+    there : onLoanOk s b t ≡ true → List·Memᴰ (loanOf b) (loansIn t)
+    there e = let w = on-loan-is s t fit lengths sound b e in subst (λ (l : Loan). List·Memᴰ l (loansIn t)) (w .1) (live-loan t (getD (t .index) (wordFor s b t) 0) (w .0))
 
-    there : onLoanOk s b t ≡ true → Lent
-    there e = let w = on-loan-is s t fit lengths sound b e in (getD (t .index) (wordFor s b t) 0, w .0, w .1)
-
-    cell : (f k : ℕ) → loanCell t f k ≡ getD (drop (loanWords * k) (t .loans)) f 0
-    cell f k = cell-row (t .loans) f loanWords k
-
-    not-one : (Lent → ⊥) → Stale b t
-    not-one f k h p q r z = f (k, h, (λ i. record { serial = (sym (cell 0 k) ∙ p) i; chunk = (sym (cell 1 k) ∙ q) i; offset = (sym (cell 2 k) ∙ r) i; size = (sym (cell sizeAt k) ∙ z) i }))
-
-    no-one : Stale b t → Lent → ⊥
-    no-one f w =
-        let k = w .0 in
-        f k (w .1) (cell 0 k ∙ ap (λ (l : Loan). l .serial) (w .2)) (cell 1 k ∙ ap (λ (l : Loan). l .chunk) (w .2)) (cell 2 k ∙ ap (λ (l : Loan). l .offset) (w .2)) (cell sizeAt k ∙ ap (λ (l : Loan). l .size) (w .2))
+    back : List·Memᴰ (loanOf b) (loansIn t) → onLoanOk s b t ≡ true
+    back m = let w = loan-live t (loanOf b) m in is-on-loan s t fit lengths sound b (w .0) (w .1) (w .2)
 
 -- the gate
 abbrev gateFor : BuddySettings → Account → Tables → Bool → Row
@@ -133,11 +123,11 @@ unfolding gateOf
 gate-went s a t list e = gate-passed s a t list (sym e)
 
 -- a return is refused with n exactly when n is the number of the first of its rows, 1 to 4, 7, whose words hold
-pub return-refused : (s : BuddySettings) (a : Account) (b : Block) (t : Tables) (list : List ℕ) (n : ℕ) → (returnOf s a b t list .said ≡ Paper.refusal n []) ↔ Given (returnReasons s a b t list) n
+pub return-refused : (s : BuddySettings) (a : Account) (b : Block) (t : Tables) (list : List ℕ) (n : ℕ) → (returnOf s a b t list .said ≡ Paper.refusal n []) ↔ Given (returnRows buddyWords s a b t list) n
 unfolding returnOf carryReturn planReturn decideReturn gateOf
 return-refused s a b t list n =
     Iff·trans (subst (λ (v : Verdict). Says (returnOf s a b t list .said) v n) (sym (first-then gate tests)) (by (first gate) (onLoanOk s b t)))
-    (given-first (gate ++ tests) (returnReasons s a b t list) (decides-then gate (listReasons s a t list) tests (reason (Stale b t) 7 none) (list-decided s a t list) later) n)
+    (given-first (gate ++ tests) (returnRows buddyWords s a b t list) (decides-then gate (listRows buddyWords s a t list) tests (reason (Stale buddyWords s b t) 7 none) (list-decided s a t list) later) n)
   where
     gate : Row
     gate = gateFor s a t (listOk (s .store) list)
@@ -145,7 +135,7 @@ return-refused s a b t list n =
     tests : Row
     tests = (onLoanOk s b t, 7) ∷ []
 
-    later : first gate ≡ pass → Decides tests (reason (Stale b t) 7 none)
+    later : first gate ≡ pass → Decides tests (reason (Stale buddyWords s b t) 7 none)
     later e = let p = gate-went s a t (listOk (s .store) list) e in (refl, stale-is s b t (p .lent .settings) (p .lent .lengths) (p .sound), (λ _. tt))
 
     by : (v : Verdict) (on : Bool) → Says (carryReturn s a b t list (R.gated v (cond on (R.back (wordFor s b t)) (R.deny 7))) .said) (andThen v (first ((on, 7) ∷ []))) n
@@ -156,11 +146,11 @@ return-refused s a b t list n =
 -- ---- exactly when each number of an ask is given
 
 -- an ask is refused with n exactly when n is the number of the first of its rows, 1 to 4, 5, 6, 8, 10, 9, whose words hold
-pub ask-refused : (s : BuddySettings) (a : Account) (size mask : ℕ) (t : Tables) (n : ℕ) → (askOf s a size mask t .said ≡ Paper.refusal n []) ↔ Given (askReasons s a size mask t) n
+pub ask-refused : (s : BuddySettings) (a : Account) (size mask : ℕ) (t : Tables) (n : ℕ) → (askOf s a size mask t .said ≡ Paper.refusal n []) ↔ Given (askRows buddyWords s a size mask t) n
 unfolding askOf carryAsk planAsk decideAsk gateOf
 ask-refused s a size mask t n =
     Iff·trans (subst (λ (v : Verdict). Says (askOf s a size mask t .said) v n) (sym (first-then gate tests)) (by (first gate) (foundFor s size mask t) (first tests)))
-    (given-first (gate ++ tests) (askReasons s a size mask t) (decides-then gate (gateReasons s a t) tests (askTests s (heapAt a (s .store .heap)) (a .objects) size mask t) (gate-decided s a t) later) n)
+    (given-first (gate ++ tests) (askRows buddyWords s a size mask t) (decides-then gate (gateRows buddyWords s a t) tests (askTests buddyWords s (heapAt a (s .store .heap)) (a .objects) size mask t) (gate-decided s a t) later) n)
   where
     gate : Row
     gate = gateFor s a t true
@@ -168,7 +158,7 @@ ask-refused s a size mask t n =
     tests : Row
     tests = askRow s (heapAt a (s .store .heap)) (a .objects) size mask t (foundFor s size mask t)
 
-    later : first gate ≡ pass → Decides tests (askTests s (heapAt a (s .store .heap)) (a .objects) size mask t)
+    later : first gate ≡ pass → Decides tests (askTests buddyWords s (heapAt a (s .store .heap)) (a .objects) size mask t)
     later e =
         let p = gate-went s a t true e in
         let fit = p .lent .settings in

@@ -1,5 +1,5 @@
 -- Test 8 of an ask says by counts in use what 01 says of a full store. Assumes nothing.
-use mathlib.Core.Path.{_≡_, refl, sym, ap, _∙_}
+use mathlib.Core.Path.{_≡_, refl, sym, ap, _∙_, subst}
 use mathlib.Core.Bool.{Bool, true, false, cond, _&&_, _||_, not}
 use mathlib.Core.Logic.{_⊎_, inl, inr, ⊎-elim, _↔_, Iff·trans}
 use mathlib.Core.List.{List, [], _∷_}
@@ -27,9 +27,12 @@ use Rattle.buddy_stores.specs.Tables.{Tables, Lengths, levelsIn, placesIn, chun
 use Rattle.buddy_outcomes.specs.Ask as Ask
 use Rattle.buddy_outcomes.specs.Ask.{Found, at, needs, levelFor, foundFor, fromFor, sizeOk, pairRoom, pairsRoom, chunkSpot, roomOk}
 use Rattle.buddy_outcomes.specs.Gate.{heldCount}
-use Rattle.buddy_outcomes.specs.Refusals.{liveCount, pairCount, Splits, Full}
+use Rattle.buddy_outcomes.specs.Refusals.{liveCount, pairCount, Splits, buddyWords}
+use Rattle.engines.specs.Rows.{Full}
 use Rattle.buddy_outcomes.proofs.Searches.{search-none, search-at, room-each}
 use Rattle.buddy_outcomes.proofs.Fitted.{needs-when}
+use Rattle.buddy_outcomes.proofs.Counting.{loans-is, count-is}
+use Rattle.buddy_stores.specs.Views.{loansIn, chunksIn}
 
 -- ---- places
 
@@ -238,16 +241,20 @@ needs-none (at i) = ((λ e. absurd (true-false false e refl)), (λ e. ap needs e
 
 -- 8 fails exactly when the store is full
 pub full-when : (s : BuddySettings) (t : Tables) → BuddyIn s → Lengths s t → Sound s t → (size mask : ℕ) → alignmentOk mask ≡ true → sizeOk s size mask ≡ true
-    → (roomOk s size mask t (foundFor s size mask t) ≡ false) ↔ Full s size mask t
+    → (roomOk s size mask t (foundFor s size mask t) ≡ false) ↔ Full buddyWords s size mask t
 unfolding roomOk
 full-when s t fit lengths sound size mask aligned sized =
     let f = foundFor s size mask t in
     let place = ltb (takenOf (placesIn t) (t .index) .place) (s .store .loans) in
     let chunk = ltb (chunkSpot s t .place) (s .store .chunks) in
     let pairs = pairsRoom s t (levelFor s size mask) (fromFor s size mask t f - levelFor s size mask) in
-    off-and place ((not (needs f) || chunk) && pairs)
+    let loans : (s .store .loans ≤ liveCount t (placesIn t)) ↔ (s .store .loans ≤ length (loansIn t)) = (subst (λ (n : ℕ). s .store .loans ≤ n) (sym (loans-is t)), subst (λ (n : ℕ). s .store .loans ≤ n) (loans-is t)) in
+    let chunks : (s .store .chunks ≤ heldCount t (chunkPlacesIn t)) ↔ (s .store .chunks ≤ length (chunksIn t)) = (subst (λ (n : ℕ). s .store .chunks ≤ n) (sym (count-is t)), subst (λ (n : ℕ). s .store .chunks ≤ n) (count-is t)) in
+    Iff·trans
+    (off-and place ((not (needs f) || chunk) && pairs)
     (off-room (takenOf (placesIn t) (t .index) .place) (liveCount t (placesIn t)) (s .store .loans) (place-left s t fit sound))
     (off-and (not (needs f) || chunk) pairs
     (off-where (needs f) chunk (Iff·trans (needs-none f) (needs-when s t fit lengths sound size mask aligned sized))
     (off-room (chunkSpot s t .place) (heldCount t (chunkPlacesIn t)) (s .store .chunks) (chunk-left s t fit sound)))
-    (pairs-off s t fit sound size mask f refl))
+    (pairs-off s t fit sound size mask f refl)))
+    (⊎-elim (λ x. inl (loans .0 x)) (⊎-elim (λ x. inr (inl (x .0, chunks .0 (x .1)))) (λ x. inr (inr x))), ⊎-elim (λ x. inl (loans .1 x)) (⊎-elim (λ x. inr (inl (x .0, chunks .1 (x .1)))) (λ x. inr (inr x))))

@@ -22,7 +22,7 @@ use Rattle.store_rules.specs.declared.Chunk.{Chunk}
 use Rattle.store_rules.proofs.Said.{refuses}
 use Rattle.engines.specs.Engines.{Engine}
 use Rattle.engines.specs.Rows.{deliverRows}
-use Rattle.engines.specs.Shapes.{Lent}
+use Rattle.engines.specs.Shapes.{Lent, wordsOf}
 use Rattle.engines.specs.Tells.{Blocked, Ordered}
 use Rattle.engines.proofs.Taking.{ask-passed}
 
@@ -116,8 +116,8 @@ module _ (E : Engine) (s : E .shape .Settings) (a : Account) (size mask : ℕ) (
       let is : b .order ≡ Kept k = ap (λ (x : Account). x .order) (E .delivers .ordered s a size mask t its .1) in
       let new′ : List·Memᴰ (m .number) (map (λ (c : Chunk). c .memory) (E .shape .view s u .chunks)) → ⊥ =
       subst (λ (cs : List Chunk). List·Memᴰ (m .number) (map (λ (c : Chunk). c .memory) cs) → ⊥) (sym (E .tells .ask-chunks s a size mask t)) new in
-      let all : Clear (deliverRows (E .shape) s b (O.Made m) u) =
+      let all : Clear (deliverRows (wordsOf (E .shape)) s b (O.Made m) u) =
       (c .0, (c .1 .0, (c .1 .1 .0, (c .1 .1 .1 .0, (welcome wanted m fit b _ k is wants new′, (device-well wanted m fit, (host-well wanted m fit, tt))))))) in
       ⊎-elim (λ x. x)
-      (λ x. absurd (clear-unsaid (deliverRows (E .shape) s b (O.Made m) u) (x .0) all (E .refuses .deliver-refused s b (O.Made m) u (x .0) .0 (x .1, x .2))))
+      (λ x. absurd (clear-unsaid (deliverRows (wordsOf (E .shape)) s b (O.Made m) u) (x .0) all (E .refuses .deliver-refused s b (O.Made m) u (x .0) .0 (x .1, x .2))))
       (E .tells .deliver-says s b (O.Made m) u)

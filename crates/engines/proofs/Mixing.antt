@@ -20,7 +20,7 @@ use Rattle.engines.specs.Engines.{Engine}
 use Rattle.engines.specs.Pools.{Slot, ofHead, ofLoans, ofChunks, ofIndex, ofRoom, slots, tableOf, seal, Sealed, Pool, lentFrom, written, Different, Turn, did, turned, course, NoNewLoans, handing, GoneFrom}
 use Rattle.engines.specs.Rows.{listRows}
 use Rattle.engines.specs.Serials.{Gone}
-use Rattle.engines.specs.Shapes.{Lent, Begun, Call, setsUp, returns, Shape, does}
+use Rattle.engines.specs.Shapes.{Lent, Begun, Call, setsUp, returns, Shape, does, wordsOf}
 use Rattle.engines.proofs.NeverAgain.{no-set-up}
 use Rattle.engines.proofs.Visits.{set-up?}
 
@@ -145,7 +145,7 @@ module _ (E : Shape) (Z : Sealed E) where
   gone-away k t g = subst (All (λ (l : Loan). l .serial ≡ k → ⊥)) (Z .loans-there t) (g .away)
 
 -- 1 to 4 are the numbers of a return's first rows
-early : (E : Shape) (s : E .Settings) (a : Account) (t : Lent) (list : List ℕ) (n : ℕ) → Given (listRows E s a t list) n → (0 < n) × (n ≤ 4)
+early : (E : Shape) (s : E .Settings) (a : Account) (t : Lent) (list : List ℕ) (n : ℕ) → Given (listRows (wordsOf E) s a t list) n → (0 < n) × (n ≤ 4)
 early E s a t list n =
     ⊎-elim (λ w. let e = w .1 in (omega arith, omega arith))
     (λ w. ⊎-elim (λ x. let e = x .1 in (omega arith, omega arith))

@@ -16,7 +16,7 @@ use Rattle.engines.specs.Engines.{Engine}
 use Rattle.engines.specs.Histories.{State, storeAt, Visit, done, step, run, NoSetUp, handBack}
 use Rattle.engines.specs.Serials.{Gone}
 use Rattle.engines.specs.Rows.{listRows}
-use Rattle.engines.specs.Shapes.{Lent, markOf, Call, setsUp, returns, does}
+use Rattle.engines.specs.Shapes.{Lent, markOf, Call, setsUp, returns, does, wordsOf}
 use Rattle.engines.proofs.Visits.{set-up?, set-up-stays, stores-stay, store-here, store-other}
 
 -- a return is no set-up
@@ -83,7 +83,7 @@ module _ (K : Type 0) (E : K → Engine) (differ : (i j : K) → E i .shape .mar
     pub never-again : (s′ : E e .shape .Settings) (list′ : List ℕ)
         → let u = run K E (step K E w (handBack K E i e s (b, list))) vs in
         (m : ℕ) × (E e .shape .return s′ (u .account) b (storeAt u i) list′ ≡ listed (Paper.refusal m []) (u .account) (storeAt u i) list′)
-        × ((m ≡ 7) ⊎ Given (listRows (E e .shape) s′ (u .account) (storeAt u i) list′) m)
+        × ((m ≡ 7) ⊎ Given (listRows (wordsOf (E e .shape)) s′ (u .account) (storeAt u i) list′) m)
     never-again s′ list′ =
         let u = run K E (step K E w v) vs in
         E e .counts .gone-refused s′ (u .account) b (storeAt u i) list′ gone

@@ -20,7 +20,7 @@ use Rattle.store_rules.proofs.Said.{refuses, not-refused}
 use Rattle.engines.specs.Ends.{Taken}
 use Rattle.engines.specs.Engines.{Engine}
 use Rattle.engines.specs.Rows.{returnRows, askRows}
-use Rattle.engines.specs.Shapes.{Lent}
+use Rattle.engines.specs.Shapes.{Lent, wordsOf}
 
 -- where no number is given no row's words hold
 pub none-given : (rs : Reasons) → ((n : ℕ) → Given rs n → ⊥) → Clear rs
@@ -43,9 +43,9 @@ module _ (E : Engine) (s : E .shape .Settings) (a : Account) (t : Lent) where
   -- ---- a return that is not refused
 
   module _ (b : Block) (list : List ℕ) (taken : refuses (E .shape .return s a b t list .said) ≡ false) where
-    clear : Clear (returnRows (E .shape) s a b t list)
+    clear : Clear (returnRows (wordsOf (E .shape)) s a b t list)
     clear =
-        none-given (returnRows (E .shape) s a b t list)
+        none-given (returnRows (wordsOf (E .shape)) s a b t list)
         (λ n g. not-refused (E .shape .return s a b t list .said) n [] taken (E .refuses .return-refused s a b t list n .1 g))
 
     pub return-passed : E .shape .gate s a t ≡ pass
@@ -77,9 +77,9 @@ module _ (E : Engine) (s : E .shape .Settings) (a : Account) (t : Lent) where
   -- ---- an ask that is not refused
 
   module _ (size mask : ℕ) (taken : refuses (E .shape .ask s a size mask t .said) ≡ false) where
-    pub ask-clear : Clear (askRows (E .shape) s a size mask t)
+    pub ask-clear : Clear (askRows (wordsOf (E .shape)) s a size mask t)
     ask-clear =
-        none-given (askRows (E .shape) s a size mask t)
+        none-given (askRows (wordsOf (E .shape)) s a size mask t)
         (λ n g. not-refused (E .shape .ask s a size mask t .said) n [] taken (E .refuses .ask-refused s a size mask t n .1 g))
 
     pub ask-passed : E .shape .gate s a t ≡ pass

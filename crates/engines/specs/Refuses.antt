@@ -15,22 +15,22 @@ use Rattle.counter.specs.declared.answers.Outcome.{Outcome}
 use Rattle.store_rules.specs.Outcomes.{out, listed}
 use Rattle.store_rules.specs.Refusals.{lostFor}
 use Rattle.engines.specs.Rows.{gateRows, listRows, keptRows, setUpRows, askRows, deliverRows, returnRows}
-use Rattle.engines.specs.Shapes.{Lent, Call, setsUp, Shape, does, Marked, lentList}
+use Rattle.engines.specs.Shapes.{Lent, Call, setsUp, Shape, does, Marked, lentList, wordsOf}
 
 pub record Refuses (E : Shape) : Type 0 where
   -- a call is refused with n exactly when n is the number of the first of its rows whose words hold
-  pub set-up-refused : (s : E .Settings) (t : Lent) (n : ℕ) → (E .setUp s t .said ≡ Paper.refusal n []) ↔ Given (setUpRows E s t) n
+  pub set-up-refused : (s : E .Settings) (t : Lent) (n : ℕ) → (E .setUp s t .said ≡ Paper.refusal n []) ↔ Given (setUpRows (wordsOf E) s t) n
   pub ask-refused : (s : E .Settings) (a : Account) (size mask : ℕ) (t : Lent) (n : ℕ)
-      → (E .ask s a size mask t .said ≡ Paper.refusal n []) ↔ Given (askRows E s a size mask t) n
+      → (E .ask s a size mask t .said ≡ Paper.refusal n []) ↔ Given (askRows (wordsOf E) s a size mask t) n
   pub deliver-refused : (s : E .Settings) (a : Account) (o : Outcome) (t : Lent) (n : ℕ)
-      → ((back : List ℕ) × (E .deliver s a o t .said ≡ Paper.refusal n back)) ↔ Given (deliverRows E s a o t) n
+      → ((back : List ℕ) × (E .deliver s a o t .said ≡ Paper.refusal n back)) ↔ Given (deliverRows (wordsOf E) s a o t) n
   pub return-refused : (s : E .Settings) (a : Account) (b : Block) (t : Lent) (list : List ℕ) (n : ℕ)
-      → (E .return s a b t list .said ≡ Paper.refusal n []) ↔ Given (returnRows E s a b t list) n
+      → (E .return s a b t list .said ≡ Paper.refusal n []) ↔ Given (returnRows (wordsOf E) s a b t list) n
   pub other-refused : (s : E .Settings) (a : Account) (c : E .Own) (t : Lent) (list : List ℕ) (n : ℕ)
-      → (E .other s a c t list .said ≡ Paper.refusal n []) ↔ Given (listRows E s a t list) n
+      → (E .other s a c t list .said ≡ Paper.refusal n []) ↔ Given (listRows (wordsOf E) s a t list) n
   -- the tests 1 to 4 of an ask and of a delivery pass exactly when none of those rows' words hold
-  pub gate-clear : (s : E .Settings) (a : Account) (t : Lent) → (E .gate s a t ≡ pass) ↔ Clear (gateRows E s a t)
-  pub deliver-clear : (s : E .Settings) (a : Account) (t : Lent) → (E .deliverGate s a t ≡ pass) ↔ Clear (keptRows E s a t)
+  pub gate-clear : (s : E .Settings) (a : Account) (t : Lent) → (E .gate s a t ≡ pass) ↔ Clear (gateRows (wordsOf E) s a t)
+  pub deliver-clear : (s : E .Settings) (a : Account) (t : Lent) → (E .deliverGate s a t ≡ pass) ↔ Clear (keptRows (wordsOf E) s a t)
   -- and leaves the account and every word of every table and list; 9, 11 and 12 apart
   pub set-up-leaves : (s : E .Settings) (t : Lent) (n : ℕ) (back : List ℕ) → E .setUp s t .said ≡ Paper.refusal n back
       → E .setUp s t ≡ record { said = Paper.refusal n []; tables = t }

@@ -14,7 +14,7 @@ use Rattle.store_rules.specs.Outcomes.{listed}
 use Rattle.store_rules.specs.Views.{All}
 use Rattle.store_rules.specs.declared.Loan.{Loan}
 use Rattle.engines.specs.Rows.{listRows}
-use Rattle.engines.specs.Shapes.{Lent, Call, setsUp, Shape, does, Marked}
+use Rattle.engines.specs.Shapes.{Lent, Call, setsUp, Shape, does, Marked, wordsOf}
 
 -- the serial of a block that is lent
 abbrev pub serialSaid : Said → List ℕ
@@ -53,4 +53,4 @@ pub record Counts (E : Shape) : Type 0 where
       → Gone E (b .serial) (E .return s a b t list .tables)
   -- and its return is refused from then on, with nothing changed: as 7, or as one of the earlier rows 1 to 4
   pub gone-refused : (s : E .Settings) (a : Account) (b : Block) (t : Lent) (list : List ℕ) → Gone E (b .serial) t
-      → (n : ℕ) × (E .return s a b t list ≡ listed (Paper.refusal n []) a t list) × ((n ≡ 7) ⊎ Given (listRows E s a t list) n)
+      → (n : ℕ) × (E .return s a b t list ≡ listed (Paper.refusal n []) a t list) × ((n ≡ 7) ⊎ Given (listRows (wordsOf E) s a t list) n)

@@ -14,6 +14,7 @@ use Rattle.store_rules.specs.Delivery.{Engine}
 use Rattle.store_rules.specs.Outcomes.{Out, Listed, listed}
 use Rattle.store_rules.specs.Views.{View}
 use Rattle.store_rules.specs.declared.Loan.{Loan}
+use Rattle.engines.specs.Words.{Words}
 
 -- every store lends five tables; room is the one that says what of its chunks is free
 pub record Lent : Type 0 where
@@ -81,6 +82,25 @@ pub record Shape : Type 1 where
   pub deliverGate : Settings → Account → Lent → Verdict
   -- ---- several blocks come back: the end that 01's rules give
   pub atOnce : Settings → List Block → Lent → View
+
+-- the words of its rows, of the lent tables
+abbrev pub wordsOf : Shape → Words
+wordsOf E =
+    record {
+      Tables = Lent;
+      Settings = E .Settings;
+      store = E .store;
+      given = E .given;
+      view = E .view;
+      Sound = E .Sound;
+      Needed = E .Needed;
+      orderSize = E .orderSize;
+      Fits = E .Fits;
+      InTable = E .InTable;
+      SizeOff = E .SizeOff;
+      Roomless = E .Roomless;
+      Numberless = E .Numberless;
+    }
 
 module _ (E : Shape) where
   -- what a call says and leaves; a call that is lent no list leaves none

@@ -27,7 +27,8 @@ use Rattle.freelist_rules.proofs.Giving.{those-yes}
 use Rattle.freelist_rules.proofs.NeverAgain as Rules
 use Rattle.freelist_rules.proofs.Ordered.{ordered-in, ordered-out}
 use Rattle.freelist_rules.proofs.Swaps.{settled}
-use Rattle.freelist_outcomes.specs.Refusals.{cleanUpReasons, Stale}
+use Rattle.freelist_outcomes.specs.Refusals.{listWords}
+use Rattle.engines.specs.Rows.{Stale, listRows}
 use Rattle.freelist_outcomes.specs.Return.{wordFor, onLoanOk, givenTables, releasedTables, releaseOf, returnOf}
 use Rattle.freelist_outcomes.specs.SetUp.{SetUp, setUpOf}
 use Rattle.freelist_outcomes.proofs.Changed.{fresh-store}
@@ -87,10 +88,10 @@ module _ (s : FreeListSettings) (a : Account) (b : Block) (t : Tables) (list : L
       by _ (ReturnComes.denied n) = (n, refl)
       by _ (takes p on) = absurd (gone-there s (b .serial) t g .away (loanOf b) (on-loan-is s t (p .settings) (p .sound) b on) refl)
 
-  stale-or-earlier : Gone listShape (b .serial) (asLent t) → (k : ℕ) × (returnOf s a b t list ≡ listed (Paper.refusal k []) a t list) × ((k ≡ 7) ⊎ Given (cleanUpReasons s a t list) k)
+  stale-or-earlier : Gone listShape (b .serial) (asLent t) → (k : ℕ) × (returnOf s a b t list ≡ listed (Paper.refusal k []) a t list) × ((k ≡ 7) ⊎ Given (listRows listWords s a t list) k)
   stale-or-earlier g =
       let r = gone-refused g in
-      let c = given-then (cleanUpReasons s a t list) (reason (Stale s b t) 7 none) (r .0) (return-refused s a b t list (r .0) .0 (r .1)) in
+      let c = given-then (listRows listWords s a t list) (reason (Stale listWords s b t) 7 none) (r .0) (return-refused s a b t list (r .0) .0 (r .1)) in
       (r .0, return-leaves s a b t list (r .0) [] (r .1), ⊎-elim (λ e. inr e) (λ e. ⊎-elim (λ z. inl (z .1)) (λ z. absurd (z .1)) e) c)
 
 -- ---- over one call

@@ -1,5 +1,4 @@
 -- The free list is an engine.
-pub mod Rowed
 pub mod Refusing
 pub mod Stepping
 pub mod Counting

@@ -2,7 +2,7 @@
 -- engine's tables too. Assumes nothing.
 use mathlib.Core.Path.{_≡_, refl, ap}
 use mathlib.Core.Bool.{Bool, true, _&&_}
-use mathlib.Core.Logic.{_↔_, Iff·trans}
+use mathlib.Core.Logic.{_↔_}
 use mathlib.Core.List.{List, []}
 use Prim.Native.Nat.{ℕ, _≤_, _<_}
 use lib.ListN.{getD}
@@ -15,23 +15,22 @@ use Rattle.counter.specs.declared.account.Account.{Account}
 use Rattle.counter.specs.declared.answers.Block.{Block}
 use Rattle.counter.specs.declared.answers.Outcome.{Outcome}
 use Rattle.counter.specs.declared.settings.FreeListSettings.{FreeListSettings}
-use Rattle.counter.proofs.Reasoned.{clear-first, given-alike, clear-alike}
+use Rattle.counter.proofs.Reasoned.{clear-first}
 use Rattle.store_rules.specs.Outcomes.{Out, out, listed, listOk}
 use Rattle.store_rules.specs.Tests.{noOrder, orderFor, gateRow}
 use Rattle.engines.specs.Refuses.{Refuses}
-use Rattle.engines.specs.Rows.{gateRows, listRows, keptRows, askRows, deliverRows, returnRows}
-use Rattle.engines.specs.Shapes.{Lent, Call, setsUp, asks, delivers, returns, others, does, Marked, lentList}
+use Rattle.engines.specs.Rows.{gateRows, listRows, keptRows}
+use Rattle.engines.specs.Shapes.{Lent, Call, setsUp, asks, delivers, returns, others, does, Marked, lentList, wordsOf}
 use Rattle.engines.proofs.Shutting.{shut}
 use Rattle.freelist_rules.specs.Tables.{Tables, mark, markAt, soundRow, soundOk, storeOf}
 use Rattle.freelist_outcomes.specs.Gate.{lentOk, accountOk, gateOf}
 use Rattle.freelist_outcomes.specs.Ask.{carryAsk, planAsk, askOf}
 use Rattle.freelist_outcomes.specs.Deliver.{stillOk, deliverGateOf, planDeliver, carryDeliver, deliverOf}
-use Rattle.freelist_outcomes.specs.Refusals.{gateReasons, keptReasons, askReasons, deliverReasons, returnReasons, cleanUpReasons}
+use Rattle.freelist_outcomes.specs.Refusals.{listWords, seen}
 use Rattle.freelist_outcomes.specs.Return.{planReturn, carryReturn, returnOf, carryCleanUp, cleanUpOf}
 use Rattle.freelist_outcomes.proofs.Gated.{gate-decided}
 use Rattle.freelist_outcomes.proofs.Refused.{kept-decided, set-up-refused, ask-refused, deliver-refused, return-refused, clean-up-refused, set-up-leaves, ask-leaves, deliver-leaves, return-leaves, clean-up-leaves-all, deliver-lost}
-use Rattle.freelist_engine.specs.Shape.{OwnCall, cleansUp, asList, begunAs, outAs, listedAs, ownOf, listShape, seen}
-use Rattle.freelist_engine.proofs.Rowed.{gate-alike, ask-alike, kept-alike, deliver-alike, return-alike, list-alike}
+use Rattle.freelist_engine.specs.Shape.{OwnCall, cleansUp, asList, begunAs, outAs, listedAs, ownOf, listShape}
 
 -- ---- tables without the mark
 
@@ -79,7 +78,7 @@ foreign s a t (others cleansUp list) f m = let r = clean-up-shut s a (asList t) 
 
 -- ---- a call that only a free list has
 
-own-refused : (s : FreeListSettings) (a : Account) (c : OwnCall) (t : Tables) (list : List ℕ) (n : ℕ) → (ownOf s a c t list .said ≡ Paper.refusal n []) ↔ Given (cleanUpReasons s a t list) n
+own-refused : (s : FreeListSettings) (a : Account) (c : OwnCall) (t : Tables) (list : List ℕ) (n : ℕ) → (ownOf s a c t list .said ≡ Paper.refusal n []) ↔ Given (listRows listWords s a t list) n
 own-refused s a cleansUp t list n = clean-up-refused s a t list n
 
 own-leaves : (s : FreeListSettings) (a : Account) (c : OwnCall) (t : Tables) (list : List ℕ) (n : ℕ) (back : List ℕ) → ownOf s a c t list .said ≡ Paper.refusal n back → ownOf s a c t list ≡ listed (Paper.refusal n []) a t list
@@ -87,29 +86,27 @@ own-leaves s a cleansUp t list n back e = clean-up-leaves-all s a t list n back 
 
 -- ---- the tests 1 to 4
 
-gate-clear : (s : FreeListSettings) (a : Account) (t : Lent) → (gateOf s a (asList t) true ≡ pass) ↔ Clear (gateRows listShape s a t)
+gate-clear : (s : FreeListSettings) (a : Account) (t : Lent) → (gateOf s a (asList t) true ≡ pass) ↔ Clear (gateRows (wordsOf listShape) s a t)
 unfolding gateOf
 gate-clear s a t =
     let u = asList t in
-    Iff·trans (clear-first (gateRow (lentOk s a u && true) (noOrder (a .order)) (soundOk s u) (accountOk s a u)) (gateReasons s a u) (gate-decided s a u))
-    (clear-alike (gateReasons s a u) (gateRows listShape s a t) (gate-alike s a t))
+    clear-first (gateRow (lentOk s a u && true) (noOrder (a .order)) (soundOk s u) (accountOk s a u)) (gateRows listWords s a u) (gate-decided s a u)
 
-deliver-clear : (s : FreeListSettings) (a : Account) (t : Lent) → (deliverGateOf s a (asList t) ≡ pass) ↔ Clear (keptRows listShape s a t)
+deliver-clear : (s : FreeListSettings) (a : Account) (t : Lent) → (deliverGateOf s a (asList t) ≡ pass) ↔ Clear (keptRows (wordsOf listShape) s a t)
 unfolding deliverGateOf
 deliver-clear s a t =
     let u = asList t in
-    Iff·trans (clear-first (gateRow (lentOk s a u) (orderFor (s .store .number) (a .order)) (soundOk s u && stillOk s a u (a .order)) (accountOk s a u)) (keptReasons s a u) (kept-decided s a u))
-    (clear-alike (keptReasons s a u) (keptRows listShape s a t) (kept-alike s a t))
+    clear-first (gateRow (lentOk s a u) (orderFor (s .store .number) (a .order)) (soundOk s u && stillOk s a u (a .order)) (accountOk s a u)) (keptRows listWords s a u) (kept-decided s a u)
 
 -- the free list refuses as an engine has to
 pub list-refuses : Refuses listShape
 list-refuses =
     record {
       set-up-refused = λ s t n. set-up-refused s (asList t) n;
-      ask-refused = λ s a size mask t n. Iff·trans (ask-refused s a size mask (asList t) n) (given-alike (askReasons s a size mask (asList t)) (askRows listShape s a size mask t) (ask-alike s a t size mask) n);
-      deliver-refused = λ s a o t n. Iff·trans (deliver-refused s a o (asList t) n) (given-alike (deliverReasons s a o (asList t)) (deliverRows listShape s a o t) (deliver-alike s a t o) n);
-      return-refused = λ s a b t list n. Iff·trans (return-refused s a b (asList t) list n) (given-alike (returnReasons s a b (asList t) list) (returnRows listShape s a b t list) (return-alike s a t b list) n);
-      other-refused = λ s a c t list n. Iff·trans (own-refused s a c (asList t) list n) (given-alike (cleanUpReasons s a (asList t) list) (listRows listShape s a t list) (list-alike s a t list) n);
+      ask-refused = λ s a size mask t n. ask-refused s a size mask (asList t) n;
+      deliver-refused = λ s a o t n. deliver-refused s a o (asList t) n;
+      return-refused = λ s a b t list n. return-refused s a b (asList t) list n;
+      other-refused = λ s a c t list n. own-refused s a c (asList t) list n;
       gate-clear = gate-clear;
       deliver-clear = deliver-clear;
       set-up-leaves = λ s t n back e. ap begunAs (set-up-leaves s (asList t) n back e);

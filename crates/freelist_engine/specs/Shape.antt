@@ -10,7 +10,6 @@ use Rattle.counter.specs.declared.settings.FreeListSettings.{FreeListSettings}
 use Rattle.store_rules.specs.Delivery.{freeList}
 use Rattle.store_rules.specs.Loans.{loansOf}
 use Rattle.store_rules.specs.Outcomes.{Out, out, Listed, listed}
-use Rattle.store_rules.specs.Views.{View}
 use Rattle.engines.specs.Shapes.{Lent, Begun, Shape}
 use Rattle.freelist_rules.specs.AtOnce.{atOnce}
 use Rattle.freelist_rules.specs.Records.{Store}
@@ -19,6 +18,7 @@ use Rattle.freelist_outcomes.specs.Gate.{gateOf}
 use Rattle.freelist_outcomes.specs.Ask.{raisedFor, askOf}
 use Rattle.freelist_outcomes.specs.Deliver.{deliverGateOf, deliverOf}
 use Rattle.freelist_outcomes.specs.Refusals.{InTable, SizeOff, Needed}
+pub use Rattle.freelist_outcomes.specs.Refusals.{seen}
 use Rattle.freelist_outcomes.specs.Return.{returnOf, cleanUpOf}
 use Rattle.freelist_outcomes.specs.SetUp.{SetUp, setUpOf}
 
@@ -44,10 +44,6 @@ listedAs r = listed (r .said) (r .account) (asLent (r .tables)) (r .list)
 
 abbrev pub ownOf : FreeListSettings → Account → OwnCall → Tables → List ℕ → Listed Tables
 ownOf s a cleansUp t list = cleanUpOf s a t list
-
--- what its user sees of a store: loans and free regions by chunk and place, chunks by number
-abbrev pub seen : Store → View
-seen v = record { loans = v .loans; chunks = v .chunks; free = v .regions }
 
 -- serials and chunk numbers given, and the chunk size now
 pub record Counts : Type 0 where

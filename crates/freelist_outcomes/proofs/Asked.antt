@@ -51,7 +51,8 @@ use Rattle.freelist_rules.proofs.Ordered.{ordered-length}
 use Rattle.freelist_rules.proofs.Orders.{order-when}
 use Rattle.freelist_rules.proofs.Search.{find-fits}
 use Rattle.freelist_outcomes.specs.Ask.{foundFor, needs, raisedFor, sizeOk, roomOk, countOk, objectsOk, lateRow, askRow, planned, decideAsk}
-use Rattle.freelist_outcomes.specs.Refusals.{SizeOff, Fitting, Needed, Full, Spent, NoObject, askTests}
+use Rattle.freelist_outcomes.specs.Refusals.{SizeOff, Fitting, Needed, listWords}
+use Rattle.engines.specs.Rows.{Full, NoObject, Spent, askTests}
 use Rattle.freelist_outcomes.proofs.Plans.{planned-take, planned-buy, size-some}
 
 -- ---- how many are on loan
@@ -157,11 +158,13 @@ module _ (s : FreeListSettings) (t : Tables) (fit : FreeListIn s) (sound : Sound
 
     -- the tests 8, 10 and 9, where those before them hold
     module _ (needed : (needs found ≡ true) ↔ Needed s size mask t) where
-      room-off : (roomOk s t found ≡ false) ↔ Full s size mask t
+      room-off : (roomOk s t found ≡ false) ↔ Full listWords s size mask t
       unfolding roomOk
       room-off =
-          off-and (ltb (takenOf (placesIn t) (t .index) .place) (s .store .loans)) (not (needs found) || ltb (chunksIn t) (s .store .chunks)) places
-          (off-where (needs found) (ltb (chunksIn t) (s .store .chunks)) needed chunks)
+          Iff·trans
+          (off-and (ltb (takenOf (placesIn t) (t .index) .place) (s .store .loans)) (not (needs found) || ltb (chunksIn t) (s .store .chunks)) places
+          (off-where (needs found) (ltb (chunksIn t) (s .store .chunks)) needed chunks))
+          (⊎-elim (λ x. inl x) (λ x. inr (inl x)), ⊎-elim (λ x. inl x) (⊎-elim (λ x. inr x) (λ x. absurd x)))
         where
           places : (ltb (takenOf (placesIn t) (t .index) .place) (s .store .loans) ≡ false) ↔ (s .store .loans ≤ length (storeOf s t .loans))
           places = off-room (takenOf (placesIn t) (t .index) .place) (length (storeOf s t .loans)) (s .store .loans) place-left
@@ -169,8 +172,8 @@ module _ (s : FreeListSettings) (t : Tables) (fit : FreeListIn s) (sound : Sound
           chunks : (ltb (chunksIn t) (s .store .chunks) ≡ false) ↔ (s .store .chunks ≤ length (storeOf s t .chunks))
           chunks = rw (chunks-length s t) (off-less (chunksIn t) (s .store .chunks))
 
-      count-off : (countOk s h size t found ≡ false) ↔ Spent s h size mask t
-      unfolding countOk
+      count-off : (countOk s h size t found ≡ false) ↔ Spent listWords s h size mask t
+      unfolding countOk storeOf
       count-off =
           off-and (ltb (storeOf s t .given) spent) (not (needs found) || (bearsOk h (raisedFor s size t) && ltb (storeOf s t .made) spent)) (off-less (storeOf s t .given) spent)
           (off-where (needs found) (bearsOk h (raisedFor s size t) && ltb (storeOf s t .made) spent) needed three)
@@ -184,15 +187,15 @@ module _ (s : FreeListSettings) (t : Tables) (fit : FreeListIn s) (sound : Sound
             (λ w. two .1 (⊎-elim (λ p. inl (inl p)) (λ v. ⊎-elim (λ p. inl (inr p)) (λ p. inr p) v) w)),
           )
 
-      objects-off : (objectsOk objects found ≡ false) ↔ NoObject s objects size mask t
+      objects-off : (objectsOk objects found ≡ false) ↔ NoObject listWords s objects size mask t
       unfolding objectsOk
       objects-off = off-where (needs found) (ltb 0 objects) needed (off-some objects)
 
     -- each test fails exactly when its row's words hold, where those before it do not
-    pub ask-decided : Decides (askRow s h objects size mask t (foundFor s size mask t)) (askTests s h objects size mask t)
+    pub ask-decided : Decides (askRow s h objects size mask t (foundFor s size mask t)) (askTests listWords s h objects size mask t)
     ask-decided = (refl, mask-off mask, λ a. (refl, size-off s size, λ z. late (Iff·trans (needs-none found) (needed-is size mask a (size-some s size z)))))
       where
-        late : (needs found ≡ true) ↔ Needed s size mask t → Decides (lateRow s h objects size t found) (reason (Full s size mask t) 8 (reason (Spent s h size mask t) 10 (reason (NoObject s objects size mask t) 9 Reasons.none)))
+        late : (needs found ≡ true) ↔ Needed s size mask t → Decides (lateRow s h objects size t found) (reason (Full listWords s size mask t) 8 (reason (Spent listWords s h size mask t) 10 (reason (NoObject listWords s objects size mask t) 9 Reasons.none)))
         late n = (refl, room-off n, λ p. (refl, count-off n, λ q. (refl, objects-off n, λ r. tt)))
 
     -- ---- what the ask comes to, in the paper's words
@@ -203,38 +206,38 @@ module _ (s : FreeListSettings) (t : Tables) (fit : FreeListIn s) (sound : Sound
     passing : first tests ≡ pass → (alignmentOk mask ≡ true) × (0 < size)
     passing e = let w = passed tests e in (w .0, size-some s size (w .1 .0))
 
-    pub ask-buys : (z : ℕ) → (decideAsk s h objects size mask t ≡ buy z) ↔ (Clear (askTests s h objects size mask t) × Needed s size mask t × (z ≡ raisedFor s size t))
+    pub ask-buys : (z : ℕ) → (decideAsk s h objects size mask t ≡ buy z) ↔ (Clear (askTests listWords s h objects size mask t) × Needed s size mask t × (z ≡ raisedFor s size t))
     unfolding decideAsk
     ask-buys z = (there, back)
       where
-        there : planned s size t found (first tests) ≡ buy z → Clear (askTests s h objects size mask t) × Needed s size mask t × (z ≡ raisedFor s size t)
+        there : planned s size t found (first tests) ≡ buy z → Clear (askTests listWords s h objects size mask t) × Needed s size mask t × (z ≡ raisedFor s size t)
         there e =
             let w = planned-buy s size z t found (first tests) e in
             let k = passing (w .2) in
-            (clear-first tests (askTests s h objects size mask t) ask-decided .0 (w .2), needed-is size mask (k .0) (k .1) .0 (w .0), w .1)
+            (clear-first tests (askTests listWords s h objects size mask t) ask-decided .0 (w .2), needed-is size mask (k .0) (k .1) .0 (w .0), w .1)
 
-        back : Clear (askTests s h objects size mask t) × Needed s size mask t × (z ≡ raisedFor s size t) → planned s size t found (first tests) ≡ buy z
+        back : Clear (askTests listWords s h objects size mask t) × Needed s size mask t × (z ≡ raisedFor s size t) → planned s size t found (first tests) ≡ buy z
         back w =
-            let p = clear-first tests (askTests s h objects size mask t) ask-decided .1 (w .0) in
+            let p = clear-first tests (askTests listWords s h objects size mask t) ask-decided .1 (w .0) in
             let k = passing p in
             let f = needed-is size mask (k .0) (k .1) .1 (w .1) in
             (λ j. planned s size t (f j) (p j)) ∙ ap buy (sym (w .2))
 
-    pub ask-takes : ((i : ℕ) × (decideAsk s h objects size mask t ≡ take i)) ↔ (Clear (askTests s h objects size mask t) × Fitting size mask (storeOf s t))
+    pub ask-takes : ((i : ℕ) × (decideAsk s h objects size mask t ≡ take i)) ↔ (Clear (askTests listWords s h objects size mask t) × Fitting size mask (storeOf s t))
     unfolding decideAsk
     ask-takes = (there, back)
       where
-        there : (i : ℕ) × (planned s size t found (first tests) ≡ take i) → Clear (askTests s h objects size mask t) × Fitting size mask (storeOf s t)
+        there : (i : ℕ) × (planned s size t found (first tests) ≡ take i) → Clear (askTests listWords s h objects size mask t) × Fitting size mask (storeOf s t)
         there e =
             let w = planned-take s size (e .0) t found (first tests) (e .1) in
             let k = passing (w .1) in
-            (clear-first tests (askTests s h objects size mask t) ask-decided .0 (w .1), found-fitting size mask (e .0) (k .0) (k .1) (w .0))
+            (clear-first tests (askTests listWords s h objects size mask t) ask-decided .0 (w .1), found-fitting size mask (e .0) (k .0) (k .1) (w .0))
 
-        back : Clear (askTests s h objects size mask t) × Fitting size mask (storeOf s t) → (i : ℕ) × (planned s size t found (first tests) ≡ take i)
+        back : Clear (askTests listWords s h objects size mask t) × Fitting size mask (storeOf s t) → (i : ℕ) × (planned s size t found (first tests) ≡ take i)
         back w = by found refl
           where
             p : first tests ≡ pass
-            p = clear-first tests (askTests s h objects size mask t) ask-decided .1 (w .0)
+            p = clear-first tests (askTests listWords s h objects size mask t) ask-decided .1 (w .0)
 
             by : (f : Found) → found ≡ f → (i : ℕ) × (planned s size t found (first tests) ≡ take i)
             by (at i) e = (i, λ j. planned s size t (e j) (p j))

@@ -26,7 +26,8 @@ use Rattle.store_rules.specs.declared.Chunk.{Chunk}
 use Rattle.freelist_rules.proofs.Fits.{lengths-are, are-lengths, chunks-length}
 use Rattle.freelist_rules.proofs.Tested.{tables-yes, tables-all}
 use Rattle.freelist_outcomes.specs.Gate.{lentOk, accountOk}
-use Rattle.freelist_outcomes.specs.Refusals.{InTable, WithList, Short, gateReasons, cleanUpReasons}
+use Rattle.freelist_outcomes.specs.Refusals.{InTable, listWords}
+use Rattle.engines.specs.Rows.{Short, WithList, gateRows, listRows}
 
 -- ---- 1
 
@@ -59,7 +60,7 @@ in-table s a t = (there, back)
         (are-lengths s t (w .lengths)))
 
 module _ (s : FreeListSettings) (a : Account) (t : Tables) where
-  with-list : (list : List ℕ) → ((lentOk s a t && listOk (s .store) list) ≡ true) ↔ WithList s a t list
+  with-list : (list : List ℕ) → ((lentOk s a t && listOk (s .store) list) ≡ true) ↔ WithList listWords s a t list
   with-list list = (
     (λ e. (
       in-table s a t .0 (and-left (lentOk s a t) (listOk (s .store) list) e),
@@ -70,17 +71,17 @@ module _ (s : FreeListSettings) (a : Account) (t : Tables) where
 
   -- ---- 4
 
-  pub short : (accountOk s a t ≡ false) ↔ Short s a t
+  pub short : (accountOk s a t ≡ false) ↔ Short listWords s a t
   unfolding accountOk
   short =
       let h = heapAt a (s .store .heap) in
       let bytes = total (λ (c : Chunk). c .size) (storeOf s t .chunks) in
-      subst (λ (n : ℕ). (coversOk h (a .objects) n bytes ≡ false) ↔ Short s a t) (chunks-length s t) (uncovered h (a .objects) (length (storeOf s t .chunks)) bytes)
+      subst (λ (n : ℕ). (coversOk h (a .objects) n bytes ≡ false) ↔ Short listWords s a t) (chunks-length s t) (uncovered h (a .objects) (length (storeOf s t .chunks)) bytes)
 
   -- ---- 1 to 4
 
   decided : (lent : Bool) {W : Type 0} → (lent ≡ true) ↔ W → (W → FreeListIn s)
-      → Decides (gateRow lent (noOrder (a .order)) (soundOk s t) (accountOk s a t)) (reason (W → ⊥) 1 (reason (OrderOpen a) 2 (reason (SoundTables s t → ⊥) 3 (reason (Short s a t) 4 none))))
+      → Decides (gateRow lent (noOrder (a .order)) (soundOk s t) (accountOk s a t)) (reason (W → ⊥) 1 (reason (OrderOpen a) 2 (reason (SoundTables s t → ⊥) 3 (reason (Short listWords s a t) 4 none))))
   decided lent w fit = (
     refl,
     fails lent (w .0) (w .1),
@@ -95,12 +96,12 @@ module _ (s : FreeListSettings) (a : Account) (t : Tables) where
     )),
   )
 
-pub gate-decided : (s : FreeListSettings) (a : Account) (t : Tables) → Decides (gateRow (lentOk s a t && true) (noOrder (a .order)) (soundOk s t) (accountOk s a t)) (gateReasons s a t)
+pub gate-decided : (s : FreeListSettings) (a : Account) (t : Tables) → Decides (gateRow (lentOk s a t && true) (noOrder (a .order)) (soundOk s t) (accountOk s a t)) (gateRows listWords s a t)
 gate-decided s a t = decided s a t (lentOk s a t && true) w (λ (i : InTable s a t). i .settings)
   where
     w : ((lentOk s a t && true) ≡ true) ↔ InTable s a t
     w = ((λ e. in-table s a t .0 (and-left (lentOk s a t) true e)), (λ i. and-both (lentOk s a t) true (in-table s a t .1 i) refl))
 
-pub list-decided : (s : FreeListSettings) (a : Account) (t : Tables) (list : List ℕ) → Decides (gateRow (lentOk s a t && listOk (s .store) list) (noOrder (a .order)) (soundOk s t) (accountOk s a t)) (cleanUpReasons s a t list)
+pub list-decided : (s : FreeListSettings) (a : Account) (t : Tables) (list : List ℕ) → Decides (gateRow (lentOk s a t && listOk (s .store) list) (noOrder (a .order)) (soundOk s t) (accountOk s a t)) (listRows listWords s a t list)
 list-decided s a t list =
-    decided s a t (lentOk s a t && listOk (s .store) list) (with-list s a t list) (λ (i : WithList s a t list). i .0 .settings)
+    decided s a t (lentOk s a t && listOk (s .store) list) (with-list s a t list) (λ (i : WithList listWords s a t list). i .0 .settings)

@@ -2,7 +2,7 @@
 use mathlib.Core.Path.{_≡_, refl, sym, ap, subst, _∙_}
 use mathlib.Core.Bool.{Bool, true, false, cond, _&&_}
 use mathlib.Core.Logic.{_⊎_, ⊎-elim, _↔_, Iff·trans}
-use mathlib.Core.List.{List, [], _∷_, _++_, Memᴰ·cast}
+use mathlib.Core.List.{List, [], _∷_, _++_}
 use Prim.Native.Nat.{ℕ}
 use Rattle.lists.proofs.Bools.{true-false, and-left, and-right, and-both}
 use Rattle.counter.specs.Account.{heapAt}
@@ -24,7 +24,7 @@ use Rattle.counter.proofs.Tables.{free-list-yes, free-list-all}
 use Rattle.store_rules.specs.Delivery.{Fate, kept, lost, freeList, fateOf}
 use Rattle.store_rules.specs.Orders.{Plan, deny, take, buy, orderFrom, leadsTo}
 use Rattle.store_rules.specs.Outcomes.{Out, out, listed, listOk}
-use Rattle.store_rules.specs.Refusals.{DeviceOut, HostOut, lostFor}
+use Rattle.store_rules.specs.Refusals.{DeviceOut, HostOut, lostFor, UnwelcomeTo}
 use Rattle.store_rules.specs.Tests.{noOrder, orderFor, gateRow}
 use Rattle.store_rules.proofs.Refused.{fails, none-for, is-same-order, leads-buy}
 use Rattle.store_rules.proofs.Said.{not-refused, said-number, said-back, Says, says-refused, says-passed, Tells, tells-refused, tells-passed}
@@ -32,7 +32,6 @@ use Rattle.store_rules.proofs.Fates.{left, fateVerdict, fateRow, device-out, ho
 use Rattle.freelist_rules.specs.Place.{Found, nowhere, at}
 use Rattle.freelist_rules.specs.Tables.{Tables, lengthsOk, Lengths, storeOf, soundOk, SoundTables}
 use Rattle.freelist_rules.specs.Walk.{memories}
-use Rattle.freelist_rules.proofs.Blocks.{loanOf}
 use Rattle.freelist_rules.proofs.Fits.{lengths-are, are-lengths}
 use Rattle.freelist_rules.proofs.Tested.{tables-yes, tables-all}
 use Rattle.freelist_outcomes.specs.Gate.{lentOk, accountOk, gateOf}
@@ -43,7 +42,8 @@ use Rattle.freelist_outcomes.specs.Deliver as D
 use Rattle.freelist_outcomes.specs.Return.{wordFor, onLoanOk, releaseOf, decideReturn, planReturn, carryReturn, returnOf, carryCleanUp, cleanUpOf}
 use Rattle.freelist_outcomes.specs.Return as R
 use Rattle.freelist_outcomes.specs.SetUp.{setUp, fitOk, setUpOf, freshTables}
-use Rattle.freelist_outcomes.specs.Refusals.{Needed, gateReasons, askTests, askReasons, Stale, returnReasons, Leads, keptReasons, Unwelcomed, deliverReasons, cleanUpReasons, setUpReasons}
+use Rattle.freelist_outcomes.specs.Refusals.{Needed, listWords}
+use Rattle.engines.specs.Rows.{Leads, Stale, askRows, askTests, deliverRows, gateRows, keptRows, listRows, returnRows, setUpRows}
 use Rattle.freelist_outcomes.proofs.Asked.{ask-decided, ask-buys}
 use Rattle.freelist_outcomes.proofs.Comes.{Arrival, early, fated, arrives}
 use Rattle.freelist_outcomes.proofs.Gated.{in-table, short, gate-decided, list-decided}
@@ -93,9 +93,9 @@ set-up-leaves s t n back = by (fitOk s t)
 -- ---- exactly when each number is given
 
 -- a clean-up is refused with n exactly when n is the number of the first of the rows 1 to 4 whose words hold
-pub clean-up-refused : (s : FreeListSettings) (a : Account) (t : Tables) (list : List ℕ) (n : ℕ) → (cleanUpOf s a t list .said ≡ Paper.refusal n []) ↔ Given (cleanUpReasons s a t list) n
+pub clean-up-refused : (s : FreeListSettings) (a : Account) (t : Tables) (list : List ℕ) (n : ℕ) → (cleanUpOf s a t list .said ≡ Paper.refusal n []) ↔ Given (listRows listWords s a t list) n
 unfolding cleanUpOf carryCleanUp releaseOf gateOf
-clean-up-refused s a t list n = Iff·trans (by (first row)) (given-first row (cleanUpReasons s a t list) (list-decided s a t list) n)
+clean-up-refused s a t list n = Iff·trans (by (first row)) (given-first row (listRows listWords s a t list) (list-decided s a t list) n)
   where
     row : Row
     row = gateRow (lentOk s a t && listOk (s .store) list) (noOrder (a .order)) (soundOk s t) (accountOk s a t)
@@ -105,9 +105,9 @@ clean-up-refused s a t list n = Iff·trans (by (first row)) (given-first row (cl
     by pass = says-passed (carryCleanUp s a t list pass .said) n refl
 
 -- set-up is refused only by 1, exactly when a value or a length is outside the table
-pub set-up-refused : (s : FreeListSettings) (t : Tables) (n : ℕ) → (setUpOf s t .said ≡ Paper.refusal n []) ↔ Given (setUpReasons s t) n
+pub set-up-refused : (s : FreeListSettings) (t : Tables) (n : ℕ) → (setUpOf s t .said ≡ Paper.refusal n []) ↔ Given (setUpRows listWords s t) n
 unfolding setUpOf fitOk
-set-up-refused s t n = Iff·trans (by (fitOk s t)) (given-first ((fitOk s t, 1) ∷ []) (setUpReasons s t) (refl, fails (fitOk s t) there back, (λ _. tt)) n)
+set-up-refused s t n = Iff·trans (by (fitOk s t)) (given-first ((fitOk s t, 1) ∷ []) (setUpRows listWords s t) (refl, fails (fitOk s t) there back, (λ _. tt)) n)
   where
     by : (b : Bool) → Says (cond b (setUp Paper.ready (freshTables s t)) (setUp (Paper.refusal 1 []) t) .said) (first ((b, 1) ∷ [])) n
     by true = says-passed Paper.ready n refl
@@ -168,26 +168,26 @@ module _ (s : FreeListSettings) (a : Account) (t : Tables) where
   gates =
       gateRow (lentOk s a t) (orderFor (s .store .number) (a .order)) (soundOk s t && stillOk s a t (a .order)) (accountOk s a t)
 
-  leads : FreeListIn s → ((soundOk s t && stillOk s a t (a .order)) ≡ true) ↔ (SoundTables s t × Leads s a t)
+  leads : FreeListIn s → ((soundOk s t && stillOk s a t (a .order)) ≡ true) ↔ (SoundTables s t × Leads listWords s a t)
   leads fit = (there, back)
     where
       bought : SoundTables s t → (k : KeptOrder) (z : ℕ) → (decideAsk s (heapAt a (s .store .heap)) (a .objects) (k .ask .size) (k .ask .mask) t ≡ buy z)
-          ↔ (Clear (askTests s (heapAt a (s .store .heap)) (a .objects) (k .ask .size) (k .ask .mask) t) × Needed s (k .ask .size) (k .ask .mask) t × (z ≡ raisedFor s (k .ask .size) t))
+          ↔ (Clear (askTests listWords s (heapAt a (s .store .heap)) (a .objects) (k .ask .size) (k .ask .mask) t) × Needed s (k .ask .size) (k .ask .mask) t × (z ≡ raisedFor s (k .ask .size) t))
       bought sound k z = ask-buys s t fit sound (heapAt a (s .store .heap)) (a .objects) (k .ask .size) (k .ask .mask) z
 
-      still : SoundTables s t → (ord : OpenOrder) → a .order ≡ ord → stillOk s a t ord ≡ true → Leads s a t
+      still : SoundTables s t → (ord : OpenOrder) → a .order ≡ ord → stillOk s a t ord ≡ true → Leads listWords s a t
       still sound Nothing q e = absurd (true-false false e refl)
       still sound (Kept k) q e =
           let p = leads-buy (s .store) (k .order) (decideAsk s (heapAt a (s .store .heap)) (a .objects) (k .ask .size) (k .ask .mask) t) e in
           let w = bought sound k (p .0) .0 (p .1) in
           record { kept = k; its = q; clear = w .0; needed = w .1; same = p .2 ∙ ap (orderFrom (s .store)) (w .2) }
 
-      there : (soundOk s t && stillOk s a t (a .order)) ≡ true → SoundTables s t × Leads s a t
+      there : (soundOk s t && stillOk s a t (a .order)) ≡ true → SoundTables s t × Leads listWords s a t
       there e =
           let sound = tables-yes s t fit (and-left (soundOk s t) (stillOk s a t (a .order)) e) in
           (sound, still sound (a .order) refl (and-right (soundOk s t) (stillOk s a t (a .order)) e))
 
-      back : SoundTables s t × Leads s a t → (soundOk s t && stillOk s a t (a .order)) ≡ true
+      back : SoundTables s t × Leads listWords s a t → (soundOk s t && stillOk s a t (a .order)) ≡ true
       back w =
           let l = w .1 in
           let k = l .kept in
@@ -198,7 +198,7 @@ module _ (s : FreeListSettings) (a : Account) (t : Tables) where
           ∙ is-same-order (k .order) (orderFrom (s .store) z) (l .same))
 
   -- 1 to 4
-  pub kept-decided : Decides gates (keptReasons s a t)
+  pub kept-decided : Decides gates (keptRows listWords s a t)
   kept-decided = (
     refl,
     fails (lentOk s a t) (in-table s a t .0) (in-table s a t .1),
@@ -224,15 +224,15 @@ module _ (s : FreeListSettings) (a : Account) (t : Tables) where
         arrival-tells freeList o held (s .store .number) (λ (p : D.Arrival). carryDeliver s a t p .said) n (λ m. tells-refused m n []) (λ k f. tells-fate s a k t f n) gates (a .order)
         (λ e. passed gates e .1 .0)
 
-    deliver-decided : Decides deliverRow (deliverReasons s a o t)
+    deliver-decided : Decides deliverRow (deliverRows listWords s a o t)
     deliver-decided =
-        decides-then gates (keptReasons s a t) ((welcomeOk held o (a .order), 13) ∷ fateRow o) (reason (Unwelcomed s a o t) 13 (reason (DeviceOut o) 11 (reason (HostOut o) 12 none))) kept-decided
+        decides-then gates (keptRows listWords s a t) ((welcomeOk held o (a .order), 13) ∷ fateRow o) (reason (UnwelcomeTo a held o) 13 (reason (DeviceOut o) 11 (reason (HostOut o) 12 none))) kept-decided
         (λ _. (refl, unwelcomed a held o, (λ _. (refl, device-out o, (λ _. (refl, host-out o, (λ _. tt)))))))
 
 -- a delivery is refused with n exactly when n is the number of the first of its rows, 1 to 4, 13, 11, 12, whose words hold
-pub deliver-refused : (s : FreeListSettings) (a : Account) (o : Outcome) (t : Tables) (n : ℕ) → ((back : List ℕ) × (deliverOf s a o t .said ≡ Paper.refusal n back)) ↔ Given (deliverReasons s a o t) n
+pub deliver-refused : (s : FreeListSettings) (a : Account) (o : Outcome) (t : Tables) (n : ℕ) → ((back : List ℕ) × (deliverOf s a o t .said ≡ Paper.refusal n back)) ↔ Given (deliverRows listWords s a o t) n
 deliver-refused s a o t n =
-    Iff·trans (deliver-tells s a t o n) (given-first (deliverRow s a t o) (deliverReasons s a o t) (deliver-decided s a t o) n)
+    Iff·trans (deliver-tells s a t o n) (given-first (deliverRow s a t o) (deliverRows listWords s a o t) (deliver-decided s a t o) n)
 
 -- ---- exactly when each number of an ask and of a return is given
 
@@ -245,11 +245,11 @@ unfolding gateOf
 gate-went s a t list e = gate-passed s a t list (sym e)
 
 -- an ask is refused with n exactly when n is the number of the first of its rows, 1 to 4, 5, 6, 8, 10, 9, whose words hold
-pub ask-refused : (s : FreeListSettings) (a : Account) (size mask : ℕ) (t : Tables) (n : ℕ) → (askOf s a size mask t .said ≡ Paper.refusal n []) ↔ Given (askReasons s a size mask t) n
+pub ask-refused : (s : FreeListSettings) (a : Account) (size mask : ℕ) (t : Tables) (n : ℕ) → (askOf s a size mask t .said ≡ Paper.refusal n []) ↔ Given (askRows listWords s a size mask t) n
 unfolding askOf carryAsk planAsk decideAsk gateOf
 ask-refused s a size mask t n =
     Iff·trans (subst (λ (v : Verdict). Says (askOf s a size mask t .said) v n) (sym (first-then gate tests)) (by (first gate) (foundFor s size mask t) (first tests)))
-    (given-first (gate ++ tests) (askReasons s a size mask t) (decides-then gate (gateReasons s a t) tests (askTests s (heapAt a (s .store .heap)) (a .objects) size mask t) (gate-decided s a t) later) n)
+    (given-first (gate ++ tests) (askRows listWords s a size mask t) (decides-then gate (gateRows listWords s a t) tests (askTests listWords s (heapAt a (s .store .heap)) (a .objects) size mask t) (gate-decided s a t) later) n)
   where
     gate : Row
     gate = gateFor s a t true
@@ -257,7 +257,7 @@ ask-refused s a size mask t n =
     tests : Row
     tests = askRow s (heapAt a (s .store .heap)) (a .objects) size mask t (foundFor s size mask t)
 
-    later : first gate ≡ pass → Decides tests (askTests s (heapAt a (s .store .heap)) (a .objects) size mask t)
+    later : first gate ≡ pass → Decides tests (askTests listWords s (heapAt a (s .store .heap)) (a .objects) size mask t)
     later e = let p = gate-went s a t true e in ask-decided s t (p .settings) (p .sound) (heapAt a (s .store .heap)) (a .objects) size mask
 
     by : (v : Verdict) (f : Found) (u : Verdict) → Says (carryAsk s a size mask t (A.gated v (planned s size t f u)) .said) (andThen v u) n
@@ -267,17 +267,15 @@ ask-refused s a size mask t n =
     by pass nowhere pass = says-passed (carryAsk s a size mask t (buy (raisedFor s size t)) .said) n refl
 
 -- 7
-stale-is : (s : FreeListSettings) (b : Block) (t : Tables) → FreeListIn s → SoundTables s t → (onLoanOk s b t ≡ false) ↔ Stale s b t
-stale-is s b t fit sound =
-    Iff·trans (fails (onLoanOk s b t) (on-loan-is s t fit sound b) (is-on-loan s t fit sound b))
-    ((λ f l m p q r z. f (Memᴰ·cast (λ i. record { serial = sym p i; chunk = sym q i; offset = sym r i; size = sym z i }) m)), (λ f m. f (loanOf b) m refl refl refl refl))
+stale-is : (s : FreeListSettings) (b : Block) (t : Tables) → FreeListIn s → SoundTables s t → (onLoanOk s b t ≡ false) ↔ Stale listWords s b t
+stale-is s b t fit sound = fails (onLoanOk s b t) (on-loan-is s t fit sound b) (is-on-loan s t fit sound b)
 
 -- a return is refused with n exactly when n is the number of the first of its rows, 1 to 4, 7, whose words hold
-pub return-refused : (s : FreeListSettings) (a : Account) (b : Block) (t : Tables) (list : List ℕ) (n : ℕ) → (returnOf s a b t list .said ≡ Paper.refusal n []) ↔ Given (returnReasons s a b t list) n
+pub return-refused : (s : FreeListSettings) (a : Account) (b : Block) (t : Tables) (list : List ℕ) (n : ℕ) → (returnOf s a b t list .said ≡ Paper.refusal n []) ↔ Given (returnRows listWords s a b t list) n
 unfolding returnOf carryReturn planReturn decideReturn releaseOf gateOf
 return-refused s a b t list n =
     Iff·trans (subst (λ (v : Verdict). Says (returnOf s a b t list .said) v n) (sym (first-then gate tests)) (by (first gate) (onLoanOk s b t)))
-    (given-first (gate ++ tests) (returnReasons s a b t list) (decides-then gate (cleanUpReasons s a t list) tests (reason (Stale s b t) 7 none) (list-decided s a t list) later) n)
+    (given-first (gate ++ tests) (returnRows listWords s a b t list) (decides-then gate (listRows listWords s a t list) tests (reason (Stale listWords s b t) 7 none) (list-decided s a t list) later) n)
   where
     gate : Row
     gate = gateFor s a t (listOk (s .store) list)
@@ -285,7 +283,7 @@ return-refused s a b t list n =
     tests : Row
     tests = (onLoanOk s b t, 7) ∷ []
 
-    later : first gate ≡ pass → Decides tests (reason (Stale s b t) 7 none)
+    later : first gate ≡ pass → Decides tests (reason (Stale listWords s b t) 7 none)
     later e = let p = gate-went s a t (listOk (s .store) list) e in (refl, stale-is s b t (p .settings) (p .sound), (λ _. tt))
 
     by : (v : Verdict) (on : Bool) → Says (carryReturn s a b t list (R.gated v (cond on (R.back (wordFor s b t)) (R.deny 7))) .said) (andThen v (first ((on, 7) ∷ []))) n

@@ -14,7 +14,7 @@ use Rattle.store_rules.specs.Delivery as Kind
 use Rattle.store_rules.specs.Outcomes.{Listed, listed}
 use Rattle.engines.specs.Histories.{State, storeAt, step, run, NoSetUp, handBack}
 use Rattle.engines.specs.Rows.{listRows}
-use Rattle.engines.specs.Shapes.{Lent}
+use Rattle.engines.specs.Shapes.{Lent, wordsOf}
 use Rattle.engines.proofs.NeverAgain.{never-again}
 use Rattle.freelist_outcomes.specs.Return as FreeList
 use Rattle.freelist_engine.specs.Shape.{asList, listShape}
@@ -30,7 +30,7 @@ pub list-never-again : (w : State) (i : ℕ) → i < length (w .stores) → (s :
     → (vs : List Call) → NoSetUp Kind.Engine both i (step Kind.Engine both w (handBack Kind.Engine both i Kind.freeList s (b, list))) vs → (s′ : FreeListSettings) (list′ : List ℕ)
     → let u = run Kind.Engine both (step Kind.Engine both w (handBack Kind.Engine both i Kind.freeList s (b, list))) vs in
     (m : ℕ) × (FreeList.returnOf s′ (u .account) b (asList (storeAt u i)) list′ ≡ listed (Paper.refusal m []) (u .account) (asList (storeAt u i)) list′)
-    × ((m ≡ 7) ⊎ Given (listRows listShape s′ (u .account) (storeAt u i) list′) m)
+    × ((m ≡ 7) ⊎ Given (listRows (wordsOf listShape) s′ (u .account) (storeAt u i) list′) m)
 list-never-again w i here s b list n taken vs f s′ list′ =
     let r = never-again Kind.Engine both differ w i here Kind.freeList s b list n taken vs f s′ list′ in
     (r .0, ap (λ (d : Listed Lent). listed (d .said) (d .account) (asList (d .tables)) (d .list)) (r .1), r .2)
@@ -41,7 +41,7 @@ pub buddy-never-again : (w : State) (i : ℕ) → i < length (w .stores) → (s 
     → (vs : List Call) → NoSetUp Kind.Engine both i (step Kind.Engine both w (handBack Kind.Engine both i Kind.buddy s (b, list))) vs → (s′ : BuddySettings) (list′ : List ℕ)
     → let u = run Kind.Engine both (step Kind.Engine both w (handBack Kind.Engine both i Kind.buddy s (b, list))) vs in
     (m : ℕ) × (Buddy.returnOf s′ (u .account) b (asBuddy (storeAt u i)) list′ ≡ listed (Paper.refusal m []) (u .account) (asBuddy (storeAt u i)) list′)
-    × ((m ≡ 7) ⊎ Given (listRows buddyShape s′ (u .account) (storeAt u i) list′) m)
+    × ((m ≡ 7) ⊎ Given (listRows (wordsOf buddyShape) s′ (u .account) (storeAt u i) list′) m)
 buddy-never-again w i here s b list n taken vs f s′ list′ =
     let r = never-again Kind.Engine both differ w i here Kind.buddy s b list n taken vs f s′ list′ in
     (r .0, ap (λ (d : Listed Lent). listed (d .said) (d .account) (asBuddy (d .tables)) (d .list)) (r .1), r .2)
