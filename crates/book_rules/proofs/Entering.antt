@@ -13,16 +13,10 @@ use Rattle.words.proofs.Records.{length-rows, getD-rows, rows-after, appended, 
 use Rattle.slab.specs.Slab.{nowhere}
 use Rattle.store_rules.specs.Loans.{loanWords, sizeAt, noLoan, loanRow, onLoan, loansOf}
 use Rattle.store_rules.specs.declared.Loan.{Loan}
+use Rattle.store_rules.proofs.Amid.{Amid}
 use Rattle.store_rules.proofs.Placed.{on-loan-append}
 use Rattle.book_rules.specs.Book.{takenOf, entered}
 use Rattle.book_rules.proofs.Keeps.{BookParted, taken-where}
-
--- the loans before, and those with one more amid
-pub record Amid (l : Loan) (before after : List Loan) : Type 0 where
-  pub earlier : List Loan
-  pub later : List Loan
-  pub were : before ≡ earlier ++ later
-  pub are : after ≡ earlier ++ (l ∷ later)
 
 on-loan-amid : (l : Loan) (xs ys : List Loan) → eqb (l .size) 0 ≡ false → onLoan (xs ++ (l ∷ ys)) ≡ onLoan xs ++ (l ∷ onLoan ys)
 on-loan-amid l xs ys e = on-loan-append xs (l ∷ ys) ∙ rw e

@@ -2,7 +2,7 @@
 use mathlib.Core.Path.{_≡_, refl, sym, ap, subst, _∙_}
 use mathlib.Core.Bool.{Bool, true, false, cond}
 use mathlib.Core.Logic.{_⊎_, inl, inr, ⊎-elim, _↔_}
-use mathlib.Core.List.{List, [], _∷_, _++_, List·Memᴰ, List·Memᴰ·head, List·Memᴰ·tail, List·Memᴰ·cases-cons, List·Memᴰ·not-nil}
+use mathlib.Core.List.{List, [], _∷_, List·Memᴰ, List·Memᴰ·head, List·Memᴰ·cases-cons, List·Memᴰ·not-nil}
 use Prim.Native.Nat.{ℕ}
 use Rattle.lists.proofs.Bools.{told}
 use Rattle.counter.specs.Paper as Paper
@@ -20,8 +20,8 @@ use Rattle.store_rules.specs.Outcomes.{Out, Listed}
 use Rattle.store_rules.specs.Views.{chunk}
 use Rattle.store_rules.specs.declared.Chunk.{Chunk}
 use Rattle.store_rules.specs.declared.Loan.{Loan}
+use Rattle.store_rules.proofs.Amid.{Amid, amid-member}
 use Rattle.store_rules.proofs.Said.{not-refused, refusal-block, same-block}
-use Rattle.book_rules.proofs.Entering.{Amid}
 use Rattle.engines.specs.Tells.{lentBy, Joined, Blocked, Ordered, Released, Refused, Tells}
 use Rattle.buddy_stores.specs.Tables.{Tables}
 use Rattle.buddy_stores.specs.Views.{loansIn, chunksIn}
@@ -63,21 +63,12 @@ return-says s a b t list _ (Returned.takes p on) = ⊎-elim (λ e. inl (1, rw e)
 nothing-new : (ks ls : List Loan) → ks ≡ ls → Joined ks ls []
 nothing-new ks ls e l = ((λ m. inl (subst (List·Memᴰ l) e m)), ⊎-elim (λ m. subst (List·Memᴰ l) (sym e) m) (λ m. absurd (List·Memᴰ·not-nil m)))
 
-amid-mem : (xs ys : List Loan) (n : Loan) → Joined (xs ++ (n ∷ ys)) (xs ++ ys) (n ∷ [])
-amid-mem [] ys n l = (
-  (λ m. ⊎-elim (λ e. inr (List·Memᴰ·head e)) (λ k. inl k) (List·Memᴰ·cases-cons m)),
-  ⊎-elim (λ k. List·Memᴰ·tail k) (λ k. ⊎-elim (λ e. List·Memᴰ·head e) (λ z. absurd (List·Memᴰ·not-nil z)) (List·Memᴰ·cases-cons k)),
-)
-amid-mem (x ∷ xs) ys n l =
-    let w = amid-mem xs ys n l in (
-      (λ m. ⊎-elim (λ e. inl (List·Memᴰ·head e)) (λ k. ⊎-elim (λ i. inl (List·Memᴰ·tail i)) (λ i. inr i) (w .0 k)) (List·Memᴰ·cases-cons m)),
-      ⊎-elim (λ m. ⊎-elim (λ e. List·Memᴰ·head e) (λ k. List·Memᴰ·tail (w .1 (inl k))) (List·Memᴰ·cases-cons m)) (λ k. List·Memᴰ·tail (w .1 (inr k))),
-    )
-
 amid-joined : (n : Loan) (before after : List Loan) → Amid n before after → Joined after before (n ∷ [])
-amid-joined n before after w =
-    subst (λ (ks : List Loan). Joined ks before (n ∷ [])) (sym (w .are))
-    (subst (λ (ls : List Loan). Joined (w .earlier ++ (n ∷ w .later)) ls (n ∷ [])) (sym (w .were)) (amid-mem (w .earlier) (w .later) n))
+amid-joined n before after w l =
+    let m = amid-member n before after w l in (
+      (λ k. ⊎-elim (λ i. inl i) (λ e. inr (List·Memᴰ·head e)) (m .0 k)),
+      ⊎-elim (λ i. m .1 (inl i)) (λ i. m .1 (inr (⊎-elim (λ e. e) (λ z. absurd (List·Memᴰ·not-nil z)) (List·Memᴰ·cases-cons i)))),
+    )
 
 ask-lends : (s : BuddySettings) (a : Account) (size mask : ℕ) (t : Tables) (r : Out Tables) → AskComes s a size mask t r → Joined (loansIn (r .tables)) (loansIn t) (lentBy (r .said))
 unfolding carryAsk
@@ -131,7 +122,7 @@ deliver-arrives s a o t serial number offset len _ (keeps k m f e l sound b) q =
       f,
       λ c.
           subst (λ (n : ℕ). List·Memᴰ c (chunksIn (carryFate s a k t (kept (m .number)) .tables)) ↔ (List·Memᴰ c (chunksIn t) ⊎ (c ≡ chunk n (m .number) (k .order .size)))) (sym its)
-          (served-chunks s t (l .settings) (l .lengths) sound (k .ask .size) (k .ask .mask) (k .order .size) (m .number) b c),
+          (amid-member (chunk (chunkSpot s (asOrdered s k t) .place) (m .number) (k .order .size)) (chunksIn t) _ (served-chunks s t (l .settings) (l .lengths) sound (k .ask .size) (k .ask .mask) (k .order .size) (m .number) b) c),
     )
 
 -- the buddy tells as an engine has to

@@ -1,14 +1,14 @@
 -- What an ask and a delivery of a buddy store come to, and what they do to its loans and chunks. Assumes nothing.
-use mathlib.Core.Path.{_≡_, refl, sym, ap, ap₂, subst, _∙_}
-use mathlib.Core.Bool.{Bool, true, false}
-use mathlib.Core.Logic.{_⊎_, inl, inr, ⊎-elim, _↔_}
-use mathlib.Core.List.{List, [], List·Memᴰ}
-use Prim.Native.Nat.{ℕ, _+_, _*_, _<_}
+use mathlib.Core.Path.{_≡_, refl, sym, ap, subst, _∙_}
+use mathlib.Core.Bool.{Bool, true, false, cond}
+use mathlib.Core.Logic.{_⊎_, inl, inr, ⊎-elim}
+use mathlib.Core.List.{List, [], _∷_, _++_, append-nil}
+use Prim.Native.Nat.{ℕ, suc, _+_, _*_, _<_}
 use native.Mathlib.Omega.{arith}
 use lib.Dec.{eqb, ltb}
 use lib.ListN.{length}
 use borrow.Author.Tests.{ltb-true, ne-eqb}
-use Rattle.lists.proofs.Bools.{told, true-false, and-left, same?}
+use Rattle.lists.proofs.Bools.{told, and-left}
 use Rattle.counter.specs.Account.{heapAt}
 use Rattle.counter.specs.Gate.{Verdict, pass, refuse}
 use Rattle.counter.specs.InTable.{BuddyIn}
@@ -31,22 +31,24 @@ use Rattle.store_rules.specs.Views.{View, chunk}
 use Rattle.store_rules.specs.declared.Chunk.{Chunk}
 use Rattle.store_rules.specs.declared.Loan.{Loan}
 use Rattle.book_rules.specs.Book.{takenOf, entered}
-use Rattle.book_rules.proofs.Entering.{Amid, entered-amid}
+use Rattle.store_rules.proofs.Amid.{Amid}
+use Rattle.book_rules.proofs.Entering.{entered-amid}
 use Rattle.book_rules.proofs.Keeps.{BookParted}
 use Rattle.buddy_trees.specs.Trees.{bytes}
 use Rattle.buddy_stores.specs.Moves.{Cut}
 use Rattle.buddy_stores.specs.Sound.{Sound}
 use Rattle.buddy_stores.specs.Tables.{Tables, Lengths, placesAt, headWords, givenIn, levelsIn, placesIn, chunkPlacesIn, memories, heldIn}
-use Rattle.buddy_stores.specs.Views.{loansIn, chunksIn}
-use Rattle.buddy_stores.proofs.Viewed.{chunkAt, held-seen, seen-held}
+use Rattle.buddy_stores.specs.Views.{loansIn, chunksOf, chunksIn}
+use Rattle.buddy_stores.proofs.Viewed.{chunkAt}
 use Rattle.buddy_outcomes.specs.Ask as Ask
 use Rattle.buddy_outcomes.specs.Ask.{sizeFor, grownFor, sizeOk, chunkSpot, grownTables, bookedTables, loanFrom, takenTables, deniedTables, decideAsk, carryAsk, planAsk, askOf}
 use Rattle.buddy_outcomes.specs.Deliver as Deliver
 use Rattle.buddy_outcomes.specs.Deliver.{chunkTables, loanIn, servedTables, carryFate, decideDeliver, deliverGateOf, planDeliver, carryDeliver, deliverOf}
 use Rattle.buddy_outcomes.specs.Gate.{gateOf}
 use Rattle.buddy_outcomes.proofs.Changed.{grown-lengths}
-use Rattle.buddy_outcomes.proofs.Chunked.{chunked, size-here, size-other, memory-here, memory-other, held-here, held-other, spot-dead}
+use Rattle.buddy_outcomes.proofs.Chunked.{chunked, head-places, size-here, size-other, memory-here, memory-other, spot-low, within-places, spot-dead, held-here, held-other}
 use Rattle.buddy_outcomes.proofs.Delivered.{grown-sound, count, place, spot, gate-sound, opened}
+use Rattle.buddy_outcomes.proofs.Goes.{SameAt, Parts, parts}
 use Rattle.buddy_outcomes.proofs.Heads.{chunk-word, chunk-head, booked-places}
 use Rattle.buddy_outcomes.proofs.Lendings.{grown-view, booked-chunks}
 use Rattle.buddy_outcomes.proofs.Passing.{Lent, Passed, gate-passed}
@@ -149,6 +151,11 @@ unfolding takenTables
 taken-amid s t fit lengths sound size mask i w =
     booked-amid s t _ _ _ _ fit (lengths .head) (lengths .loans) (sound .loans-parted) (room-place s t size mask (Ask.at i) (w .room)) (size-some s fit size mask (w .sized))
 
+-- a place that holds no chunk shows none
+past-one : (t : Tables) (n : ℕ) → heldIn t n ≡ false → chunksOf t (suc n) ≡ chunksOf t n
+unfolding chunksOf
+past-one t n e = ap (λ (b : Bool). chunksOf t n ++ cond b (chunkAt t n ∷ []) []) e ∙ append-nil (chunksOf t n)
+
 module _ (s : BuddySettings) (t : Tables) (fit : BuddyIn s) (lengths : Lengths s t) (sound : Sound s t) (size mask z memory : ℕ) (b : Buys s size mask t z) where
   abbrev g : Tables
   g = grownTables s (grownFor s size mask t) t
@@ -202,36 +209,35 @@ module _ (s : BuddySettings) (t : Tables) (fit : BuddyIn s) (lengths : Lengths s
   is-chunk : z ≡ bytes (s .minimal) (levelsIn g)
   is-chunk = sym (b .order) ∙ ap (bytes (s .minimal)) (sym (count s t fit lengths sound size mask z b))
 
-  new-here : chunkAt u p ≡ chunk p memory z
-  new-here = ap₂ (chunk p) (memory-here s g fit g-lengths memory z room) (size-here s g fit g-lengths memory z room)
-
-  old-there : (n : ℕ) → (n ≡ p → ⊥) → chunkAt u n ≡ chunkAt g n
-  old-there n o = ap₂ (chunk n) (memory-other s g fit g-lengths memory z room n o) (size-other s g fit g-lengths memory z room n o)
-
-  -- they are those before, and the new one
-  chunked-chunks : (d : Chunk) → List·Memᴰ d (chunksIn u) ↔ (List·Memᴰ d (chunksIn g) ⊎ (d ≡ chunk p memory z))
-  chunked-chunks d = (there, ⊎-elim back new)
+  -- the chunks are those before and the new one: its place is vacant or past the last
+  pub served-chunks : Amid (chunk (chunkSpot s (grownTables s (grownFor s size mask t) t) .place) memory z) (chunksIn t) (chunksIn (servedTables s size mask memory z (grownTables s (grownFor s size mask t) t)))
+  unfolding servedTables chunkTables
+  served-chunks = by-parts (parts u g p q (within-places s g fit g-lengths memory z room g-sound tall is-chunk) (held-here s g fit g-lengths memory z room g-sound tall is-chunk) (spot-dead s g fit g-lengths memory z room g-sound tall is-chunk) same)
     where
-      there : List·Memᴰ d (chunksIn u) → List·Memᴰ d (chunksIn g) ⊎ (d ≡ chunk p memory z)
-      there m =
-          let w = seen-held u d m in
+      q : ℕ
+      q = chunkSpot s g .slab .places
+
+      same : (x : ℕ) → (x ≡ chunkSpot s g .place → ⊥) → SameAt u g x
+      same x o =
+          let m = sym (memory-other s g fit g-lengths memory z room x o) in
+          let y = sym (size-other s g fit g-lengths memory z room x o) in
+          (sym (held-other s g fit g-lengths memory z room g-sound tall is-chunk x o), λ j. chunk x (m j) (y j))
+
+      all : chunksOf g (chunkSpot s g .slab .places) ≡ chunksIn g
+      all =
           ⊎-elim
-          (λ e. inr (w .1 ∙ ap (chunkAt u) e ∙ new-here))
-          (λ n. inl (subst (λ (x : Chunk). List·Memᴰ x (chunksIn g)) (sym (w .1 ∙ old-there (d .number) n)) (held-seen g (d .number) (sym (held-other s g fit g-lengths memory z room g-sound tall is-chunk (d .number) n) ∙ w .0))))
-          (same? (d .number) p)
+          (λ w. ap (chunksOf g) (omega (arith, w .1)) ∙ past-one g (chunkPlacesIn g) (subst (λ (x : ℕ). heldIn g x ≡ false) (w .0) (spot-dead s g fit g-lengths memory z room g-sound tall is-chunk)))
+          (λ w. ap (chunksOf g) (w .1))
+          (spot-low s g fit g-lengths memory z room g-sound tall is-chunk)
 
-      back : List·Memᴰ d (chunksIn g) → List·Memᴰ d (chunksIn u)
-      back m =
-          let w = seen-held g d m in
-          let n : d .number ≡ p → ⊥ = λ e. true-false (heldIn g (d .number)) (w .0) (ap (heldIn g) e ∙ spot-dead s g fit g-lengths memory z room g-sound tall is-chunk) in
-          subst (λ (x : Chunk). List·Memᴰ x (chunksIn u)) (sym (w .1 ∙ sym (old-there (d .number) n))) (held-seen u (d .number) (held-other s g fit g-lengths memory z room g-sound tall is-chunk (d .number) n ∙ w .0))
-
-      new : d ≡ chunk p memory z → List·Memᴰ d (chunksIn u)
-      new e = subst (λ (x : Chunk). List·Memᴰ x (chunksIn u)) (sym (e ∙ sym new-here)) (held-seen u p (held-here s g fit g-lengths memory z room g-sound tall is-chunk))
-
-  pub served-chunks : (d : Chunk) → List·Memᴰ d (chunksIn (servedTables s size mask memory z g)) ↔ (List·Memᴰ d (chunksIn t) ⊎ (d ≡ chunk (chunkSpot s g .place) memory z))
-  unfolding servedTables
-  served-chunks d =
-      let e : chunksIn (servedTables s size mask memory z g) ≡ chunksIn u = booked-chunks s _ _ _ _ (chunkTables s memory z g) ∙ ap chunksIn is in
-      subst (λ (cs : List Chunk). List·Memᴰ d cs ↔ (List·Memᴰ d (chunksIn t) ⊎ (d ≡ chunk p memory z))) (sym e)
-      (subst (λ (cs : List Chunk). List·Memᴰ d (chunksIn u) ↔ (List·Memᴰ d cs ⊎ (d ≡ chunk p memory z))) (grown-chunks s (grownFor s size mask t) t) (chunked-chunks d))
+      by-parts : Parts u g p q → Amid (chunk p memory z) (chunksIn t) (chunksIn (servedTables s size mask memory z g))
+      by-parts w =
+          let f : chunksIn u ≡ chunksOf u q = ap (chunksOf u) (head-places s g fit g-lengths memory z) in
+          let m = memory-here s g fit g-lengths memory z room in
+          let y = size-here s g fit g-lengths memory z room in
+          record {
+            earlier = w .before;
+            later = w .past;
+            were = sym (grown-chunks s (grownFor s size mask t) t) ∙ sym all ∙ w .is;
+            are = booked-chunks s _ _ _ _ u ∙ f ∙ w .was ∙ ap (λ (d : Chunk). w .before ++ (d ∷ w .past)) (λ j. chunk p (m j) (y j));
+          }

@@ -1,7 +1,7 @@
 -- What an ask of a buddy store that gave an order leaves, and that the order can be delivered: the delivery's tests 1 to 4 pass
 -- on it. Assumes nothing.
 use mathlib.Core.Path.{_≡_, refl, ap, _∙_}
-use mathlib.Core.Bool.{Bool, true, false, _&&_}
+use mathlib.Core.Bool.{Bool, true, _&&_}
 use mathlib.Core.List.{List, []}
 use Prim.Native.Nat.{ℕ, zero, suc, _+_, _-_, _≤_, _<_}
 use native.Mathlib.Omega.{arith}
@@ -17,15 +17,15 @@ use Rattle.counter.specs.Table.{buddyOk, heapsOk}
 use Rattle.counter.specs.declared.account.Account.{Account}
 use Rattle.counter.specs.declared.account.Heap.{Heap}
 use Rattle.counter.specs.declared.account.OpenOrder.the-variants.{Kept}
-use Rattle.counter.specs.declared.account.Order.{Order}
 use Rattle.counter.specs.declared.settings.BuddySettings.{BuddySettings}
 use Rattle.counter.proofs.Gates.{passes}
 use Rattle.counter.proofs.Tables.{buddy-all}
 use Rattle.heap.specs.Heap.{bearsOk}
 use Rattle.slab.specs.Slab as Slab
-use Rattle.store_rules.specs.Orders.{buy, orderFrom, keptFrom, sameBool, sameOrder, leadsTo}
+use Rattle.store_rules.specs.Orders.{buy, orderFrom, keptFrom, leadsTo}
 use Rattle.store_rules.specs.Outcomes.{Out, out, withOrder}
 use Rattle.store_rules.specs.Tests.{orderFor, gateRow}
+use Rattle.store_rules.proofs.Said.{refusal-order, block-order, same-order}
 use Rattle.book_rules.specs.Book.{takenOf}
 use Rattle.buddy_trees.specs.Trees.{bytes}
 use Rattle.buddy_levels_rules.specs.Level.{ringHead, spotIn}
@@ -43,23 +43,6 @@ use Rattle.buddy_outcomes.proofs.Delivered.{more, most, grown-sound, co
 use Rattle.buddy_outcomes.proofs.Held.{chunksHeld, bytesHeld, holds-account, account-covers, grown-holds}
 use Rattle.buddy_outcomes.proofs.Passing.{Passed, are-lengths}
 use Rattle.buddy_outcomes.proofs.Plans.{Buys, buys, buy-bears, planned-buy}
-
--- ---- an order is the same as itself
-
-same-bool : (b : Bool) → sameBool b b ≡ true
-same-bool true = refl
-same-bool false = refl
-
-same-order : (o : Order) → sameOrder o o ≡ true
-same-order o =
-    and-both _ _ (eq-eqb (o .store) (o .store) refl)
-    (and-both _ _ (eq-eqb (o .size) (o .size) refl) (and-both _ _ (eq-eqb (o .kind) (o .kind) refl) (same-bool (o .map))))
-
-refusal-order : {A : Type 0} (n : ℕ) (back : List ℕ) (store size kind : ℕ) (map : Bool) → Paper.refusal n back ≡ Paper.order store size kind map → A
-refusal-order n back store size kind map e = let z : _≡_ {A = ℕ} 0 1 = cc in absurd (omega arith)
-
-block-order : {A : Type 0} (b c d f store size kind : ℕ) (map : Bool) → Paper.block b c d f ≡ Paper.order store size kind map → A
-block-order b c d f store size kind map e = let z : _≡_ {A = ℕ} 0 1 = cc in absurd (omega arith)
 
 -- ---- levels with no ready side, and with a vacant pair place
 

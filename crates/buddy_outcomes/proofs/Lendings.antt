@@ -111,7 +111,7 @@ module _ (s : BuddySettings) (a : Account) (size mask : ℕ) (t : Tables) where
   abbrev decided : Plan ℕ
   decided = decideAsk s (heapAt a (s .store .heap)) (a .objects) size mask t
 
-  pub ask-comes : (v : Verdict) (p : Plan ℕ) → gateOf s a t true ≡ v → decided ≡ p → askOf s a size mask t ≡ carryAsk s a size mask t (Ask.gated v p)
+  ask-comes : (v : Verdict) (p : Plan ℕ) → gateOf s a t true ≡ v → decided ≡ p → askOf s a size mask t ≡ carryAsk s a size mask t (Ask.gated v p)
   unfolding askOf planAsk
   ask-comes v p e g = ap₂ (λ (x : Verdict) (y : Plan ℕ). carryAsk s a size mask t (Ask.gated x y)) e g
 

@@ -39,9 +39,9 @@ pub mod Fewer
 pub mod Ended
 pub mod Denied
 pub mod Shares
+pub mod Comes
+pub mod Deliverable
 pub mod Sizes
 pub mod Seen
 pub mod Ringing
 pub mod Deliveries
-pub mod Comes
-pub mod Deliverable

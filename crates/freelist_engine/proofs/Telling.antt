@@ -2,7 +2,7 @@
 use mathlib.Core.Path.{_≡_, refl, sym, ap, subst, _∙_}
 use mathlib.Core.Bool.{false}
 use mathlib.Core.Logic.{_⊎_, inl, inr, ⊎-elim, _↔_}
-use mathlib.Core.List.{List, [], _∷_, _++_, List·Memᴰ, List·Memᴰ·head, List·Memᴰ·tail, List·Memᴰ·cases-cons, List·Memᴰ·not-nil}
+use mathlib.Core.List.{List, [], _∷_, _++_, List·Memᴰ, List·Memᴰ·head, List·Memᴰ·cases-cons, List·Memᴰ·not-nil, append-nil}
 use Prim.Native.Nat.{ℕ, _+_}
 use native.Mathlib.Omega.{arith}
 use lib.ListN.{length, getD}
@@ -24,6 +24,7 @@ use Rattle.store_rules.specs.Views.{chunk}
 use Rattle.store_rules.specs.declared.Chunk.{Chunk}
 use Rattle.store_rules.specs.declared.Loan.{Loan}
 use Rattle.store_rules.specs.declared.Region.{Region}
+use Rattle.store_rules.proofs.Amid.{amid-member}
 use Rattle.engines.specs.Shapes.{Lent}
 use Rattle.engines.specs.Tells.{lentBy, Same, Joined, Blocked, Ordered, Released, Refused, Tells}
 use Rattle.freelist_rules.specs.Place.{sizeFor, maskFor, lentLoan, putLoan}
@@ -142,12 +143,7 @@ seen-same s t u e l =
 -- ---- chunks
 
 last-joined : (cs : List Chunk) (d c : Chunk) → List·Memᴰ c (cs ++ (d ∷ [])) ↔ (List·Memᴰ c cs ⊎ (c ≡ d))
-last-joined [] d c = ((λ m. ⊎-elim (λ e. inr e) (λ z. absurd (List·Memᴰ·not-nil z)) (List·Memᴰ·cases-cons m)), ⊎-elim (λ z. absurd (List·Memᴰ·not-nil z)) (λ e. List·Memᴰ·head e))
-last-joined (b ∷ cs) d c =
-    let w = last-joined cs d c in (
-      (λ m. ⊎-elim (λ e. inl (List·Memᴰ·head e)) (λ k. ⊎-elim (λ x. inl (List·Memᴰ·tail x)) (λ x. inr x) (w .0 k)) (List·Memᴰ·cases-cons m)),
-      ⊎-elim (λ m. ⊎-elim (λ e. List·Memᴰ·head e) (λ k. List·Memᴰ·tail (w .1 (inl k))) (List·Memᴰ·cases-cons m)) (λ e. List·Memᴰ·tail (w .1 (inr e))),
-    )
+last-joined cs d = amid-member d cs (cs ++ (d ∷ [])) (record { earlier = cs; later = []; were = sym (append-nil cs); are = refl })
 
 -- a delivery that lends a block lends it from the new chunk
 abbrev Arrives : FreeListSettings → Account → Outcome → Tables → Tables → ℕ → Type 0

@@ -1,8 +1,8 @@
 -- What an ask that gave an order leaves, and that the order can be delivered: the delivery's tests 1 to 4 pass on it. Assumes
 -- nothing.
 use mathlib.Core.Path.{_≡_, refl, ap, _∙_}
-use mathlib.Core.Bool.{Bool, true, false, _&&_}
-use mathlib.Core.List.{List, []}
+use mathlib.Core.Bool.{Bool, true, _&&_}
+use mathlib.Core.List.{[]}
 use Prim.Native.Nat.{ℕ, _≤_}
 use native.Mathlib.Omega.{arith}
 use lib.Dec.{ltb}
@@ -20,15 +20,15 @@ use Rattle.counter.specs.Table.{freeListOk, heapsOk}
 use Rattle.counter.specs.declared.account.Account.{Account}
 use Rattle.counter.specs.declared.account.Heap.{Heap}
 use Rattle.counter.specs.declared.account.OpenOrder.the-variants.{Kept}
-use Rattle.counter.specs.declared.account.Order.{Order}
 use Rattle.counter.specs.declared.settings.FreeListSettings.{FreeListSettings}
 use Rattle.counter.proofs.Gates.{passes}
 use Rattle.counter.proofs.Tables.{free-list-all}
 use Rattle.heap.specs.Heap.{bearsOk}
 use Rattle.store_rules.specs.Orders as Orders
-use Rattle.store_rules.specs.Orders.{orderFrom, keptFrom, sameBool, sameOrder, leadsTo}
+use Rattle.store_rules.specs.Orders.{orderFrom, keptFrom, leadsTo}
 use Rattle.store_rules.specs.Outcomes.{Out, out, withOrder}
 use Rattle.store_rules.specs.Tests.{orderFor, gateRow}
+use Rattle.store_rules.proofs.Said.{refusal-order, block-order, same-order}
 use Rattle.book_rules.specs.Book.{takenOf}
 use Rattle.freelist_rules.specs.Place.{Found, nowhere, find, sizeFor, maskFor}
 use Rattle.freelist_rules.specs.Records.{Store}
@@ -46,24 +46,7 @@ use Rattle.freelist_outcomes.proofs.Changed.{ordered-store, ordered-sou
 use Rattle.freelist_outcomes.proofs.Passing.{Passed}
 use Rattle.freelist_outcomes.proofs.Plans.{buy-held, plan-buy, size-most}
 
--- ---- an order is the same as itself
-
-same-bool : (b : Bool) → sameBool b b ≡ true
-same-bool true = refl
-same-bool false = refl
-
-same-order : (o : Order) → sameOrder o o ≡ true
-same-order o =
-    and-both _ _ (eq-eqb (o .store) (o .store) refl)
-    (and-both _ _ (eq-eqb (o .size) (o .size) refl) (and-both _ _ (eq-eqb (o .kind) (o .kind) refl) (same-bool (o .map))))
-
 -- ---- an order comes of a plan to buy
-
-refusal-order : {A : Type 0} (n : ℕ) (back : List ℕ) (store size kind : ℕ) (map : Bool) → Paper.refusal n back ≡ Paper.order store size kind map → A
-refusal-order n back store size kind map e = let z : _≡_ {A = ℕ} 0 1 = cc in absurd (omega arith)
-
-block-order : {A : Type 0} (b c d f store size kind : ℕ) (map : Bool) → Paper.block b c d f ≡ Paper.order store size kind map → A
-block-order b c d f store size kind map e = let z : _≡_ {A = ℕ} 0 1 = cc in absurd (omega arith)
 
 module _ (s : FreeListSettings) (a : Account) (size mask : ℕ) (t : Tables) where
   abbrev z : ℕ

@@ -13,3 +13,4 @@ pub mod Releasing
 pub mod Permuted
 pub mod Lessening
 pub mod Shares
+pub mod Amid

@@ -1,16 +1,18 @@
 -- What is said against a verdict: a refusal says the verdict's number, and nothing else is a refusal. Assumes nothing.
-use mathlib.Core.Path.{_≡_, sym, ap}
+use mathlib.Core.Path.{_≡_, refl, sym, ap}
 use mathlib.Core.Bool.{Bool, true, false}
 use mathlib.Core.Logic.{_↔_}
 use mathlib.Core.List.{List, []}
 use native.Mathlib.Omega.{arith}
 use Prim.Native.Nat.{ℕ}
-use Rattle.lists.proofs.Bools.{true-false}
+use borrow.Author.Tests.{eq-eqb}
+use Rattle.lists.proofs.Bools.{true-false, and-both}
 use Rattle.counter.specs.Gate.{Verdict, pass, refuse}
 use Rattle.counter.specs.Paper.{Said}
 use Rattle.counter.specs.Paper as Paper
 use Rattle.counter.specs.declared.account.Order.{Order}
 use Rattle.counter.proofs.Gates.{never, same-number}
+use Rattle.store_rules.specs.Orders.{sameBool, sameOrder}
 
 -- whether it is a refusal
 abbrev pub refuses : Said → Bool
@@ -72,3 +74,20 @@ refusal-block n back b c d e q = let z : _≡_ {A = ℕ} 0 1 = cc in absurd (ome
 
 pub same-block : (a b c d e f g h : ℕ) → Paper.block a b c d ≡ Paper.block e f g h → (a ≡ e) × (b ≡ f) × (c ≡ g) × (d ≡ h)
 same-block a b c d e f g h q = (cc, cc, cc, cc)
+
+-- ---- an order is neither a refusal nor a block, and the same as itself
+
+pub refusal-order : {A : Type 0} (n : ℕ) (back : List ℕ) (store size kind : ℕ) (map : Bool) → Paper.refusal n back ≡ Paper.order store size kind map → A
+refusal-order n back store size kind map e = let z : _≡_ {A = ℕ} 0 1 = cc in absurd (omega arith)
+
+pub block-order : {A : Type 0} (b c d f store size kind : ℕ) (map : Bool) → Paper.block b c d f ≡ Paper.order store size kind map → A
+block-order b c d f store size kind map e = let z : _≡_ {A = ℕ} 0 1 = cc in absurd (omega arith)
+
+same-bool : (b : Bool) → sameBool b b ≡ true
+same-bool true = refl
+same-bool false = refl
+
+pub same-order : (o : Order) → sameOrder o o ≡ true
+same-order o =
+    and-both _ _ (eq-eqb (o .store) (o .store) refl)
+    (and-both _ _ (eq-eqb (o .size) (o .size) refl) (and-both _ _ (eq-eqb (o .kind) (o .kind) refl) (same-bool (o .map))))
