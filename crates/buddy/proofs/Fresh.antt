@@ -13,7 +13,7 @@ use Rattle.counter.specs.declared.settings.BuddySettings.{BuddySettings}
 use Rattle.counter.proofs.Tables.{buddy-yes}
 use Rattle.slab.specs.Slab.{nowhere}
 use Rattle.book_rules.specs.Book.{freshIndex}
-use Rattle.buddy_stores.specs.Tables.{Tables, tables, mark, markAt, givenAt, levelsAt, placesAt, chunkPlacesAt, headWords, chunksFrom, initialLevels, lengthsOk}
+use Rattle.buddy_rules.specs.Tables.{Tables, tables, mark, markAt, givenAt, levelsAt, placesAt, chunkPlacesAt, headWords, chunksFrom, initialLevels, lengthsOk}
 use Rattle.buddy_outcomes.specs.Ask.{freshLevels}
 use Rattle.buddy_outcomes.specs.SetUp.{setUp, freshHead, freshTables, fitOk, setUpOf}
 use Rattle.buddy_outcomes.proofs.Passing.{lengths-are}

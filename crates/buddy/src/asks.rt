@@ -2,7 +2,7 @@
 ghost use mathlib.Core.Path.{_≡_};
 ghost use Rattle.counter.specs.Paper.{askSaid};
 ghost use Rattle.store_rules.specs.Outcomes.{out};
-ghost use Rattle.buddy_stores.specs.Tables.{tables};
+ghost use Rattle.buddy_rules.specs.Tables.{tables};
 ghost use Rattle.buddy_outcomes.specs.Ask.{askOf};
 use counter::Account;
 use counter::Asked;
@@ -23,6 +23,6 @@ pub fn ask(
 {
     let own = s.store;
     let h = store_accounts::share_of(own, a);
-    let answer = buddy_calls::ask(s, h, size, mask, head, loans, chunks, index, tree);
+    let answer = crate::calls::ask(s, h, size, mask, head, loans, chunks, index, tree);
     store::asked(a, size, mask, answer)
 }

@@ -2,7 +2,7 @@
 ghost use mathlib.Core.Path.{_≡_};
 ghost use Rattle.counter.specs.Paper.{deliverSaid};
 ghost use Rattle.store_rules.specs.Outcomes.{out};
-ghost use Rattle.buddy_stores.specs.Tables.{tables};
+ghost use Rattle.buddy_rules.specs.Tables.{tables};
 ghost use Rattle.buddy_outcomes.specs.Deliver.{deliverOf};
 use counter::Account;
 use counter::BuddySettings;
@@ -24,6 +24,6 @@ pub fn deliver(
     let own = s.store;
     let h = store_accounts::share_of(own, a);
     let order = a.order;
-    let r = buddy_calls::deliver(s, h, order, o, head, loans, chunks, index, tree);
+    let r = crate::calls::deliver(s, h, order, o, head, loans, chunks, index, tree);
     store::delivered(own, a, r)
 }

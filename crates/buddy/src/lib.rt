@@ -1,8 +1,13 @@
-// A buddy store as its user calls it: set up, ask, deliver, return.
+// A buddy store as its user calls it: set up, ask, deliver, return. What a call comes to is decided first, by the gate and the
+// tests behind it, and then carried out; `calls` has the calls told of the store's share of the account.
+mod asking;
 mod asks;
+pub mod calls;
 mod deliveries;
+mod delivering;
 mod returns;
 mod set_ups;
+mod taking_back;
 
 pub use asks::ask;
 pub use deliveries::deliver;

@@ -2,7 +2,7 @@
 ghost use mathlib.Core.Path.{_≡_};
 ghost use Rattle.counter.specs.Paper.{releaseSaid};
 ghost use Rattle.store_rules.specs.Outcomes.{listed};
-ghost use Rattle.buddy_stores.specs.Tables.{tables};
+ghost use Rattle.buddy_rules.specs.Tables.{tables};
 ghost use Rattle.buddy_outcomes.specs.Return.{returnOf};
 use counter::Account;
 use counter::Block;
@@ -25,6 +25,6 @@ pub fn return_block(
 {
     let own = s.store;
     let h = store_accounts::share_of(own, a);
-    let r = buddy_calls::return_block(s, h, b, head, loans, chunks, index, tree, list);
+    let r = crate::calls::return_block(s, h, b, head, loans, chunks, index, tree, list);
     store::released(own, a, r)
 }

@@ -4,15 +4,15 @@ ghost use lib.ListN.{length, set};
 ghost use Rattle.counter.specs.InTable.{BuddyIn};
 ghost use Rattle.counter.specs.Paper.{setUpSaid};
 ghost use Rattle.slab.specs.Slab.{nowhere};
-ghost use Rattle.buddy_stores.specs.Tables.{tables, headWords, chunksFrom, initialLevels};
+ghost use Rattle.buddy_rules.specs.Tables.{tables, headWords, chunksFrom, initialLevels};
 ghost use Rattle.buddy_outcomes.specs.Ask.{freshLevels};
 ghost use Rattle.buddy_outcomes.specs.SetUp.{setUp, freshHead, fitOk, setUpOf};
-use buddy_stores::CHUNK_PLACES_AT;
-use buddy_stores::GIVEN_AT;
-use buddy_stores::LEVELS_AT;
-use buddy_stores::MARK;
-use buddy_stores::MARK_AT;
-use buddy_stores::PLACES_AT;
+use buddy_rules::CHUNK_PLACES_AT;
+use buddy_rules::GIVEN_AT;
+use buddy_rules::LEVELS_AT;
+use buddy_rules::MARK;
+use buddy_rules::MARK_AT;
+use buddy_rules::PLACES_AT;
 use counter::BuddySettings;
 use counter::Refusal;
 use counter::Refused;
@@ -40,7 +40,7 @@ fn fresh_tree(s: BuddySettings, tree: &mut [u64])
 {
     let levels = rounding::level(s.initial, s.minimal) as usize;
     buddy_grow::fresh_levels(s, 0, levels, tree);
-    words::put(tree, buddy_shape::chunks_from(s.pairs), NOWHERE);
+    words::put(tree, buddy_levels::chunks_from(s.pairs), NOWHERE);
 }
 
 fn is_fit(

@@ -1,1 +1,2 @@
 pub mod Returned
+pub mod Settled

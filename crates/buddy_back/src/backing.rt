@@ -4,15 +4,15 @@ ghost use mathlib.Core.List.{[]};
 ghost use lib.ListN.{set};
 ghost use Rattle.counter.specs.InTable.{BuddyIn};
 ghost use Rattle.words.specs.Words.{cellOf};
-ghost use Rattle.buddy_stores.specs.Tables.{tables, chunkWords, chunkSizeAt};
+ghost use Rattle.buddy_rules.specs.Tables.{tables, chunkWords, chunkSizeAt};
 ghost use Rattle.book_rules.specs.Book.{struck, struckIndex};
 ghost use Rattle.buddy_outcomes.specs.Return.{climbFor, vacatedTree};
-ghost use Rattle.buddy_ready.specs.Ready.{Backs};
-use buddy_stores::AFTER_AT;
-use buddy_stores::CHUNK_SIZE_AT;
-use buddy_stores::CHUNK_WORDS;
-use buddy_stores::LEVELS_AT;
-use buddy_stores::PLACE_WORDS;
+ghost use Rattle.buddy_moves.specs.Ready.{Backs};
+use buddy_rules::AFTER_AT;
+use buddy_rules::CHUNK_SIZE_AT;
+use buddy_rules::CHUNK_WORDS;
+use buddy_rules::LEVELS_AT;
+use buddy_rules::PLACE_WORDS;
 use counter::Block;
 use counter::BuddySettings;
 
@@ -22,7 +22,7 @@ pub fn vacate(s: BuddySettings, c: u64, chunks: &mut [u64], tree: &mut [u64])
     ensures { λ _. ⌜ now (chunks .exit) ≡ set (now (chunks .entry)) (cellOf chunkSizeAt chunkWords c) 0 ⌝ }
     ensures { λ _. ⌜ now (tree .exit) ≡ vacatedTree s c (now (tree .entry)) ⌝ }
 {
-    let at = buddy_shape::chunks_from(s.pairs);
+    let at = buddy_levels::chunks_from(s.pairs);
     let last = words::word(tree, at);
     words::put_cell(chunks, CHUNK_SIZE_AT, CHUNK_WORDS, c as usize, 0);
     words::put_cell(tree, at + (1 + AFTER_AT), PLACE_WORDS, c as usize, last);
@@ -48,7 +48,7 @@ pub fn take_back(
     let own = s.store;
     let levels = words::word(head, LEVELS_AT) as usize;
     let level = rounding::level(b.size, s.minimal) as usize;
-    let nodes = buddy_shape::nodes_from(s.pairs, own.chunks);
+    let nodes = buddy_levels::nodes_from(s.pairs, own.chunks);
     let p = words::word(index, at);
     let node = words::word(tree, nodes + p as usize);
     book::strike(loans, index, at, p);

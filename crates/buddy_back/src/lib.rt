@@ -1,5 +1,5 @@
-// A buddy store's tables written as a block is taken back.
+// A return of a buddy store carried out: its tables written as the block is taken back, and what that releases settled.
 mod backing;
+mod settling;
 
-pub use backing::take_back;
-pub use backing::vacate;
+pub use settling::carry_return;

@@ -24,9 +24,9 @@ use Rattle.slab.specs.declared.Taken.{Taken}
 use Rattle.store_rules.specs.Orders.{Plan, deny, take, buy}
 use Rattle.book_rules.specs.Book.{takenOf}
 use Rattle.buddy_trees.specs.Trees.{bytes}
-use Rattle.buddy_shape.specs.Seen.{read, looked}
-use Rattle.buddy_shape.proofs.Shape.{node-bytes-most}
-use Rattle.buddy_stores.specs.Tables.{Tables, tables, givenAt, levelsAt, placesAt, chunkPlacesAt}
+use Rattle.buddy_levels.specs.Seen.{read, looked}
+use Rattle.buddy_levels.proofs.Bounds.{node-bytes-most}
+use Rattle.buddy_rules.specs.Tables.{Tables, tables, givenAt, levelsAt, placesAt, chunkPlacesAt}
 use Rattle.buddy_outcomes.specs.Ask.{Found, at, nowhere, sizeFor, levelFor, searchFrom, foundAt, foundFor, fitsAt, sizeOk, pairsRoom, chunkSpot, roomAt, roomOk, countAt, countOk, objectsOk, orderAt, lateAt, plannedAt, decideAsk}
 use Rattle.buddy_outcomes.proofs.Rounds.{level-low}
 use Rattle.buddy_outcomes.proofs.Searches.{search-at}
@@ -36,7 +36,7 @@ use Rattle.buddy_decide.specs.declared.deciding.Looked.the-variants as L
 use Rattle.buddy_decide.specs.declared.deciding.Needing.{Needing}
 use Rattle.buddy_decide.specs.declared.deciding.Plan as Decided
 use Rattle.buddy_decide.specs.declared.deciding.Plan.the-variants.{Refuse, Take, Buy}
-use Rattle.buddy_seek.proofs.Reading.{pairs-read}
+use Rattle.buddy_decide.proofs.Reading.{pairs-read}
 
 -- what tells of one plan tells of its equal
 tells-same : (s : BuddySettings) (z l : ℕ) (t : Tables) (p q : Heap → ℕ → Plan ℕ) (r : Looked) → ((h : Heap) (objects : ℕ) → p h objects ≡ q h objects) → Tells s z l t p r → Tells s z l t q r

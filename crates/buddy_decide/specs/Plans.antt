@@ -9,7 +9,7 @@ use Rattle.counter.specs.Paper.{numberOf}
 use Rattle.counter.specs.declared.account.Heap.{Heap}
 use Rattle.counter.specs.declared.settings.BuddySettings.{BuddySettings}
 use Rattle.store_rules.specs.Orders as Orders
-use Rattle.buddy_stores.specs.Tables.{Tables, givenIn}
+use Rattle.buddy_rules.specs.Tables.{Tables, givenIn}
 use Rattle.buddy_outcomes.specs.Ask.{nowhere, at, sizeFor, levelFor, foundAt, fitsAt, roomAt, orderAt, lateAt, plannedAt, decideAsk}
 use Rattle.buddy_decide.specs.declared.deciding.Looked.{Looked}
 use Rattle.buddy_decide.specs.declared.deciding.Looked.the-variants as L

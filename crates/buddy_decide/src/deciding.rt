@@ -10,14 +10,14 @@ ghost use Rattle.counter.specs.Gate.{first};
 ghost use Rattle.counter.specs.InTable.{BuddyIn};
 ghost use Rattle.counter.specs.Limits.{levelsMost};
 ghost use Rattle.book_rules.specs.Book.{takenOf};
-ghost use Rattle.buddy_stores.specs.Tables.{tables, levelsAt, placesAt};
+ghost use Rattle.buddy_rules.specs.Tables.{tables, levelsAt, placesAt};
 ghost use Rattle.buddy_outcomes.specs.Ask.{nowhere, levelFor, sizeFor, fitsAt, roomAt, lateAt, orderAt, plannedAt, decideAsk};
 ghost use Rattle.buddy_decide.specs.Plans.{planOf, Sized, NoTake, LookTake, LookSized, LookOf};
-use buddy_seek::Found;
-use buddy_stores::CHUNK_PLACES_AT;
-use buddy_stores::GIVEN_AT;
-use buddy_stores::LEVELS_AT;
-use buddy_stores::PLACES_AT;
+use crate::seeking::Found;
+use buddy_rules::CHUNK_PLACES_AT;
+use buddy_rules::GIVEN_AT;
+use buddy_rules::LEVELS_AT;
+use buddy_rules::PLACES_AT;
 use counter::BuddySettings;
 use counter::Heap;
 use counter::LEVELS_MOST;
@@ -77,7 +77,7 @@ fn look_take(
     if !has_place(s, head, index) {
         return Looked::Refuse(Refusal::Full);
     }
-    if !buddy_seek::has_pairs(s.pairs, level, from - level, levels, tree) {
+    if !crate::seeking::has_pairs(s.pairs, level, from - level, levels, tree) {
         return Looked::Refuse(Refusal::Full);
     }
     if words::word(head, GIVEN_AT) == u64::MAX {
@@ -98,9 +98,9 @@ fn has_room(s: BuddySettings, level: u64, head: &[u64], index: &[u64], tree: &[u
     let levels = words::word(head, LEVELS_AT);
     let own = s.store;
     let top = if levels <= level { level + 1 } else { levels };
-    let spot = buddy_seek::chunk_spot(s.pairs, words::word(head, CHUNK_PLACES_AT), tree);
+    let spot = crate::seeking::chunk_spot(s.pairs, words::word(head, CHUNK_PLACES_AT), tree);
     let vacant = spot.place < own.chunks as u64;
-    let pairs = buddy_seek::has_pairs(s.pairs, level, top - level, levels, tree);
+    let pairs = crate::seeking::has_pairs(s.pairs, level, top - level, levels, tree);
     has_place(s, head, index) & (vacant & pairs)
 }
 
@@ -137,12 +137,12 @@ fn look_sized(s: BuddySettings, size: u64, head: &[u64], index: &[u64], tree: &[
     requires { ⌜ BuddyIn s × (getD (now head) levelsAt 0 ≤ levelsMost) × (fitsAt levelsMost s size ≡ true → levelOf size (s .minimal) < levelsMost) ⌝ }
     ensures { λ r. ⌜ LookSized s size (levelOf size (s .minimal)) (tables (now (head .entry)) [] [] (now (index .entry)) (now (tree .entry))) r ⌝ }
 {
-    if buddy_shape::node_bytes(s.minimal, LEVELS_MOST as u64) <= size {
+    if buddy_levels::node_bytes(s.minimal, LEVELS_MOST as u64) <= size {
         return Looked::Refuse(Refusal::Size);
     }
     let level = rounding::level(size, s.minimal) as u64;
     let levels = words::word(head, LEVELS_AT);
-    let found = buddy_seek::seek(s.minimal, s.pairs, level, levels, tree);
+    let found = crate::seeking::seek(s.minimal, s.pairs, level, levels, tree);
     match found {
         Found::At(_, from) => look_take(s, size, level, from, head, index, tree),
         Found::Order(order) => Looked::Need(Needing {
@@ -170,7 +170,7 @@ pub fn look(
     if size == 0 {
         return Looked::Refuse(Refusal::Size);
     }
-    let raised = buddy_seek::size_for(s, size, mask);
+    let raised = crate::asks::size_for(s, size, mask);
     match raised {
         Raised::To(z) => look_sized(s, z, head, index, tree),
         Raised::Overflow => Looked::Refuse(Refusal::Size),

@@ -38,9 +38,9 @@ use Rattle.engines.specs.Books as Entries
 use Rattle.engines.specs.Shapes.{Lent, Call, setsUp, asks, delivers, returns, others, does}
 use Rattle.store_rules.proofs.Tested.{gate-low}
 use Rattle.engines.proofs.Booking.{not-accepted, Bears, still, early-booked, charged-booked, release-booked}
-use Rattle.buddy_stores.specs.Tables.{Tables, chunkSizeIn, chunkPlacesIn, memories}
-use Rattle.buddy_stores.specs.Test.{soundOk}
-use Rattle.buddy_stores.specs.Views.{chunksIn}
+use Rattle.buddy_rules.specs.Tables.{Tables, chunkSizeIn, chunkPlacesIn, memories}
+use Rattle.buddy_rules.specs.Test.{soundOk}
+use Rattle.buddy_rules.specs.Views.{chunksIn}
 use Rattle.buddy_outcomes.specs.Gate.{lentOk, heldCount, heldBytes, accountOk}
 use Rattle.buddy_outcomes.specs.Ask.{decideAsk, carryAsk, planAsk, askOf}
 use Rattle.buddy_outcomes.specs.Deliver as Deliver

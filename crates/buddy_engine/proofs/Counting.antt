@@ -21,8 +21,8 @@ use Rattle.store_rules.specs.declared.Loan.{Loan}
 use Rattle.engines.specs.Serials.{Gone, Counted, Counts}
 use Rattle.engines.specs.Rows.{listRows}
 use Rattle.engines.specs.Shapes.{Lent, Call, setsUp, asks, delivers, returns, others, does, Marked, wordsOf}
-use Rattle.buddy_stores.specs.Tables.{Tables, mark, markAt, givenIn}
-use Rattle.buddy_stores.proofs.Viewed.{loanAt, live-loan, loan-live}
+use Rattle.buddy_rules.specs.Tables.{Tables, mark, markAt, givenIn}
+use Rattle.buddy_rules.proofs.Viewed.{loanAt, live-loan, loan-live}
 use Rattle.buddy_outcomes.specs.SetUp.{setUp, freshTables, fitOk, setUpOf}
 use Rattle.buddy_outcomes.proofs.Gone as Buddy
 use Rattle.buddy_outcomes.proofs.Gone.{ask-gone, deliver-gone, return-gone-stays}

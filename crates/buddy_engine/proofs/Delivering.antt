@@ -7,7 +7,7 @@ use Rattle.store_rules.specs.Outcomes.{Out}
 use Rattle.engines.specs.Delivers.{Delivers}
 use Rattle.engines.specs.Shapes.{Lent}
 use Rattle.engines.specs.Tells.{Ordered}
-use Rattle.buddy_stores.specs.Tables.{Tables}
+use Rattle.buddy_rules.specs.Tables.{Tables}
 use Rattle.buddy_outcomes.proofs.Deliverable.{Buying, order-buying, deliverable}
 use Rattle.buddy_engine.specs.Shape.{asBuddy, buddyShape}
 

@@ -15,11 +15,11 @@ use Rattle.store_rules.specs.declared.Loan.{Loan}
 use Rattle.store_rules.proofs.Accounts.{covers-yes}
 use Rattle.store_rules.proofs.Lessening.{less-one}
 use Rattle.engines.specs.Ends.{Ends}
-use Rattle.buddy_chunks.specs.Chunks.{atOnce}
-use Rattle.buddy_chunks.proofs.Ending.{at-once-none, at-once-next, at-once-same}
-use Rattle.buddy_stores.specs.Tables.{Tables, chunkPlacesIn}
-use Rattle.buddy_stores.specs.Views.{loansIn, viewOf}
-use Rattle.buddy_stores.proofs.Named.{has-loan}
+use Rattle.buddy_trees.specs.Chunks.{atOnce}
+use Rattle.buddy_trees.proofs.Ending.{at-once-none, at-once-next, at-once-same}
+use Rattle.buddy_rules.specs.Tables.{Tables, chunkPlacesIn}
+use Rattle.buddy_rules.specs.Views.{loansIn, viewOf}
+use Rattle.buddy_rules.proofs.Named.{has-loan}
 use Rattle.buddy_outcomes.specs.Gate.{heldCount, heldBytes, accountOk, gateOf}
 use Rattle.buddy_outcomes.specs.Return.{returnOf, givenTables}
 use Rattle.buddy_outcomes.proofs.Ended.{return-told, return-view}

@@ -12,15 +12,15 @@ use Rattle.store_rules.specs.declared.Chunk.{Chunk}
 use Rattle.store_rules.specs.declared.Loan.{Loan}
 use Rattle.store_rules.proofs.Said.{not-refused}
 use Rattle.engines.specs.Keeps.{Keeps, Lends}
-use Rattle.buddy_chunks.proofs.Filling.{filled}
-use Rattle.buddy_chunks.proofs.Onces.{distinct-by}
-use Rattle.buddy_stores.specs.Sound.{Sound}
-use Rattle.buddy_stores.specs.Tables.{Tables}
-use Rattle.buddy_stores.specs.Views.{loansIn, chunksIn, viewOf}
-use Rattle.buddy_stores.proofs.Named.{standing}
-use Rattle.buddy_stores.proofs.Onces.{loans-once, chunks-once}
-use Rattle.buddy_stores.proofs.Viewed.{chunkAt, seen-held}
-use Rattle.buddy_stores.proofs.Walks.{minimal-pos}
+use Rattle.buddy_trees.proofs.Filling.{filled}
+use Rattle.buddy_trees.proofs.Onces.{distinct-by}
+use Rattle.buddy_rules.specs.Sound.{Sound}
+use Rattle.buddy_rules.specs.Tables.{Tables}
+use Rattle.buddy_rules.specs.Views.{loansIn, chunksIn, viewOf}
+use Rattle.buddy_rules.proofs.Named.{standing}
+use Rattle.buddy_rules.proofs.Onces.{loans-once, chunks-once}
+use Rattle.buddy_rules.proofs.Viewed.{chunkAt, seen-held}
+use Rattle.buddy_rules.proofs.Walks.{minimal-pos}
 use Rattle.buddy_outcomes.specs.Gate.{gateOf}
 use Rattle.buddy_outcomes.specs.SetUp.{setUp, freshTables, fitOk, setUpOf}
 use Rattle.buddy_outcomes.proofs.Again.{ask-again, deliver-again, return-again}

@@ -13,8 +13,8 @@ use Rattle.words.specs.Words.{cellOf}
 use Rattle.counter.specs.InTable.{BuddyIn}
 use Rattle.counter.specs.declared.answers.Block.{Block}
 use Rattle.counter.specs.declared.settings.BuddySettings.{BuddySettings}
-use Rattle.buddy_stores.specs.Sound.{Sound}
-use Rattle.buddy_stores.specs.Tables.{Tables, Lengths, chunkWords, chunkSizeAt, chunkSizeIn, chunkPlacesIn, heldIn}
+use Rattle.buddy_rules.specs.Sound.{Sound}
+use Rattle.buddy_rules.specs.Tables.{Tables, Lengths, chunkWords, chunkSizeAt, chunkSizeIn, chunkPlacesIn, heldIn}
 use Rattle.buddy_outcomes.specs.Gate.{heldBytes}
 use Rattle.buddy_outcomes.specs.Return.{wordFor, onLoanOk, climbFor, givenTables}
 use Rattle.buddy_outcomes.proofs.Given.{held, place}

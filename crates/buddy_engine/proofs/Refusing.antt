@@ -23,9 +23,9 @@ use Rattle.engines.specs.Refuses.{Refuses}
 use Rattle.engines.specs.Rows.{gateRows, keptRows}
 use Rattle.engines.specs.Shapes.{Lent, Call, setsUp, asks, delivers, returns, others, does, Marked, lentList, wordsOf}
 use Rattle.engines.proofs.Shutting.{shut}
-use Rattle.buddy_stores.specs.Tables.{Tables, mark, markAt}
-use Rattle.buddy_stores.specs.Views.{viewOf}
-use Rattle.buddy_stores.specs.Test.{soundRow, soundOk}
+use Rattle.buddy_rules.specs.Tables.{Tables, mark, markAt}
+use Rattle.buddy_rules.specs.Views.{viewOf}
+use Rattle.buddy_rules.specs.Test.{soundRow, soundOk}
 use Rattle.buddy_outcomes.specs.Gate.{lentOk, accountOk, gateOf}
 use Rattle.buddy_outcomes.specs.Ask.{grownFor, deniedTables, carryAsk, planAsk, askOf}
 use Rattle.buddy_outcomes.specs.Deliver.{stillOk, deliverGateOf, planDeliver, carryDeliver, deliverOf}

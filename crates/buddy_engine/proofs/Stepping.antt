@@ -26,8 +26,8 @@ use Rattle.store_rules.specs.Orders.{Plan, deny, take, buy}
 use Rattle.store_rules.specs.Outcomes.{Listed}
 use Rattle.store_rules.specs.Tests.{orderFor, gateRow}
 use Rattle.engines.specs.Serials.{serialSaid, upFrom}
-use Rattle.buddy_stores.specs.Tables.{Tables, mark, markAt, givenAt, headWords, givenIn, chunkPlacesIn, memories}
-use Rattle.buddy_stores.specs.Test.{soundOk}
+use Rattle.buddy_rules.specs.Tables.{Tables, mark, markAt, givenAt, headWords, givenIn, chunkPlacesIn, memories}
+use Rattle.buddy_rules.specs.Test.{soundOk}
 use Rattle.buddy_outcomes.specs.Gate.{lentOk, accountOk, gateOf}
 use Rattle.buddy_outcomes.specs.Ask as Ask
 use Rattle.buddy_outcomes.specs.Ask.{grownFor, decideAsk, grownTables, takenTables, deniedTables, carryAsk, planAsk, askOf}

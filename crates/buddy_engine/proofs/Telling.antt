@@ -23,8 +23,8 @@ use Rattle.store_rules.specs.declared.Loan.{Loan}
 use Rattle.store_rules.proofs.Amid.{Amid, amid-member}
 use Rattle.store_rules.proofs.Said.{not-refused, refusal-block, same-block}
 use Rattle.engines.specs.Tells.{lentBy, Joined, Blocked, Ordered, Released, Refused, Tells}
-use Rattle.buddy_stores.specs.Tables.{Tables}
-use Rattle.buddy_stores.specs.Views.{loansIn, chunksIn}
+use Rattle.buddy_rules.specs.Tables.{Tables}
+use Rattle.buddy_rules.specs.Views.{loansIn, chunksIn}
 use Rattle.buddy_outcomes.specs.Ask.{grownFor, grownTables, loanFrom, deniedTables, chunkSpot, carryAsk, askOf}
 use Rattle.buddy_outcomes.specs.Deliver.{loanIn, asOrdered, carryFate, deliverOf}
 use Rattle.buddy_outcomes.specs.Return.{wordFor, climbFor, releasedBy, returnOf}

@@ -6,10 +6,10 @@ use Rattle.counter.specs.declared.settings.BuddySettings.{BuddySettings}
 use Rattle.store_rules.specs.Delivery.{buddy}
 use Rattle.store_rules.specs.Outcomes.{Out, out, Listed, listed}
 use Rattle.engines.specs.Shapes.{Lent, Begun, Shape}
-use Rattle.buddy_chunks.specs.Chunks.{atOnce}
-use Rattle.buddy_stores.specs.Sound.{Sound}
-use Rattle.buddy_stores.specs.Tables.{Tables, tables, Lengths, mark, givenIn, levelsIn}
-use Rattle.buddy_stores.specs.Views.{loansIn, viewOf}
+use Rattle.buddy_trees.specs.Chunks.{atOnce}
+use Rattle.buddy_rules.specs.Sound.{Sound}
+use Rattle.buddy_rules.specs.Tables.{Tables, tables, Lengths, mark, givenIn, levelsIn}
+use Rattle.buddy_rules.specs.Views.{loansIn, viewOf}
 use Rattle.buddy_outcomes.specs.Gate.{gateOf}
 use Rattle.buddy_outcomes.specs.Ask.{orderFor, askOf}
 use Rattle.buddy_outcomes.specs.Deliver.{deliverGateOf, deliverOf}

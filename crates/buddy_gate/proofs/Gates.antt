@@ -25,10 +25,10 @@ use Rattle.store_rules.specs.Tests.{coversOk}
 use Rattle.store_rules.specs.declared.Share.{Share}
 use Rattle.store_rules.proofs.Shares.{held-heap, held-table, held-free}
 use Rattle.book_rules.specs.Book.{indexWords}
-use Rattle.buddy_shape.proofs.Shape.{node-bytes-most}
-use Rattle.buddy_stores.specs.Tables.{Tables, tables, headWords, chunkWords, chunkPlacesIn, chunkSizeIn, heldIn, highIn, nodesFrom, lengthsOk}
-use Rattle.buddy_stores.specs.Sound.{Sound}
-use Rattle.buddy_stores.specs.Test.{soundOk}
+use Rattle.buddy_levels.proofs.Bounds.{node-bytes-most}
+use Rattle.buddy_rules.specs.Tables.{Tables, tables, headWords, chunkWords, chunkPlacesIn, chunkSizeIn, heldIn, highIn, nodesFrom, lengthsOk}
+use Rattle.buddy_rules.specs.Sound.{Sound}
+use Rattle.buddy_rules.specs.Test.{soundOk}
 use Rattle.buddy_outcomes.specs.Gate.{lentOk, heldCount, heldBytes, accountOk, gateOf}
 use Rattle.buddy_outcomes.proofs.Passing.{lent-in}
 use Rattle.buddy_gate.specs.Gates.{storeGate}

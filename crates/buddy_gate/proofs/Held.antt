@@ -15,8 +15,8 @@ use Rattle.counter.specs.declared.answers.Outcome.{Outcome}
 use Rattle.counter.specs.declared.answers.Outcome.the-variants as O
 use Rattle.store_rules.specs.Delivery.{holds}
 use Rattle.store.specs.Comings.{knownIn}
-use Rattle.buddy_shape.specs.Seen.{looked}
-use Rattle.buddy_stores.specs.Tables.{Tables, tables, chunkPlacesAt, chunkPlacesIn, chunkWords, memoryAt, chunkSizeAt, memoryIn, chunkSizeIn, heldIn, memories}
+use Rattle.buddy_levels.specs.Seen.{looked}
+use Rattle.buddy_rules.specs.Tables.{Tables, tables, chunkPlacesAt, chunkPlacesIn, chunkWords, memoryAt, chunkSizeAt, memoryIn, chunkSizeIn, heldIn, memories}
 use Rattle.buddy_outcomes.specs.Gate.{heldCount, heldBytes}
 
 -- ---- they are read off the number of chunk places and the chunks alone

@@ -5,8 +5,8 @@ use Rattle.counter.specs.Gate.{Verdict, first}
 use Rattle.counter.specs.declared.account.Heap.{Heap}
 use Rattle.counter.specs.declared.settings.BuddySettings.{BuddySettings}
 use Rattle.store_rules.specs.Tests.{coversOk}
-use Rattle.buddy_stores.specs.Tables.{Tables, chunkPlacesIn}
-use Rattle.buddy_stores.specs.Test.{soundOk}
+use Rattle.buddy_rules.specs.Tables.{Tables, chunkPlacesIn}
+use Rattle.buddy_rules.specs.Test.{soundOk}
 use Rattle.buddy_outcomes.specs.Gate.{heldCount, heldBytes}
 
 unfoldable pub storeGate : BuddySettings → Heap → ℕ → Tables → Verdict

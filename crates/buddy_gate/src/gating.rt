@@ -9,15 +9,15 @@ ghost use Rattle.counter.specs.InTable.{BuddyIn};
 ghost use Rattle.counter.specs.Limits.{chunksMost, minimalBits, levelsMost};
 ghost use Rattle.store_rules.specs.Shares.{holder};
 ghost use Rattle.store_rules.specs.Tests.{coversOk};
-ghost use Rattle.buddy_shape.specs.Seen.{looked};
-ghost use Rattle.buddy_stores.specs.Tables.{tables, lengthsOk, chunkPlacesAt, chunkWords, chunkSizeAt};
+ghost use Rattle.buddy_levels.specs.Seen.{looked};
+ghost use Rattle.buddy_rules.specs.Tables.{tables, lengthsOk, chunkPlacesAt, chunkWords, chunkSizeAt};
 ghost use Rattle.buddy_outcomes.specs.Gate.{lentOk, heldCount, heldBytes, gateOf};
 ghost use Rattle.buddy_gate.specs.Gates.{storeGate};
 use book::ENTRY_WORDS;
-use buddy_stores::CHUNK_PLACES_AT;
-use buddy_stores::CHUNK_SIZE_AT;
-use buddy_stores::CHUNK_WORDS;
-use buddy_stores::HEAD_WORDS;
+use buddy_rules::CHUNK_PLACES_AT;
+use buddy_rules::CHUNK_SIZE_AT;
+use buddy_rules::CHUNK_WORDS;
+use buddy_rules::HEAD_WORDS;
 use counter::BuddySettings;
 use counter::Gate;
 use counter::Heap;
@@ -37,7 +37,7 @@ pub fn lengths_fit(
     ensures { λ r. ⌜ r ≡ lengthsOk s (tables (now (head .entry)) (now (loans .entry)) (now (chunks .entry)) (now (index .entry)) (now (tree .entry))) ⌝ }
 {
     let own = s.store;
-    let nodes = buddy_shape::nodes_from(s.pairs, own.chunks);
+    let nodes = buddy_levels::nodes_from(s.pairs, own.chunks);
     (head.len() == HEAD_WORDS)
         & ((loans.len() == LOAN_WORDS * own.loans)
             & ((chunks.len() == CHUNK_WORDS * own.chunks)

@@ -10,7 +10,7 @@ use Rattle.rounding_rules.specs.Raising.{raised, levelOf}
 use Rattle.rounding_rules.specs.declared.Raised.{Raised}
 use Rattle.rounding_rules.specs.declared.Raised.the-variants.{To, Overflow}
 use Rattle.counter.specs.declared.settings.BuddySettings.{BuddySettings}
-use Rattle.buddy_stores.specs.Tables.{Tables, tables, levelsAt}
+use Rattle.buddy_rules.specs.Tables.{Tables, tables, levelsAt}
 use Rattle.buddy_outcomes.specs.Ask.{sizeFor, levelFor, grownFor, grownTables, deniedTables}
 use Rattle.rounding_rules.proofs.Raising.{raised-to}
 

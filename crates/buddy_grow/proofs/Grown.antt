@@ -5,8 +5,8 @@ use Prim.Native.Nat.{ℕ, zero, suc, _+_, _-_, _<_}
 use native.Mathlib.Omega.{arith}
 use lib.ListN.{getD, set}
 use Rattle.counter.specs.declared.settings.BuddySettings.{BuddySettings}
-use Rattle.buddy_levels_rules.specs.Level.{freshLevel}
-use Rattle.buddy_stores.specs.Tables.{tables, levelsAt, levelAfter, levelFrom}
+use Rattle.buddy_rules.specs.Level.{freshLevel}
+use Rattle.buddy_rules.specs.Tables.{tables, levelsAt, levelAfter, levelFrom}
 use Rattle.buddy_outcomes.specs.Ask.{freshLevels, grownTables}
 
 module _ (s : BuddySettings) where

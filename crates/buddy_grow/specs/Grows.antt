@@ -6,7 +6,7 @@ use Rattle.rounding_rules.specs.Masks.{Ones}
 use Rattle.counter.specs.InTable.{BuddyIn}
 use Rattle.counter.specs.Limits.{alignBits, levelsMost}
 use Rattle.counter.specs.declared.settings.BuddySettings.{BuddySettings}
-use Rattle.buddy_stores.specs.Tables.{levelsAt}
+use Rattle.buddy_rules.specs.Tables.{levelsAt}
 use Rattle.buddy_outcomes.specs.Ask.{sizeFor, levelFor}
 
 pub record Grows (s : BuddySettings) (size mask : ℕ) (head : List ℕ) : Type 0 where

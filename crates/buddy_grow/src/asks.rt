@@ -9,10 +9,10 @@ ghost use Rattle.counter.specs.InTable.{BuddyIn};
 ghost use Rattle.counter.specs.Limits.{alignBits};
 ghost use Rattle.counter.specs.Paper as Paper;
 ghost use Rattle.counter.specs.Paper.{numberOf, askSaid};
-ghost use Rattle.buddy_stores.specs.Tables.{tables};
+ghost use Rattle.buddy_rules.specs.Tables.{tables};
 ghost use Rattle.buddy_outcomes.specs.Ask.{sizeFor, grownFor, grownTables, deniedTables};
 ghost use Rattle.buddy_grow.specs.Grows.{Grows};
-use buddy_stores::LEVELS_AT;
+use buddy_rules::LEVELS_AT;
 use counter::AskAnswer;
 use counter::BuddySettings;
 use counter::Refusal;
@@ -23,7 +23,7 @@ pub fn size_of(s: BuddySettings, size: u64, mask: u64) -> u64
     requires { ⌜ BuddyIn s × Ones alignBits mask × (sizeFor s size mask < 2 ^ 64) ⌝ }
     ensures { λ r. ⌜ r ≡ sizeFor s size mask ⌝ }
 {
-    let raised = buddy_seek::size_for(s, size, mask);
+    let raised = buddy_decide::size_for(s, size, mask);
     match raised {
         Raised::To(z) => z,
         Raised::Overflow => 0,

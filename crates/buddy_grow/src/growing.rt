@@ -5,9 +5,9 @@ ghost use Prim.Native.Nat.{_+_, _≤_};
 ghost use lib.ListN.{getD};
 ghost use Rattle.counter.specs.InTable.{BuddyIn};
 ghost use Rattle.counter.specs.Limits.{levelsMost};
-ghost use Rattle.buddy_stores.specs.Tables.{tables, levelsAt};
+ghost use Rattle.buddy_rules.specs.Tables.{tables, levelsAt};
 ghost use Rattle.buddy_outcomes.specs.Ask.{freshLevels, grownTables};
-use buddy_stores::LEVELS_AT;
+use buddy_rules::LEVELS_AT;
 use counter::BuddySettings;
 
 // Those from a level on, n of them.
@@ -17,7 +17,7 @@ pub fn fresh_levels(s: BuddySettings, level: usize, n: usize, tree: &mut [u64])
 {
     let mut i = 0;
     while i < n {
-        buddy_levels::fresh_level(tree, buddy_shape::level_from(s.pairs, level + i));
+        buddy_levels::fresh_level(tree, buddy_levels::level_from(s.pairs, level + i));
         i += 1;
     }
 }

@@ -11,8 +11,8 @@ use Rattle.store_rules.specs.Loans.{loan, loanRow}
 use Rattle.store_rules.specs.declared.Loan.{Loan}
 use Rattle.book_rules.specs.Book.{vacatedAt, firstOf, nextOf, takenOf, entered, firstBefore, enteredIndex}
 use Rattle.book.proofs.Entering.{entered-loans, entered-index}
-use Rattle.buddy_levels_rules.specs.Level.{levelWords}
-use Rattle.buddy_stores.specs.Tables.{Tables, tables, givenAt, placesAt, placeWords, nodesFrom}
+use Rattle.buddy_rules.specs.Level.{levelWords}
+use Rattle.buddy_rules.specs.Tables.{Tables, tables, givenAt, placesAt, placeWords, nodesFrom}
 use Rattle.buddy_outcomes.specs.Ask.{bookedTables}
 
 -- the next place, looked up by how many places the head says were used

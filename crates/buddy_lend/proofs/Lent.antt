@@ -13,11 +13,11 @@ use Rattle.book_rules.specs.Book.{takenOf}
 use Rattle.buddy_trees.specs.Trees.{bytes}
 use Rattle.buddy_rules.specs.Nodes.{Ent}
 use Rattle.buddy_rules.specs.Levels.{sideOf, baseOf}
-use Rattle.buddy_levels_rules.specs.Level.{tagAt, pairCell, entOf, ringAt, ringHead, acquired}
+use Rattle.buddy_rules.specs.Level.{tagAt, pairCell, entOf, ringAt, ringHead, acquired}
 use Rattle.buddy_levels.specs.Pairs.{entFrom}
 use Rattle.buddy_levels.specs.declared.pairs.Pair.{Pair}
-use Rattle.buddy_stores.specs.Tables.{Tables, tables, givenAt, placesAt, levelAfter, levelFrom}
-use Rattle.buddy_stores.specs.Moves.{Cut, splitDown, readyNode}
+use Rattle.buddy_rules.specs.Tables.{Tables, tables, givenAt, placesAt, levelAfter, levelFrom}
+use Rattle.buddy_rules.specs.Moves.{Cut, splitDown, readyNode}
 use Rattle.buddy_moves.specs.Roomy.{Roomy}
 use Rattle.buddy_outcomes.specs.Ask.{loanAt, takenAt, bookedTables}
 

@@ -1,3 +1,4 @@
 pub mod Booked
 pub mod Lent
+pub mod Served
 pub mod Sides

@@ -8,10 +8,10 @@ use lib.ListN.{getD, set}
 use Rattle.buddy_rules.specs.Nodes.{Side, nodeOf}
 use Rattle.buddy_rules.specs.Levels.{sideBy, sideOf}
 use Rattle.buddy_rules.proofs.Climbs.{node-pair, node-side}
-use Rattle.buddy_levels_rules.specs.Level.{tagAt, sideAt, pairCell, ringHead, acquired}
-use Rattle.buddy_stores.specs.Tables.{levelAfter}
-use Rattle.buddy_stores.specs.Moves.{Cut, readyNode, splitDown}
-use Rattle.buddy_stores.proofs.Worded.{acquired-again}
+use Rattle.buddy_rules.specs.Level.{tagAt, sideAt, pairCell, ringHead, acquired}
+use Rattle.buddy_rules.specs.Tables.{levelAfter}
+use Rattle.buddy_rules.specs.Moves.{Cut, readyNode, splitDown}
+use Rattle.buddy_rules.proofs.Worded.{acquired-again}
 use Rattle.buddy_moves.specs.Roomy.{Roomy}
 use Rattle.buddy_moves.proofs.Moved.{split-done}
 

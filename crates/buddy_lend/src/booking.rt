@@ -8,9 +8,9 @@ ghost use Rattle.words.specs.Rows.{written};
 ghost use Rattle.store_rules.specs.Loans.{loanRow};
 ghost use Rattle.book_rules.specs.Book.{vacatedAt, firstOf, nextOf, firstBefore};
 ghost use Rattle.book_rules.specs.Ready.{Opens};
-ghost use Rattle.buddy_stores.specs.Tables.{givenAt, placesAt, nodesFrom};
-use buddy_stores::GIVEN_AT;
-use buddy_stores::PLACES_AT;
+ghost use Rattle.buddy_rules.specs.Tables.{givenAt, placesAt, nodesFrom};
+use buddy_rules::GIVEN_AT;
+use buddy_rules::PLACES_AT;
 use counter::BuddySettings;
 use slab::Taken;
 use store_rules::Loan;
@@ -21,7 +21,7 @@ pub fn put_node(s: BuddySettings, place: u64, node: u64, tree: &mut [u64])
     ensures { λ _. ⌜ now (tree .exit) ≡ set (now (tree .entry)) (nodesFrom s + place) node ⌝ }
 {
     let own = s.store;
-    let at = buddy_shape::nodes_from(s.pairs, own.chunks) + place as usize;
+    let at = buddy_levels::nodes_from(s.pairs, own.chunks) + place as usize;
     words::put(tree, at, node);
 }
 

@@ -6,13 +6,13 @@ ghost use Rattle.counter.specs.InTable.{BuddyIn};
 ghost use Rattle.counter.specs.Limits.{levelsMost};
 ghost use Rattle.buddy_rules.specs.Levels.{baseOf};
 ghost use Rattle.buddy_levels.specs.Pairs.{entFrom};
-ghost use Rattle.buddy_stores.specs.Tables.{tables};
+ghost use Rattle.buddy_rules.specs.Tables.{tables};
 ghost use Rattle.buddy_outcomes.specs.Ask.{loanAt, takenAt};
-ghost use Rattle.buddy_ready.specs.Ready.{Lends};
+ghost use Rattle.buddy_moves.specs.Ready.{Lends};
 use buddy_levels::Pair;
 use buddy_levels::RING_AT;
-use buddy_stores::GIVEN_AT;
-use buddy_stores::PLACES_AT;
+use buddy_rules::GIVEN_AT;
+use buddy_rules::PLACES_AT;
 use counter::BuddySettings;
 use store_rules::Loan;
 
@@ -24,7 +24,7 @@ fn side_from(s: BuddySettings, e: Pair, level: u64) -> u64
     if e.tag == 2 {
         return e.off;
     }
-    e.off + buddy_shape::node_bytes(s.minimal, level)
+    e.off + buddy_levels::node_bytes(s.minimal, level)
 }
 
 // A block of this size and level, from the level `from`, where the head pair is ready.
@@ -42,7 +42,7 @@ pub fn lend(
     ensures { λ r. ⌜ r ≡ loanAt s size (tables (now (head .entry)) [] [] [] (now (tree .entry))) from ⌝ }
     ensures { λ _. ⌜ tables (now (head .exit)) (now (loans .exit)) [] (now (index .exit)) (now (tree .exit)) ≡ takenAt s size level (tables (now (head .entry)) (now (loans .entry)) [] (now (index .entry)) (now (tree .entry))) from ⌝ }
 {
-    let base = buddy_shape::level_from(s.pairs, from);
+    let base = buddy_levels::level_from(s.pairs, from);
     let h = words::word(tree, base + RING_AT);
     let e = buddy_levels::pair_at(tree, base, h);
     let offset = side_from(s, e, from as u64);

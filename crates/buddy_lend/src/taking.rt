@@ -4,11 +4,11 @@ ghost use Prim.Native.Nat.{_-_, _≤_, _<_};
 ghost use lib.ListN.{getD};
 ghost use Rattle.counter.specs.Limits.{levelsMost, pairsMost, loansMost};
 ghost use Rattle.buddy_rules.specs.Levels.{sideBy, sideOf};
-ghost use Rattle.buddy_levels_rules.specs.Level.{tagAt, pairCell, ringHead, acquired};
-ghost use Rattle.buddy_stores.specs.Tables.{levelAfter};
-ghost use Rattle.buddy_stores.specs.Moves.{readyNode, splitDown};
+ghost use Rattle.buddy_rules.specs.Level.{tagAt, pairCell, ringHead, acquired};
+ghost use Rattle.buddy_rules.specs.Tables.{levelAfter};
+ghost use Rattle.buddy_rules.specs.Moves.{readyNode, splitDown};
 ghost use Rattle.buddy_moves.specs.Roomy.{Roomy};
-use buddy_shape::level_from;
+use buddy_levels::level_from;
 
 // The head pair h of the level `from`, ready at its left or its right. A side of the asked level itself is the loan's at once.
 // Answers the loan's node.

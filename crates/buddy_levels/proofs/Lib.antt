@@ -1,4 +1,5 @@
 -- What follows from what is done to a level.
+pub mod Bounds
+pub mod Reading
 pub mod Steps
 pub mod Turns
-pub mod Reading

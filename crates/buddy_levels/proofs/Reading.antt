@@ -7,7 +7,7 @@ use native.Mathlib.Omega.{arith}
 use lib.Dec.{ltb}
 use lib.ListN.{getD}
 use borrow.Author.Tests.{lt-ltb, le-ltb}
-use Rattle.buddy_levels_rules.specs.Level.{headerWords, pairWords, usedAt, tagAt, chunkAt, offAt, leftAt, rightAt, upAt, pairCell, entOf, pairIn, noPair}
+use Rattle.buddy_rules.specs.Level.{headerWords, pairWords, usedAt, tagAt, chunkAt, offAt, leftAt, rightAt, upAt, pairCell, entOf, pairIn, noPair}
 
 module _ (b p : ℕ) (t : List ℕ) where
   pub pair-read : (g c o l r u : ℕ) → g ≡ getD t (pairCell b tagAt p) 0 → c ≡ getD t (pairCell b chunkAt p) 0 → o ≡ getD t (pairCell b offAt p) 0 → l ≡ getD t (pairCell b leftAt p) 0

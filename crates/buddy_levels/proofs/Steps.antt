@@ -8,7 +8,7 @@ use Rattle.slab.specs.Slab.{nowhere, inserted}
 use Rattle.slab.specs.declared.Taken.{Taken}
 use Rattle.ring_rules.specs.Ring.{alone}
 use Rattle.buddy_rules.specs.Levels.{sideBy, sideOf}
-use Rattle.buddy_levels_rules.specs.Level.{
+use Rattle.buddy_rules.specs.Level.{
   ringAt,
   usedAt,
   vacatedAt,

@@ -9,7 +9,7 @@ use lib.ListN.{getD}
 use borrow.Author.Tests.{eq-eqb, ne-eqb}
 use Rattle.slab.specs.Test.{partedOk}
 use Rattle.ring_rules.specs.Test.{ringLength}
-use Rattle.buddy_levels_rules.specs.Level.{
+use Rattle.buddy_rules.specs.Level.{
   ringAt,
   usedAt,
   vacatedAt,
@@ -21,7 +21,7 @@ use Rattle.buddy_levels_rules.specs.Level.{
   vacantIn,
   vacantAfter,
 }
-use Rattle.buddy_levels_rules.specs.Test.{along, readyIn, readyAfter, readies, ringed, goodOk}
+use Rattle.buddy_rules.specs.LevelTest.{along, readyIn, readyAfter, readies, ringed, goodOk}
 
 -- the walk, with k places to go from p on
 module _ (f : ℕ → Bool) (next : ℕ → ℕ) (p k : ℕ) where

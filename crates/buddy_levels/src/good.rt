@@ -2,8 +2,8 @@
 ghost use mathlib.Core.Path.{_≡_};
 ghost use Prim.Native.Nat.{_+_, _≤_};
 ghost use Rattle.ring_rules.specs.Test.{ringLength};
-ghost use Rattle.buddy_levels_rules.specs.Level.{baseMost, ringAt, nextAt, prevAt, pairWords, fieldAt};
-ghost use Rattle.buddy_levels_rules.specs.Test.{along, readyIn, readyAfter, readies, goodOk};
+ghost use Rattle.buddy_rules.specs.Level.{baseMost, ringAt, nextAt, prevAt, pairWords, fieldAt};
+ghost use Rattle.buddy_rules.specs.LevelTest.{along, readyIn, readyAfter, readies, goodOk};
 use crate::HEADER_WORDS;
 use crate::NEXT_AT;
 use crate::OFF_AT;

@@ -2,17 +2,22 @@
 // places. What is done to it is defined for all words, so none that the table holds can make any of these fail.
 mod good;
 mod pairs;
+mod shape;
 
 pub use good::is_good;
 pub use pairs::Pair;
 pub use pairs::pair_at;
 pub use pairs::pair_in;
+pub use shape::chunks_from;
+pub use shape::level_from;
+pub use shape::node_bytes;
+pub use shape::nodes_from;
 ghost use mathlib.Core.Path.{_≡_};
 ghost use Prim.Native.Nat.{_+_, _≤_, _<_};
 ghost use lib.ListN.{getD, set};
 ghost use Rattle.buddy_rules.specs.Levels.{sideBy, sideOf};
 ghost use Rattle.ring_rules.specs.Ring.{alone};
-ghost use Rattle.buddy_levels_rules.specs.Level.{baseMost, pairWords, tagAt, chunkAt, offAt, leftAt, rightAt, nextAt, prevAt, upAt, ringAt, fieldAt, pairCell, ringHead, leaves, joins, spotIn, dropped, backed, acquired, entered, added, freshLevel};
+ghost use Rattle.buddy_rules.specs.Level.{baseMost, pairWords, tagAt, chunkAt, offAt, leftAt, rightAt, nextAt, prevAt, upAt, ringAt, fieldAt, pairCell, ringHead, leaves, joins, spotIn, dropped, backed, acquired, entered, added, freshLevel};
 use slab::NOWHERE;
 use slab::Slab;
 use slab::Taken;

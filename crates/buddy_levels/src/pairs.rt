@@ -1,7 +1,7 @@
 // What a pair's words say.
 ghost use mathlib.Core.Path.{_≡_};
 ghost use Prim.Native.Nat.{_≤_};
-ghost use Rattle.buddy_levels_rules.specs.Level.{baseMost, entOf, pairIn};
+ghost use Rattle.buddy_rules.specs.Level.{baseMost, entOf, pairIn};
 ghost use Rattle.buddy_levels.specs.Pairs.{entFrom};
 use crate::CHUNK_AT;
 use crate::HEADER_WORDS;

@@ -17,11 +17,11 @@ use Rattle.slab.specs.Slab.{nowhere}
 use Rattle.store_rules.specs.Loans.{loanWords, sizeAt, loanRow}
 use Rattle.store_rules.specs.declared.Loan.{Loan}
 use Rattle.buddy_rules.specs.Nodes.{Ent}
-use Rattle.buddy_levels_rules.specs.Level.{levelWords, usedAt, pairIn}
-use Rattle.buddy_stores.specs.Tables.{chunkWords, chunkSizeAt, placeWords, levelAfter}
-use Rattle.buddy_stores.specs.Test.{every, leadsOk, pairOk, loanOk}
-use Rattle.buddy_stores.proofs.Tests.{every-stop, every-next}
-use Rattle.buddy_shape.specs.Seen.{read, seen, looked}
+use Rattle.buddy_rules.specs.Level.{levelWords, usedAt, pairIn}
+use Rattle.buddy_rules.specs.Tables.{chunkWords, chunkSizeAt, placeWords, levelAfter}
+use Rattle.buddy_rules.specs.Test.{every, leadsOk, pairOk, loanOk}
+use Rattle.buddy_rules.proofs.Tests.{every-stop, every-next}
+use Rattle.buddy_levels.specs.Seen.{read, seen, looked}
 
 -- ---- in turn, as the loops go: a look that fails, and one more that does not
 

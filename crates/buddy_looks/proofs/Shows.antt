@@ -4,11 +4,11 @@ use mathlib.Core.Path.{_≡_, refl}
 use Prim.Native.Nat.{ℕ, _+_}
 use lib.ListN.{getD}
 use Rattle.counter.specs.declared.settings.BuddySettings.{BuddySettings}
-use Rattle.buddy_levels_rules.specs.Level.{usedAt}
-use Rattle.buddy_stores.specs.Tables.{Tables, levelsIn, placesIn, chunkPlacesIn, levelAfter, levelFrom}
-use Rattle.buddy_stores.specs.Test.{every, leadsOk, pairOk, loanOk}
-use Rattle.buddy_stores.proofs.Tests.{every-same}
-use Rattle.buddy_shape.specs.Seen.{read, seen, looked}
+use Rattle.buddy_rules.specs.Level.{usedAt}
+use Rattle.buddy_rules.specs.Tables.{Tables, levelsIn, placesIn, chunkPlacesIn, levelAfter, levelFrom}
+use Rattle.buddy_rules.specs.Test.{every, leadsOk, pairOk, loanOk}
+use Rattle.buddy_rules.proofs.Tests.{every-same}
+use Rattle.buddy_levels.specs.Seen.{read, seen, looked}
 
 module _ (s : BuddySettings) (t : Tables) where
   pair-shown : (l p : ℕ) → pairOk s t l p ≡ pairOk (read (s .minimal) (s .pairs) 0) (looked (levelsIn t) (chunkPlacesIn t) (t .chunks) (t .tree)) l p

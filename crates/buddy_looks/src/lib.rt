@@ -4,14 +4,14 @@ ghost use Prim.Native.Nat.{_+_, _≤_, _<_};
 ghost use lib.ListN.{getD};
 ghost use Rattle.counter.specs.Limits.{levelsMost, pairsMost, loansMost, chunksMost};
 ghost use Rattle.slab.specs.Slab.{nowhere};
-ghost use Rattle.buddy_levels_rules.specs.Level.{usedAt};
-ghost use Rattle.buddy_stores.specs.Tables.{levelAfter};
-ghost use Rattle.buddy_stores.specs.Test.{every, leadsOk, pairOk, loanOk};
-ghost use Rattle.buddy_shape.specs.Seen.{read, seen, looked};
+ghost use Rattle.buddy_rules.specs.Level.{usedAt};
+ghost use Rattle.buddy_rules.specs.Tables.{levelAfter};
+ghost use Rattle.buddy_rules.specs.Test.{every, leadsOk, pairOk, loanOk};
+ghost use Rattle.buddy_levels.specs.Seen.{read, seen, looked};
 use buddy_levels::USED_AT;
-use buddy_stores::CHUNK_SIZE_AT;
-use buddy_stores::CHUNK_WORDS;
-use buddy_stores::PLACE_WORDS;
+use buddy_rules::CHUNK_SIZE_AT;
+use buddy_rules::CHUNK_WORDS;
+use buddy_rules::PLACE_WORDS;
 use slab::NOWHERE;
 
 // Whether the top node of a chunk has this level and this word.
@@ -35,7 +35,7 @@ fn is_top(
     if size == 0 {
         return false;
     }
-    let at = buddy_shape::chunks_from(pairs) + 1;
+    let at = buddy_levels::chunks_from(pairs) + 1;
     let top = words::cell(tree, at, PLACE_WORDS, chunk as usize);
     (rounding::level(size, minimal) as u64 == level) & (top == word)
 }
@@ -64,7 +64,7 @@ fn leads_to(
     }
     let e = buddy_levels::pair_in(
         tree,
-        buddy_shape::level_from(pairs, level as usize),
+        buddy_levels::level_from(pairs, level as usize),
         node / 2,
     );
     let side = if node % 2 == 0 { e.left } else { e.right };
@@ -85,7 +85,7 @@ fn is_led(
     requires { ⌜ (pairs ≤ pairsMost) × (levels ≤ levelsMost) × (level < levelsMost) × (p < pairsMost) ⌝ }
     ensures { λ r. ⌜ r ≡ pairOk (read minimal pairs 0) (looked levels held (now (chunks .entry)) (now (tree .entry))) level p ⌝ }
 {
-    let e = buddy_levels::pair_in(tree, buddy_shape::level_from(pairs, level as usize), p);
+    let e = buddy_levels::pair_in(tree, buddy_levels::level_from(pairs, level as usize), p);
     if e.tag == 0 {
         return true;
     }
@@ -141,7 +141,7 @@ pub fn are_pairs(
 {
     let mut l = 0;
     while l < levels {
-        let n = words::word(tree, buddy_shape::level_from(pairs, l as usize) + USED_AT);
+        let n = words::word(tree, buddy_levels::level_from(pairs, l as usize) + USED_AT);
         if !are_led(minimal, pairs, levels, held, l, n, chunks, tree) {
             return false;
         }
@@ -170,7 +170,7 @@ fn is_lent(
         return true;
     }
     let level = rounding::level(l.size, minimal) as u64;
-    let node = words::word(tree, buddy_shape::nodes_from(pairs, most) + place as usize);
+    let node = words::word(tree, buddy_levels::nodes_from(pairs, most) + place as usize);
     leads_to(
         minimal,
         pairs,

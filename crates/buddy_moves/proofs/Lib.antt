@@ -1,2 +1,7 @@
 -- What follows from the moves, for the code.
+pub mod Backing
+pub mod Lending
 pub mod Moved
+pub mod Rooming
+pub mod Serving
+pub mod Sizing

@@ -11,9 +11,9 @@ use borrow.Author.Tests.{eqb-false, eq-eqb, ne-eqb, ltb-true, ltb-false}
 use Rattle.lists.proofs.Bools.{and-left, and-right, not-yes, not-no, told}
 use Rattle.slab.specs.Slab.{nowhere}
 use Rattle.buddy_rules.specs.Nodes.{other, word}
-use Rattle.buddy_levels_rules.specs.Level.{entOf, pairCell, sideAt, leftAt, rightAt, upAt, spotIn, dropped, backed, added}
-use Rattle.buddy_stores.specs.Tables.{levelAfter}
-use Rattle.buddy_stores.specs.Moves.{sideIn, climbed, worded, splitDown}
+use Rattle.buddy_rules.specs.Level.{entOf, pairCell, sideAt, leftAt, rightAt, upAt, spotIn, dropped, backed, added}
+use Rattle.buddy_rules.specs.Tables.{levelAfter}
+use Rattle.buddy_rules.specs.Moves.{sideIn, climbed, worded, splitDown}
 use Rattle.buddy_trees.specs.Trees.{up}
 use Rattle.buddy_moves.specs.Roomy.{Roomy, halved}
 

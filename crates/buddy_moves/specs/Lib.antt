@@ -1,2 +1,3 @@
 -- What the code of a buddy store's moves asks of the words.
+pub mod Ready
 pub mod Roomy

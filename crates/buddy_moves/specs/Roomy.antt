@@ -4,9 +4,9 @@ use mathlib.Core.List.{List}
 use Prim.Native.Nat.{ℕ, zero, suc, _+_, _*_, _<_}
 use Rattle.buddy_trees.specs.Trees.{up}
 use Rattle.buddy_rules.specs.Nodes.{L, nodeOf}
-use Rattle.buddy_levels_rules.specs.Level.{spotIn, added}
-use Rattle.buddy_stores.specs.Tables.{levelAfter}
-use Rattle.buddy_stores.specs.Moves.{worded}
+use Rattle.buddy_rules.specs.Level.{spotIn, added}
+use Rattle.buddy_rules.specs.Tables.{levelAfter}
+use Rattle.buddy_rules.specs.Moves.{worded}
 
 module _ (pairs : ℕ) where
   -- the words of the tree when node n of level l + 1 has been split

@@ -1,16 +1,17 @@
-// What a return and a loan do to a buddy store's tree: the climb and the split, level by level.
+// What a return and a loan do to a buddy store's tree: the climb and the split, level by level. What they and the code above them
+// ask of its tables a passed gate and a decided call give: proofs/ shows it.
 ghost use mathlib.Core.Path.{_≡_};
 ghost use lib.ListN.{set};
 ghost use Prim.Native.Nat.{_+_, _*_, _/_, _≤_, _<_};
 ghost use Rattle.counter.specs.Limits.{levelsMost, pairsMost, loansMost};
 ghost use Rattle.buddy_rules.specs.Nodes.{other, word};
-ghost use Rattle.buddy_levels_rules.specs.Level.{baseMost, entOf, pairCell, sideAt};
-ghost use Rattle.buddy_stores.specs.Moves.{sideIn, climbed, splitDown};
+ghost use Rattle.buddy_rules.specs.Level.{baseMost, entOf, pairCell, sideAt};
+ghost use Rattle.buddy_rules.specs.Moves.{sideIn, climbed, splitDown};
 ghost use Rattle.buddy_moves.specs.Roomy.{Roomy};
 use buddy_levels::LEFT_AT;
 use buddy_levels::RIGHT_AT;
 use buddy_levels::UP_AT;
-use buddy_shape::level_from;
+use buddy_levels::level_from;
 use slab::NOWHERE;
 
 // The word of node n's twin.

@@ -31,10 +31,10 @@ use Rattle.store_rules.specs.Outcomes.{Out, Listed, chargedAccount, backAccount
 use Rattle.store_rules.specs.Tests.{noOrder, orderFor, coversOk, gateRow}
 use Rattle.store_rules.proofs.Accounts.{released-heaps, released-covered, charged-heaps, charged-covered, lost-heaps, lost-covered}
 use Rattle.buddy_trees.specs.Trees.{bytes}
-use Rattle.buddy_stores.specs.Tables.{Tables, Lengths, lengthsOk, levelsIn, chunkPlacesIn, chunkSizeIn, memoryIn, heldIn, memories}
-use Rattle.buddy_stores.specs.Sound.{Sound}
-use Rattle.buddy_stores.specs.Test.{soundOk}
-use Rattle.buddy_stores.proofs.Decides.{tables-yes, tables-all}
+use Rattle.buddy_rules.specs.Tables.{Tables, Lengths, lengthsOk, levelsIn, chunkPlacesIn, chunkSizeIn, memoryIn, heldIn, memories}
+use Rattle.buddy_rules.specs.Sound.{Sound}
+use Rattle.buddy_rules.specs.Test.{soundOk}
+use Rattle.buddy_rules.proofs.Decides.{tables-yes, tables-all}
 use Rattle.buddy_outcomes.specs.Gate.{lentOk, heldCount, heldBytes, accountOk, gateOf}
 use Rattle.buddy_outcomes.specs.Ask as Ask
 use Rattle.buddy_outcomes.specs.Ask.{grownFor, sizeOk, decideAsk, grownTables, takenTables, deniedTables, carryAsk, planAsk, askOf}

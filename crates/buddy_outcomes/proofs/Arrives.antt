@@ -27,10 +27,10 @@ use Rattle.store_rules.specs.declared.Loan.{Loan}
 use Rattle.buddy_trees.specs.Trees.{bytes, up}
 use Rattle.buddy_trees.proofs.Bytes.{bytes-end}
 use Rattle.buddy_rules.proofs.Fitting.{up-add}
-use Rattle.buddy_stores.specs.Tables.{Tables, Lengths, givenIn, levelsIn, chunkPlacesIn, chunkSizeIn, loanIn, heldIn, memories}
-use Rattle.buddy_stores.specs.Sound.{Sound}
-use Rattle.buddy_stores.specs.Views.{loansIn, chunksIn}
-use Rattle.buddy_stores.proofs.Viewed.{loan-live, chunkAt, held-seen}
+use Rattle.buddy_rules.specs.Tables.{Tables, Lengths, givenIn, levelsIn, chunkPlacesIn, chunkSizeIn, loanIn, heldIn, memories}
+use Rattle.buddy_rules.specs.Sound.{Sound}
+use Rattle.buddy_rules.specs.Views.{loansIn, chunksIn}
+use Rattle.buddy_rules.proofs.Viewed.{loan-live, chunkAt, held-seen}
 use Rattle.buddy_outcomes.specs.Ask.{sizeFor, levelFor, grownFor, chunkSpot, grownTables}
 use Rattle.buddy_outcomes.specs.Deliver as Deliver
 use Rattle.buddy_outcomes.specs.Deliver.{chunkTables, loanIn as lentIn, servedTables, asOrdered, carryFate, decideDeliver, deliverGateOf, planDeliver, carryDeliver, deliverOf}

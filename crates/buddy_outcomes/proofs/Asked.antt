@@ -18,8 +18,8 @@ use Rattle.store_rules.specs.Orders.{buy}
 use Rattle.store_rules.proofs.Refused.{mask-off}
 use Rattle.store_rules.proofs.Tested.{off-and, off-where, off-less, off-some, bears-off}
 use Rattle.buddy_trees.specs.Trees.{bytes}
-use Rattle.buddy_stores.specs.Sound.{Sound}
-use Rattle.buddy_stores.specs.Tables.{Tables, Lengths, givenIn}
+use Rattle.buddy_rules.specs.Sound.{Sound}
+use Rattle.buddy_rules.specs.Tables.{Tables, Lengths, givenIn}
 use Rattle.buddy_outcomes.specs.Ask.{nowhere, needs, sizeFor, foundFor, orderFor, sizeOk, countOk, objectsOk, askRow, planned, decideAsk}
 use Rattle.buddy_outcomes.specs.Refusals.{SizeOff, Needed, buddyWords}
 use Rattle.engines.specs.Rows.{NoObject, Spent, askTests}

@@ -12,8 +12,8 @@ use Rattle.counter.specs.declared.settings.BuddySettings.{BuddySettings}
 use Rattle.store_rules.specs.Outcomes.{Out, chargedAccount}
 use Rattle.store_rules.specs.Views.{GoodBlock}
 use Rattle.store_rules.specs.declared.Chunk.{Chunk}
-use Rattle.buddy_stores.specs.Tables.{Tables, givenIn}
-use Rattle.buddy_stores.specs.Views.{loansIn, chunksIn}
+use Rattle.buddy_rules.specs.Tables.{Tables, givenIn}
+use Rattle.buddy_rules.specs.Views.{loansIn, chunksIn}
 use Rattle.buddy_outcomes.specs.Ask.{sizeFor, askOf}
 use Rattle.buddy_outcomes.specs.Deliver.{deliverOf}
 use Rattle.buddy_outcomes.proofs.Lendings.{taken-chunks, good-as, ask-served, served-spot, spot-good}

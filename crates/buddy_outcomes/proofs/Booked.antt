@@ -28,13 +28,13 @@ use Rattle.buddy_trees.proofs.Bytes.{bytes-pos}
 use Rattle.buddy_rules.specs.Nodes as Nodes
 use Rattle.buddy_rules.specs.Stores.{with}
 use Rattle.buddy_rules.specs.Stores as Stores
-use Rattle.buddy_levels_rules.specs.Level.{part}
-use Rattle.buddy_levels_rules.proofs.Ops.{levelOps}
-use Rattle.buddy_stores.specs.Tables.{Tables, tables, Lengths, mark, markAt, givenAt, levelsAt, placesAt, chunkPlacesAt, givenIn, levelsIn, placesIn, chunkPlacesIn, memoryIn, chunkSizeIn, chunksFrom, placeAt, topAt, afterAt, placeWords, nodesFrom, loanCell, loanIn, liveIn, heldIn, highIn, topIn, vacantChunk, chunkAfter, chunkSlab, initialLevels}
-use Rattle.buddy_stores.specs.Moves.{Cut}
-use Rattle.buddy_stores.specs.Sound.{Sound}
-use Rattle.buddy_stores.proofs.Abstract.{storeOf, Sizes, store-trees}
-use Rattle.buddy_stores.proofs.Walks.{minimal-pos}
+use Rattle.buddy_rules.specs.Level.{part}
+use Rattle.buddy_rules.proofs.Ops.{levelOps}
+use Rattle.buddy_rules.specs.Tables.{Tables, tables, Lengths, mark, markAt, givenAt, levelsAt, placesAt, chunkPlacesAt, givenIn, levelsIn, placesIn, chunkPlacesIn, memoryIn, chunkSizeIn, chunksFrom, placeAt, topAt, afterAt, placeWords, nodesFrom, loanCell, loanIn, liveIn, heldIn, highIn, topIn, vacantChunk, chunkAfter, chunkSlab, initialLevels}
+use Rattle.buddy_rules.specs.Moves.{Cut}
+use Rattle.buddy_rules.specs.Sound.{Sound}
+use Rattle.buddy_rules.proofs.Abstract.{storeOf, Sizes, store-trees}
+use Rattle.buddy_rules.proofs.Walks.{minimal-pos}
 use Rattle.buddy_outcomes.specs.Ask.{bookedTables}
 use Rattle.buddy_outcomes.proofs.Same.{sound-as}
 use Rattle.buddy_outcomes.proofs.Changed.{few-pairs, part-set}

@@ -27,14 +27,14 @@ use Rattle.buddy_rules.specs.Nodes.{Ent}
 use Rattle.buddy_rules.specs.Stores.{Store, grownTo}
 use Rattle.buddy_rules.specs.Stores as Stores
 use Rattle.buddy_rules.proofs.Made.{empty-sound, grown-sound}
-use Rattle.buddy_levels_rules.specs.Level.{levelWords, ringHead, spotIn, freshLevel, part, pairIn}
-use Rattle.buddy_levels_rules.proofs.Fresh.{fresh-length, fresh-head, fresh-spot, fresh-none, fresh-good}
-use Rattle.buddy_levels_rules.proofs.Ops.{levelOps}
-use Rattle.buddy_levels_rules.proofs.Parts.{part-length, part-head, part-spot}
-use Rattle.buddy_stores.specs.Tables.{Tables, tables, Lengths, markAt, givenAt, levelsAt, placesAt, chunkPlacesAt, givenIn, levelsIn, placesIn, chunkPlacesIn, levelFrom, chunksFrom, placeAt, topAt, placeWords, nodesFrom, loanIn, liveIn, heldIn, highIn, topIn, vacantChunk, chunkAfter, chunkSlab, vacantLoan, loanAfter, initialLevels}
-use Rattle.buddy_stores.specs.Sound.{Sound}
-use Rattle.buddy_stores.proofs.Abstract.{storeOf, levels-in, sound-store, Sizes, store-trees}
-use Rattle.buddy_stores.proofs.Walks.{minimal-pos}
+use Rattle.buddy_rules.specs.Level.{levelWords, ringHead, spotIn, freshLevel, part, pairIn}
+use Rattle.buddy_rules.proofs.Fresh.{fresh-length, fresh-head, fresh-spot, fresh-none, fresh-good}
+use Rattle.buddy_rules.proofs.Ops.{levelOps}
+use Rattle.buddy_rules.proofs.Parts.{part-length, part-head, part-spot}
+use Rattle.buddy_rules.specs.Tables.{Tables, tables, Lengths, markAt, givenAt, levelsAt, placesAt, chunkPlacesAt, givenIn, levelsIn, placesIn, chunkPlacesIn, levelFrom, chunksFrom, placeAt, topAt, placeWords, nodesFrom, loanIn, liveIn, heldIn, highIn, topIn, vacantChunk, chunkAfter, chunkSlab, vacantLoan, loanAfter, initialLevels}
+use Rattle.buddy_rules.specs.Sound.{Sound}
+use Rattle.buddy_rules.proofs.Abstract.{storeOf, levels-in, sound-store, Sizes, store-trees}
+use Rattle.buddy_rules.proofs.Walks.{minimal-pos}
 use Rattle.buddy_outcomes.specs.Ask.{freshLevels, grownTables}
 use Rattle.buddy_outcomes.specs.SetUp.{freshTables}
 use Rattle.buddy_outcomes.proofs.Same.{sound-levels, sound-as, Freshened, freshened, freshened-long}

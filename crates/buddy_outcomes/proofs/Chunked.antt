@@ -25,10 +25,10 @@ use Rattle.book_rules.proofs.Keeps.{BookChained, BookParted}
 use Rattle.buddy_trees.specs.Trees.{bytes}
 use Rattle.buddy_trees.proofs.Bytes.{bytes-pos}
 use Rattle.buddy_rules.specs.Stores.{with}
-use Rattle.buddy_levels_rules.specs.Level.{spotIn, part}
-use Rattle.buddy_stores.specs.Tables.{Tables, tables, Lengths, markAt, givenAt, levelsAt, placesAt, chunkPlacesAt, memoryAt, chunkSizeAt, chunkWords, givenIn, levelsIn, placesIn, chunkPlacesIn, memoryIn, chunkSizeIn, levelFrom, chunksFrom, placeAt, topAt, afterAt, placeWords, nodesFrom, loanIn, liveIn, loanCell, heldIn, highIn, topIn, vacantChunk, chunkAfter, chunkSlab, initialLevels}
-use Rattle.buddy_stores.specs.Sound.{Sound}
-use Rattle.buddy_stores.proofs.Walks.{minimal-pos, level-bytes}
+use Rattle.buddy_rules.specs.Level.{spotIn, part}
+use Rattle.buddy_rules.specs.Tables.{Tables, tables, Lengths, markAt, givenAt, levelsAt, placesAt, chunkPlacesAt, memoryAt, chunkSizeAt, chunkWords, givenIn, levelsIn, placesIn, chunkPlacesIn, memoryIn, chunkSizeIn, levelFrom, chunksFrom, placeAt, topAt, afterAt, placeWords, nodesFrom, loanIn, liveIn, loanCell, heldIn, highIn, topIn, vacantChunk, chunkAfter, chunkSlab, initialLevels}
+use Rattle.buddy_rules.specs.Sound.{Sound}
+use Rattle.buddy_rules.proofs.Walks.{minimal-pos, level-bytes}
 use Rattle.buddy_outcomes.specs.Ask.{chunkSpot}
 use Rattle.buddy_outcomes.proofs.Changed.{part-set}
 use Rattle.buddy_outcomes.proofs.Booked.{Kept, and-no, lower}

@@ -35,11 +35,11 @@ use Rattle.store_rules.proofs.Amid.{Amid}
 use Rattle.book_rules.proofs.Entering.{entered-amid}
 use Rattle.book_rules.proofs.Keeps.{BookParted}
 use Rattle.buddy_trees.specs.Trees.{bytes}
-use Rattle.buddy_stores.specs.Moves.{Cut}
-use Rattle.buddy_stores.specs.Sound.{Sound}
-use Rattle.buddy_stores.specs.Tables.{Tables, Lengths, placesAt, headWords, givenIn, levelsIn, placesIn, chunkPlacesIn, memories, heldIn}
-use Rattle.buddy_stores.specs.Views.{loansIn, chunksOf, chunksIn}
-use Rattle.buddy_stores.proofs.Viewed.{chunkAt}
+use Rattle.buddy_rules.specs.Moves.{Cut}
+use Rattle.buddy_rules.specs.Sound.{Sound}
+use Rattle.buddy_rules.specs.Tables.{Tables, Lengths, placesAt, headWords, givenIn, levelsIn, placesIn, chunkPlacesIn, memories, heldIn}
+use Rattle.buddy_rules.specs.Views.{loansIn, chunksOf, chunksIn}
+use Rattle.buddy_rules.proofs.Viewed.{chunkAt}
 use Rattle.buddy_outcomes.specs.Ask as Ask
 use Rattle.buddy_outcomes.specs.Ask.{sizeFor, grownFor, sizeOk, chunkSpot, grownTables, bookedTables, loanFrom, takenTables, deniedTables, decideAsk, carryAsk, planAsk, askOf}
 use Rattle.buddy_outcomes.specs.Deliver as Deliver

@@ -15,9 +15,9 @@ use Rattle.store_rules.specs.Views.{sizes}
 use Rattle.store_rules.specs.declared.Chunk.{Chunk}
 use Rattle.store_rules.specs.declared.Loan.{Loan}
 use Rattle.store_rules.proofs.Placed.{on-loan-append}
-use Rattle.buddy_stores.specs.Tables.{Tables, placesIn, liveIn, loanCell, chunkPlacesIn, chunkSizeIn, memoryIn, heldIn, memories}
-use Rattle.buddy_stores.specs.Views.{loansIn, chunksOf, chunksIn}
-use Rattle.buddy_stores.proofs.Viewed.{chunkAt}
+use Rattle.buddy_rules.specs.Tables.{Tables, placesIn, liveIn, loanCell, chunkPlacesIn, chunkSizeIn, memoryIn, heldIn, memories}
+use Rattle.buddy_rules.specs.Views.{loansIn, chunksOf, chunksIn}
+use Rattle.buddy_rules.proofs.Viewed.{chunkAt}
 use Rattle.buddy_outcomes.specs.Gate.{heldCount, heldBytes}
 use Rattle.buddy_outcomes.specs.Refusals.{liveCount}
 

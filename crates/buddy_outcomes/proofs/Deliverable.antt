@@ -28,11 +28,11 @@ use Rattle.store_rules.specs.Tests.{orderFor, gateRow}
 use Rattle.store_rules.proofs.Said.{refusal-order, block-order, same-order}
 use Rattle.book_rules.specs.Book.{takenOf}
 use Rattle.buddy_trees.specs.Trees.{bytes}
-use Rattle.buddy_levels_rules.specs.Level.{ringHead, spotIn}
-use Rattle.buddy_stores.specs.Sound.{Sound}
-use Rattle.buddy_stores.specs.Tables.{Tables, Lengths, lengthsOk, givenIn, levelsIn, placesIn, levelFrom}
-use Rattle.buddy_stores.specs.Test.{soundOk}
-use Rattle.buddy_stores.proofs.Decides.{tables-all}
+use Rattle.buddy_rules.specs.Level.{ringHead, spotIn}
+use Rattle.buddy_rules.specs.Sound.{Sound}
+use Rattle.buddy_rules.specs.Tables.{Tables, Lengths, lengthsOk, givenIn, levelsIn, placesIn, levelFrom}
+use Rattle.buddy_rules.specs.Test.{soundOk}
+use Rattle.buddy_rules.proofs.Decides.{tables-all}
 use Rattle.buddy_outcomes.specs.Ask as Ask
 use Rattle.buddy_outcomes.specs.Ask.{Found, nowhere, levelFor, grownFor, searchFrom, foundFor, fromFor, pairRoom, pairsRoom, chunkSpot, roomOk, countOk, objectsOk, askRow, planned, decideAsk, grownTables, carryAsk, askOf}
 use Rattle.buddy_outcomes.specs.Deliver.{stillOk, deliverGateOf}

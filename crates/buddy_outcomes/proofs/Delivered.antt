@@ -32,11 +32,11 @@ use Rattle.store_rules.specs.Tests.{orderFor, gateRow}
 use Rattle.store_rules.proofs.Refused.{leads-buy}
 use Rattle.book_rules.specs.Book.{takenOf}
 use Rattle.buddy_trees.specs.Trees.{bytes}
-use Rattle.buddy_levels_rules.specs.Level.{spotIn, ringHead}
-use Rattle.buddy_stores.specs.Tables.{Tables, Lengths, levelsIn, placesIn, chunkPlacesIn, heldIn, memoryIn, levelFrom, placeAt, afterAt, placeWords, memories}
-use Rattle.buddy_stores.specs.Sound.{Sound}
-use Rattle.buddy_stores.specs.Test.{soundOk}
-use Rattle.buddy_stores.proofs.Decides.{tables-yes}
+use Rattle.buddy_rules.specs.Level.{spotIn, ringHead}
+use Rattle.buddy_rules.specs.Tables.{Tables, Lengths, levelsIn, placesIn, chunkPlacesIn, heldIn, memoryIn, levelFrom, placeAt, afterAt, placeWords, memories}
+use Rattle.buddy_rules.specs.Sound.{Sound}
+use Rattle.buddy_rules.specs.Test.{soundOk}
+use Rattle.buddy_rules.proofs.Decides.{tables-yes}
 use Rattle.slab.specs.Slab as Slab
 use Rattle.buddy_outcomes.specs.Gate.{lentOk, accountOk}
 use Rattle.buddy_outcomes.specs.Ask as Ask

@@ -25,14 +25,14 @@ use Rattle.store_rules.proofs.Amid.{Amid}
 use Rattle.book_rules.specs.Book.{takenOf}
 use Rattle.buddy_trees.specs.Trees.{up}
 use Rattle.buddy_rules.proofs.Fitting.{up-add}
-use Rattle.buddy_levels_rules.specs.Level.{spotIn}
-use Rattle.buddy_levels_rules.specs.Ringed.{Ringed}
-use Rattle.buddy_levels_rules.proofs.Ringed.{part-ringed, ringed-part}
-use Rattle.buddy_stores.specs.Rings.{Rings, ringsLent, ringsGrown}
-use Rattle.buddy_stores.specs.Sound.{Sound}
-use Rattle.buddy_stores.specs.Tables.{Tables, Lengths, levelsIn, placesIn, levelFrom}
-use Rattle.buddy_stores.specs.Views.{loansIn, chunksIn, viewOf}
-use Rattle.buddy_stores.proofs.Ringing.{served-rings}
+use Rattle.buddy_rules.specs.Level.{spotIn}
+use Rattle.buddy_rules.specs.Ringed.{Ringed}
+use Rattle.buddy_rules.proofs.Ringed.{part-ringed, ringed-part}
+use Rattle.buddy_rules.specs.Rings.{Rings, ringsLent, ringsGrown}
+use Rattle.buddy_rules.specs.Sound.{Sound}
+use Rattle.buddy_rules.specs.Tables.{Tables, Lengths, levelsIn, placesIn, levelFrom}
+use Rattle.buddy_rules.specs.Views.{loansIn, chunksIn, viewOf}
+use Rattle.buddy_rules.proofs.Ringing.{served-rings}
 use Rattle.buddy_outcomes.specs.Ask as Ask
 use Rattle.buddy_outcomes.specs.Ask.{sizeFor, levelFor, grownFor, chunkSpot, grownTables, askOf}
 use Rattle.buddy_outcomes.specs.Deliver.{asOrdered, chunkTables, servedTables, deliverOf}

@@ -28,10 +28,10 @@ use Rattle.store_rules.proofs.Refused.{fails, none-for, is-same-order, leads-bu
 use Rattle.store_rules.proofs.Said.{not-refused, said-number, said-back, Tells, tells-refused, tells-passed}
 use Rattle.store_rules.proofs.Fates.{left, fateVerdict, fateRow, device-out, host-out, welcomeOk, unwelcomed, arrival-tells}
 use Rattle.store_rules.proofs.Tested.{gate-low}
-use Rattle.buddy_stores.specs.Sound.{Sound}
-use Rattle.buddy_stores.specs.Tables.{Tables, Lengths, chunkPlacesIn, memories}
-use Rattle.buddy_stores.specs.Test.{soundOk}
-use Rattle.buddy_stores.proofs.Decides.{tables-yes, tables-all}
+use Rattle.buddy_rules.specs.Sound.{Sound}
+use Rattle.buddy_rules.specs.Tables.{Tables, Lengths, chunkPlacesIn, memories}
+use Rattle.buddy_rules.specs.Test.{soundOk}
+use Rattle.buddy_rules.proofs.Decides.{tables-yes, tables-all}
 use Rattle.buddy_outcomes.specs.Gate.{lentOk, accountOk}
 use Rattle.buddy_outcomes.specs.Ask.{decideAsk}
 use Rattle.buddy_outcomes.specs.Ask as A
@@ -42,7 +42,7 @@ use Rattle.engines.specs.Rows.{Leads, askTests, deliverRows, keptRows}
 use Rattle.buddy_outcomes.proofs.Asked.{ask-buys}
 use Rattle.buddy_outcomes.proofs.Gated.{in-table, short}
 use Rattle.buddy_outcomes.proofs.Counting.{memories-is}
-use Rattle.buddy_stores.specs.Views.{chunksIn}
+use Rattle.buddy_rules.specs.Views.{chunksIn}
 use Rattle.store_rules.specs.declared.Chunk.{Chunk}
 
 -- ---- what 11 and 12 leave

@@ -27,15 +27,15 @@ use Rattle.store_rules.specs.declared.Loan.{Loan}
 use Rattle.store_rules.proofs.Going.{none-go}
 use Rattle.store_rules.proofs.Placed.{earlier, later, loans-with, loans-less}
 use Rattle.book_rules.specs.Book.{struck}
-use Rattle.buddy_chunks.specs.Chunks.{viewFrom, lies, stay, atOnce}
-use Rattle.buddy_chunks.proofs.Ending.{lies-mem}
-use Rattle.buddy_chunks.proofs.Onces.{Once}
-use Rattle.buddy_stores.specs.Tables.{Tables, Lengths, chunkWords, memoryAt, chunkSizeAt, placesIn, chunkPlacesIn, chunkSizeIn, memoryIn, heldIn, vacantChunk}
-use Rattle.buddy_stores.specs.Sound.{Sound}
-use Rattle.buddy_stores.specs.Views.{loansIn, chunksOf, chunksIn, viewOf}
-use Rattle.buddy_stores.proofs.Viewed.{loanAt, loan-live, chunkAt, held-seen, seen-held}
-use Rattle.buddy_stores.proofs.Named.{standing, has-loan}
-use Rattle.buddy_stores.proofs.Onces.{loans-once, chunks-once}
+use Rattle.buddy_trees.specs.Chunks.{viewFrom, lies, stay, atOnce}
+use Rattle.buddy_trees.proofs.Ending.{lies-mem}
+use Rattle.buddy_trees.proofs.Onces.{Once}
+use Rattle.buddy_rules.specs.Tables.{Tables, Lengths, chunkWords, memoryAt, chunkSizeAt, placesIn, chunkPlacesIn, chunkSizeIn, memoryIn, heldIn, vacantChunk}
+use Rattle.buddy_rules.specs.Sound.{Sound}
+use Rattle.buddy_rules.specs.Views.{loansIn, chunksOf, chunksIn, viewOf}
+use Rattle.buddy_rules.proofs.Viewed.{loanAt, loan-live, chunkAt, held-seen, seen-held}
+use Rattle.buddy_rules.proofs.Named.{standing, has-loan}
+use Rattle.buddy_rules.proofs.Onces.{loans-once, chunks-once}
 use Rattle.buddy_outcomes.specs.Gate.{gateOf}
 use Rattle.buddy_outcomes.specs.Return.{wordFor, onLoanOk, climbFor, givenTables, releasedBy, returnOf}
 use Rattle.buddy_outcomes.proofs.Passing.{gate-passed}

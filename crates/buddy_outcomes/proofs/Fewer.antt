@@ -9,8 +9,8 @@ use Rattle.store_rules.specs.Views.{loanOf, among, loansLess}
 use Rattle.store_rules.specs.declared.Chunk.{Chunk}
 use Rattle.store_rules.specs.declared.Loan.{Loan}
 use Rattle.store_rules.proofs.Lessening.{among-where, among-yes}
-use Rattle.buddy_chunks.specs.Chunks.{lies, stay}
-use Rattle.buddy_chunks.proofs.Onces.{Once}
+use Rattle.buddy_trees.specs.Chunks.{lies, stay}
+use Rattle.buddy_trees.proofs.Onces.{Once}
 use Rattle.buddy_outcomes.proofs.Goes.{mid-this}
 
 -- ---- one block fewer

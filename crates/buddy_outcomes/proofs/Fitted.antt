@@ -25,7 +25,7 @@ use Rattle.store_rules.specs.Loans.{loanWords, sizeAt}
 use Rattle.store_rules.specs.declared.Chunk.{Chunk}
 use Rattle.store_rules.specs.declared.Loan.{Loan}
 use Rattle.buddy_trees.specs.Trees.{Tree, free, loan, split, Piece, Has, Quiet, bytes, up}
-use Rattle.buddy_chunks.specs.Chunks.{Fitting}
+use Rattle.buddy_trees.specs.Chunks.{Fitting}
 use Rattle.buddy_trees.proofs.Bytes.{bytes-suc, bytes-pos, bytes-up, bytes-end}
 use Rattle.buddy_rules.specs.Levels.{baseOf}
 use Rattle.buddy_rules.specs.Nodes.{Ent}
@@ -34,15 +34,15 @@ use Rattle.buddy_rules.specs.Stores.{cutLoan}
 use Rattle.buddy_rules.specs.Stores as Stores
 use Rattle.buddy_rules.proofs.Frames.{rep-loan}
 use Rattle.buddy_rules.proofs.Fitting.{up-add, fits-some, lent-held, lent-inside, lent-aligned, lent-apart}
-use Rattle.buddy_levels_rules.specs.Level.{ringHead}
-use Rattle.buddy_levels_rules.proofs.Ops.{levelOps}
-use Rattle.buddy_stores.specs.Tables.{Tables, Lengths, levelsIn, levelFrom, chunkSizeIn, loanCell, liveIn, loanIn, heldIn, highIn, topIn}
-use Rattle.buddy_stores.specs.Sound.{Sound}
-use Rattle.buddy_stores.specs.Views.{loansIn, viewOf}
-use Rattle.buddy_stores.proofs.Abstract.{storeOf, sound-store}
-use Rattle.buddy_stores.proofs.Splitting.{head-is}
-use Rattle.buddy_stores.proofs.Viewed.{loanAt, live-loan, loan-live, chunkAt, held-seen, seen-held}
-use Rattle.buddy_stores.proofs.Walks.{minimal-pos}
+use Rattle.buddy_rules.specs.Level.{ringHead}
+use Rattle.buddy_rules.proofs.Ops.{levelOps}
+use Rattle.buddy_rules.specs.Tables.{Tables, Lengths, levelsIn, levelFrom, chunkSizeIn, loanCell, liveIn, loanIn, heldIn, highIn, topIn}
+use Rattle.buddy_rules.specs.Sound.{Sound}
+use Rattle.buddy_rules.specs.Views.{loansIn, viewOf}
+use Rattle.buddy_rules.proofs.Abstract.{storeOf, sound-store}
+use Rattle.buddy_rules.proofs.Splitting.{head-is}
+use Rattle.buddy_rules.proofs.Viewed.{loanAt, live-loan, loan-live, chunkAt, held-seen, seen-held}
+use Rattle.buddy_rules.proofs.Walks.{minimal-pos}
 use Rattle.buddy_outcomes.specs.Ask as Ask
 use Rattle.buddy_outcomes.specs.Ask.{Found, at, sizeFor, levelFor, foundFor, sizeOk, decideAsk, headEnt, loanFrom, carryAsk, gated, planAsk, askOf}
 use Rattle.buddy_outcomes.specs.Gate.{gateOf}

@@ -20,16 +20,16 @@ use Rattle.store_rules.specs.Outcomes.{listOk}
 use Rattle.store_rules.specs.Refusals.{OrderOpen, Uncovered}
 use Rattle.store_rules.specs.Tests.{noOrder, gateRow}
 use Rattle.store_rules.proofs.Refused.{fails, order-open, uncovered}
-use Rattle.buddy_stores.specs.Sound.{Sound}
-use Rattle.buddy_stores.specs.Tables.{Tables, lengthsOk, chunkPlacesIn}
-use Rattle.buddy_stores.specs.Test.{soundOk}
-use Rattle.buddy_stores.proofs.Decides.{tables-yes, tables-all}
+use Rattle.buddy_rules.specs.Sound.{Sound}
+use Rattle.buddy_rules.specs.Tables.{Tables, lengthsOk, chunkPlacesIn}
+use Rattle.buddy_rules.specs.Test.{soundOk}
+use Rattle.buddy_rules.proofs.Decides.{tables-yes, tables-all}
 use Rattle.buddy_outcomes.specs.Gate.{lentOk, heldCount, heldBytes, accountOk}
 use Rattle.buddy_outcomes.specs.Refusals.{InTable, buddyWords}
 use Rattle.engines.specs.Rows.{Short, WithList, gateRows, listRows}
 use Rattle.buddy_outcomes.proofs.Passing.{lent-in, are-lengths}
 use Rattle.buddy_outcomes.proofs.Counting.{count-is, bytes-is}
-use Rattle.buddy_stores.specs.Views.{chunksIn}
+use Rattle.buddy_rules.specs.Views.{chunksIn}
 use Rattle.store_rules.specs.Views.{sizes}
 
 -- ---- 1

@@ -30,14 +30,14 @@ use Rattle.buddy_rules.specs.Returns.{Out}
 use Rattle.buddy_rules.specs.Stores.{with, climbs, returned}
 use Rattle.buddy_rules.specs.Stores as Stores
 use Rattle.buddy_rules.proofs.Returned.{returned-sound}
-use Rattle.buddy_levels_rules.specs.Level.{part}
-use Rattle.buddy_levels_rules.proofs.Ops.{levelOps}
-use Rattle.buddy_stores.specs.Tables.{Tables, Lengths, givenIn, levelsIn, placesIn, chunkPlacesIn, memoryIn, chunkSizeIn, chunksFrom, nodesFrom, loanCell, loanIn, liveIn, heldIn, highIn, topIn, vacantChunk}
-use Rattle.buddy_stores.specs.Sound.{Sound}
-use Rattle.buddy_stores.specs.Moves.{Climbed, climbed}
-use Rattle.buddy_stores.proofs.Abstract.{storeOf, treeIn, sound-store, Sizes, store-trees}
-use Rattle.buddy_stores.proofs.Climbing.{climbed-is}
-use Rattle.buddy_stores.proofs.Walks.{minimal-pos}
+use Rattle.buddy_rules.specs.Level.{part}
+use Rattle.buddy_rules.proofs.Ops.{levelOps}
+use Rattle.buddy_rules.specs.Tables.{Tables, Lengths, givenIn, levelsIn, placesIn, chunkPlacesIn, memoryIn, chunkSizeIn, chunksFrom, nodesFrom, loanCell, loanIn, liveIn, heldIn, highIn, topIn, vacantChunk}
+use Rattle.buddy_rules.specs.Sound.{Sound}
+use Rattle.buddy_rules.specs.Moves.{Climbed, climbed}
+use Rattle.buddy_rules.proofs.Abstract.{storeOf, treeIn, sound-store, Sizes, store-trees}
+use Rattle.buddy_rules.proofs.Climbing.{climbed-is}
+use Rattle.buddy_rules.proofs.Walks.{minimal-pos}
 use Rattle.buddy_outcomes.specs.Return.{wordFor, onLoanOk, climbFor, givenTables}
 use Rattle.buddy_outcomes.proofs.Agree.{Agree, agree-sound}
 use Rattle.buddy_outcomes.proofs.Loaned.{live-used, on-loan-is}

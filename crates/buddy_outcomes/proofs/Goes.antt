@@ -9,10 +9,10 @@ use lib.ListN.{length-append}
 use Rattle.lists.proofs.Bools.{same?}
 use Rattle.store_rules.specs.Views.{Go}
 use Rattle.store_rules.specs.declared.Chunk.{Chunk}
-use Rattle.buddy_chunks.proofs.Onces.{Once}
-use Rattle.buddy_stores.specs.Tables.{Tables, heldIn}
-use Rattle.buddy_stores.specs.Views.{chunksOf}
-use Rattle.buddy_stores.proofs.Viewed.{chunkAt}
+use Rattle.buddy_trees.proofs.Onces.{Once}
+use Rattle.buddy_rules.specs.Tables.{Tables, heldIn}
+use Rattle.buddy_rules.specs.Views.{chunksOf}
+use Rattle.buddy_rules.proofs.Viewed.{chunkAt}
 use Rattle.buddy_outcomes.proofs.Counting.{sizes-append}
 
 -- ---- one member among others

@@ -33,9 +33,9 @@ use Rattle.store_rules.specs.declared.Loan.{Loan}
 use Rattle.book_rules.specs.Book.{takenOf, entered, serialOf, struck}
 use Rattle.book_rules.proofs.Decides.{serial-once}
 use Rattle.book_rules.proofs.Keeps.{BookParted, freeIn, taken-where}
-use Rattle.buddy_stores.specs.Tables.{Tables, Lengths, mark, markAt, givenAt, levelsAt, placesAt, headWords, givenIn, placesIn, chunkPlacesIn, loanCell, liveIn, chainStart, chainNext, memories}
-use Rattle.buddy_stores.specs.Moves.{Cut}
-use Rattle.buddy_stores.specs.Sound.{Sound}
+use Rattle.buddy_rules.specs.Tables.{Tables, Lengths, mark, markAt, givenAt, levelsAt, placesAt, headWords, givenIn, placesIn, chunkPlacesIn, loanCell, liveIn, chainStart, chainNext, memories}
+use Rattle.buddy_rules.specs.Moves.{Cut}
+use Rattle.buddy_rules.specs.Sound.{Sound}
 use Rattle.buddy_outcomes.specs.Gate.{gateOf}
 use Rattle.buddy_outcomes.specs.Ask as Ask
 use Rattle.buddy_outcomes.specs.Ask.{grownFor, decideAsk, grownTables, bookedTables, takenTables, deniedTables, carryAsk, planAsk, askOf}

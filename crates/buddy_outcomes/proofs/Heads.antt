@@ -7,8 +7,8 @@ use lib.ListN.{length, getD, set, length-set}
 use lib.Seq.{getD-set-same, getD-set-other}
 use Rattle.counter.specs.declared.settings.BuddySettings.{BuddySettings}
 use Rattle.book_rules.specs.Book.{takenOf}
-use Rattle.buddy_stores.specs.Tables.{Tables, markAt, givenAt, levelsAt, placesAt, chunkPlacesAt, headWords, givenIn, placesIn}
-use Rattle.buddy_stores.specs.Moves.{Cut}
+use Rattle.buddy_rules.specs.Tables.{Tables, markAt, givenAt, levelsAt, placesAt, chunkPlacesAt, headWords, givenIn, placesIn}
+use Rattle.buddy_rules.specs.Moves.{Cut}
 use Rattle.buddy_outcomes.specs.Ask.{grownTables, bookedTables}
 use Rattle.buddy_outcomes.specs.Deliver.{chunkTables}
 

@@ -20,9 +20,9 @@ use Rattle.counter.specs.declared.settings.BuddySettings.{BuddySettings}
 use Rattle.store_rules.specs.Tests.{coversOk}
 use Rattle.book_rules.specs.Book.{takenOf}
 use Rattle.buddy_trees.specs.Trees.{bytes}
-use Rattle.buddy_stores.specs.Tables.{Tables, Lengths, chunkWords, chunkSizeAt, givenAt, levelsAt, placesAt, chunkPlacesAt, givenIn, levelsIn, placesIn, chunkPlacesIn, chunkSizeIn, heldIn}
-use Rattle.buddy_stores.specs.Moves.{Cut}
-use Rattle.buddy_stores.specs.Sound.{Sound}
+use Rattle.buddy_rules.specs.Tables.{Tables, Lengths, chunkWords, chunkSizeAt, givenAt, levelsAt, placesAt, chunkPlacesAt, givenIn, levelsIn, placesIn, chunkPlacesIn, chunkSizeIn, heldIn}
+use Rattle.buddy_rules.specs.Moves.{Cut}
+use Rattle.buddy_rules.specs.Sound.{Sound}
 use Rattle.buddy_outcomes.specs.Gate.{heldCount, heldBytes, accountOk}
 use Rattle.buddy_outcomes.specs.Ask.{chunkSpot, grownTables, bookedTables, takenTables}
 use Rattle.buddy_outcomes.specs.Deliver.{chunkTables, servedTables}

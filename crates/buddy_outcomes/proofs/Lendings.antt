@@ -25,12 +25,12 @@ use Rattle.store_rules.specs.declared.Chunk.{Chunk}
 use Rattle.store_rules.specs.declared.Loan.{Loan}
 use Rattle.book_rules.specs.Book.{takenOf, serialOf}
 use Rattle.buddy_rules.specs.Levels.{baseOf}
-use Rattle.buddy_stores.specs.Tables.{Tables, Lengths, givenAt, levelsAt, placesAt, chunkPlacesAt, memoryAt, chunkSizeAt, chunkWords, givenIn, placesIn, chunkPlacesIn}
-use Rattle.buddy_stores.specs.Moves.{Cut}
-use Rattle.buddy_stores.specs.Sound.{Sound}
-use Rattle.buddy_stores.specs.Views.{loansIn, chunksOf, chunksIn, viewOf}
-use Rattle.buddy_chunks.specs.Chunks.{viewFrom}
-use Rattle.buddy_stores.proofs.Viewed.{loan-live, chunkAt, held-seen}
+use Rattle.buddy_rules.specs.Tables.{Tables, Lengths, givenAt, levelsAt, placesAt, chunkPlacesAt, memoryAt, chunkSizeAt, chunkWords, givenIn, placesIn, chunkPlacesIn}
+use Rattle.buddy_rules.specs.Moves.{Cut}
+use Rattle.buddy_rules.specs.Sound.{Sound}
+use Rattle.buddy_rules.specs.Views.{loansIn, chunksOf, chunksIn, viewOf}
+use Rattle.buddy_trees.specs.Chunks.{viewFrom}
+use Rattle.buddy_rules.proofs.Viewed.{loan-live, chunkAt, held-seen}
 use Rattle.buddy_outcomes.specs.Ask as Ask
 use Rattle.buddy_outcomes.specs.Ask.{sizeFor, levelFor, sizeOk, grownTables, bookedTables, headEnt, loanFrom, takenTables, decideAsk, carryAsk, planAsk, askOf}
 use Rattle.buddy_outcomes.specs.Gate.{gateOf}

@@ -23,8 +23,8 @@ use Rattle.book_rules.specs.Book.{indexWords, serialOf, wordTo}
 use Rattle.book_rules.proofs.Falling.{falling-most}
 use Rattle.book_rules.proofs.Keeps.{freeIn, found}
 use Rattle.book_rules.proofs.Uses.{leads-used}
-use Rattle.buddy_stores.specs.Tables.{Tables, Lengths, givenIn, placesIn, loanCell, liveIn, chainStart, chainNext}
-use Rattle.buddy_stores.specs.Sound.{Sound}
+use Rattle.buddy_rules.specs.Tables.{Tables, Lengths, givenIn, placesIn, loanCell, liveIn, chainStart, chainNext}
+use Rattle.buddy_rules.specs.Sound.{Sound}
 use Rattle.buddy_outcomes.specs.Return.{wordFor, onLoanOk}
 
 -- a place of a live loan is one in use, in the book's words, and back

@@ -11,10 +11,10 @@ use Rattle.counter.specs.declared.settings.BuddySettings.{BuddySettings}
 use Rattle.counter.proofs.Gates.{passed}
 use Rattle.counter.proofs.Tables.{buddy-yes}
 use Rattle.store_rules.specs.Tests.{noOrder, gateRow}
-use Rattle.buddy_stores.specs.Tables.{Tables, Lengths, lengthsRow, lengthsOk}
-use Rattle.buddy_stores.specs.Test.{soundOk}
-use Rattle.buddy_stores.specs.Sound.{Sound}
-use Rattle.buddy_stores.proofs.Decides.{tables-yes}
+use Rattle.buddy_rules.specs.Tables.{Tables, Lengths, lengthsRow, lengthsOk}
+use Rattle.buddy_rules.specs.Test.{soundOk}
+use Rattle.buddy_rules.specs.Sound.{Sound}
+use Rattle.buddy_rules.proofs.Decides.{tables-yes}
 use Rattle.buddy_outcomes.specs.Gate.{lentOk, accountOk, gateOf}
 
 pub lengths-are : (s : BuddySettings) (t : Tables) → lengthsOk s t ≡ true → Lengths s t

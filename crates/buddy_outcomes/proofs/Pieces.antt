@@ -18,9 +18,9 @@ use Rattle.buddy_rules.specs.Stores.{piece}
 use Rattle.buddy_rules.proofs.Fitting.{up-add}
 use Rattle.buddy_rules.proofs.Frames.{rep-loan}
 use Rattle.buddy_rules.proofs.Readies.{free-whole}
-use Rattle.buddy_stores.specs.Tables.{Tables, pairsIn, chunkSizeIn, loanIn, liveIn, heldIn, highIn, topIn}
-use Rattle.buddy_stores.specs.Sound.{Sound}
-use Rattle.buddy_stores.proofs.Walks.{minimal-pos}
+use Rattle.buddy_rules.specs.Tables.{Tables, pairsIn, chunkSizeIn, loanIn, liveIn, heldIn, highIn, topIn}
+use Rattle.buddy_rules.specs.Sound.{Sound}
+use Rattle.buddy_rules.proofs.Walks.{minimal-pos}
 
 -- ---- of a tree
 

@@ -10,11 +10,11 @@ use Rattle.counter.specs.declared.settings.BuddySettings.{BuddySettings}
 use Rattle.slab.specs.Slab.{nowhere}
 use Rattle.buddy_rules.specs.Levels.{baseOf}
 use Rattle.buddy_rules.specs.Nodes.{Ent}
-use Rattle.buddy_levels_rules.specs.Level.{entOf, ringHead}
-use Rattle.buddy_levels_rules.proofs.Cells.{pair-used}
-use Rattle.buddy_levels_rules.proofs.Rings.{ready-mem, head-mem, mem-head}
-use Rattle.buddy_stores.specs.Tables.{Tables, levelsIn, levelFrom, pairsIn}
-use Rattle.buddy_stores.specs.Sound.{Sound}
+use Rattle.buddy_rules.specs.Level.{entOf, ringHead}
+use Rattle.buddy_rules.proofs.Cells.{pair-used}
+use Rattle.buddy_rules.proofs.Rings.{ready-mem, head-mem, mem-head}
+use Rattle.buddy_rules.specs.Tables.{Tables, levelsIn, levelFrom, pairsIn}
+use Rattle.buddy_rules.specs.Sound.{Sound}
 use Rattle.buddy_outcomes.specs.Ask.{levelFor, headEnt, askOf}
 use Rattle.buddy_outcomes.proofs.Changed.{few-pairs}
 use Rattle.buddy_outcomes.proofs.Lendings.{ask-served}

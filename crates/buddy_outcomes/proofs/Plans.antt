@@ -16,7 +16,7 @@ use Rattle.counter.proofs.Gates.{passed, same-number}
 use Rattle.heap.specs.Heap.{bearsOk}
 use Rattle.store_rules.specs.Orders.{Plan, deny, take, buy}
 use Rattle.buddy_trees.specs.Trees.{bytes}
-use Rattle.buddy_stores.specs.Tables.{Tables, givenIn}
+use Rattle.buddy_rules.specs.Tables.{Tables, givenIn}
 use Rattle.buddy_outcomes.specs.Ask.{Found, nowhere, at, grownFor, foundFor, orderFor, sizeOk, roomOk, countOk, objectsOk, askRow, planned, decideAsk}
 
 -- ---- no plan is two

@@ -31,9 +31,9 @@ use Rattle.store_rules.specs.declared.Loan.{Loan}
 use Rattle.store_rules.proofs.Refused.{fails}
 use Rattle.store_rules.proofs.Said.{refuses, not-refused, said-number, Says, says-refused, says-passed}
 use Rattle.store_rules.proofs.Fates.{left}
-use Rattle.buddy_stores.specs.Sound.{Sound}
-use Rattle.buddy_stores.specs.Tables.{Tables, Lengths, lengthsOk, chunkPlacesIn, memories, memoryIn, chunkSizeIn}
-use Rattle.buddy_stores.specs.Test.{soundOk}
+use Rattle.buddy_rules.specs.Sound.{Sound}
+use Rattle.buddy_rules.specs.Tables.{Tables, Lengths, lengthsOk, chunkPlacesIn, memories, memoryIn, chunkSizeIn}
+use Rattle.buddy_rules.specs.Test.{soundOk}
 use Rattle.buddy_outcomes.specs.Gate.{lentOk, accountOk, gateOf}
 use Rattle.buddy_outcomes.specs.Ask.{Found, nowhere, at, foundFor, orderFor, askRow, planned, decideAsk, grownFor, grownTables, deniedTables, carryAsk, planAsk, askOf}
 use Rattle.buddy_outcomes.specs.Ask as A
@@ -48,9 +48,9 @@ use Rattle.buddy_outcomes.proofs.Gated.{gate-decided, list-decided}
 use Rattle.buddy_outcomes.proofs.Asked.{ask-decided}
 use Rattle.buddy_outcomes.proofs.Loaned.{on-loan-is, is-on-loan}
 use Rattle.buddy_outcomes.proofs.Passing.{Passed, lengths-are, are-lengths, gate-passed}
-use Rattle.buddy_stores.specs.Views.{loansIn}
+use Rattle.buddy_rules.specs.Views.{loansIn}
 use Rattle.store_rules.specs.Views.{loanOf}
-use Rattle.buddy_stores.proofs.Viewed.{live-loan, loan-live}
+use Rattle.buddy_rules.proofs.Viewed.{live-loan, loan-live}
 
 -- ---- set-up
 

@@ -14,8 +14,8 @@ use Rattle.counter.specs.declared.answers.Block.{Block}
 use Rattle.counter.specs.declared.settings.BuddySettings.{BuddySettings}
 use Rattle.store_rules.specs.Loans.{loanRow, loan}
 use Rattle.store_rules.specs.Outcomes.{Listed, listed, listOk}
-use Rattle.buddy_stores.specs.Tables.{Tables, liveIn}
-use Rattle.buddy_stores.specs.Sound.{Sound}
+use Rattle.buddy_rules.specs.Tables.{Tables, liveIn}
+use Rattle.buddy_rules.specs.Sound.{Sound}
 use Rattle.buddy_outcomes.specs.Gate.{gateOf}
 use Rattle.buddy_outcomes.specs.Return as Return
 use Rattle.buddy_outcomes.specs.Return.{wordFor, onLoanOk, climbFor, givenTables, releasedBy, decideReturn, planReturn, carryReturn, returnOf}

@@ -25,14 +25,14 @@ use Rattle.book_rules.specs.Book.{takenOf}
 use Rattle.buddy_trees.specs.Trees.{up}
 use Rattle.buddy_rules.specs.Nodes.{other, word}
 use Rattle.buddy_rules.specs.Levels.{baseOf}
-use Rattle.buddy_levels_rules.specs.Level.{spotIn, acquired}
-use Rattle.buddy_levels_rules.specs.Ringed.{Ringed, outOf, tailOf}
-use Rattle.buddy_levels_rules.proofs.Ringed.{ringed-one, out-of, part-ringed, ringed-part}
-use Rattle.buddy_stores.specs.Moves.{sideIn, Cut, splitDown, readyNode, climbed}
-use Rattle.buddy_stores.specs.Rings.{Rings, ringsLent, ringsBack}
-use Rattle.buddy_stores.specs.Sound.{Sound}
-use Rattle.buddy_stores.specs.Tables.{Tables, Lengths, givenAt, levelsAt, placesAt, givenIn, levelsIn, placesIn, levelFrom, pairsIn, nodesFrom, chunksFrom, loanIn}
-use Rattle.buddy_stores.proofs.Ringing.{ringsOf, sound-rings, lent-here, lent-new, lent-other, back-joins, back-here, back-below, loan-under, climbed-rings, lent-rings}
+use Rattle.buddy_rules.specs.Level.{spotIn, acquired}
+use Rattle.buddy_rules.specs.Ringed.{Ringed, outOf, tailOf}
+use Rattle.buddy_rules.proofs.Ringed.{ringed-one, out-of, part-ringed, ringed-part}
+use Rattle.buddy_rules.specs.Moves.{sideIn, Cut, splitDown, readyNode, climbed}
+use Rattle.buddy_rules.specs.Rings.{Rings, ringsLent, ringsBack}
+use Rattle.buddy_rules.specs.Sound.{Sound}
+use Rattle.buddy_rules.specs.Tables.{Tables, Lengths, givenAt, levelsAt, placesAt, givenIn, levelsIn, placesIn, levelFrom, pairsIn, nodesFrom, chunksFrom, loanIn}
+use Rattle.buddy_rules.proofs.Ringing.{ringsOf, sound-rings, lent-here, lent-new, lent-other, back-joins, back-here, back-below, loan-under, climbed-rings, lent-rings}
 use Rattle.buddy_outcomes.specs.Ask as Ask
 use Rattle.buddy_outcomes.specs.Ask.{Found, at, sizeFor, levelFor, foundFor, bookedTables, headEnt, takenTables, askOf}
 use Rattle.buddy_outcomes.specs.Return.{wordFor, onLoanOk, climbFor, vacatedTree, givenTables, returnOf}

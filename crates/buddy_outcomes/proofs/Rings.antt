@@ -16,11 +16,11 @@ use Rattle.slab.specs.declared.Slab.{Slab}
 use Rattle.buddy_trees.specs.Trees.{Tree, free, loan, split, Apart, Wf, bytes}
 use Rattle.buddy_rules.specs.Nodes.{Ent, Loan, L, R, nodeOf, place, isFree, tagOf, Inside, Rep}
 use Rattle.buddy_rules.proofs.Frames.{inside-cases}
-use Rattle.buddy_levels_rules.specs.Level.{usedAt, entOf}
-use Rattle.buddy_levels_rules.proofs.Cells.{pair-used}
-use Rattle.buddy_stores.specs.Tables.{Tables, placesIn, chunkPlacesIn, levelsIn, levelFrom, pairsIn, chunkSizeIn, loanIn, liveIn, heldIn, highIn, topIn, vacantLoan, vacantChunk}
-use Rattle.buddy_stores.specs.Sound.{Sound}
-use Rattle.buddy_stores.proofs.Stands.{Met, rep-met}
+use Rattle.buddy_rules.specs.Level.{usedAt, entOf}
+use Rattle.buddy_rules.proofs.Cells.{pair-used}
+use Rattle.buddy_rules.specs.Tables.{Tables, placesIn, chunkPlacesIn, levelsIn, levelFrom, pairsIn, chunkSizeIn, loanIn, liveIn, heldIn, highIn, topIn, vacantLoan, vacantChunk}
+use Rattle.buddy_rules.specs.Sound.{Sound}
+use Rattle.buddy_rules.proofs.Stands.{Met, rep-met}
 use Rattle.buddy_outcomes.proofs.Booked.{and-no}
 
 -- one of the pair's two nodes is free: its word is 0, the other's is not

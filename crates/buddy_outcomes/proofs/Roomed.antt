@@ -21,9 +21,9 @@ use Rattle.slab.proofs.Places.{insert-last}
 use Rattle.store_rules.proofs.Tested.{off-and, off-where, off-room}
 use Rattle.book_rules.specs.Book.{entryWords, vacantAfterAt, takenOf}
 use Rattle.buddy_rules.specs.Nodes.{Ent}
-use Rattle.buddy_levels_rules.specs.Level.{usedAt, offAt, pairWords, fieldAt, entOf, ringHead, slabIn, spotIn, vacantIn, noPair}
-use Rattle.buddy_stores.specs.Sound.{Sound}
-use Rattle.buddy_stores.specs.Tables.{Tables, Lengths, levelsIn, placesIn, chunkPlacesIn, levelFrom, pairsIn, liveIn, heldIn, placeAt, afterAt, placeWords, vacantChunk, chunkSlab, vacantLoan, loanSlab}
+use Rattle.buddy_rules.specs.Level.{usedAt, offAt, pairWords, fieldAt, entOf, ringHead, slabIn, spotIn, vacantIn, noPair}
+use Rattle.buddy_rules.specs.Sound.{Sound}
+use Rattle.buddy_rules.specs.Tables.{Tables, Lengths, levelsIn, placesIn, chunkPlacesIn, levelFrom, pairsIn, liveIn, heldIn, placeAt, afterAt, placeWords, vacantChunk, chunkSlab, vacantLoan, loanSlab}
 use Rattle.buddy_outcomes.specs.Ask as Ask
 use Rattle.buddy_outcomes.specs.Ask.{Found, at, needs, levelFor, foundFor, fromFor, sizeOk, pairRoom, pairsRoom, chunkSpot, roomOk}
 use Rattle.buddy_outcomes.specs.Gate.{heldCount}
@@ -32,7 +32,7 @@ use Rattle.engines.specs.Rows.{Full}
 use Rattle.buddy_outcomes.proofs.Searches.{search-none, search-at, room-each}
 use Rattle.buddy_outcomes.proofs.Fitted.{needs-when}
 use Rattle.buddy_outcomes.proofs.Counting.{loans-is, count-is}
-use Rattle.buddy_stores.specs.Views.{loansIn, chunksIn}
+use Rattle.buddy_rules.specs.Views.{loansIn, chunksIn}
 
 -- ---- places
 

@@ -22,7 +22,7 @@ use Rattle.counter.specs.Table.{alignmentOk}
 use Rattle.counter.specs.declared.settings.BuddySettings.{BuddySettings}
 use Rattle.counter.proofs.Tables.{alignment-yes}
 use Rattle.buddy_trees.specs.Trees.{bytes}
-use Rattle.buddy_stores.specs.Tables.{initialLevels}
+use Rattle.buddy_rules.specs.Tables.{initialLevels}
 use Rattle.buddy_outcomes.specs.Ask.{maskFor, sizeFor, levelFor, sizeOk}
 
 -- fewer digits than there is room for are all its digits

@@ -14,11 +14,11 @@ use Rattle.buddy_rules.specs.Levels.{Ops}
 use Rattle.buddy_rules.specs.Returns.{entries}
 use Rattle.buddy_rules.specs.Stores.{Store, Sound}
 use Rattle.buddy_rules.proofs.Frames.{frame}
-use Rattle.buddy_levels_rules.specs.Level.{freshLevel, part}
-use Rattle.buddy_levels_rules.proofs.Fresh.{fresh-length}
-use Rattle.buddy_levels_rules.proofs.Parts.{part-fresh}
-use Rattle.buddy_stores.specs.Tables.{levelFrom, chunksFrom}
-use Rattle.buddy_stores.proofs.Abstract.{levels-in}
+use Rattle.buddy_rules.specs.Level.{freshLevel, part}
+use Rattle.buddy_rules.proofs.Fresh.{fresh-length}
+use Rattle.buddy_rules.proofs.Parts.{part-fresh}
+use Rattle.buddy_rules.specs.Tables.{levelFrom, chunksFrom}
+use Rattle.buddy_rules.proofs.Abstract.{levels-in}
 use Rattle.buddy_outcomes.specs.Ask.{freshLevels}
 
 module _ (u : ℕ) (O : Ops) (some : 0 < u) where

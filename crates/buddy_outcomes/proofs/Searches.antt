@@ -11,8 +11,8 @@ use Rattle.lists.proofs.Bools.{told, true-false, and-left, and-right, or-cases,
 use Rattle.counter.specs.declared.settings.BuddySettings.{BuddySettings}
 use Rattle.slab.specs.Slab.{nowhere}
 use Rattle.book_rules.specs.Book.{takenOf}
-use Rattle.buddy_levels_rules.specs.Level.{ringHead, spotIn}
-use Rattle.buddy_stores.specs.Tables.{Tables, levelsIn, placesIn, levelFrom}
+use Rattle.buddy_rules.specs.Level.{ringHead, spotIn}
+use Rattle.buddy_rules.specs.Tables.{Tables, levelsIn, placesIn, levelFrom}
 use Rattle.buddy_outcomes.specs.Ask.{Found, at, needs, searchFrom, levelFor, fromFor, pairRoom, pairsRoom, chunkSpot, roomOk}
 use Rattle.buddy_outcomes.specs.Ask as Ask
 

@@ -10,8 +10,8 @@ use Rattle.store_rules.specs.Loans.{loan}
 use Rattle.store_rules.specs.Outcomes.{Out}
 use Rattle.store_rules.specs.declared.Loan.{Loan}
 use Rattle.store_rules.proofs.Amid.{Amid}
-use Rattle.buddy_stores.specs.Tables.{Tables}
-use Rattle.buddy_stores.specs.Views.{loansIn, chunksIn, viewOf}
+use Rattle.buddy_rules.specs.Tables.{Tables}
+use Rattle.buddy_rules.specs.Views.{loansIn, chunksIn, viewOf}
 use Rattle.buddy_outcomes.specs.Ask.{grownFor, takenTables, askOf}
 use Rattle.buddy_outcomes.proofs.Comes.{taken-amid}
 use Rattle.buddy_outcomes.proofs.Deliverable.{order-buying}

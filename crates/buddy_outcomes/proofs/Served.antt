@@ -22,15 +22,15 @@ use Rattle.buddy_rules.specs.Stores.{with, newLoan, delivered}
 use Rattle.buddy_rules.specs.Stores as Stores
 use Rattle.buddy_rules.proofs.Fitting.{up-add}
 use Rattle.buddy_rules.proofs.Made.{delivered-sound}
-use Rattle.buddy_levels_rules.specs.Level.{ringHead, spotIn, part}
-use Rattle.buddy_levels_rules.proofs.Ops.{levelOps}
-use Rattle.buddy_levels_rules.proofs.Parts.{part-good, part-spot}
-use Rattle.buddy_stores.specs.Tables.{Tables, Lengths, levelsIn, placesIn, memoryIn, levelFrom, chunksFrom, loanIn, liveIn, heldIn, highIn, topIn}
-use Rattle.buddy_stores.specs.Moves.{Cut, splitDown}
-use Rattle.buddy_stores.specs.Sound.{Sound}
-use Rattle.buddy_stores.proofs.Abstract.{storeOf, sound-store}
-use Rattle.buddy_stores.proofs.Splitting.{grown-in}
-use Rattle.buddy_stores.proofs.Walks.{minimal-pos}
+use Rattle.buddy_rules.specs.Level.{ringHead, spotIn, part}
+use Rattle.buddy_rules.proofs.Ops.{levelOps}
+use Rattle.buddy_rules.proofs.Parts.{part-good, part-spot}
+use Rattle.buddy_rules.specs.Tables.{Tables, Lengths, levelsIn, placesIn, memoryIn, levelFrom, chunksFrom, loanIn, liveIn, heldIn, highIn, topIn}
+use Rattle.buddy_rules.specs.Moves.{Cut, splitDown}
+use Rattle.buddy_rules.specs.Sound.{Sound}
+use Rattle.buddy_rules.proofs.Abstract.{storeOf, sound-store}
+use Rattle.buddy_rules.proofs.Splitting.{grown-in}
+use Rattle.buddy_rules.proofs.Walks.{minimal-pos}
 use Rattle.buddy_outcomes.specs.Ask.{sizeFor, levelFor, sizeOk, chunkSpot, bookedTables}
 use Rattle.buddy_outcomes.specs.Deliver.{chunkTables, servedTables}
 use Rattle.buddy_outcomes.proofs.Same.{sound-as}

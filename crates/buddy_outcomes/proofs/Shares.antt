@@ -23,8 +23,8 @@ use Rattle.store_rules.specs.Outcomes.{out, Listed, listed, listOk, releasedAcc
 use Rattle.store_rules.specs.Shares.{Alike, takenOver, overAsk, overOut, overListed}
 use Rattle.store_rules.specs.Tests.{orderFor, coversOk, gateRow}
 use Rattle.store_rules.proofs.Shares.{over-same, over-charged, over-lost, over-released}
-use Rattle.buddy_stores.specs.Tables.{Tables, lengthsOk, chunkPlacesIn, chunkSizeIn, memoryIn, memories}
-use Rattle.buddy_stores.specs.Test.{soundOk}
+use Rattle.buddy_rules.specs.Tables.{Tables, lengthsOk, chunkPlacesIn, chunkSizeIn, memoryIn, memories}
+use Rattle.buddy_rules.specs.Test.{soundOk}
 use Rattle.buddy_outcomes.specs.Gate.{heldCount, heldBytes, lentOk, accountOk, gateOf}
 use Rattle.buddy_outcomes.specs.Ask as Ask
 use Rattle.buddy_outcomes.specs.Ask.{decideAsk, planAsk, carryAsk, askOf}

@@ -19,9 +19,9 @@ use Rattle.counter.proofs.Gates.{passed, same-number}
 use Rattle.counter.proofs.Tables.{buddy-yes}
 use Rattle.store_rules.specs.Tests.{noOrder, gateRow}
 use Rattle.store_rules.proofs.Tested.{gate-low}
-use Rattle.buddy_stores.specs.Tables.{Tables, Lengths, lengthsOk}
-use Rattle.buddy_stores.specs.Sound.{Sound}
-use Rattle.buddy_stores.specs.Test.{soundOk}
+use Rattle.buddy_rules.specs.Tables.{Tables, Lengths, lengthsOk}
+use Rattle.buddy_rules.specs.Sound.{Sound}
+use Rattle.buddy_rules.specs.Test.{soundOk}
 use Rattle.buddy_outcomes.specs.Gate.{lentOk, accountOk, gateOf}
 use Rattle.buddy_outcomes.specs.Ask.{Found, nowhere, at, grownFor, foundFor, sizeOk, roomOk, countOk, objectsOk, askRow, planned, decideAsk, grownTables, deniedTables, carryAsk, gated, planAsk, askOf}
 use Rattle.buddy_outcomes.specs.SetUp.{fitOk, setUpOf}

@@ -28,15 +28,15 @@ use Rattle.buddy_rules.specs.Stores.{with, cutLoan, lent}
 use Rattle.buddy_rules.specs.Stores as Stores
 use Rattle.buddy_rules.proofs.Fitting.{up-add, lent-aligned}
 use Rattle.buddy_rules.proofs.Made.{lent-sound}
-use Rattle.buddy_levels_rules.specs.Level.{ringHead, spotIn, acquired, part}
-use Rattle.buddy_levels_rules.proofs.Ops.{levelOps}
-use Rattle.buddy_levels_rules.proofs.Parts.{part-head, part-spot}
-use Rattle.buddy_stores.specs.Tables.{Tables, Lengths, levelsIn, placesIn, levelFrom, loanCell, loanIn, liveIn, heldIn, highIn, topIn}
-use Rattle.buddy_stores.specs.Moves.{Cut, splitDown, readyNode}
-use Rattle.buddy_stores.specs.Sound.{Sound}
-use Rattle.buddy_stores.proofs.Abstract.{storeOf, sound-store}
-use Rattle.buddy_stores.proofs.Splitting.{head-is, lent-is}
-use Rattle.buddy_stores.proofs.Walks.{minimal-pos}
+use Rattle.buddy_rules.specs.Level.{ringHead, spotIn, acquired, part}
+use Rattle.buddy_rules.proofs.Ops.{levelOps}
+use Rattle.buddy_rules.proofs.Parts.{part-head, part-spot}
+use Rattle.buddy_rules.specs.Tables.{Tables, Lengths, levelsIn, placesIn, levelFrom, loanCell, loanIn, liveIn, heldIn, highIn, topIn}
+use Rattle.buddy_rules.specs.Moves.{Cut, splitDown, readyNode}
+use Rattle.buddy_rules.specs.Sound.{Sound}
+use Rattle.buddy_rules.proofs.Abstract.{storeOf, sound-store}
+use Rattle.buddy_rules.proofs.Splitting.{head-is, lent-is}
+use Rattle.buddy_rules.proofs.Walks.{minimal-pos}
 use Rattle.buddy_outcomes.specs.Ask.{at, sizeFor, levelFor, foundFor, sizeOk, roomOk, bookedTables, headEnt, takenTables}
 use Rattle.buddy_outcomes.proofs.Same.{sound-as}
 use Rattle.buddy_outcomes.proofs.Changed.{few-pairs}

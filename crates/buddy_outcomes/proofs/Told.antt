@@ -22,7 +22,7 @@ use Rattle.counter.specs.declared.answers.Block.{Block}
 use Rattle.counter.specs.declared.settings.BuddySettings.{BuddySettings}
 use Rattle.store_rules.specs.Orders.{orderFrom, keptFrom}
 use Rattle.store_rules.specs.Outcomes.{Listed, out, listOk, withOrder, blockSaid, releasedAccount}
-use Rattle.buddy_stores.specs.Tables.{Tables, chunkWords, chunkSizeAt, chunkPlacesIn, memoryIn, heldIn}
+use Rattle.buddy_rules.specs.Tables.{Tables, chunkWords, chunkSizeAt, chunkPlacesIn, memoryIn, heldIn}
 use Rattle.buddy_outcomes.specs.Gate.{gateOf}
 use Rattle.buddy_outcomes.specs.Ask as Ask
 use Rattle.buddy_outcomes.specs.Ask.{Found, nowhere, at, foundFor, grownFor, orderFor, sizeOk, roomOk, countOk, objectsOk, askRow, planned, decideAsk, loanFrom, takenTables, grownTables, deniedTables, carryAsk, planAsk, askOf}

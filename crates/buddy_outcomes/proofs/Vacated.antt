@@ -18,9 +18,9 @@ use Rattle.counter.specs.declared.settings.BuddySettings.{BuddySettings}
 use Rattle.slab.specs.Slab.{linkAt, removed, removedLinks, Parted, changed}
 use Rattle.slab.proofs.Places.{parted-same, removed-parted, vacant-set}
 use Rattle.buddy_rules.specs.Stores.{with}
-use Rattle.buddy_levels_rules.specs.Level.{levelWords, part}
-use Rattle.buddy_stores.specs.Tables.{Tables, tables, Lengths, chunkWords, memoryAt, chunkSizeAt, chunkPlacesIn, memoryIn, chunkSizeIn, chunksFrom, placeAt, topAt, afterAt, placeWords, heldIn, highIn, topIn, vacantChunk, chunkAfter, chunkSlab}
-use Rattle.buddy_stores.proofs.Abstract.{levels-in}
+use Rattle.buddy_rules.specs.Level.{levelWords, part}
+use Rattle.buddy_rules.specs.Tables.{Tables, tables, Lengths, chunkWords, memoryAt, chunkSizeAt, chunkPlacesIn, memoryIn, chunkSizeIn, chunksFrom, placeAt, topAt, afterAt, placeWords, heldIn, highIn, topIn, vacantChunk, chunkAfter, chunkSlab}
+use Rattle.buddy_rules.proofs.Abstract.{levels-in}
 use Rattle.buddy_outcomes.specs.Return.{vacatedTree}
 
 -- a word past a level is none of its

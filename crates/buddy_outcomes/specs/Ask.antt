@@ -27,9 +27,9 @@ use Rattle.book_rules.specs.Book.{takenOf, entered, enteredIndex}
 use Rattle.buddy_trees.specs.Trees.{bytes}
 use Rattle.buddy_rules.specs.Nodes.{Ent}
 use Rattle.buddy_rules.specs.Levels.{baseOf}
-use Rattle.buddy_levels_rules.specs.Level.{entOf, ringHead, spotIn, acquired, freshLevel}
-use Rattle.buddy_stores.specs.Tables.{Tables, tables, givenAt, levelsAt, placesAt, givenIn, levelsIn, placesIn, levelFrom, placeAt, afterAt, placeWords, nodesFrom, chunkSlab}
-use Rattle.buddy_stores.specs.Moves.{Cut, splitDown, readyNode}
+use Rattle.buddy_rules.specs.Level.{entOf, ringHead, spotIn, acquired, freshLevel}
+use Rattle.buddy_rules.specs.Tables.{Tables, tables, givenAt, levelsAt, placesAt, givenIn, levelsIn, placesIn, levelFrom, placeAt, afterAt, placeWords, nodesFrom, chunkSlab}
+use Rattle.buddy_rules.specs.Moves.{Cut, splitDown, readyNode}
 use Rattle.buddy_outcomes.specs.Gate.{gateOf}
 
 -- ---- what is looked for

@@ -23,10 +23,10 @@ use Rattle.store_rules.specs.Outcomes.{Out, out, chargedAccount, lostAccount, b
 use Rattle.store_rules.specs.Tests.{orderFor, gateRow}
 use Rattle.store_rules.specs.declared.Loan.{Loan}
 use Rattle.book_rules.specs.Book.{takenOf}
-use Rattle.buddy_levels_rules.specs.Level.{spotIn}
-use Rattle.buddy_stores.specs.Tables.{Tables, tables, chunkPlacesAt, chunkWords, memoryAt, chunkSizeAt, givenIn, levelsIn, placesIn, chunkPlacesIn, memories, levelFrom, chunksFrom, placeAt, topAt, placeWords}
-use Rattle.buddy_stores.specs.Moves.{splitDown}
-use Rattle.buddy_stores.specs.Test.{soundOk}
+use Rattle.buddy_rules.specs.Level.{spotIn}
+use Rattle.buddy_rules.specs.Tables.{Tables, tables, chunkPlacesAt, chunkWords, memoryAt, chunkSizeAt, givenIn, levelsIn, placesIn, chunkPlacesIn, memories, levelFrom, chunksFrom, placeAt, topAt, placeWords}
+use Rattle.buddy_rules.specs.Moves.{splitDown}
+use Rattle.buddy_rules.specs.Test.{soundOk}
 use Rattle.buddy_outcomes.specs.Gate.{lentOk, accountOk}
 use Rattle.buddy_outcomes.specs.Ask.{sizeFor, levelFor, grownFor, chunkSpot, grownTables, bookedTables, decideAsk}
 

@@ -7,8 +7,8 @@ use Rattle.counter.specs.Table.{buddyOk, heapsOk}
 use Rattle.counter.specs.declared.account.Account.{Account}
 use Rattle.counter.specs.declared.settings.BuddySettings.{BuddySettings}
 use Rattle.store_rules.specs.Tests.{noOrder, coversOk, gateRow}
-use Rattle.buddy_stores.specs.Tables.{Tables, lengthsOk, chunkPlacesIn, chunkSizeIn, heldIn}
-use Rattle.buddy_stores.specs.Test.{soundOk}
+use Rattle.buddy_rules.specs.Tables.{Tables, lengthsOk, chunkPlacesIn, chunkSizeIn, heldIn}
+use Rattle.buddy_rules.specs.Test.{soundOk}
 
 -- 1: every value, and every table's length
 unfoldable pub lentOk : BuddySettings → Account → Tables → Bool

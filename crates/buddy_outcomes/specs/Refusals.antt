@@ -13,10 +13,10 @@ use Rattle.counter.specs.declared.account.Account.{Account}
 use Rattle.counter.specs.declared.settings.BuddySettings.{BuddySettings}
 use Rattle.engines.specs.Words.{Words}
 use Rattle.buddy_trees.specs.Trees.{bytes}
-use Rattle.buddy_chunks.specs.Chunks.{Fitting}
-use Rattle.buddy_stores.specs.Sound.{Sound}
-use Rattle.buddy_stores.specs.Views.{viewOf}
-use Rattle.buddy_stores.specs.Tables.{Tables, Lengths, givenIn, levelsIn, liveIn, pairsIn}
+use Rattle.buddy_trees.specs.Chunks.{Fitting}
+use Rattle.buddy_rules.specs.Sound.{Sound}
+use Rattle.buddy_rules.specs.Views.{viewOf}
+use Rattle.buddy_rules.specs.Tables.{Tables, Lengths, givenIn, levelsIn, liveIn, pairsIn}
 use Rattle.buddy_outcomes.specs.Ask.{sizeFor, levelFor, orderFor}
 
 -- ---- 1

@@ -14,8 +14,8 @@ use Rattle.store_rules.specs.Outcomes.{Listed, listed, listOk, releasedAccount}
 use Rattle.book_rules.specs.Book.{struck, struckIndex}
 use Rattle.book_rules.specs.Returns as Returns
 pub use Rattle.book_rules.specs.Returns.{Plan, deny, back, decided, gated}
-use Rattle.buddy_stores.specs.Tables.{Tables, tables, givenIn, chunkWords, chunkSizeAt, levelsIn, placesIn, memoryIn, chunkSizeIn, chunksFrom, placeAt, afterAt, placeWords, nodesFrom}
-use Rattle.buddy_stores.specs.Moves.{Climbed, climbed}
+use Rattle.buddy_rules.specs.Tables.{Tables, tables, givenIn, chunkWords, chunkSizeAt, levelsIn, placesIn, memoryIn, chunkSizeIn, chunksFrom, placeAt, afterAt, placeWords, nodesFrom}
+use Rattle.buddy_rules.specs.Moves.{Climbed, climbed}
 use Rattle.buddy_outcomes.specs.Gate.{gateOf}
 
 -- the word of the index that leads to the loan with the block's serial, and the loan's place

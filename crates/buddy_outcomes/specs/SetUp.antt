@@ -9,7 +9,7 @@ use Rattle.counter.specs.Table.{buddyOk}
 use Rattle.counter.specs.declared.settings.BuddySettings.{BuddySettings}
 use Rattle.slab.specs.Slab.{nowhere}
 use Rattle.book_rules.specs.Book.{freshIndex}
-use Rattle.buddy_stores.specs.Tables.{Tables, tables, mark, lengthsOk, chunksFrom, initialLevels}
+use Rattle.buddy_rules.specs.Tables.{Tables, tables, mark, lengthsOk, chunksFrom, initialLevels}
 use Rattle.buddy_outcomes.specs.Ask.{freshLevels}
 
 pub record SetUp : Type 0 where

@@ -1,5 +1,14 @@
-pub mod Nodes
-pub mod Levels
-pub mod Returns
 pub mod Lends
+pub mod Level
+pub mod LevelTest
+pub mod Levels
+pub mod Moves
+pub mod Nodes
+pub mod Returns
+pub mod Ringed
+pub mod Rings
+pub mod Sound
 pub mod Stores
+pub mod Tables
+pub mod Test
+pub mod Views

@@ -15,10 +15,10 @@ use Rattle.lists.proofs.Members.{mem-left, mem-right, mem-cases, distinct-appen
 use Rattle.lists.proofs.Bools.{told, same?, same-test, lt-or-le, and-left}
 use Rattle.distinct.specs.Column.{column, columnFrom}
 use Rattle.distinct.proofs.Counts.{count-append, distinct-once, once-distinct}
-use Rattle.buddy_shape.specs.Seen.{read, looked}
-use Rattle.buddy_stores.specs.Tables.{Tables, heldIn, memoryIn, chunkSizeIn, memories}
-use Rattle.buddy_stores.specs.Test.{memoriesOk}
-use Rattle.buddy_stores.proofs.Decides.{Differ, memories-yes, memories-all}
+use Rattle.buddy_levels.specs.Seen.{read, looked}
+use Rattle.buddy_rules.specs.Tables.{Tables, heldIn, memoryIn, chunkSizeIn, memories}
+use Rattle.buddy_rules.specs.Test.{memoriesOk}
+use Rattle.buddy_rules.proofs.Decides.{Differ, memories-yes, memories-all}
 
 -- ---- one place more
 

@@ -18,11 +18,11 @@ use Rattle.slab.specs.Slab.{vacantAt, linkAt}
 use Rattle.slab.specs.Test.{partedOk}
 use Rattle.store_rules.specs.Loans.{loanWords, sizeAt, loanRow}
 use Rattle.store_rules.specs.declared.Loan.{Loan}
-use Rattle.buddy_levels_rules.specs.Level.{levelWords}
-use Rattle.buddy_levels_rules.specs.Test.{goodOk}
-use Rattle.buddy_shape.specs.Seen.{seen, looked}
-use Rattle.buddy_stores.specs.Tables.{mark, markAt, levelsAt, initialLevels, levelAfter, chunkWords, chunkSizeAt, placeWords, afterAt, vacantChunk, chunkAfter, chunkSlab}
-use Rattle.buddy_stores.specs.Test.{unitsOk}
+use Rattle.buddy_rules.specs.Level.{levelWords}
+use Rattle.buddy_rules.specs.LevelTest.{goodOk}
+use Rattle.buddy_levels.specs.Seen.{seen, looked}
+use Rattle.buddy_rules.specs.Tables.{mark, markAt, levelsAt, initialLevels, levelAfter, chunkWords, chunkSizeAt, placeWords, afterAt, vacantChunk, chunkAfter, chunkSlab}
+use Rattle.buddy_rules.specs.Test.{unitsOk}
 
 module _ (s : BuddySettings) where
   pub head-told : (head : List ℕ) (m l f : ℕ) → m ≡ getD head markAt 0 → l ≡ getD head levelsAt 0 → f ≡ initialLevels s

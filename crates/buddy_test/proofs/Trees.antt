@@ -6,11 +6,11 @@ use Prim.Native.Nat.{ℕ, _+_}
 use lib.ListN.{getD}
 use Rattle.lists.proofs.Bools.{not-yes, not-no}
 use Rattle.counter.specs.declared.settings.BuddySettings.{BuddySettings}
-use Rattle.buddy_levels_rules.specs.Level.{usedAt}
-use Rattle.buddy_shape.specs.Seen.{read, seen, looked}
-use Rattle.buddy_stores.specs.Tables.{Tables, levelsIn, placesIn, chunkPlacesIn, levelAfter}
-use Rattle.buddy_stores.specs.Test.{every, chunkOk, pairOk, loanOk, treesOk}
-use Rattle.buddy_stores.proofs.Tests.{every-same}
+use Rattle.buddy_rules.specs.Level.{usedAt}
+use Rattle.buddy_levels.specs.Seen.{read, seen, looked}
+use Rattle.buddy_rules.specs.Tables.{Tables, levelsIn, placesIn, chunkPlacesIn, levelAfter}
+use Rattle.buddy_rules.specs.Test.{every, chunkOk, pairOk, loanOk, treesOk}
+use Rattle.buddy_rules.proofs.Tests.{every-same}
 use Rattle.buddy_walk.proofs.Shows.{chunk-shows}
 use Rattle.buddy_looks.proofs.Shows.{pairs-shown, loans-shown}
 

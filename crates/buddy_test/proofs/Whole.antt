@@ -18,12 +18,12 @@ use Rattle.book_rules.specs.Book.{serialOf}
 use Rattle.book_rules.specs.Chains.{chainsOk}
 use Rattle.book_rules.specs.Kept.{keptOk}
 use Rattle.book_rules.proofs.Keeping.{kept-most}
-use Rattle.buddy_levels_rules.specs.Level.{usedAt}
-use Rattle.buddy_levels_rules.specs.Test.{goodOk}
-use Rattle.buddy_shape.specs.Seen.{read, seen, looked}
-use Rattle.buddy_stores.specs.Tables.{Tables, tables, mark, markAt, givenIn, levelsIn, placesIn, chunkPlacesIn, levelAfter, vacantLoan, loanAfter, loanSlab, chainStart, chainNext, vacantChunk, chunkAfter, chunkSlab, initialLevels}
-use Rattle.buddy_stores.specs.Test.{every, memoriesOk, treesOk, unitsOk, soundOk}
-use Rattle.buddy_stores.proofs.Tests.{every-yes}
+use Rattle.buddy_rules.specs.Level.{usedAt}
+use Rattle.buddy_rules.specs.LevelTest.{goodOk}
+use Rattle.buddy_levels.specs.Seen.{read, seen, looked}
+use Rattle.buddy_rules.specs.Tables.{Tables, tables, mark, markAt, givenIn, levelsIn, placesIn, chunkPlacesIn, levelAfter, vacantLoan, loanAfter, loanSlab, chainStart, chainNext, vacantChunk, chunkAfter, chunkSlab, initialLevels}
+use Rattle.buddy_rules.specs.Test.{every, memoriesOk, treesOk, unitsOk, soundOk}
+use Rattle.buddy_rules.proofs.Tests.{every-yes}
 use Rattle.buddy_test.proofs.Trees.{trees-shown}
 
 -- ten tests from the left, as a group of three, one of two, and five

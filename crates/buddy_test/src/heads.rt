@@ -8,17 +8,17 @@ ghost use lib.ListN.{getD};
 ghost use Rattle.counter.specs.InTable.{BuddyIn};
 ghost use Rattle.counter.specs.Limits.{levelsMost, pairsMost, loansMost};
 ghost use Rattle.slab.specs.Test.{partedOk};
-ghost use Rattle.buddy_levels_rules.specs.Test.{goodOk};
-ghost use Rattle.buddy_stores.specs.Tables.{mark, markAt, levelsAt, initialLevels, levelAfter, vacantChunk, chunkAfter, chunkSlab};
-ghost use Rattle.buddy_stores.specs.Test.{every, unitsOk};
-ghost use Rattle.buddy_shape.specs.Seen.{seen, looked};
-use buddy_stores::AFTER_AT;
-use buddy_stores::CHUNK_SIZE_AT;
-use buddy_stores::CHUNK_WORDS;
-use buddy_stores::LEVELS_AT;
-use buddy_stores::MARK;
-use buddy_stores::MARK_AT;
-use buddy_stores::PLACE_WORDS;
+ghost use Rattle.buddy_rules.specs.LevelTest.{goodOk};
+ghost use Rattle.buddy_rules.specs.Tables.{mark, markAt, levelsAt, initialLevels, levelAfter, vacantChunk, chunkAfter, chunkSlab};
+ghost use Rattle.buddy_rules.specs.Test.{every, unitsOk};
+ghost use Rattle.buddy_levels.specs.Seen.{seen, looked};
+use buddy_rules::AFTER_AT;
+use buddy_rules::CHUNK_SIZE_AT;
+use buddy_rules::CHUNK_WORDS;
+use buddy_rules::LEVELS_AT;
+use buddy_rules::MARK;
+use buddy_rules::MARK_AT;
+use buddy_rules::PLACE_WORDS;
 use counter::BuddySettings;
 use counter::LEVELS_MOST;
 use slab::Slab;
@@ -40,7 +40,7 @@ pub fn are_places(s: BuddySettings, n: u64, chunks: &[u64], tree: &[u64]) -> boo
     ensures { λ r. ⌜ r ≡ partedOk (vacantChunk (looked 0 n (now (chunks .entry)) (now (tree .entry)))) (chunkAfter s (looked 0 n (now (chunks .entry)) (now (tree .entry)))) (chunkSlab s (looked 0 n (now (chunks .entry)) (now (tree .entry)))) (s .store .chunks) ⌝ }
 {
     let own = s.store;
-    let at = buddy_shape::chunks_from(s.pairs);
+    let at = buddy_levels::chunks_from(s.pairs);
     let places = Slab {
         places: n,
         vacant: words::word(tree, at),
@@ -67,7 +67,7 @@ pub fn are_good(pairs: usize, levels: u64, tree: &[u64]) -> bool
     while l < levels {
         if !buddy_levels::is_good(
             tree,
-            buddy_shape::level_from(pairs, l as usize),
+            buddy_levels::level_from(pairs, l as usize),
             pairs as u64,
         ) {
             return false;

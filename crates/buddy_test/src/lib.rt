@@ -7,14 +7,14 @@ ghost use Rattle.counter.specs.InTable.{BuddyIn};
 ghost use Rattle.counter.specs.Limits.{levelsMost, loansMost, chunksMost};
 ghost use Prim.Native.Nat.{_+_, _≤_, _<_};
 ghost use lib.ListN.{getD};
-ghost use Rattle.buddy_levels_rules.specs.Level.{usedAt};
-ghost use Rattle.buddy_stores.specs.Tables.{tables, levelAfter};
-ghost use Rattle.buddy_stores.specs.Test.{treesOk, soundOk};
-ghost use Rattle.buddy_shape.specs.Seen.{seen};
-use buddy_stores::CHUNK_PLACES_AT;
-use buddy_stores::GIVEN_AT;
-use buddy_stores::LEVELS_AT;
-use buddy_stores::PLACES_AT;
+ghost use Rattle.buddy_rules.specs.Level.{usedAt};
+ghost use Rattle.buddy_rules.specs.Tables.{tables, levelAfter};
+ghost use Rattle.buddy_rules.specs.Test.{treesOk, soundOk};
+ghost use Rattle.buddy_levels.specs.Seen.{seen};
+use buddy_rules::CHUNK_PLACES_AT;
+use buddy_rules::GIVEN_AT;
+use buddy_rules::LEVELS_AT;
+use buddy_rules::PLACES_AT;
 use counter::BuddySettings;
 
 // Whether every chunk, pair and loan stands where the others say.

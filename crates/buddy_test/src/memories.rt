@@ -4,12 +4,12 @@ ghost use mathlib.Core.List.{[]};
 ghost use Prim.Native.Nat.{_≤_};
 ghost use lib.ListN.{length, take};
 ghost use Rattle.counter.specs.Limits.{chunksMost};
-ghost use Rattle.buddy_shape.specs.Seen.{read, looked};
-ghost use Rattle.buddy_stores.specs.Tables.{memories};
-ghost use Rattle.buddy_stores.specs.Test.{memoriesOk};
-use buddy_stores::CHUNK_SIZE_AT;
-use buddy_stores::CHUNK_WORDS;
-use buddy_stores::MEMORY_AT;
+ghost use Rattle.buddy_levels.specs.Seen.{read, looked};
+ghost use Rattle.buddy_rules.specs.Tables.{memories};
+ghost use Rattle.buddy_rules.specs.Test.{memoriesOk};
+use buddy_rules::CHUNK_SIZE_AT;
+use buddy_rules::CHUNK_WORDS;
+use buddy_rules::MEMORY_AT;
 use counter::CHUNKS_MOST;
 
 // The memory numbers of the chunks in the first n places, at the front of `found`. Answers how many.

@@ -1,7 +1,13 @@
 -- What follows from the definitions of trees.
 pub mod Bytes
-pub mod Fills
 pub mod Canon
-pub mod Prunes
+pub mod Canonical
+pub mod Ending
+pub mod Filling
+pub mod Fills
+pub mod Onces
+pub mod Pieces
 pub mod Plants
+pub mod Prunes
 pub mod Rooms
+pub mod Serving

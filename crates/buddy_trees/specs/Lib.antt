@@ -1,1 +1,2 @@
+pub mod Chunks
 pub mod Trees

@@ -15,10 +15,10 @@ use Rattle.store_rules.specs.declared.Loan.{Loan}
 use Rattle.buddy_trees.specs.Trees.{bytes}
 use Rattle.buddy_trees.proofs.Bytes.{bytes-suc}
 use Rattle.buddy_rules.specs.Nodes.{Ent, L, R, nodeOf, tagOf, place}
-use Rattle.buddy_levels_rules.specs.Level.{pairIn}
-use Rattle.buddy_shape.specs.Seen.{read, walked}
-use Rattle.buddy_stores.specs.Tables.{Tables, placesIn, levelFrom, nodesFrom, loanCell}
-use Rattle.buddy_stores.specs.Test.{leafOk, entryOk, nodeOk}
+use Rattle.buddy_rules.specs.Level.{pairIn}
+use Rattle.buddy_levels.specs.Seen.{read, walked}
+use Rattle.buddy_rules.specs.Tables.{Tables, placesIn, levelFrom, nodesFrom, loanCell}
+use Rattle.buddy_rules.specs.Test.{leafOk, entryOk, nodeOk}
 use Rattle.buddy_walk.specs.Walks.{halvesOk}
 use Rattle.buddy_walk.proofs.Shows.{entry-shows}
 

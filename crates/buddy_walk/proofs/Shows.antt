@@ -7,9 +7,9 @@ use borrow.Author.Tests.{lt-ltb}
 use Rattle.counter.specs.declared.settings.BuddySettings.{BuddySettings}
 use Rattle.buddy_trees.specs.Trees.{bytes}
 use Rattle.buddy_rules.specs.Nodes.{Ent, L, R, nodeOf, place}
-use Rattle.buddy_shape.specs.Seen.{read, seen, walked}
-use Rattle.buddy_stores.specs.Tables.{Tables, levelsIn, placesIn, chunkPlacesIn, pairsIn}
-use Rattle.buddy_stores.specs.Test.{leafOk, entryOk, nodeOk, chunkOk}
+use Rattle.buddy_levels.specs.Seen.{read, seen, walked}
+use Rattle.buddy_rules.specs.Tables.{Tables, levelsIn, placesIn, chunkPlacesIn, pairsIn}
+use Rattle.buddy_rules.specs.Test.{leafOk, entryOk, nodeOk, chunkOk}
 
 module _ (s : BuddySettings) (t : Tables) where
   abbrev numbers : BuddySettings

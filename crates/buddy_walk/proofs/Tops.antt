@@ -16,9 +16,9 @@ use Rattle.counter.specs.Limits.{levelsMost, loansMost}
 use Rattle.counter.specs.declared.settings.BuddySettings.{BuddySettings}
 use Rattle.slab.specs.Slab.{nowhere}
 use Rattle.buddy_trees.specs.Trees.{bytes}
-use Rattle.buddy_shape.specs.Seen.{read, walked}
-use Rattle.buddy_stores.specs.Tables.{Tables, placeWords, chunksFrom, placesIn, levelsIn, chunkPlacesIn, chunkSizeIn, heldIn, highIn, topIn, initialLevels}
-use Rattle.buddy_stores.specs.Test.{nodeOk, chunkOk}
+use Rattle.buddy_levels.specs.Seen.{read, walked}
+use Rattle.buddy_rules.specs.Tables.{Tables, placeWords, chunksFrom, placesIn, levelsIn, chunkPlacesIn, chunkSizeIn, heldIn, highIn, topIn, initialLevels}
+use Rattle.buddy_rules.specs.Test.{nodeOk, chunkOk}
 use Rattle.buddy_walk.specs.Walks.{Small}
 use Rattle.buddy_walk.proofs.Shows.{node-shows}
 

@@ -5,8 +5,8 @@ use Rattle.counter.specs.Limits.{pairsMost, loansMost, chunksMost, minimalBits}
 use Rattle.counter.specs.declared.settings.BuddySettings.{BuddySettings}
 use Rattle.buddy_trees.specs.Trees.{bytes}
 use Rattle.buddy_rules.specs.Nodes.{L, R, nodeOf}
-use Rattle.buddy_stores.specs.Tables.{Tables, pairsIn}
-use Rattle.buddy_stores.specs.Test.{entryOk, nodeOk}
+use Rattle.buddy_rules.specs.Tables.{Tables, pairsIn}
+use Rattle.buddy_rules.specs.Test.{entryOk, nodeOk}
 
 -- the pair p that node n of level l + 1 is split into: its entry and its two halves
 abbrev pub halvesOk : BuddySettings → Tables → ℕ → ℕ → ℕ → ℕ → ℕ → Bool

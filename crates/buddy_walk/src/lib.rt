@@ -5,11 +5,11 @@ ghost use mathlib.Core.Path.{_≡_};
 ghost use Prim.Native.Nat.{_+_, _≤_, _<_};
 ghost use Rattle.counter.specs.InTable.{BuddyIn};
 ghost use Rattle.counter.specs.Limits.{levelsMost, loansMost, chunksMost};
-ghost use Rattle.buddy_shape.specs.Seen.{seen};
-ghost use Rattle.buddy_stores.specs.Test.{every, chunkOk};
-use buddy_stores::CHUNK_SIZE_AT;
-use buddy_stores::CHUNK_WORDS;
-use buddy_stores::PLACE_WORDS;
+ghost use Rattle.buddy_levels.specs.Seen.{seen};
+ghost use Rattle.buddy_rules.specs.Test.{every, chunkOk};
+use buddy_rules::CHUNK_SIZE_AT;
+use buddy_rules::CHUNK_WORDS;
+use buddy_rules::PLACE_WORDS;
 use counter::BuddySettings;
 use slab::NOWHERE;
 
@@ -38,11 +38,11 @@ fn is_chunk(
     }
     let top = words::cell(
         tree,
-        buddy_shape::chunks_from(s.pairs) + 1,
+        buddy_levels::chunks_from(s.pairs) + 1,
         PLACE_WORDS,
         c as usize,
     );
-    if (size != buddy_shape::node_bytes(s.minimal, high)) | (top == 0) {
+    if (size != buddy_levels::node_bytes(s.minimal, high)) | (top == 0) {
         return false;
     }
     let own = s.store;

@@ -7,8 +7,8 @@ ghost use Rattle.counter.specs.Limits.{levelsMost};
 ghost use Rattle.buddy_trees.specs.Trees.{bytes};
 ghost use Rattle.buddy_rules.specs.Nodes.{tagOf};
 ghost use Rattle.buddy_levels.specs.Pairs.{entFrom};
-ghost use Rattle.buddy_stores.specs.Test.{leafOk, entryOk, nodeOk};
-ghost use Rattle.buddy_shape.specs.Seen.{read, walked};
+ghost use Rattle.buddy_rules.specs.Test.{leafOk, entryOk, nodeOk};
+ghost use Rattle.buddy_levels.specs.Seen.{read, walked};
 ghost use Rattle.buddy_walk.specs.Walks.{Small, halvesOk};
 use buddy_levels::Pair;
 
@@ -33,8 +33,8 @@ fn is_leaf(
         return false;
     }
     let l = book::loan_at(loans, place as usize);
-    let at = buddy_shape::nodes_from(pairs, chunks) + place as usize;
-    let size = buddy_shape::node_bytes(minimal, level);
+    let at = buddy_levels::nodes_from(pairs, chunks) + place as usize;
+    let size = buddy_levels::node_bytes(minimal, level);
     let stands = (l.chunk == chunk) & ((l.offset == offset) & (l.size == size));
     (l.size != 0) & (stands & (words::word(tree, at) == node))
 }
@@ -129,7 +129,7 @@ fn is_pair(
     requires { ⌜ Small minimal pairs chunks places × (level < levelsMost) × (offset + 2 * bytes minimal level ≤ bytes minimal levelsMost) × (p < 2 ^ 63) ⌝ }
     ensures { λ r. ⌜ r ≡ halvesOk (read minimal pairs chunks) (walked places (now (loans .entry)) (now (tree .entry))) level chunk offset node p ⌝ }
 {
-    let base = buddy_shape::level_from(pairs, level as usize);
+    let base = buddy_levels::level_from(pairs, level as usize);
     let e = buddy_levels::pair_in(tree, base, p);
     if !is_entry(e, chunk, offset, node) {
         return false;
@@ -150,7 +150,7 @@ fn is_pair(
     ) {
         return false;
     }
-    let right = offset + buddy_shape::node_bytes(minimal, level);
+    let right = offset + buddy_levels::node_bytes(minimal, level);
     is_node(
         minimal,
         pairs,

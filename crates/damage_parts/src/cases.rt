@@ -80,7 +80,7 @@ pub fn large(settings: Settings, image: &[u64]) -> u64 {
     match settings {
         Settings::FreeList(_) => words::word(image, freelist_rules::CHUNK_SIZE_AT),
         Settings::Buddy(s) => {
-            let levels = words::word(image, buddy_stores::LEVELS_AT);
+            let levels = words::word(image, buddy_rules::LEVELS_AT);
             if levels < 64 { s.minimal << levels } else { 0 }
         }
     }

@@ -7,7 +7,7 @@ ghost use Rattle.words.specs.Words.{atMost};
 use buddy_levels::HEADER_WORDS;
 use buddy_levels::PAIR_WORDS;
 use buddy_levels::USED_AT;
-use buddy_stores::LEVELS_AT;
+use buddy_rules::LEVELS_AT;
 use counter::Block;
 use counter::BuddySettings;
 use counter::LEVELS_MOST;
@@ -239,7 +239,7 @@ fn block_at(image: &[u64], place: usize) -> Block {
 fn places(settings: Settings, image: &[u64]) -> u64 {
     match settings {
         Settings::FreeList(_) => words::word(image, freelist_rules::PLACES_AT),
-        Settings::Buddy(_) => words::word(image, buddy_stores::PLACES_AT),
+        Settings::Buddy(_) => words::word(image, buddy_rules::PLACES_AT),
     }
 }
 

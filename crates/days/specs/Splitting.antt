@@ -23,12 +23,12 @@ use Rattle.store_rules.specs.Tests.{coversOk}
 use Rattle.book_rules.specs.Book.{firstIn, freshIndex, entered, firstBefore, enteredIndex, seekIn, wordTo, struck, struckIndex}
 use Rattle.book_rules.specs.Chains.{chainsOk, leftOf, leftAfter, linkOk}
 use Rattle.buddy_trees.specs.Trees.{bytes}
-use Rattle.buddy_levels_rules.specs.Level.{dropped, backed, acquired, added, freshLevel}
-use Rattle.buddy_levels_rules.specs.Level as Level
-use Rattle.buddy_levels_rules.specs.Test.{along, goodOk}
-use Rattle.buddy_stores.specs.Tables.{Tables, tables, lengthsOk, treeWords, memories}
-use Rattle.buddy_stores.specs.Test.{leafOk, entryOk, nodeOk, chunkOk, leadsOk, pairOk, loanOk, treesOk, memoriesOk, unitsOk, soundOk}
-use Rattle.buddy_stores.specs.Moves.{climbed, worded, splitDown}
+use Rattle.buddy_rules.specs.Level.{dropped, backed, acquired, added, freshLevel}
+use Rattle.buddy_rules.specs.Level as Level
+use Rattle.buddy_rules.specs.LevelTest.{along, goodOk}
+use Rattle.buddy_rules.specs.Tables.{Tables, tables, lengthsOk, treeWords, memories}
+use Rattle.buddy_rules.specs.Test.{leafOk, entryOk, nodeOk, chunkOk, leadsOk, pairOk, loanOk, treesOk, memoriesOk, unitsOk, soundOk}
+use Rattle.buddy_rules.specs.Moves.{climbed, worded, splitDown}
 use Rattle.buddy_outcomes.specs.Gate.{lentOk, heldCount, heldBytes, accountOk, gateOf}
 use Rattle.buddy_outcomes.specs.Ask.{sizeFor, levelFor, searchFrom, foundFor, sizeOk, pairsRoom, roomOk, countOk, objectsOk, decideAsk, freshLevels, grownTables, bookedTables, takenTables, deniedTables, carryAsk, planAsk, askOf}
 use Rattle.buddy_outcomes.specs.Deliver.{deliverGateOf, chunkTables, servedTables, carryFate, planDeliver, carryDeliver, deliverOf}

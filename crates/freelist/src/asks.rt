@@ -23,6 +23,6 @@ pub fn ask(
 {
     let own = s.store;
     let h = store_accounts::share_of(own, a);
-    let answer = freelist_calls::ask(s, h, size, mask, head, loans, chunks, regions, index);
+    let answer = crate::calls::ask(s, h, size, mask, head, loans, chunks, regions, index);
     store::asked(a, size, mask, answer)
 }

@@ -24,6 +24,6 @@ pub fn deliver(
     let own = s.store;
     let h = store_accounts::share_of(own, a);
     let order = a.order;
-    let r = freelist_calls::deliver(s, h, order, o, head, loans, chunks, regions, index);
+    let r = crate::calls::deliver(s, h, order, o, head, loans, chunks, regions, index);
     store::delivered(own, a, r)
 }

@@ -25,7 +25,7 @@ pub fn return_block(
 {
     let own = s.store;
     let h = store_accounts::share_of(own, a);
-    let r = freelist_calls::return_block(s, h, b, head, loans, chunks, regions, index, list);
+    let r = crate::calls::return_block(s, h, b, head, loans, chunks, regions, index, list);
     store::released(own, a, r)
 }
 
@@ -44,6 +44,6 @@ pub fn clean_up(
 {
     let own = s.store;
     let h = store_accounts::share_of(own, a);
-    let r = freelist_calls::clean_up(s, h, head, loans, chunks, regions, index, list);
+    let r = crate::calls::clean_up(s, h, head, loans, chunks, regions, index, list);
     store::released(own, a, r)
 }

@@ -22,8 +22,8 @@ use Rattle.engines.proofs.AnyOrder as Of
 use Rattle.freelist_rules.specs.AtOnce as FreeList
 use Rattle.freelist_rules.specs.Tables.{storeOf}
 use Rattle.freelist_engine.specs.Shape.{asList, seen, countsOf, listShape}
-use Rattle.buddy_chunks.specs.Chunks as Buddy
-use Rattle.buddy_stores.specs.Views.{viewOf}
+use Rattle.buddy_trees.specs.Chunks as Buddy
+use Rattle.buddy_rules.specs.Views.{viewOf}
 use Rattle.buddy_engine.specs.Shape.{asBuddy, buddyShape}
 use Rattle.histories.proofs.Both.{both}
 

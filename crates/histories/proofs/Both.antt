@@ -6,7 +6,7 @@ use Rattle.engines.specs.Engines.{Engine}
 use Rattle.engines.specs.Histories.{Visit}
 use Rattle.freelist_rules.specs.Tables as FreeList
 use Rattle.freelist_engine.proofs.Engine.{freeList}
-use Rattle.buddy_stores.specs.Tables as Buddy
+use Rattle.buddy_rules.specs.Tables as Buddy
 use Rattle.buddy_engine.proofs.Engine.{buddy}
 
 abbrev pub both : Kind.Engine → Engine

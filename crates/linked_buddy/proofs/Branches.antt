@@ -15,7 +15,7 @@ use Rattle.store_rules.specs.Outcomes.{out, listed}
 use Rattle.store_rules.specs.Shares.{shareOf, withShare, holding, holder, askLeft}
 use Rattle.store_rules.specs.declared.Share.{Share}
 use Rattle.store.proofs.Wholes.{whole-ask, whole-deliver, whole-listed}
-use Rattle.buddy_stores.specs.Tables.{Tables}
+use Rattle.buddy_rules.specs.Tables.{Tables}
 use Rattle.buddy_outcomes.specs.Ask.{askOf}
 use Rattle.buddy_outcomes.specs.Deliver.{deliverOf}
 use Rattle.buddy_outcomes.specs.Return.{returnOf}

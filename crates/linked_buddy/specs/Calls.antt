@@ -5,7 +5,7 @@ use Prim.Native.Nat.{ℕ}
 use Rattle.counter.specs.Paper as Paper
 use Rattle.counter.specs.declared.answers.Block.{Block}
 use Rattle.store_rules.specs.Outcomes.{Out, Listed}
-use Rattle.buddy_stores.specs.Tables.{Tables}
+use Rattle.buddy_rules.specs.Tables.{Tables}
 use Rattle.buddy_outcomes.specs.Ask.{askOf}
 use Rattle.buddy_outcomes.specs.Deliver.{deliverOf}
 use Rattle.buddy_outcomes.specs.Return.{returnOf}

@@ -1,7 +1,7 @@
 // A buddy's calls for programs in other languages: numbers and slices of words alone. specs/Calls says what each leaves.
 // The heaps are walked before the settings are read, so that those are not kept over the walk.
 ghost use mathlib.Core.Path.{_≡_};
-ghost use Rattle.buddy_stores.specs.Tables.{tables};
+ghost use Rattle.buddy_rules.specs.Tables.{tables};
 ghost use Rattle.wire_rules.specs.Wire.{saidOut};
 ghost use Rattle.linked_buddy.specs.Calls.{listing, linkedSetUp, linkedAsk, linkedDeliver, linkedReturn};
 use counter::Block;
@@ -51,7 +51,7 @@ pub extern "C" fn tibrezkam_buddy_ask(
         let s = wire::read_buddy(settings);
         let own = s.store;
         let h = wire_account::read_share(account, own, table);
-        let said = buddy_calls::ask(s, h, size, mask, head, loans, chunks, index, tree);
+        let said = buddy::calls::ask(s, h, size, mask, head, loans, chunks, index, tree);
         wire_account::put_asked(account, size, mask, said);
         wire::tell_asked(answer, said);
     } else {
@@ -87,7 +87,7 @@ pub extern "C" fn tibrezkam_buddy_deliver(
         let h = wire_account::read_share(account, own, table);
         let o = wire::read_outcome(what, memory, mapping);
         let order = wire_account::read_order(account);
-        let r = buddy_calls::deliver(s, h, order, o, head, loans, chunks, index, tree);
+        let r = buddy::calls::deliver(s, h, order, o, head, loans, chunks, index, tree);
         let after = r.share;
         let open = r.order;
         let said = r.answer;
@@ -130,7 +130,7 @@ pub extern "C" fn tibrezkam_buddy_return(
             offset: offset,
             size: size,
         };
-        let r = buddy_calls::return_block(s, h, b, head, loans, chunks, index, tree, list);
+        let r = buddy::calls::return_block(s, h, b, head, loans, chunks, index, tree, list);
         let after = r.share;
         let said = r.answer;
         wire_account::put_share(account, own, after);

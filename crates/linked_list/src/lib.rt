@@ -51,7 +51,7 @@ pub extern "C" fn tibrezkam_list_ask(
         let s = wire::read_free_list(settings);
         let own = s.store;
         let h = wire_account::read_share(account, own, table);
-        let said = freelist_calls::ask(s, h, size, mask, head, loans, chunks, regions, index);
+        let said = freelist::calls::ask(s, h, size, mask, head, loans, chunks, regions, index);
         wire_account::put_asked(account, size, mask, said);
         wire::tell_asked(answer, said);
     } else {
@@ -87,7 +87,7 @@ pub extern "C" fn tibrezkam_list_deliver(
         let h = wire_account::read_share(account, own, table);
         let o = wire::read_outcome(what, memory, mapping);
         let order = wire_account::read_order(account);
-        let r = freelist_calls::deliver(s, h, order, o, head, loans, chunks, regions, index);
+        let r = freelist::calls::deliver(s, h, order, o, head, loans, chunks, regions, index);
         let after = r.share;
         let open = r.order;
         let said = r.answer;
@@ -130,7 +130,7 @@ pub extern "C" fn tibrezkam_list_return(
             offset: offset,
             size: size,
         };
-        let r = freelist_calls::return_block(s, h, b, head, loans, chunks, regions, index, list);
+        let r = freelist::calls::return_block(s, h, b, head, loans, chunks, regions, index, list);
         let after = r.share;
         wire_account::put_share(account, own, after);
         let said = r.answer;
@@ -161,7 +161,7 @@ pub extern "C" fn tibrezkam_list_clean_up(
         let s = wire::read_free_list(settings);
         let own = s.store;
         let h = wire_account::read_share(account, own, table);
-        let r = freelist_calls::clean_up(s, h, head, loans, chunks, regions, index, list);
+        let r = freelist::calls::clean_up(s, h, head, loans, chunks, regions, index, list);
         let after = r.share;
         wire_account::put_share(account, own, after);
         let said = r.answer;

@@ -81,11 +81,11 @@ fn buddy_lengths(loans: usize, chunks: usize, pairs: usize) -> Lengths
     ensures { λ r. ⌜ r .own ≤ 256 * (1 + pairs) + 3 * (loans + chunks) + 1 ⌝ }
 {
     Lengths {
-        head: buddy_stores::HEAD_WORDS,
+        head: buddy_rules::HEAD_WORDS,
         loans: store_rules::LOAN_WORDS * loans,
-        chunks: buddy_stores::CHUNK_WORDS * chunks,
+        chunks: buddy_rules::CHUNK_WORDS * chunks,
         index: 1 + book::ENTRY_WORDS * loans,
-        own: buddy_shape::nodes_from(pairs, chunks) + loans,
+        own: buddy_levels::nodes_from(pairs, chunks) + loans,
     }
 }
 

@@ -3,8 +3,8 @@ use mathlib.Core.Bool.{true}
 use Prim.Native.Nat.{_-_, _≤_}
 use native.Mathlib.Omega.{arith}
 use borrow.Author.Needs.{needs}
-use Rattle.buddy_stores.specs.Test.{every, loanOk}
-use Rattle.buddy_shape.specs.Seen.{read, seen}
+use Rattle.buddy_rules.specs.Test.{every, loanOk}
+use Rattle.buddy_levels.specs.Seen.{read, seen}
 use Rattle.buddy_looks.proofs.Looks.{look-stops, look-goes, lent-same}
 use Rattle.buddy_looks.proofs.are_lent.Statement.{statement}
 use Rattle.buddy_looks.proofs.are_lent.Tie as tie

@@ -3,7 +3,7 @@ use mathlib.Core.Bool.{true}
 use Prim.Native.Nat.{_-_, _≤_}
 use native.Mathlib.Omega.{arith}
 use borrow.Author.Needs.{needs}
-use Rattle.buddy_stores.specs.Test.{every}
+use Rattle.buddy_rules.specs.Test.{every}
 use Rattle.buddy_looks.proofs.Looks.{look-stops, look-goes, levelLed, used-is, level-led}
 use Rattle.buddy_looks.proofs.are_pairs.Statement.{statement}
 use Rattle.buddy_looks.proofs.are_pairs.Tie as tie

@@ -3,7 +3,7 @@ use Prim.Native.Nat.{_+_, _≤_}
 use native.Mathlib.Omega.{arith}
 use lib.ListN.{length}
 use Rattle.counter.specs.Limits.{levelsMost}
-use Rattle.buddy_stores.specs.Moves.{Climbed, climbed}
+use Rattle.buddy_rules.specs.Moves.{Climbed, climbed}
 use Rattle.buddy_moves.proofs.Moved.{goes-on, climb-done, climb-on, climb-stays}
 use borrow.Author.Needs.{needs}
 use Rattle.buddy_moves.proofs.climb.Statement.{statement}

@@ -3,7 +3,7 @@ use Prim.Native.Nat.{_+_, _≤_}
 use native.Mathlib.Omega.{arith}
 use lib.ListN.{length}
 use Rattle.counter.specs.Limits.{levelsMost}
-use Rattle.buddy_stores.specs.Moves.{Cut, splitDown}
+use Rattle.buddy_rules.specs.Moves.{Cut, splitDown}
 use Rattle.buddy_moves.specs.Roomy.{Roomy}
 use Rattle.buddy_moves.proofs.Moved.{roomy-place, split-roomy, split-on, split-done}
 use borrow.Author.Needs.{needs}

@@ -4,9 +4,9 @@ use mathlib.Core.Bool.{true, false}
 use Prim.Native.Nat.{_+_, _-_, _≤_}
 use native.Mathlib.Omega.{arith}
 use Rattle.lists.proofs.Bools.{not-yes, not-no}
-use Rattle.buddy_shape.specs.Seen.{seen}
-use Rattle.buddy_stores.specs.Test.{every, chunkOk}
-use Rattle.buddy_stores.proofs.Tests.{every-stop, every-next}
+use Rattle.buddy_levels.specs.Seen.{seen}
+use Rattle.buddy_rules.specs.Test.{every, chunkOk}
+use Rattle.buddy_rules.proofs.Tests.{every-stop, every-next}
 use Rattle.buddy_walk.proofs.Shows.{chunk-told}
 use Rattle.buddy_walk.proofs.are_chunks.Statement.{statement}
 use Rattle.buddy_walk.proofs.are_chunks.Tie as tie

@@ -4,7 +4,7 @@ use native.Mathlib.Omega.{arith}
 use Rattle.lists.proofs.Bools.{not-yes, not-no}
 use Rattle.rounding_rules.proofs.Masks.{power-top}
 use Rattle.counter.specs.Limits.{levelsMost}
-use Rattle.buddy_shape.specs.Seen.{seen}
+use Rattle.buddy_levels.specs.Seen.{seen}
 use Rattle.buddy_walk.proofs.Tops.{chunk-none, chunk-high, chunk-off, chunk-walk, level-low, whole-room, small-in}
 use Rattle.buddy_walk.proofs.is_chunk.Statement.{statement}
 use Rattle.buddy_walk.proofs.is_chunk.Tie as tie

@@ -1,6 +1,6 @@
 use borrow.Author.Needs.{needs}
 use Rattle.lists.proofs.Bools.{and-left}
-use Rattle.buddy_stores.specs.Tables.{tables}
+use Rattle.buddy_rules.specs.Tables.{tables}
 use Rattle.linked_buddy.proofs.Branches.{settings-right, account-right, deliver-made, deliver-bad}
 use Rattle.linked_buddy.proofs.tibrezkam_buddy_deliver.Statement.{statement}
 use Rattle.linked_buddy.proofs.tibrezkam_buddy_deliver.Tie as tie

@@ -1,6 +1,6 @@
 use borrow.Author.Needs.{needs}
 use mathlib.Core.Path.{sym, _∙_}
-use Rattle.buddy_stores.specs.Tables.{tables}
+use Rattle.buddy_rules.specs.Tables.{tables}
 use Rattle.linked_buddy.proofs.Branches.{set-up-made, set-up-bad}
 use Rattle.linked_buddy.proofs.tibrezkam_buddy_set_up.Statement.{statement}
 use Rattle.linked_buddy.proofs.tibrezkam_buddy_set_up.Tie as tie

@@ -1,7 +1,7 @@
 use borrow.Author.Needs.{needs}
 use mathlib.Core.Path.{ap}
 use Rattle.counter.specs.Paper.{askSaid}
-use Rattle.buddy_stores.specs.Tables.{tables}
+use Rattle.buddy_rules.specs.Tables.{tables}
 use Rattle.buddy.proofs.Wholes.{asked-whole}
 use Rattle.buddy.proofs.asks.ask.Statement.{statement}
 use Rattle.buddy.proofs.asks.ask.Tie as tie

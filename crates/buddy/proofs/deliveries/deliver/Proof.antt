@@ -1,7 +1,7 @@
 use borrow.Author.Needs.{needs}
 use mathlib.Core.Path.{ap}
 use Rattle.counter.specs.Paper.{deliverSaid}
-use Rattle.buddy_stores.specs.Tables.{tables}
+use Rattle.buddy_rules.specs.Tables.{tables}
 use Rattle.buddy.proofs.Wholes.{delivered-whole}
 use Rattle.buddy.proofs.deliveries.deliver.Statement.{statement}
 use Rattle.buddy.proofs.deliveries.deliver.Tie as tie

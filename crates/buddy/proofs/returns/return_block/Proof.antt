@@ -1,7 +1,7 @@
 use borrow.Author.Needs.{needs}
 use mathlib.Core.Path.{ap}
 use Rattle.counter.specs.Paper.{releaseSaid}
-use Rattle.buddy_stores.specs.Tables.{tables}
+use Rattle.buddy_rules.specs.Tables.{tables}
 use Rattle.buddy.proofs.Wholes.{released-whole}
 use Rattle.buddy.proofs.returns.return_block.Statement.{statement}
 use Rattle.buddy.proofs.returns.return_block.Tie as tie

@@ -3,7 +3,7 @@ use mathlib.Core.Path.{ap, _∙_}
 use mathlib.Core.List.{List}
 use Prim.Native.Nat.{ℕ}
 use lib.ListN.{set}
-use Rattle.buddy_stores.specs.Tables.{givenAt, levelsAt, placesAt, chunkPlacesAt}
+use Rattle.buddy_rules.specs.Tables.{givenAt, levelsAt, placesAt, chunkPlacesAt}
 use Rattle.buddy.proofs.Fresh.{head-fresh}
 use Rattle.buddy.proofs.set_ups.fresh_head.Statement.{statement}
 use Rattle.buddy.proofs.set_ups.fresh_head.Tie as tie

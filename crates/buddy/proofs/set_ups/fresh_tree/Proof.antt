@@ -4,7 +4,7 @@ use Prim.Native.Nat.{ℕ}
 use native.Mathlib.Omega.{arith}
 use lib.ListN.{set}
 use Rattle.slab.specs.Slab.{nowhere}
-use Rattle.buddy_stores.specs.Tables.{chunksFrom}
+use Rattle.buddy_rules.specs.Tables.{chunksFrom}
 use Rattle.buddy_outcomes.specs.Ask.{freshLevels}
 use Rattle.buddy_outcomes.proofs.Rounds.{initial-few}
 use Rattle.buddy.proofs.set_ups.fresh_tree.Statement.{statement}

@@ -1,7 +1,7 @@
 use borrow.Author.Needs.{needs}
 use mathlib.Core.Path.{sym, _∙_}
 use Rattle.counter.proofs.Tables.{buddy-yes}
-use Rattle.buddy_stores.specs.Tables.{tables}
+use Rattle.buddy_rules.specs.Tables.{tables}
 use Rattle.buddy.proofs.Fresh.{fit-in, fit-out}
 use Rattle.buddy.proofs.set_ups.is_fit.Statement.{statement}
 use Rattle.buddy.proofs.set_ups.is_fit.Tie as tie

@@ -1,6 +1,6 @@
 use borrow.Author.Needs.{needs}
 use mathlib.Core.Path.{sym, _∙_}
-use Rattle.buddy_stores.specs.Tables.{tables}
+use Rattle.buddy_rules.specs.Tables.{tables}
 use Rattle.buddy.proofs.Fresh.{fit-head, fit-settings, set-up-ready, set-up-unfit}
 use Rattle.buddy.proofs.set_ups.set_up.Statement.{statement}
 use Rattle.buddy.proofs.set_ups.set_up.Tie as tie

@@ -1,6 +1,6 @@
 use borrow.Author.Needs.{needs}
 use mathlib.Core.Path.{ap, _∙_}
-use Rattle.buddy_stores.specs.Moves.{Climbed}
+use Rattle.buddy_rules.specs.Moves.{Climbed}
 use Rattle.buddy_back.proofs.Returned.{climb-is}
 use Rattle.buddy_back.proofs.backing.take_back.Statement.{statement}
 use Rattle.buddy_back.proofs.backing.take_back.Tie as tie

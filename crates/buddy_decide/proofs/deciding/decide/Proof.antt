@@ -1,7 +1,7 @@
 use borrow.Author.Needs.{needs}
 use mathlib.Core.List.{[]}
 use mathlib.Core.Path.{subst}
-use Rattle.buddy_stores.specs.Tables.{tables}
+use Rattle.buddy_rules.specs.Tables.{tables}
 use Rattle.buddy_decide.specs.Plans.{LookOf}
 use Rattle.buddy_decide.proofs.Tests.{look-buys}
 use Rattle.buddy_decide.proofs.deciding.decide.Statement.{statement}

@@ -3,9 +3,9 @@ use mathlib.Core.List.{[]}
 use native.Mathlib.Omega.{arith}
 use Rattle.rounding_rules.specs.Raising.{levelOf}
 use Rattle.rounding_rules.proofs.Masks.{power-top}
-use Rattle.buddy_stores.specs.Tables.{tables}
+use Rattle.buddy_rules.specs.Tables.{tables}
 use Rattle.buddy_outcomes.specs.Ask.{foundAt}
-use Rattle.buddy_seek.proofs.Reading.{sought-at, sought-order}
+use Rattle.buddy_decide.proofs.Reading.{sought-at, sought-order}
 use Rattle.buddy_decide.proofs.Tests.{fits-yes, sized-not, found-low, look-at, look-nowhere}
 use Rattle.buddy_decide.proofs.deciding.look_sized.Statement.{statement}
 use Rattle.buddy_decide.proofs.deciding.look_sized.Tie as tie

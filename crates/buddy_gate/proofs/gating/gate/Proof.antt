@@ -3,7 +3,7 @@ use mathlib.Core.Path.{sym, ap, _∙_}
 use mathlib.Core.Bool.{Bool, _&&_}
 use Rattle.lists.proofs.Bools.{not-yes, not-no, and-left}
 use Rattle.store_rules.specs.Shares.{holder}
-use Rattle.buddy_stores.specs.Tables.{tables}
+use Rattle.buddy_rules.specs.Tables.{tables}
 use Rattle.buddy_gate.proofs.Gates.{gate-lent, gate-order, gate-rest}
 use Rattle.buddy_outcomes.proofs.Passing.{lent-in}
 use Rattle.buddy_gate.proofs.gating.gate.Statement.{statement}

@@ -1,8 +1,8 @@
 use borrow.Author.Needs.{needs}
 use mathlib.Core.Path.{sym, _∙_}
 use Rattle.lists.proofs.Bools.{not-yes, not-no}
-use Rattle.buddy_stores.specs.Tables.{tables}
-use Rattle.buddy_stores.proofs.Decides.{tables-yes}
+use Rattle.buddy_rules.specs.Tables.{tables}
+use Rattle.buddy_rules.proofs.Decides.{tables-yes}
 use Rattle.buddy_gate.proofs.Gates.{places-few, sizes-low, store-torn, store-short, store-go}
 use Rattle.buddy_gate.proofs.gating.gate_store.Statement.{statement}
 use Rattle.buddy_gate.proofs.gating.gate_store.Tie as tie

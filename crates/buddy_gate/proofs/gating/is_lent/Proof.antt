@@ -2,7 +2,7 @@ use borrow.Author.Needs.{needs}
 use mathlib.Core.Path.{sym, _∙_}
 use Rattle.counter.proofs.Tables.{buddy-yes}
 use Rattle.store_rules.specs.Shares.{holder}
-use Rattle.buddy_stores.specs.Tables.{tables}
+use Rattle.buddy_rules.specs.Tables.{tables}
 use Rattle.buddy_gate.proofs.Gates.{lent-yes, lent-no}
 use Rattle.buddy_gate.proofs.gating.is_lent.Statement.{statement}
 use Rattle.buddy_gate.proofs.gating.is_lent.Tie as tie

@@ -1,5 +1,5 @@
 use borrow.Author.Needs.{needs}
-use Rattle.buddy_stores.specs.Tables.{tables}
+use Rattle.buddy_rules.specs.Tables.{tables}
 use Rattle.buddy_gate.proofs.Gates.{lengths-is}
 use Rattle.buddy_gate.proofs.gating.lengths_fit.Statement.{statement}
 use Rattle.buddy_gate.proofs.gating.lengths_fit.Tie as tie

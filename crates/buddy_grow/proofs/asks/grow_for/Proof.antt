@@ -4,7 +4,7 @@ use mathlib.Core.Logic.{⊎-elim}
 use mathlib.Core.List.{[]}
 use Prim.Native.Nat.{ℕ, _+_, max}
 use native.Mathlib.Omega.{arith}
-use Rattle.buddy_stores.specs.Tables.{tables}
+use Rattle.buddy_rules.specs.Tables.{tables}
 use Rattle.buddy_outcomes.specs.Ask.{grownTables}
 use Rattle.buddy_grow.proofs.Asked.{grown-top, level-is}
 use Rattle.buddy_grow.proofs.asks.grow_for.Statement.{statement}

@@ -3,7 +3,7 @@ use mathlib.Core.Path.{ap, _∙_}
 use mathlib.Core.List.{List}
 use Prim.Native.Nat.{ℕ}
 use lib.ListN.{set}
-use Rattle.buddy_stores.specs.Tables.{placesAt}
+use Rattle.buddy_rules.specs.Tables.{placesAt}
 use Rattle.buddy_lend.proofs.booking.book_loan.Statement.{statement}
 use Rattle.buddy_lend.proofs.booking.book_loan.Tie as tie
 

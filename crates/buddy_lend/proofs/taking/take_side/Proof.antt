@@ -4,8 +4,8 @@ use mathlib.Core.Logic.{⊎-elim}
 use Prim.Native.Nat.{ℕ}
 use lib.ListN.{getD}
 use Rattle.buddy_rules.specs.Levels.{sideOf}
-use Rattle.buddy_levels_rules.specs.Level.{tagAt, pairCell, ringHead}
-use Rattle.buddy_stores.specs.Moves.{Cut}
+use Rattle.buddy_rules.specs.Level.{tagAt, pairCell, ringHead}
+use Rattle.buddy_rules.specs.Moves.{Cut}
 use Rattle.buddy_lend.proofs.Sides.{node-left, node-right, took-whole, still-roomy, took-split}
 use Rattle.buddy_lend.proofs.taking.take_side.Statement.{statement}
 use Rattle.buddy_lend.proofs.taking.take_side.Tie as tie

@@ -2,7 +2,7 @@ use mathlib.Core.Path.{_≡_, refl, sym, ap, _∙_}
 use lib.Dec.{ltb}
 use borrow.Author.Needs.{needs}
 use borrow.Author.Tests.{lt-ltb, le-ltb}
-use Rattle.buddy_levels_rules.specs.Test.{along, readyIn, readyAfter}
+use Rattle.buddy_rules.specs.LevelTest.{along, readyIn, readyAfter}
 use Rattle.buddy_levels.proofs.Turns.{along-none, along-on, along-done}
 use Rattle.buddy_levels.proofs.good.all_ready.Statement.{statement}
 use Rattle.buddy_levels.proofs.good.all_ready.Tie as tie

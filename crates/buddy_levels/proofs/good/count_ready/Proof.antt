@@ -6,7 +6,7 @@ use native.Mathlib.Omega.{arith}
 use borrow.Author.Needs.{needs}
 use borrow.Author.Tests.{lt-ltb, le-ltb}
 use Rattle.slab.proofs.Steps.{vacancies-none, vacancies-more, vacancies-same}
-use Rattle.buddy_levels_rules.specs.Test.{readyIn, readies}
+use Rattle.buddy_rules.specs.LevelTest.{readyIn, readies}
 use Rattle.buddy_levels.proofs.good.count_ready.Statement.{statement}
 use Rattle.buddy_levels.proofs.good.count_ready.Tie as tie
 

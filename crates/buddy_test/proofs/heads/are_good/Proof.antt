@@ -4,10 +4,10 @@ use Prim.Native.Nat.{ℕ, _-_, _≤_}
 use native.Mathlib.Omega.{arith}
 use borrow.Author.Needs.{needs}
 use Rattle.lists.proofs.Bools.{not-yes, not-no}
-use Rattle.buddy_levels_rules.specs.Test.{goodOk}
-use Rattle.buddy_stores.specs.Tables.{levelAfter}
-use Rattle.buddy_stores.specs.Test.{every}
-use Rattle.buddy_stores.proofs.Tests.{every-stop, every-next}
+use Rattle.buddy_rules.specs.LevelTest.{goodOk}
+use Rattle.buddy_rules.specs.Tables.{levelAfter}
+use Rattle.buddy_rules.specs.Test.{every}
+use Rattle.buddy_rules.proofs.Tests.{every-stop, every-next}
 use Rattle.buddy_test.proofs.Parts.{good-told}
 use Rattle.buddy_test.proofs.heads.are_good.Statement.{statement}
 use Rattle.buddy_test.proofs.heads.are_good.Tie as tie

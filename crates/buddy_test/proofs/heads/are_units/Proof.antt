@@ -5,9 +5,9 @@ use Prim.Native.Nat.{_-_, _≤_}
 use native.Mathlib.Omega.{arith}
 use borrow.Author.Needs.{needs}
 use Rattle.lists.proofs.Bools.{not-yes, not-no}
-use Rattle.buddy_shape.specs.Seen.{seen}
-use Rattle.buddy_stores.specs.Test.{every, unitsOk}
-use Rattle.buddy_stores.proofs.Tests.{every-stop, every-next}
+use Rattle.buddy_levels.specs.Seen.{seen}
+use Rattle.buddy_rules.specs.Test.{every, unitsOk}
+use Rattle.buddy_rules.proofs.Tests.{every-stop, every-next}
 use Rattle.buddy_test.proofs.Parts.{units-told}
 use Rattle.buddy_test.proofs.heads.are_units.Statement.{statement}
 use Rattle.buddy_test.proofs.heads.are_units.Tie as tie

@@ -5,8 +5,8 @@ use Prim.Native.Nat.{_-_, _≤_}
 use native.Mathlib.Omega.{arith}
 use borrow.Author.Needs.{needs}
 use lib.ListN.{length, take, length-set}
-use Rattle.buddy_shape.specs.Seen.{looked}
-use Rattle.buddy_stores.specs.Tables.{memories}
+use Rattle.buddy_levels.specs.Seen.{looked}
+use Rattle.buddy_rules.specs.Tables.{memories}
 use Rattle.buddy_test.proofs.Apart.{gather-none, gather-put, gather-pass}
 use Rattle.buddy_test.proofs.memories.gather_held.Statement.{statement}
 use Rattle.buddy_test.proofs.memories.gather_held.Tie as tie

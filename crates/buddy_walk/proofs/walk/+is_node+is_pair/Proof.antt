@@ -4,8 +4,8 @@ use Rattle.lists.proofs.Bools.{not-yes, not-no}
 use Rattle.counter.specs.Limits.{levelsMost}
 use Rattle.buddy_trees.specs.Trees.{bytes}
 use Rattle.buddy_levels.specs.Pairs.{entFrom}
-use Rattle.buddy_shape.specs.Seen.{read, walked}
-use Rattle.buddy_shape.proofs.Shape.{node-bytes-most}
+use Rattle.buddy_levels.specs.Seen.{read, walked}
+use Rattle.buddy_levels.proofs.Bounds.{node-bytes-most}
 use Rattle.buddy_walk.proofs.Downs.{node-free, node-loan, node-low, node-split, halves-entry, halves-left, halves-right, halves-room}
 use Prim.Native.Nat.{ℕ, _+_, _*_, _<_}
 use borrow.Fn.Kinds.{In}
@@ -17,8 +17,8 @@ use Rattle.buddy_walk.proofs.walk.is_pair.Reads as is-pair
 use Rattle.buddy_walk.proofs.walk.is_pair.Kinds as is-pair-kinds
 use Rattle.buddy_walk.proofs.walk.+is_node+is_pair.Lts-is_pair as is-pair-lts
 use Rattle.buddy_levels.proofs.pair_in.Reads as pair-in-reads
-use Rattle.buddy_shape.proofs.level_from.Reads as level-from-reads
-use Rattle.buddy_shape.proofs.node_bytes.Reads as node-bytes-reads
+use Rattle.buddy_levels.proofs.level_from.Reads as level-from-reads
+use Rattle.buddy_levels.proofs.node_bytes.Reads as node-bytes-reads
 use Rattle.buddy_walk.proofs.walk.is_entry.Reads as is-entry-reads
 use Rattle.buddy_walk.proofs.walk.is_leaf.Reads as is-leaf-reads
 use Rattle.buddy_walk.proofs.walk.+is_node+is_pair.{statement}

@@ -1,7 +1,7 @@
 use mathlib.Core.List.{[]}
 use borrow.Author.Needs.{needs}
 use Rattle.buddy_levels.specs.Pairs.{entFrom}
-use Rattle.buddy_shape.specs.Seen.{read, walked}
+use Rattle.buddy_levels.specs.Seen.{read, walked}
 use Rattle.buddy_walk.proofs.Downs.{entry-is}
 use Rattle.buddy_walk.proofs.walk.is_entry.Statement.{statement}
 use Rattle.buddy_walk.proofs.walk.is_entry.Tie as tie

@@ -1,5 +1,5 @@
 use borrow.Author.Needs.{needs}
-use Rattle.buddy_shape.specs.Seen.{read, walked}
+use Rattle.buddy_levels.specs.Seen.{read, walked}
 use Rattle.buddy_walk.proofs.Downs.{leaf-past, leaf-is}
 use Rattle.buddy_walk.proofs.walk.is_leaf.Statement.{statement}
 use Rattle.buddy_walk.proofs.walk.is_leaf.Tie as tie

@@ -1,0 +1,68 @@
+use borrow.Author.Needs.{needs}
+use mathlib.Core.Path.{sym, _∙_}
+use Rattle.lists.proofs.Bools.{not-yes, not-no}
+use Rattle.store_rules.specs.Shares.{holder}
+use Rattle.buddy_rules.specs.Tables.{tables}
+use Rattle.buddy_outcomes.proofs.Passing.{lent-in}
+use Rattle.buddy.proofs.Arrivals.{delivery-lent, delivery-order, delivery-none, delivery-kept}
+use Rattle.buddy.proofs.delivering.gate_delivery.Statement.{statement}
+use Rattle.buddy.proofs.delivering.gate_delivery.Tie as tie
+
+is-lent-requires : tie.Need-is-lent-requires
+is-lent-requires c κs = search needs
+
+returns : tie.Need-returns
+returns c =
+    let l = c .before in
+    let a = l .before .before .before .before .before .before .args in
+    delivery-lent (a .s) (a .h) (a .order) (tables (a .head .now) (a .loans .now) (a .chunks .now) (a .index .now) (a .tree .now)) (sym (l .is-lent .ensures) ∙ not-yes _ (c .if1 .taken))
+
+is-open-for-requires : tie.Need-is-open-for-requires
+is-open-for-requires c κs = search needs
+
+returns-2 : tie.Need-returns-2
+returns-2 c =
+    let o = c .before in
+    let l = o .before .before .before in
+    let a = l .before .before .before .before .before .before .args in
+    delivery-order (a .s) (a .h) (a .order) (tables (a .head .now) (a .loans .now) (a .chunks .now) (a .index .now) (a .tree .now)) (sym (l .is-lent .ensures) ∙ not-no _ (o .before .before .if1 .left)) (sym (o .is-open-for .ensures) ∙ not-yes _ (c .if2 .taken))
+
+enum-told : tie.Need-enum-told
+enum-told c = search needs
+
+enum-known-order : tie.Need-enum-known-order
+enum-known-order c = search needs
+
+gate-kept-requires : tie.Need-gate-kept-requires
+gate-kept-requires c κs =
+    let i = c .before .before .before .before .before .before .before in
+    let a = i .before .before .before .before .before .before .before .args in
+    lent-in (a .s) (holder (a .s .store) (a .h)) (tables (a .head .now) (a .loans .now) (a .chunks .now) (a .index .now) (a .tree .now)) (sym (i .before .is-lent .ensures) ∙ not-no _ (i .if1 .left)) .settings
+
+returns-3 : tie.Need-returns-3
+returns-3 c =
+    let i = c .before .before .before .before .before .before in
+    let a = i .before .before .before .before .before .before .before .args in
+    delivery-none (a .s) (a .h) (a .order) (tables (a .head .now) (a .loans .now) (a .chunks .now) (a .index .now) (a .tree .now)) (sym (i .before .is-lent .ensures) ∙ not-no _ (i .if1 .left)) (c .enum-told .given .1)
+
+returns-4 : tie.Need-returns-4
+returns-4 c =
+    let h = c .before .before .before .before in
+    let o = h .before .before in
+    let i = o .before .before in
+    let a = i .before .before .before .before .before .before .before .args in
+    delivery-kept (a .s) (a .h) (a .order) (tables (a .head .now) (a .loans .now) (a .chunks .now) (a .index .now) (a .tree .now)) _ _ (sym (i .before .is-lent .ensures) ∙ not-no _ (i .if1 .left)) (sym (o .is-open-for .ensures) ∙ not-no _ (h .before .if2 .left)) (c .before .before .order .given .1) (c .gate-kept .ensures)
+
+pub gate-delivery-spec : {M : Type 1} → statement M
+gate-delivery-spec =
+    tie.close
+    (tie.spec
+    is-lent-requires
+    returns
+    is-open-for-requires
+    returns-2
+    enum-told
+    enum-known-order
+    gate-kept-requires
+    returns-3
+    returns-4)

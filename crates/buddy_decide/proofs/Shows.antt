@@ -1,0 +1,108 @@
+-- What the code of the search and of its looks for places shows: each turn, and each of its answers. Assumes nothing.
+use mathlib.Core.Path.{_≡_, refl, sym, ap, _∙_}
+use mathlib.Core.Bool.{true, false, _&&_}
+use mathlib.Core.List.{List, []}
+use Prim.Native.Nat.{ℕ, suc, _+_, _-_, _*_, max, _≤_, _<_}
+use native.Mathlib.Omega.{arith}
+use lib.Dec.{eqb}
+use lib.ListN.{getD}
+use borrow.Author.Tests.{lt-ltb, le-ltb, lt-leb, le-leb, eq-eqb, ne-eqb}
+use Rattle.counter.specs.Limits.{levelsMost}
+use Rattle.counter.specs.declared.settings.BuddySettings.{BuddySettings}
+use Rattle.slab.specs.Slab.{inserted}
+use Rattle.slab.specs.Slab as Slab
+use Rattle.slab.specs.declared.Taken.{Taken}
+use Rattle.buddy_trees.specs.Trees.{bytes}
+use Rattle.buddy_rules.specs.Level.{levelWords, ringAt, spotIn}
+use Rattle.buddy_levels.specs.Seen.{read, looked}
+use Rattle.buddy_rules.specs.Tables.{Tables, levelAfter, afterAt, placeWords}
+use Rattle.buddy_outcomes.specs.Ask.{at, pairRoom, pairsRoom, chunkSpot, searchFrom}
+use Rattle.buddy_outcomes.specs.Ask as Ask
+use Rattle.buddy_decide.specs.Sought.{yielded, sought}
+use Rattle.buddy_decide.specs.declared.seeking.Found.{Found}
+use Rattle.buddy_decide.specs.declared.seeking.Found.the-variants.{At, Order}
+
+-- ---- the chunk place that is taken next
+
+pub spot-is : (pairs places : ℕ) (tree : List ℕ) (b v : ℕ) (r : Taken) → b ≡ levelWords pairs * levelsMost → v ≡ getD tree b 0
+    → r ≡ inserted (record { places = places; vacant = v }) tree (b + (1 + afterAt)) placeWords → r ≡ chunkSpot (read 0 pairs 0) (looked 0 places [] tree)
+spot-is pairs places tree b v r d e f =
+    let g : v ≡ getD tree (levelWords pairs * levelsMost) 0 = e ∙ ap (λ (x : ℕ). getD tree x 0) d in
+    f ∙ (λ j. inserted (record { places = places; vacant = g j }) tree (d j + (1 + afterAt)) placeWords)
+
+-- ---- places for the pairs of n levels from this one on, i of which are passed
+
+module _ (s : BuddySettings) (t : Tables) (level n i : ℕ) where
+  turn : i < n → pairsRoom s t (level + i) (n - i) ≡ (pairRoom s t (level + i) && pairsRoom s t (level + (i + 1)) (n - (i + 1)))
+  unfolding pairsRoom
+  turn h =
+      let e : n - i ≡ suc (n - (i + 1)) = omega arith in
+      let f : level + (i + 1) ≡ suc (level + i) = omega arith in
+      rw (e, f) refl
+
+  pub pairs-done : n ≤ i → pairsRoom s t (level + i) (n - i) ≡ true
+  unfolding pairsRoom
+  pairs-done h = let e : n - i ≡ 0 = omega arith in rw e refl
+
+module _ (pairs level n levels : ℕ) (tree : List ℕ) (i : ℕ) (more : i < n) where
+  abbrev s : BuddySettings
+  s = read 0 pairs 0
+
+  abbrev t : Tables
+  t = looked levels 0 [] tree
+
+  abbrev Here : Type 0
+  Here = pairsRoom s t (level + i) (n - i) ≡ pairsRoom s t (level + (i + 1)) (n - (i + 1))
+
+  -- the level is not there yet
+  pub pairs-past : levels ≤ level + i → Here
+  pairs-past h = turn s t level n i more ∙ rw (le-leb levels (level + i) h) refl
+
+  module _ (there : level + i < levels) (b : ℕ) (r : Taken) (e : b ≡ levelAfter pairs (level + i)) (f : r ≡ spotIn b tree) where
+    abbrev same : spotIn (levelAfter pairs (level + i)) tree .place ≡ r .place
+    same = ap (λ (x : Taken). x .place) (sym (f ∙ ap (λ (x : ℕ). spotIn x tree) e))
+
+    pub pairs-none : pairs ≤ r .place → pairsRoom s t (level + i) (n - i) ≡ false
+    pairs-none h = turn s t level n i more ∙ rw (lt-leb levels (level + i) there, same, le-ltb (r .place) pairs h) refl
+
+    pub pairs-on : r .place < pairs → Here
+    pairs-on h = turn s t level n i more ∙ rw (lt-leb levels (level + i) there, same, lt-ltb (r .place) pairs h) refl
+
+-- ---- the search
+
+module _ (minimal pairs level levels : ℕ) (tree : List ℕ) (l : ℕ) where
+  -- what is found from level l on
+  abbrev pub Onward : Ask.Found
+  Onward = searchFrom (read minimal pairs 0) tree l (levels - l)
+
+  seek-done : levels ≤ l → Onward ≡ Ask.nowhere
+  unfolding searchFrom
+  seek-done h = let e : levels - l ≡ 0 = omega arith in rw e refl
+
+  seek-turn : l < levels → Onward ≡ searchFrom (read minimal pairs 0) tree l (suc (levels - (l + 1)))
+  seek-turn h = let e : levels - l ≡ suc (levels - (l + 1)) = omega arith in ap (searchFrom (read minimal pairs 0) tree l) e
+
+  module _ (there : l < levels) (b w : ℕ) (d : b ≡ levelAfter pairs l) (e : w ≡ getD tree (b + ringAt) 0) where
+    abbrev head : getD tree (levelAfter pairs l + ringAt) 0 ≡ w
+    head = sym (e ∙ ap (λ (x : ℕ). getD tree (x + ringAt) 0) d)
+
+    pub seek-on : w ≡ Slab.nowhere → Onward ≡ searchFrom (read minimal pairs 0) tree (l + 1) (levels - (l + 1))
+    unfolding searchFrom
+    seek-on h =
+        let f : l + 1 ≡ suc l = omega arith in
+        let g : eqb (getD tree (levelAfter pairs l + ringAt) 0) Slab.nowhere ≡ true = ap (λ (x : ℕ). eqb x Slab.nowhere) head ∙ eq-eqb w Slab.nowhere h in
+        seek-turn there ∙ rw (f, g) refl
+
+    seek-here : (w ≡ Slab.nowhere → ⊥) → Onward ≡ at l
+    unfolding searchFrom
+    seek-here h =
+        let g : eqb (getD tree (levelAfter pairs l + ringAt) 0) Slab.nowhere ≡ false = ap (λ (x : ℕ). eqb x Slab.nowhere) head ∙ ne-eqb w Slab.nowhere h in
+        seek-turn there ∙ rw g refl
+
+    pub seek-at : searchFrom (read minimal pairs 0) tree level (levels - level) ≡ Onward → (w ≡ Slab.nowhere → ⊥) → At w l ≡ sought minimal pairs level levels tree
+    unfolding sought
+    seek-at inv h = sym (ap (yielded minimal pairs level levels tree) (inv ∙ seek-here h) ∙ ap (λ (x : ℕ). At x l) head)
+
+  pub seek-none : searchFrom (read minimal pairs 0) tree level (levels - level) ≡ Onward → levels ≤ l → (order : ℕ) → order ≡ bytes minimal (max levels (level + 1)) → Order order ≡ sought minimal pairs level levels tree
+  unfolding sought
+  seek-none inv h order e = ap Order e ∙ sym (ap (yielded minimal pairs level levels tree) (inv ∙ seek-done h))

@@ -1,0 +1,73 @@
+use mathlib.Core.Path.{_≡_, _∙_}
+use Prim.Native.Nat.{_-_, _≤_}
+use native.Mathlib.Omega.{arith}
+use Rattle.buddy_decide.proofs.Shows.{Onward, seek-on, seek-at, seek-none}
+use borrow.Author.Needs.{needs}
+use Rattle.buddy_decide.proofs.seeking.seek.Statement.{statement}
+use Rattle.buddy_decide.proofs.seeking.seek.Tie as tie
+
+abbrev Inv-loop : tie.InvT-loop
+Inv-loop minimal pairs level levels tree l₀ l = (level ≤ l) × (Onward minimal pairs level levels tree level ≡ Onward minimal pairs level levels tree l)
+
+abbrev μ-loop : tie.MeasureT-loop
+μ-loop minimal pairs level levels tree l₀ l = levels - l
+
+loop-holds : tie.Need-loop-holds Inv-loop μ-loop
+loop-holds c = search needs
+
+order-size-requires : tie.Need-order-size-requires Inv-loop μ-loop
+order-size-requires c κs = search needs
+
+level-from-requires : tie.Need-level-from-requires Inv-loop μ-loop
+level-from-requires c κs = search needs
+
+add-word : tie.Need-add-word Inv-loop μ-loop
+add-word c = search needs
+
+word-requires : tie.Need-word-requires Inv-loop μ-loop
+word-requires c κs = search needs
+
+add-l : tie.Need-add-l Inv-loop μ-loop
+add-l c = search needs
+
+loop-less : tie.Need-loop-less Inv-loop μ-loop
+loop-less c = search needs
+
+loop-again : tie.Need-loop-again Inv-loop μ-loop
+loop-again c =
+    let w = c .before in
+    let f = w .before in
+    let b = f .before .before in
+    let a = b .before .before .args in
+    (omega (arith, b .loop .inv .0), b .loop .inv .1 ∙ seek-on (a .minimal) (a .pairs) (a .level) (a .levels) (a .tree .now) (b .loop .l) (f .before .if1 .left) _ _ (f .level-from .ensures .0) (w .word .ensures) (c .if2 .left))
+
+returns : tie.Need-returns Inv-loop μ-loop
+returns c =
+    let b = c .before .before in
+    let a = b .before .before .args in
+    seek-none (a .minimal) (a .pairs) (a .level) (a .levels) (a .tree .now) (b .loop .l) (b .loop .inv .1) (c .before .if1 .taken) _ (c .order-size .ensures)
+
+returns-2 : tie.Need-returns-2 Inv-loop μ-loop
+returns-2 c =
+    let w = c .before in
+    let f = w .before in
+    let b = f .before .before in
+    let a = b .before .before .args in
+    seek-at (a .minimal) (a .pairs) (a .level) (a .levels) (a .tree .now) (b .loop .l) (f .before .if1 .left) _ _ (f .level-from .ensures .0) (w .word .ensures) (b .loop .inv .1) (c .if2 .taken)
+
+pub seek-spec : {M : Type 1} → statement M
+seek-spec =
+    tie.close
+    (tie.spec
+    Inv-loop
+    μ-loop
+    loop-holds
+    order-size-requires
+    level-from-requires
+    add-word
+    word-requires
+    add-l
+    loop-less
+    loop-again
+    returns
+    returns-2)

@@ -1,0 +1,82 @@
+// The search upward for a level with a ready side, and whether there are pairs for the split down.
+ghost use mathlib.Core.Path.{_≡_};
+ghost use mathlib.Core.List.{[]};
+ghost use Prim.Native.Nat.{_+_, _^_, max, _≤_, _<_};
+ghost use Rattle.counter.specs.Limits.{levelsMost, pairsMost, minimalBits};
+ghost use Rattle.buddy_trees.specs.Trees.{bytes};
+ghost use Rattle.buddy_levels.specs.Seen.{read, looked};
+ghost use Rattle.buddy_outcomes.specs.Ask.{pairsRoom, chunkSpot};
+ghost use Rattle.buddy_decide.specs.Sought.{sought};
+use buddy_levels::RING_AT;
+use buddy_levels::level_from;
+use buddy_rules::AFTER_AT;
+use buddy_rules::PLACE_WORDS;
+use slab::NOWHERE;
+use slab::Slab;
+use slab::Taken;
+
+// The head pair of a level, and that level; or the size of the chunk to order.
+pub enum Found {
+    At(u64, u64),
+    Order(u64),
+}
+
+// The chunk to order where no level serves: twice a node of the top level, which is the asked one where there are no more.
+fn order_size(minimal: u64, level: u64, levels: u64) -> u64
+    requires { ⌜ (minimal ≤ 2 ^ minimalBits) × (level < levelsMost) × (levels ≤ levelsMost) ⌝ }
+    ensures { λ r. ⌜ r ≡ bytes minimal (max levels (level + 1)) ⌝ }
+{
+    let top = if levels <= level { level + 1 } else { levels };
+    buddy_levels::node_bytes(minimal, top)
+}
+
+// From this level on: the first with a ready side ends the search.
+pub fn seek(minimal: u64, pairs: usize, level: u64, levels: u64, tree: &[u64]) -> Found
+    requires { ⌜ (minimal ≤ 2 ^ minimalBits) × (pairs ≤ pairsMost) × (level < levelsMost) × (levels ≤ levelsMost) ⌝ }
+    ensures { λ r. ⌜ r ≡ sought minimal pairs level levels (now (tree .entry)) ⌝ }
+{
+    let mut l = level;
+    let found = loop {
+        if levels <= l {
+            break Found::Order(order_size(minimal, level, levels));
+        }
+        let head = words::word(tree, level_from(pairs, l as usize) + RING_AT);
+        if head != NOWHERE {
+            break Found::At(head, l);
+        }
+        l += 1;
+    };
+    found
+}
+
+// Whether each of n levels from this one on has a place for a new pair; one that is not there yet has.
+pub fn has_pairs(pairs: usize, level: u64, n: u64, levels: u64, tree: &[u64]) -> bool
+    requires { ⌜ (pairs ≤ pairsMost) × (levels ≤ levelsMost) × (level + n ≤ levelsMost) ⌝ }
+    ensures { λ r. ⌜ r ≡ pairsRoom (read 0 pairs 0) (looked levels 0 [] (now (tree .entry))) level n ⌝ }
+{
+    let mut i = 0;
+    while i < n {
+        let l = level + i;
+        if l < levels {
+            let spot = buddy_levels::spot(tree, level_from(pairs, l as usize));
+            if pairs as u64 <= spot.place {
+                return false;
+            }
+        }
+        i += 1;
+    }
+    true
+}
+
+// The chunk place that is taken next, and the slab from then on.
+pub fn chunk_spot(pairs: usize, places: u64, tree: &[u64]) -> Taken
+    requires { ⌜ pairs ≤ pairsMost ⌝ }
+    ensures { λ r. ⌜ r ≡ chunkSpot (read 0 pairs 0) (looked 0 places [] (now (tree .entry))) ⌝ }
+{
+    let at = buddy_levels::chunks_from(pairs);
+    let s = Slab {
+        places: places,
+        vacant: words::word(tree, at),
+    };
+    s.insert(tree, at + (1 + AFTER_AT), PLACE_WORDS)
+}

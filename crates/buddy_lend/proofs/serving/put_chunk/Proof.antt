@@ -1,0 +1,27 @@
+use borrow.Author.Needs.{needs}
+use mathlib.Core.Path.{ap, _∙_}
+use mathlib.Core.List.{List}
+use Prim.Native.Nat.{ℕ}
+use lib.ListN.{set}
+use Rattle.words.specs.Words.{cellOf}
+use Rattle.buddy_rules.specs.Tables.{chunkWords, chunkSizeAt}
+use Rattle.buddy_lend.proofs.serving.put_chunk.Statement.{statement}
+use Rattle.buddy_lend.proofs.serving.put_chunk.Tie as tie
+
+put-cell-requires : tie.Need-put-cell-requires
+put-cell-requires c κs = search needs
+
+put-cell-requires-2 : tie.Need-put-cell-requires-2
+put-cell-requires-2 c κs = search needs
+
+same-length : tie.Need-same-length
+same-length c = search needs
+
+returns : tie.Need-returns
+returns c =
+    let p = c .before .before .before .before .before .before in
+    let a = p .before .before .before .args in
+    c .before .before .put-cell2 .ensures ∙ ap (λ (t : List ℕ). set t (cellOf chunkSizeAt chunkWords (a .c)) (a .bytes)) (p .put-cell .ensures)
+
+pub put-chunk-spec : {M : Type 1} → statement M
+put-chunk-spec = tie.close (tie.spec put-cell-requires put-cell-requires-2 same-length returns)

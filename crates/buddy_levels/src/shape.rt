@@ -1,0 +1,47 @@
+// Where the words of a buddy store's tree stand, and how long its nodes are.
+ghost use mathlib.Core.Path.{_≡_};
+ghost use Prim.Native.Nat.{_+_, _*_, _^_, _≤_, _<_};
+ghost use Rattle.counter.specs.Limits.{levelsMost, pairsMost, chunksMost, minimalBits};
+ghost use Rattle.buddy_trees.specs.Trees.{bytes};
+ghost use Rattle.buddy_rules.specs.Level.{baseMost, levelWords};
+ghost use Rattle.buddy_rules.specs.Tables.{levelAfter, placeWords};
+use crate::HEADER_WORDS;
+use crate::PAIR_WORDS;
+use buddy_rules::PLACE_WORDS;
+use counter::LEVELS_MOST;
+
+// Where level l begins.
+pub fn level_from(pairs: usize, l: usize) -> usize
+    requires { ⌜ (pairs ≤ pairsMost) × (l ≤ levelsMost) ⌝ }
+    ensures { λ r. ⌜ r ≡ levelAfter pairs l ⌝ }
+    ensures { λ r. ⌜ r ≤ baseMost ⌝ }
+{
+    (HEADER_WORDS + PAIR_WORDS * pairs) * l
+}
+
+// Where the word of the chunk place vacated last stands, and those of the chunk places after it.
+pub fn chunks_from(pairs: usize) -> usize
+    requires { ⌜ pairs ≤ pairsMost ⌝ }
+    ensures { λ r. ⌜ r ≡ levelWords pairs * levelsMost ⌝ }
+    ensures { λ r. ⌜ r ≤ baseMost ⌝ }
+{
+    level_from(pairs, LEVELS_MOST as usize)
+}
+
+// Where the loans' nodes stand.
+pub fn nodes_from(pairs: usize, chunks: usize) -> usize
+    requires { ⌜ (pairs ≤ pairsMost) × (chunks ≤ chunksMost) ⌝ }
+    ensures { λ r. ⌜ r ≡ levelWords pairs * levelsMost + (1 + placeWords * chunks) ⌝ }
+    ensures { λ r. ⌜ r ≤ baseMost ⌝ }
+{
+    chunks_from(pairs) + (1 + PLACE_WORDS * chunks)
+}
+
+// How long a node of a level is.
+pub fn node_bytes(minimal: u64, level: u64) -> u64
+    requires { ⌜ (minimal ≤ 2 ^ minimalBits) × (level ≤ levelsMost) ⌝ }
+    ensures { λ r. ⌜ r ≡ bytes minimal level ⌝ }
+    ensures { λ r. ⌜ r ≤ 2 ^ (minimalBits + levelsMost) ⌝ }
+{
+    minimal << level
+}

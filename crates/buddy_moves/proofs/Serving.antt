@@ -1,0 +1,75 @@
+-- Where an ask comes to an order, a chunk can be added to the store as the order grew it, and its left end lent. Assumes nothing.
+use mathlib.Core.Path.{_≡_, refl}
+use mathlib.Core.Logic.{inr}
+use mathlib.Core.List.{List}
+use Prim.Native.Nat.{ℕ, _-_, _≤_, _<_}
+use native.Mathlib.Omega.{arith}
+use Rattle.counter.specs.InTable.{BuddyIn}
+use Rattle.counter.specs.Limits.{levelsMost, spent}
+use Rattle.counter.specs.declared.account.Heap.{Heap}
+use Rattle.counter.specs.declared.settings.BuddySettings.{BuddySettings}
+use Rattle.slab.specs.Slab.{nowhere}
+use Rattle.store_rules.specs.Orders.{buy}
+use Rattle.buddy_trees.specs.Trees.{up}
+use Rattle.buddy_rules.proofs.Fitting.{up-add}
+use Rattle.buddy_rules.specs.Tables.{Tables, Lengths, givenIn, levelsIn}
+use Rattle.buddy_rules.specs.Sound.{Sound}
+use Rattle.buddy_rules.proofs.Splitting.{tree-short}
+use Rattle.buddy_moves.specs.Roomy.{Roomy}
+use Rattle.buddy_outcomes.specs.Ask.{levelFor, grownFor, chunkSpot, decideAsk, grownTables}
+use Rattle.buddy_outcomes.specs.Deliver.{chunkTables}
+use Rattle.buddy_outcomes.proofs.Changed.{few-pairs, grown-lengths, grown-given}
+use Rattle.buddy_outcomes.proofs.Chunked.{chunked, chunked-lengths, chunked-level}
+use Rattle.buddy_outcomes.proofs.Delivered.{more, most, grown-sound, count, place, spot, pair}
+use Rattle.buddy_outcomes.proofs.Plans.{Buys, buys}
+use Rattle.buddy_moves.specs.Ready.{Serves}
+use Rattle.buddy_moves.proofs.Lending.{opens}
+use Rattle.buddy_moves.proofs.Rooming.{roomy}
+
+module _ (s : BuddySettings) (t : Tables) (fit : BuddyIn s) (lengths : Lengths s t) (sound : Sound s t) (size mask z : ℕ) (b : Buys s size mask t z) where
+  abbrev lev : ℕ
+  lev = levelFor s size mask
+
+  -- the store as the order grew it
+  abbrev grown : Tables
+  grown = grownTables s (grownFor s size mask t) t
+
+  tall : lev < levelsIn grown
+  tall = omega (arith, count s t fit lengths sound size mask z b)
+
+  low : levelsIn grown ≤ levelsMost
+  low = omega (arith, count s t fit lengths sound size mask z b, most s t fit lengths sound size mask z b)
+
+  serial : givenIn grown < spent
+  serial = omega (arith, grown-given s t fit lengths sound (grownFor s size mask t) (more s t fit lengths sound size mask z b) (most s t fit lengths sound size mask z b), b .serial)
+
+  height : up (levelsIn grown - lev) lev ≡ levelsIn grown
+  height = omega (arith, up-add (levelsIn grown - lev) lev, tall)
+
+  module _ (memory : ℕ) where
+    -- a chunk's words are past the levels
+    split-room : Roomy (s .pairs) lev (chunkSpot s grown .place) 0 nowhere (levelsIn grown - lev) (chunkTables s memory z grown .tree)
+    unfolding chunkTables
+    split-room =
+        let long = grown-lengths s t fit lengths sound (grownFor s size mask t) in
+        let tree : List ℕ = chunked s grown fit long memory z .tree in
+        roomy s (grown .tree) lev (chunkSpot s grown .place) 0 (levelsIn grown - lev) nowhere tree (omega (arith, height, low)) (inr refl)
+        (tree-short s (few-pairs s fit) tree fit (chunked-lengths s grown fit long memory z .tree))
+        (λ j h g. chunked-level s grown fit long memory z j (omega (arith, height, low)))
+        (λ j h g. grown-sound s t fit lengths sound size mask z b .good j (omega (arith, height)))
+        (λ j h g. pair s t fit lengths sound size mask z b j h (omega (arith, height)))
+
+    serves : Serves s (levelFor s size mask) memory z (grownTables s (grownFor s size mask t) t)
+    serves =
+        record {
+          enters = record { fit = fit; serial = serial; opens = opens s grown fit (grown-lengths s t fit lengths sound (grownFor s size mask t)) (place s t fit lengths sound size mask z b) };
+          below = tall;
+          low = low;
+          chunk = omega (arith, spot s t fit lengths sound size mask z b, fit .store .chunks-most);
+          pair = omega (arith, pair s t fit lengths sound size mask z b (levelsIn grown - 1) (omega (arith, tall)) (omega (arith, tall)), fit .pairs-most);
+          roomy = split-room;
+        }
+
+pub serves-ready : (s : BuddySettings) (h : Heap) (objects size mask : ℕ) (t : Tables) → BuddyIn s → Lengths s t → Sound s t → (z : ℕ) → decideAsk s h objects size mask t ≡ buy z → (memory : ℕ)
+    → Serves s (levelFor s size mask) memory z (grownTables s (grownFor s size mask t) t)
+serves-ready s h objects size mask t fit lengths sound z e memory = serves s t fit lengths sound size mask z (buys s h objects size mask t z e) memory

@@ -1,0 +1,50 @@
+-- What the code that writes a buddy store's tables asks of them, so that no number it makes overflows and the words of the book are
+-- there; proofs/ shows that a passed gate and a decided call give it. Assumes nothing: these are definitions.
+use Prim.Native.Nat.{ℕ, _-_, _^_, _≤_, _<_}
+use lib.ListN.{getD}
+use Rattle.rounding_rules.specs.Raising.{levelOf}
+use Rattle.counter.specs.InTable.{BuddyIn}
+use Rattle.counter.specs.Limits.{levelsMost, pairsMost, loansMost, chunksMost, spent}
+use Rattle.counter.specs.declared.answers.Block.{Block}
+use Rattle.counter.specs.declared.settings.BuddySettings.{BuddySettings}
+use Rattle.slab.specs.Slab.{nowhere}
+use Rattle.book_rules.specs.Book.{takenOf}
+use Rattle.book_rules.specs.Ready.{Opens, Strikes}
+use Rattle.buddy_rules.specs.Level.{ringHead, spotIn, acquired}
+use Rattle.buddy_rules.specs.Tables.{Tables, givenIn, levelsIn, placesIn, levelFrom}
+use Rattle.buddy_rules.specs.Moves.{readyNode}
+use Rattle.buddy_moves.specs.Roomy.{Roomy}
+use Rattle.buddy_outcomes.specs.Ask.{chunkSpot, headEnt, loanAt}
+use Rattle.buddy_outcomes.specs.Deliver.{chunkTables}
+
+-- the next loan can be entered
+pub record Enters (s : BuddySettings) (t : Tables) : Type 0 where
+  pub fit : BuddyIn s
+  pub serial : givenIn t < spent
+  pub opens : Opens (s .store .loans) (takenOf (placesIn t) (t .index) .place) (t .loans) (t .index)
+
+-- the head pair of level i can serve z bytes of level l
+pub record Lends (s : BuddySettings) (z l i : ℕ) (t : Tables) : Type 0 where
+  pub enters : Enters s t
+  pub below : l ≤ i
+  pub low : i < levelsMost
+  pub pair : ringHead (levelFrom s i) (t .tree) < pairsMost
+  pub offset : headEnt s t i .off ≤ 2 ^ 62
+  pub roomy : Roomy (s .pairs) l (loanAt s z t i .chunk) (loanAt s z t i .offset) (readyNode (s .pairs) i (t .tree)) (i - l) (acquired (levelFrom s i) 0 (t .tree))
+
+-- a chunk can be added, and serve as much
+pub record Serves (s : BuddySettings) (l memory bytes : ℕ) (t : Tables) : Type 0 where
+  pub enters : Enters s t
+  pub below : l < levelsIn t
+  pub low : levelsIn t ≤ levelsMost
+  pub chunk : chunkSpot s t .place < chunksMost
+  pub pair : spotIn (levelFrom s (levelsIn t - 1)) (t .tree) .place < pairsMost
+  pub roomy : Roomy (s .pairs) l (chunkSpot s t .place) 0 nowhere (levelsIn t - l) (chunkTables s memory bytes t .tree)
+
+-- the block that word w of the index leads to can be taken back
+pub record Backs (s : BuddySettings) (b : Block) (w : ℕ) (t : Tables) : Type 0 where
+  pub fit : BuddyIn s
+  pub below : levelOf (b .size) (s .minimal) ≤ levelsIn t
+  pub low : levelsIn t ≤ levelsMost
+  pub place : getD (t .index) w 0 < loansMost
+  pub strikes : Strikes w (getD (t .index) w 0) (t .loans) (t .index)

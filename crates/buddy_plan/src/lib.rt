@@ -1,8 +1,0 @@
-// What an ask, a delivery and a return of a buddy store come to: its gate, and the tests behind it.
-mod asking;
-mod delivering;
-mod taking_back;
-
-pub use asking::plan_ask;
-pub use delivering::plan_deliver;
-pub use taking_back::plan_return;

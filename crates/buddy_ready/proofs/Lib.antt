@@ -1,5 +1,0 @@
-pub mod Sizing
-pub mod Backing
-pub mod Rooming
-pub mod Lending
-pub mod Serving

@@ -1,0 +1,139 @@
+-- What a walk down a node sees: the words of a tree, whatever other pairs may lie there; and which nodes it meets.
+-- Assumes nothing.
+use mathlib.Core.Path.{_≡_, refl, ap}
+use mathlib.Core.Bool.{Bool, true}
+use mathlib.Core.Logic.{_⊎_, inl, inr}
+use Prim.Native.Nat.{ℕ, zero, suc, _+_, _*_, _≤_}
+use native.Mathlib.Omega.{arith}
+use Rattle.buddy_trees.specs.Trees.{Tree, free, loan, split, Apart, Wf, bytes, Piece, Has}
+use Rattle.buddy_trees.proofs.Bytes.{bytes-suc}
+use Rattle.buddy_rules.specs.Nodes.{Ent, Loan, Side, L, R, nodeOf, word, place, isFree, tagOf, base}
+
+-- ---- the nodes that a walk meets
+
+abbrev pub Here : ℕ → ℕ → ℕ → ℕ → ℕ → ℕ → ℕ → ℕ → Type 0
+Here l o n w i x m v = (i ≡ l) × (x ≡ o) × (m ≡ n) × (v ≡ w)
+
+module _ (u : ℕ) (E : ℕ → ℕ → Ent) where
+  -- node m, of level i at x with the word v, is one of the tree at node n, of level l at o with the word w
+  abbrev pub Meets : ℕ → ℕ → ℕ → ℕ → Tree → ℕ → ℕ → ℕ → ℕ → Type 0
+  Meets l o n w free i x m v = Here l o n w i x m v
+  Meets l o n w (loan k) i x m v = Here l o n w i x m v
+  Meets zero o n w (split a b) i x m v = Here zero o n w i x m v
+  Meets (suc l) o n w (split a b) i x m v =
+      Here (suc l) o n w i x m v
+      ⊎ (Meets l o (nodeOf (place w) L) (E l (place w) .left) a i x m v
+      ⊎ Meets l (o + bytes u l) (nodeOf (place w) R) (E l (place w) .right) b i x m v)
+
+  pub meets-here : (l o n w : ℕ) (t : Tree) (i x m v : ℕ) → Here l o n w i x m v → Meets l o n w t i x m v
+  meets-here l o n w free i x m v h = h
+  meets-here l o n w (loan k) i x m v h = h
+  meets-here zero o n w (split a b) i x m v h = h
+  meets-here (suc l) o n w (split a b) i x m v h = inl h
+
+  here-in : (l o n w i x m v : ℕ) → Here l o n w i x m v → (o ≤ x) × (x + bytes u i ≤ o + bytes u l) × (i ≤ l)
+  here-in l o n w i x m v h = let e : bytes u i ≡ bytes u l = ap (bytes u) (h .0) in omega (arith, h .0, h .1)
+
+  -- it lies in the tree's stretch
+  pub meets-in : (l o n w : ℕ) (t : Tree) (i x m v : ℕ) → Meets l o n w t i x m v → (o ≤ x) × (x + bytes u i ≤ o + bytes u l) × (i ≤ l)
+  meets-in l o n w free i x m v h = here-in l o n w i x m v h
+  meets-in l o n w (loan k) i x m v h = here-in l o n w i x m v h
+  meets-in zero o n w (split a b) i x m v h = here-in zero o n w i x m v h
+  meets-in (suc l) o n w (split a b) i x m v (inl h) = here-in (suc l) o n w i x m v h
+  meets-in (suc l) o n w (split a b) i x m v (inr (inl h)) =
+      let j = meets-in l o (nodeOf (place w) L) (E l (place w) .left) a i x m v h in
+      omega (arith, bytes-suc u l)
+  meets-in (suc l) o n w (split a b) i x m v (inr (inr h)) =
+      let j = meets-in l (o + bytes u l) (nodeOf (place w) R) (E l (place w) .right) b i x m v h in
+      omega (arith, bytes-suc u l)
+
+-- ---- what it sees
+
+-- live tells which loans there are, and size how long they are
+module _ (u : ℕ) (K : ℕ → Loan) (live : ℕ → Bool) (size : ℕ → ℕ) where
+  -- loan k is node n, of level l at o of chunk c
+  pub record LoanAt (k c l o n : ℕ) : Type 0 where
+    pub lives : live k ≡ true
+    pub is : K k ≡ record { chunk = c; at = o; lev = l; node = n }
+    pub sized : size k ≡ bytes u l
+
+module _ (u : ℕ) (E : ℕ → ℕ → Ent) (K : ℕ → Loan) (live : ℕ → Bool) (size : ℕ → ℕ) where
+  -- node n is split into the pair of its word, whose halves are a and b
+  pub record Pair (c l o n w : ℕ) (a b : Tree) (A B : Type 0) : Type 0 where
+    pub is : w ≡ 2 * place w + 2
+    pub apart : Apart a b
+    pub tag : E l (place w) .tag ≡ tagOf (isFree a) (isFree b)
+    pub chunk : E l (place w) .chunk ≡ c
+    pub off : E l (place w) .off ≡ o
+    pub up : E l (place w) .up ≡ n
+    pub this : A
+    pub twin : B
+
+  -- node n of level l at o of chunk c has the words of the tree, w being its own
+  abbrev pub Shape : ℕ → ℕ → ℕ → ℕ → ℕ → Tree → Type 0
+  Shape c l o n w free = w ≡ 0
+  Shape c l o n w (loan k) = (w ≡ 2 * k + 1) × LoanAt u K live size k c l o n
+  Shape c zero o n w (split a b) = ⊥
+  Shape c (suc l) o n w (split a b) =
+      Pair c l o n w a b
+      (Shape c l o (nodeOf (place w) L) (E l (place w) .left) a)
+      (Shape c l (o + bytes u l) (nodeOf (place w) R) (E l (place w) .right) b)
+
+  pub shape-wf : (c l o n w : ℕ) (t : Tree) → Shape c l o n w t → Wf l t
+  shape-wf c l o n w free r = tt
+  shape-wf c l o n w (loan k) r = tt
+  shape-wf c zero o n w (split a b) r = absurd r
+  shape-wf c (suc l) o n w (split a b) r = (
+    r .apart,
+    shape-wf c l o (nodeOf (place w) L) (E l (place w) .left) a (r .this),
+    shape-wf c l (o + bytes u l) (nodeOf (place w) R) (E l (place w) .right) b (r .twin),
+  )
+
+  -- a loan of the tree is one
+  pub shape-loan : (c l o n w : ℕ) (t : Tree) (y : Piece) (k : ℕ) → Shape c l o n w t → Has u l o t y → y .who ≡ k + 1 → live k ≡ true
+  shape-loan c l o n w free y k r h e = absurd h
+  shape-loan c l o n w (loan j) y k r h e = let i : k ≡ j = omega (arith, h .2) in rw i (r .1 .lives)
+  shape-loan c zero o n w (split a b) y k r h e = absurd h
+  shape-loan c (suc l) o n w (split a b) y k r (inl h) e = shape-loan c l o (nodeOf (place w) L) (E l (place w) .left) a y k (r .this) h e
+  shape-loan c (suc l) o n w (split a b) y k r (inr h) e = shape-loan c l (o + bytes u l) (nodeOf (place w) R) (E l (place w) .right) b y k (r .twin) h e
+
+  -- ---- what it sees where it meets a node
+
+  -- a part of the tree
+  pub record Part (c l o : ℕ) (t : Tree) (i x m v : ℕ) : Type 0 where
+    pub tree : Tree
+    pub shape : Shape c i x m v tree
+    pub has : (y : Piece) → Has u i x tree y → Has u l o t y
+
+  pub part-of : (c l o n w : ℕ) (t : Tree) (i x m v : ℕ) → Shape c l o n w t → Meets u E l o n w t i x m v → Part c l o t i x m v
+  part-of c l o n w free i x m v r h = rw (h .0, h .1, h .2, h .3) (record { tree = free; shape = r; has = λ y z. z })
+  part-of c l o n w (loan k) i x m v r h = rw (h .0, h .1, h .2, h .3) (record { tree = loan k; shape = r; has = λ y z. z })
+  part-of c zero o n w (split a b) i x m v r h = absurd r
+  part-of c (suc l) o n w (split a b) i x m v r (inl h) = rw (h .0, h .1, h .2, h .3) (record { tree = split a b; shape = r; has = λ y z. z })
+  part-of c (suc l) o n w (split a b) i x m v r (inr (inl h)) =
+      let j = part-of c l o (nodeOf (place w) L) (E l (place w) .left) a i x m v (r .this) h in
+      record { tree = j .tree; shape = j .shape; has = λ y z. inl (j .has y z) }
+  part-of c (suc l) o n w (split a b) i x m v r (inr (inr h)) =
+      let j = part-of c l (o + bytes u l) (nodeOf (place w) R) (E l (place w) .right) b i x m v (r .twin) h in
+      record { tree = j .tree; shape = j .shape; has = λ y z. inr (j .has y z) }
+
+  -- where it meets a split node it meets that node's halves
+  pub meets-half : (c l o n w : ℕ) (t : Tree) (i x m q : ℕ) (s : Side) → Shape c l o n w t → Meets u E l o n w t (suc i) x m (2 * q + 2)
+      → Meets u E l o n w t i (base u s x i) (nodeOf q s) (word s (E i q))
+  meets-half c l o n w free i x m q s r h = absurd (omega (arith, h .3))
+  meets-half c l o n w (loan k) i x m q s r h = absurd (omega (arith, h .3, r .0))
+  meets-half c zero o n w (split a b) i x m q s r h = absurd r
+  meets-half c (suc l) o n w (split a b) i x m q s r (inl h) =
+      let f : i ≡ l = omega (arith, h .0) in
+      let e : q ≡ place w = omega (arith, h .3) in
+      rw (f, e, h .1) (inr (go s))
+    where
+      go : (s : Side)
+          → Meets u E l o (nodeOf (place w) L) (E l (place w) .left) a l (base u s o l) (nodeOf (place w) s) (word s (E l (place w)))
+          ⊎ Meets u E l (o + bytes u l) (nodeOf (place w) R) (E l (place w) .right) b l (base u s o l) (nodeOf (place w) s) (word s (E l (place w)))
+      go L = inl (meets-here u E l o (nodeOf (place w) L) (E l (place w) .left) a l o (nodeOf (place w) L) (E l (place w) .left) (refl, refl, refl, refl))
+      go R = inr (meets-here u E l (o + bytes u l) (nodeOf (place w) R) (E l (place w) .right) b l (o + bytes u l) (nodeOf (place w) R) (E l (place w) .right) (refl, refl, refl, refl))
+  meets-half c (suc l) o n w (split a b) i x m q s r (inr (inl h)) =
+      inr (inl (meets-half c l o (nodeOf (place w) L) (E l (place w) .left) a i x m q s (r .this) h))
+  meets-half c (suc l) o n w (split a b) i x m q s r (inr (inr h)) =
+      inr (inr (meets-half c l (o + bytes u l) (nodeOf (place w) R) (E l (place w) .right) b i x m q s (r .twin) h))

@@ -1,0 +1,200 @@
+-- A buddy store in its five lent tables. head, loans and chunks are the truth; index and tree are what can be made again
+-- from them. Assumes nothing: these are definitions.
+use mathlib.Core.Path.{_≡_}
+use mathlib.Core.Bool.{Bool, cond, _&&_, not}
+use mathlib.Core.List.{List, [], _∷_, _++_}
+use Prim.Native.Nat.{ℕ, zero, suc, _+_, _*_}
+use lib.Dec.{eqb, ltb}
+use lib.ListN.{length, getD}
+use Rattle.lists.specs.Tests.{all}
+use Rattle.words.specs.Words.{cellOf}
+use Rattle.rounding_rules.specs.Raising.{levelOf}
+use Rattle.counter.specs.Limits.{levelsMost}
+use Rattle.counter.specs.declared.settings.BuddySettings.{BuddySettings}
+use Rattle.slab.specs.Slab.{vacantAt, linkAt}
+use Rattle.slab.specs.declared.Slab.{Slab}
+use Rattle.store_rules.specs.Loans.{loanWords, sizeAt}
+use Rattle.book_rules.specs.Book.{indexWords, entryWords, vacantAfterAt, nextOf, slabOf, firstIn}
+use Rattle.buddy_rules.specs.Nodes.{Ent, Loan}
+use Rattle.buddy_rules.specs.Level.{levelWords, pairIn}
+
+pub record Tables : Type 0 where
+  pub head : List ℕ
+  pub loans : List ℕ
+  pub chunks : List ℕ
+  pub index : List ℕ
+  pub tree : List ℕ
+
+abbrev pub tables : List ℕ → List ℕ → List ℕ → List ℕ → List ℕ → Tables
+tables h l c i r = record { head = h; loans = l; chunks = c; index = i; tree = r }
+
+-- ---- head: a mark; serials given, levels now; loan places and chunk places ever used
+
+-- "buddytre" in ASCII: tables of another engine do not have it
+abbrev pub mark : ℕ
+mark = 0x6275_6464_7974_7265
+
+abbrev pub markAt : ℕ
+markAt = 0
+
+abbrev pub givenAt : ℕ
+givenAt = 1
+
+abbrev pub levelsAt : ℕ
+levelsAt = 2
+
+abbrev pub placesAt : ℕ
+placesAt = 3
+
+abbrev pub chunkPlacesAt : ℕ
+chunkPlacesAt = 4
+
+abbrev pub headWords : ℕ
+headWords = 5
+
+abbrev pub givenIn : Tables → ℕ
+givenIn t = getD (t .head) givenAt 0
+
+abbrev pub levelsIn : Tables → ℕ
+levelsIn t = getD (t .head) levelsAt 0
+
+abbrev pub placesIn : Tables → ℕ
+placesIn t = getD (t .head) placesAt 0
+
+abbrev pub chunkPlacesIn : Tables → ℕ
+chunkPlacesIn t = getD (t .head) chunkPlacesAt 0
+
+-- ---- chunks: memory number and size in bytes, 0 at a vacant place
+
+abbrev pub chunkWords : ℕ
+chunkWords = 2
+
+abbrev pub memoryAt : ℕ
+memoryAt = 0
+
+abbrev pub chunkSizeAt : ℕ
+chunkSizeAt = 1
+
+abbrev pub memoryIn : Tables → ℕ → ℕ
+memoryIn t c = getD (t .chunks) (cellOf memoryAt chunkWords c) 0
+
+abbrev pub chunkSizeIn : Tables → ℕ → ℕ
+chunkSizeIn t c = getD (t .chunks) (cellOf chunkSizeAt chunkWords c) 0
+
+-- ---- tree: the levels one after the other; the chunk place vacated last; for each chunk place its top node's word and the
+-- vacant place after it; for each loan place its node
+
+abbrev pub levelAfter : ℕ → ℕ → ℕ
+levelAfter pairs l = levelWords pairs * l
+
+abbrev pub levelFrom : BuddySettings → ℕ → ℕ
+levelFrom s l = levelAfter (s .pairs) l
+
+abbrev pub chunksFrom : BuddySettings → ℕ
+chunksFrom s = levelWords (s .pairs) * levelsMost
+
+abbrev pub placeWords : ℕ
+placeWords = 2
+
+abbrev pub topAt : ℕ
+topAt = 0
+
+abbrev pub afterAt : ℕ
+afterAt = 1
+
+abbrev pub placeAt : BuddySettings → ℕ → ℕ
+placeAt s f = chunksFrom s + (1 + f)
+
+abbrev pub nodesFrom : BuddySettings → ℕ
+nodesFrom s = chunksFrom s + (1 + placeWords * s .store .chunks)
+
+abbrev pub treeWords : BuddySettings → ℕ
+treeWords s = nodesFrom s + s .store .loans
+
+-- ---- 1: "a lent table of the wrong length"
+
+abbrev pub lengthsRow : BuddySettings → Tables → List Bool
+lengthsRow s t =
+    eqb (length (t .head)) headWords
+    ∷ eqb (length (t .loans)) (loanWords * s .store .loans)
+    ∷ eqb (length (t .chunks)) (chunkWords * s .store .chunks)
+    ∷ eqb (length (t .index)) (indexWords (s .store .loans))
+    ∷ eqb (length (t .tree)) (treeWords s)
+    ∷ []
+
+unfoldable pub lengthsOk : BuddySettings → Tables → Bool
+lengthsOk s t = all (lengthsRow s t)
+
+pub record Lengths (s : BuddySettings) (t : Tables) : Type 0 where
+  pub head : length (t .head) ≡ headWords
+  pub loans : length (t .loans) ≡ loanWords * s .store .loans
+  pub chunks : length (t .chunks) ≡ chunkWords * s .store .chunks
+  pub index : length (t .index) ≡ indexWords (s .store .loans)
+  pub tree : length (t .tree) ≡ treeWords s
+
+-- ---- what they say
+
+-- the pairs of each level
+abbrev pub pairsIn : BuddySettings → Tables → ℕ → ℕ → Ent
+pairsIn s t l p = pairIn (levelFrom s l) (t .tree) p
+
+-- the loan at a place, and whether there is one
+abbrev pub loanCell : Tables → ℕ → ℕ → ℕ
+loanCell t f k = getD (t .loans) (cellOf f loanWords k) 0
+
+abbrev pub loanIn : BuddySettings → Tables → ℕ → Loan
+loanIn s t k =
+    record {
+      chunk = loanCell t 1 k;
+      at = loanCell t 2 k;
+      lev = levelOf (loanCell t sizeAt k) (s .minimal);
+      node = getD (t .tree) (nodesFrom s + k) 0;
+    }
+
+abbrev pub liveIn : Tables → ℕ → Bool
+liveIn t k = ltb k (placesIn t) && not (eqb (loanCell t sizeAt k) 0)
+
+-- the chunk at a place: whether there is one, how high its top node is, and that node's word
+abbrev pub heldIn : Tables → ℕ → Bool
+heldIn t c = ltb c (chunkPlacesIn t) && not (eqb (chunkSizeIn t c) 0)
+
+abbrev pub highIn : BuddySettings → Tables → ℕ → ℕ
+highIn s t c = cond (heldIn t c) (levelOf (chunkSizeIn t c) (s .minimal)) 0
+
+abbrev pub topIn : BuddySettings → Tables → ℕ → ℕ
+topIn s t c = cond (heldIn t c) (getD (t .tree) (cellOf (placeAt s topAt) placeWords c) 0) 0
+
+-- the memory numbers of the chunks at the first n places
+unfoldable pub memories : Tables → ℕ → List ℕ
+memories t zero = []
+memories t (suc n) = memories t n ++ cond (heldIn t n) (memoryIn t n ∷ []) []
+
+-- the slab of chunk places
+abbrev pub vacantChunk : Tables → ℕ → Bool
+vacantChunk t = vacantAt (t .chunks) chunkSizeAt chunkWords
+
+abbrev pub chunkAfter : BuddySettings → Tables → ℕ → ℕ
+chunkAfter s t = linkAt (t .tree) (placeAt s afterAt) placeWords
+
+abbrev pub chunkSlab : BuddySettings → Tables → Slab
+chunkSlab s t = record { places = chunkPlacesIn t; vacant = getD (t .tree) (chunksFrom s) 0 }
+
+-- the book of loans
+abbrev pub vacantLoan : Tables → ℕ → Bool
+vacantLoan t = vacantAt (t .loans) sizeAt loanWords
+
+abbrev pub loanAfter : Tables → ℕ → ℕ
+loanAfter t = linkAt (t .index) vacantAfterAt entryWords
+
+abbrev pub loanSlab : Tables → Slab
+loanSlab t = slabOf (placesIn t) (t .index)
+
+abbrev pub chainStart : Tables → ℕ → ℕ
+chainStart t = firstIn (givenIn t) (t .index)
+
+abbrev pub chainNext : Tables → ℕ → ℕ
+chainNext t p = getD (t .index) (nextOf p) 0
+
+-- 01: "Initial levels: zeros of the initial size less those of minimal, not below 0"
+abbrev pub initialLevels : BuddySettings → ℕ
+initialLevels s = levelOf (s .initial) (s .minimal)

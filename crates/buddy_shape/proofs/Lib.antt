@@ -1,2 +1,0 @@
--- Where a level begins, and how long a node is.
-pub mod Shape

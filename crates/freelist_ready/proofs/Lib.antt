@@ -1,4 +1,0 @@
-pub mod Lending
-pub mod Adding
-pub mod Backing
-pub mod Releasing
