@@ -18,10 +18,10 @@ use Rattle.store_rules.proofs.Placed.{on-loan-append}
 use Rattle.book_rules.specs.Book.{takenOf, entered}
 use Rattle.book_rules.proofs.Keeps.{BookParted, taken-where}
 
-on-loan-amid : (l : Loan) (xs ys : List Loan) → eqb (l .size) 0 ≡ false → onLoan (xs ++ (l ∷ ys)) ≡ onLoan xs ++ (l ∷ onLoan ys)
+pub on-loan-amid : (l : Loan) (xs ys : List Loan) → eqb (l .size) 0 ≡ false → onLoan (xs ++ (l ∷ ys)) ≡ onLoan xs ++ (l ∷ onLoan ys)
 on-loan-amid l xs ys e = on-loan-append xs (l ∷ ys) ∙ rw e
 
-on-loan-past : (l : Loan) (xs ys : List Loan) → eqb (l .size) 0 ≡ true → onLoan (xs ++ (l ∷ ys)) ≡ onLoan xs ++ onLoan ys
+pub on-loan-past : (l : Loan) (xs ys : List Loan) → eqb (l .size) 0 ≡ true → onLoan (xs ++ (l ∷ ys)) ≡ onLoan xs ++ onLoan ys
 on-loan-past l xs ys e = on-loan-append xs (l ∷ ys) ∙ rw e
 
 module _ (l : Loan) (some : eqb (l .size) 0 ≡ false) where

@@ -19,7 +19,7 @@ use Rattle.store_rules.specs.Loans.{loanWords}
 use Rattle.store_rules.specs.Outcomes.{listed}
 use Rattle.store_rules.specs.declared.Loan.{Loan}
 use Rattle.engines.specs.Serials.{Gone, Counted, Counts}
-use Rattle.engines.specs.Rows.{listRows}
+use Rattle.store_rules.specs.Rows.{listRows}
 use Rattle.engines.specs.Shapes.{Lent, Call, setsUp, asks, delivers, returns, others, does, Marked, wordsOf}
 use Rattle.buddy_rules.specs.Tables.{Tables, mark, markAt, givenIn}
 use Rattle.buddy_rules.proofs.Viewed.{loanAt, live-loan, loan-live}

@@ -2,7 +2,7 @@
 use mathlib.Core.Path.{_≡_, refl, sym, ap, subst, _∙_}
 use mathlib.Core.Bool.{Bool, true, false, cond}
 use mathlib.Core.Logic.{_⊎_, inl, inr, ⊎-elim, _↔_}
-use mathlib.Core.List.{List, [], _∷_, List·Memᴰ, List·Memᴰ·head, List·Memᴰ·cases-cons, List·Memᴰ·not-nil}
+use mathlib.Core.List.{List, [], List·Memᴰ}
 use Prim.Native.Nat.{ℕ}
 use Rattle.lists.proofs.Bools.{told}
 use Rattle.counter.specs.Paper as Paper
@@ -20,9 +20,10 @@ use Rattle.store_rules.specs.Outcomes.{Out, Listed}
 use Rattle.store_rules.specs.Views.{chunk}
 use Rattle.store_rules.specs.declared.Chunk.{Chunk}
 use Rattle.store_rules.specs.declared.Loan.{Loan}
-use Rattle.store_rules.proofs.Amid.{Amid, amid-member}
+use Rattle.store_rules.proofs.Amid.{amid-member}
 use Rattle.store_rules.proofs.Said.{not-refused, refusal-block, same-block}
 use Rattle.engines.specs.Tells.{lentBy, Joined, Blocked, Ordered, Released, Refused, Tells}
+use Rattle.engines.proofs.Joins.{none-joined, amid-joined}
 use Rattle.buddy_rules.specs.Tables.{Tables}
 use Rattle.buddy_rules.specs.Views.{loansIn, chunksIn}
 use Rattle.buddy_outcomes.specs.Ask.{grownFor, grownTables, loanFrom, deniedTables, chunkSpot, carryAsk, askOf}
@@ -60,28 +61,18 @@ return-says s a b t list _ (Returned.takes p on) = ⊎-elim (λ e. inl (1, rw e)
 
 -- ---- loans
 
-nothing-new : (ks ls : List Loan) → ks ≡ ls → Joined ks ls []
-nothing-new ks ls e l = ((λ m. inl (subst (List·Memᴰ l) e m)), ⊎-elim (λ m. subst (List·Memᴰ l) (sym e) m) (λ m. absurd (List·Memᴰ·not-nil m)))
-
-amid-joined : (n : Loan) (before after : List Loan) → Amid n before after → Joined after before (n ∷ [])
-amid-joined n before after w l =
-    let m = amid-member n before after w l in (
-      (λ k. ⊎-elim (λ i. inl i) (λ e. inr (List·Memᴰ·head e)) (m .0 k)),
-      ⊎-elim (λ i. m .1 (inl i)) (λ i. m .1 (inr (⊎-elim (λ e. e) (λ z. absurd (List·Memᴰ·not-nil z)) (List·Memᴰ·cases-cons i)))),
-    )
-
 ask-lends : (s : BuddySettings) (a : Account) (size mask : ℕ) (t : Tables) (r : Out Tables) → AskComes s a size mask t r → Joined (loansIn (r .tables)) (loansIn t) (lentBy (r .said))
 unfolding carryAsk
 ask-lends s a size mask t _ (denied n) =
-    nothing-new (loansIn (deniedTables s size mask n t)) (loansIn t)
+    none-joined (loansIn (deniedTables s size mask n t)) (loansIn t)
     (⊎-elim (λ e. ap loansIn e ∙ grown-loans s (grownFor s size mask t) t) (λ e. ap loansIn e) (denied-tables s size mask n t))
 ask-lends s a size mask t _ (lends i p w) = amid-joined (loanFrom s size mask t i) (loansIn t) _ (taken-amid s t (p .lent .settings) (p .lent .lengths) (p .sound) size mask i w)
-ask-lends s a size mask t _ (orders z p e) = nothing-new (loansIn (grownTables s (grownFor s size mask t) t)) (loansIn t) (grown-loans s (grownFor s size mask t) t)
+ask-lends s a size mask t _ (orders z p e) = none-joined (loansIn (grownTables s (grownFor s size mask t) t)) (loansIn t) (grown-loans s (grownFor s size mask t) t)
 
 deliver-lends : (s : BuddySettings) (a : Account) (o : Outcome) (t : Tables) (r : Out Tables) → DeliverComes s a o t r → Joined (loansIn (r .tables)) (loansIn t) (lentBy (r .said))
 unfolding carryFate
-deliver-lends s a o t _ (early n) = nothing-new (loansIn t) (loansIn t) refl
-deliver-lends s a o t _ (loses k n charged back) = nothing-new (loansIn (asOrdered s k t)) (loansIn t) (grown-loans s (grownFor s (k .ask .size) (k .ask .mask) t) t)
+deliver-lends s a o t _ (early n) = none-joined (loansIn t) (loansIn t) refl
+deliver-lends s a o t _ (loses k n charged back) = none-joined (loansIn (asOrdered s k t)) (loansIn t) (grown-loans s (grownFor s (k .ask .size) (k .ask .mask) t) t)
 deliver-lends s a o t _ (keeps k m f e l sound b) =
     amid-joined (loanIn s (k .ask .size) (k .ask .mask) (asOrdered s k t)) (loansIn t) _
     (served-amid s t (l .settings) (l .lengths) sound (k .ask .size) (k .ask .mask) (k .order .size) (m .number) b)

@@ -22,7 +22,7 @@ use Rattle.buddy_rules.specs.Sound.{Sound}
 use Rattle.buddy_rules.specs.Tables.{Tables, Lengths, givenIn}
 use Rattle.buddy_outcomes.specs.Ask.{nowhere, needs, sizeFor, foundFor, orderFor, sizeOk, countOk, objectsOk, askRow, planned, decideAsk}
 use Rattle.buddy_outcomes.specs.Refusals.{SizeOff, Needed, buddyWords}
-use Rattle.engines.specs.Rows.{NoObject, Spent, askTests}
+use Rattle.store_rules.specs.Rows.{NoObject, Spent, askTests}
 use Rattle.buddy_outcomes.proofs.Fitted.{needs-when}
 use Rattle.buddy_outcomes.proofs.Plans.{planned-buy}
 use Rattle.buddy_outcomes.proofs.Roomed.{needs-none, full-when}

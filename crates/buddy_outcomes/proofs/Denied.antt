@@ -38,7 +38,7 @@ use Rattle.buddy_outcomes.specs.Ask as A
 use Rattle.buddy_outcomes.specs.Deliver.{stillOk, deliverGateOf, asOrdered, carryFate, decideDeliver, planDeliver, carryDeliver, deliverOf}
 use Rattle.buddy_outcomes.specs.Deliver as D
 use Rattle.buddy_outcomes.specs.Refusals.{Needed, buddyWords}
-use Rattle.engines.specs.Rows.{Leads, askTests, deliverRows, keptRows}
+use Rattle.store_rules.specs.Rows.{Leads, askTests, deliverRows, keptRows}
 use Rattle.buddy_outcomes.proofs.Asked.{ask-buys}
 use Rattle.buddy_outcomes.proofs.Gated.{in-table, short}
 use Rattle.buddy_outcomes.proofs.Counting.{memories-is}

@@ -26,7 +26,7 @@ use Rattle.buddy_rules.specs.Test.{soundOk}
 use Rattle.buddy_rules.proofs.Decides.{tables-yes, tables-all}
 use Rattle.buddy_outcomes.specs.Gate.{lentOk, heldCount, heldBytes, accountOk}
 use Rattle.buddy_outcomes.specs.Refusals.{InTable, buddyWords}
-use Rattle.engines.specs.Rows.{Short, WithList, gateRows, listRows}
+use Rattle.store_rules.specs.Rows.{Short, WithList, gateRows, listRows}
 use Rattle.buddy_outcomes.proofs.Passing.{lent-in, are-lengths}
 use Rattle.buddy_outcomes.proofs.Counting.{count-is, bytes-is}
 use Rattle.buddy_rules.specs.Views.{chunksIn}

@@ -42,7 +42,7 @@ use Rattle.buddy_outcomes.specs.Ask.{grownFor, decideAsk, grownTables, b
 use Rattle.buddy_outcomes.specs.Deliver as Deliver
 use Rattle.buddy_outcomes.specs.Deliver.{deliverGateOf, chunkTables, servedTables, carryFate, decideDeliver, planDeliver, carryDeliver, deliverOf}
 use Rattle.buddy_outcomes.specs.Refusals.{buddyWords}
-use Rattle.engines.specs.Rows.{Stale, listRows}
+use Rattle.store_rules.specs.Rows.{Stale, listRows}
 use Rattle.buddy_outcomes.specs.Return.{wordFor, onLoanOk, givenTables, releasedBy, returnOf}
 use Rattle.buddy_outcomes.proofs.Booked.{lower}
 use Rattle.buddy_outcomes.proofs.Changed.{grown-lengths}

@@ -43,7 +43,7 @@ use Rattle.buddy_outcomes.specs.Return.{wordFor, onLoanOk, releasedBy, c
 use Rattle.buddy_outcomes.specs.Return as R
 use Rattle.buddy_outcomes.specs.SetUp.{setUp, fitOk, setUpOf, freshTables}
 use Rattle.buddy_outcomes.specs.Refusals.{buddyWords}
-use Rattle.engines.specs.Rows.{Stale, askRows, askTests, gateRows, listRows, returnRows, setUpRows}
+use Rattle.store_rules.specs.Rows.{Stale, askRows, askTests, gateRows, listRows, returnRows, setUpRows}
 use Rattle.buddy_outcomes.proofs.Gated.{gate-decided, list-decided}
 use Rattle.buddy_outcomes.proofs.Asked.{ask-decided}
 use Rattle.buddy_outcomes.proofs.Loaned.{on-loan-is, is-on-loan}

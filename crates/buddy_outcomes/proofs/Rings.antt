@@ -1,9 +1,9 @@
 -- The rings and the vacant chains of a sound buddy store, in its words: each level's ring has exactly the pairs with one free side,
 -- none of them twice, and each place that was used is either in use or in its chain. Assumes nothing.
-use mathlib.Core.Path.{_≡_, refl, sym, ap, _∙_}
+use mathlib.Core.Path.{_≡_, refl, ap, _∙_}
 use mathlib.Core.Bool.{Bool, true, false, not, _&&_}
 use mathlib.Core.Logic.{_⊎_, inl, inr, ⊎-elim, _↔_}
-use Prim.Native.Nat.{ℕ, zero, suc, _+_, _<_}
+use Prim.Native.Nat.{ℕ, _+_, _<_}
 use native.Mathlib.Omega.{arith}
 use lib.Dec.{eqb, ltb}
 use lib.ListN.{getD}
@@ -13,9 +13,8 @@ use Rattle.lists.proofs.Bools.{told, same?, true-false, and-both}
 use Rattle.counter.specs.declared.settings.BuddySettings.{BuddySettings}
 use Rattle.slab.specs.Slab.{nowhere, Parted}
 use Rattle.slab.specs.declared.Slab.{Slab}
-use Rattle.buddy_trees.specs.Trees.{Tree, free, loan, split, Apart, Wf, bytes}
-use Rattle.buddy_rules.specs.Nodes.{Ent, Loan, L, R, nodeOf, place, isFree, tagOf, Inside, Rep}
-use Rattle.buddy_rules.proofs.Frames.{inside-cases}
+use Rattle.buddy_rules.specs.Nodes.{Ent, tagOf, Inside}
+use Rattle.buddy_rules.proofs.Frees.{Sided, pair-sided}
 use Rattle.buddy_rules.specs.Level.{usedAt, entOf}
 use Rattle.buddy_rules.proofs.Cells.{pair-used}
 use Rattle.buddy_rules.specs.Tables.{Tables, placesIn, chunkPlacesIn, levelsIn, levelFrom, pairsIn, chunkSizeIn, loanIn, liveIn, heldIn, highIn, topIn, vacantLoan, vacantChunk}
@@ -33,44 +32,17 @@ OneFree e = ((e .left ≡ 0) × (e .right ≡ 0 → ⊥)) ⊎ ((e .left ≡ 0 �
 abbrev Tells : Ent → Type 0
 Tells e = (1 < e .tag) ↔ OneFree e
 
-tag-tells : (a b : Tree) → Apart a b → (x y n : ℕ) → (isFree a ≡ eqb x 0) → (isFree b ≡ eqb y 0) → n ≡ tagOf (isFree a) (isFree b)
-    → (1 < n) ↔ (((x ≡ 0) × (y ≡ 0 → ⊥)) ⊎ ((x ≡ 0 → ⊥) × (y ≡ 0)))
-tag-tells free free h x y n p q e = absurd h
-tag-tells free (loan k) h x y n p q e = ((λ i. inl (eqb-true x 0 (sym p), eqb-false y 0 (sym q))), λ i. omega (arith, e))
-tag-tells free (split c d) h x y n p q e = ((λ i. inl (eqb-true x 0 (sym p), eqb-false y 0 (sym q))), λ i. omega (arith, e))
-tag-tells (loan k) free h x y n p q e = ((λ i. inr (eqb-false x 0 (sym p), eqb-true y 0 (sym q))), λ i. omega (arith, e))
-tag-tells (loan k) (loan j) h x y n p q e = ((λ i. absurd (omega (arith, e))), λ i. ⊎-elim (λ z. absurd (eqb-false x 0 (sym p) (z .0))) (λ z. absurd (eqb-false y 0 (sym q) (z .1))) i)
-tag-tells (loan k) (split c d) h x y n p q e = ((λ i. absurd (omega (arith, e))), λ i. ⊎-elim (λ z. absurd (eqb-false x 0 (sym p) (z .0))) (λ z. absurd (eqb-false y 0 (sym q) (z .1))) i)
-tag-tells (split a b) free h x y n p q e = ((λ i. inr (eqb-false x 0 (sym p), eqb-true y 0 (sym q))), λ i. omega (arith, e))
-tag-tells (split a b) (loan j) h x y n p q e = ((λ i. absurd (omega (arith, e))), λ i. ⊎-elim (λ z. absurd (eqb-false x 0 (sym p) (z .0))) (λ z. absurd (eqb-false y 0 (sym q) (z .1))) i)
-tag-tells (split a b) (split c d) h x y n p q e = ((λ i. absurd (omega (arith, e))), λ i. ⊎-elim (λ z. absurd (eqb-false x 0 (sym p) (z .0))) (λ z. absurd (eqb-false y 0 (sym q) (z .1))) i)
-
-module _ (u : ℕ) (E : ℕ → ℕ → Ent) (K : ℕ → Loan) where
-  -- a node's word is 0 exactly where it is free
-  free-word : (c l o n w : ℕ) (t : Tree) → Rep u E K c l o n w t → isFree t ≡ eqb w 0
-  free-word c l o n w free r = sym (eq-eqb w 0 (r .0))
-  free-word c l o n w (loan k) r = sym (ne-eqb w 0 (λ e. omega (arith, r .0)))
-  free-word c zero o n w (split a b) r = absurd r
-  free-word c (suc l) o n w (split a b) r = sym (ne-eqb w 0 (λ e. omega (arith, r .is)))
-
-  -- the tag of each pair that lies in the node tells its words
-  pair-tells : (c l o n w i p : ℕ) (t : Tree) → Wf l t → Rep u E K c l o n w t → i < l → 0 < E i p .tag → Inside u (E i p) c o l → Tells (E i p)
-  pair-tells c l o n w i p free v r h t j = absurd (r .1 i p h t j)
-  pair-tells c l o n w i p (loan k) v r h t j = absurd (r .2 i p h t j)
-  pair-tells c zero o n w i p (split a b) v r h t j = absurd r
-  pair-tells c (suc l) o n w i p (split a b) v r h t j =
-      go (same? i l)
-      (λ g z. pair-tells c l o (nodeOf (place w) L) (E l (place w) .left) i p a (v .1) (r .this) g t z)
-      (λ g z. pair-tells c l (o + bytes u l) (nodeOf (place w) R) (E l (place w) .right) i p b (v .2) (r .twin) g t z)
-    where
-      own : Tells (E l (place w))
-      own = tag-tells a b (v .0) _ _ _ (free-word c l o (nodeOf (place w) L) (E l (place w) .left) a (r .this)) (free-word c l (o + bytes u l) (nodeOf (place w) R) (E l (place w) .right) b (r .twin)) (r .tag)
-
-      go : (i ≡ l) ⊎ (i ≡ l → ⊥) → (i < l → Inside u (E i p) c o l → Tells (E i p)) → (i < l → Inside u (E i p) c (o + bytes u l) l → Tells (E i p)) → Tells (E i p)
-      go (inl e) f g =
-          let q : p ≡ place w = r .only p (rw e at t) (rw e at j) in
-          rw (e, q) own
-      go (inr z) f g = ⊎-elim (λ k. f (omega arith) k) (λ k. g (omega arith) k) (inside-cases u L (E i p) c o l j)
+sided-tells : (e : Ent) → Sided e → Tells e
+sided-tells e s = go (eqb (e .left) 0) (eqb (e .right) 0) refl refl (s .0)
+  where
+    go : (x y : Bool) → eqb (e .left) 0 ≡ x → eqb (e .right) 0 ≡ y → e .tag ≡ tagOf x y → Tells e
+    go true true a b q = absurd (s .1 (eqb-true (e .left) 0 a) (eqb-true (e .right) 0 b))
+    go true false a b q = ((λ i. inl (eqb-true (e .left) 0 a, eqb-false (e .right) 0 b)), λ i. omega (arith, q))
+    go false true a b q = ((λ i. inr (eqb-false (e .left) 0 a, eqb-true (e .right) 0 b)), λ i. omega (arith, q))
+    go false false a b q = (
+      (λ i. absurd (omega (arith, q))),
+      λ i. ⊎-elim (λ z. absurd (eqb-false (e .left) 0 a (z .0))) (λ z. absurd (eqb-false (e .right) 0 b (z .1))) i,
+    )
 
 module _ (s : BuddySettings) (t : Tables) (sound : Sound s t) where
   -- each pair in use lies in a held chunk
@@ -92,7 +64,8 @@ module _ (s : BuddySettings) (t : Tables) (sound : Sound s t) where
       let S = sound .standing in
       let c = pairsIn s t l p .chunk in
       let o = S .owned l p h g in
-      pair-tells (s .minimal) (pairsIn s t) (loanIn s t) c (highIn s t c) 0 nowhere (topIn s t c) l p (S .trees c) (S .wf c (o .0)) (S .rep c (o .0)) (o .1) g (used-in l p h g)
+      sided-tells (pairsIn s t l p)
+      (pair-sided (s .minimal) (pairsIn s t) (loanIn s t) c (highIn s t c) 0 nowhere (topIn s t c) l p (S .trees c) (S .wf c (o .0)) (S .rep c (o .0)) (o .1) g (used-in l p h g))
 
   -- ---- rings
 

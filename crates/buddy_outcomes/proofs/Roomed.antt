@@ -28,7 +28,7 @@ use Rattle.buddy_outcomes.specs.Ask as Ask
 use Rattle.buddy_outcomes.specs.Ask.{Found, at, needs, levelFor, foundFor, fromFor, sizeOk, pairRoom, pairsRoom, chunkSpot, roomOk}
 use Rattle.buddy_outcomes.specs.Gate.{heldCount}
 use Rattle.buddy_outcomes.specs.Refusals.{liveCount, pairCount, Splits, buddyWords}
-use Rattle.engines.specs.Rows.{Full}
+use Rattle.store_rules.specs.Rows.{Full}
 use Rattle.buddy_outcomes.proofs.Searches.{search-none, search-at, room-each}
 use Rattle.buddy_outcomes.proofs.Fitted.{needs-when}
 use Rattle.buddy_outcomes.proofs.Counting.{loans-is, count-is}

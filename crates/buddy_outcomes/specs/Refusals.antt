@@ -11,7 +11,7 @@ use Rattle.counter.specs.InTable.{BuddyIn}
 use Rattle.counter.specs.Limits.{heapsMost, heapBytesMost, levelsMost}
 use Rattle.counter.specs.declared.account.Account.{Account}
 use Rattle.counter.specs.declared.settings.BuddySettings.{BuddySettings}
-use Rattle.engines.specs.Words.{Words}
+use Rattle.store_rules.specs.Words.{Words}
 use Rattle.buddy_trees.specs.Trees.{bytes}
 use Rattle.buddy_trees.specs.Chunks.{Fitting}
 use Rattle.buddy_rules.specs.Sound.{Sound}

@@ -133,7 +133,7 @@ module _ (u : ℕ) where
 -- ---- a pair's tag and the words of its two sides
 
 -- its tag is that of its words, and they are not both 0
-abbrev Sided : Ent → Type 0
+abbrev pub Sided : Ent → Type 0
 Sided e = (e .tag ≡ tagOf (eqb (e .left) 0) (eqb (e .right) 0)) × (e .left ≡ 0 → e .right ≡ 0 → ⊥)
 
 not-both : (a b : Tree) → Apart a b → isFree a ≡ true → isFree b ≡ true → ⊥
@@ -151,7 +151,8 @@ module _ (u : ℕ) (E : ℕ → ℕ → Ent) (K : ℕ → Nodes.Loan) where
   word-free c zero o n w (split a b) r = absurd r
   word-free c (suc l) o n w (split a b) r = sym (ne-eqb w 0 (λ e. omega (arith, r .is)))
 
-  pair-sided : (c l o n w i p : ℕ) (t : Tree) → Wf l t → Rep u E K c l o n w t → i < l → 0 < E i p .tag → Inside u (E i p) c o l → Sided (E i p)
+  -- so it is of each pair that lies in the node
+  pub pair-sided : (c l o n w i p : ℕ) (t : Tree) → Wf l t → Rep u E K c l o n w t → i < l → 0 < E i p .tag → Inside u (E i p) c o l → Sided (E i p)
   pair-sided c l o n w i p free v r h t j = absurd (r .1 i p h t j)
   pair-sided c l o n w i p (loan k) v r h t j = absurd (r .2 i p h t j)
   pair-sided c zero o n w i p (split a b) v r h t j = absurd r

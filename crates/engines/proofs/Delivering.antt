@@ -21,7 +21,7 @@ use Rattle.store_rules.specs.Refusals.{Unsuited, UnwelcomeTo, DeviceOut, HostOu
 use Rattle.store_rules.specs.declared.Chunk.{Chunk}
 use Rattle.store_rules.proofs.Said.{refuses}
 use Rattle.engines.specs.Engines.{Engine}
-use Rattle.engines.specs.Rows.{deliverRows}
+use Rattle.store_rules.specs.Rows.{deliverRows}
 use Rattle.engines.specs.Shapes.{Lent, wordsOf}
 use Rattle.engines.specs.Tells.{Blocked, Ordered}
 use Rattle.engines.proofs.Taking.{ask-passed}

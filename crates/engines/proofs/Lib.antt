@@ -3,6 +3,7 @@ pub mod Shutting
 pub mod Booking
 pub mod Visits
 pub mod Taking
+pub mod Joins
 pub mod Noting
 pub mod NeverAgain
 pub mod CountUp

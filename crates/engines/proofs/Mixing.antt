@@ -18,7 +18,7 @@ use Rattle.store_rules.specs.declared.Loan.{Loan}
 use Rattle.store_rules.proofs.Said.{refuses, not-refused}
 use Rattle.engines.specs.Engines.{Engine}
 use Rattle.engines.specs.Pools.{Slot, ofHead, ofLoans, ofChunks, ofIndex, ofRoom, slots, tableOf, seal, Sealed, Pool, lentFrom, written, Different, Turn, did, turned, course, NoNewLoans, handing, GoneFrom}
-use Rattle.engines.specs.Rows.{listRows}
+use Rattle.store_rules.specs.Rows.{listRows}
 use Rattle.engines.specs.Serials.{Gone}
 use Rattle.engines.specs.Shapes.{Lent, Begun, Call, setsUp, returns, Shape, does, wordsOf}
 use Rattle.engines.proofs.NeverAgain.{no-set-up}

@@ -15,7 +15,7 @@ use Rattle.store_rules.specs.Outcomes.{Listed, listed}
 use Rattle.engines.specs.Engines.{Engine}
 use Rattle.engines.specs.Histories.{State, storeAt, Visit, done, step, run, NoSetUp, handBack}
 use Rattle.engines.specs.Serials.{Gone}
-use Rattle.engines.specs.Rows.{listRows}
+use Rattle.store_rules.specs.Rows.{listRows}
 use Rattle.engines.specs.Shapes.{Lent, markOf, Call, setsUp, returns, does, wordsOf}
 use Rattle.engines.proofs.Visits.{set-up?, set-up-stays, stores-stay, store-here, store-other}
 

@@ -19,7 +19,7 @@ use Rattle.store_rules.proofs.Loaned.{loan-is, same-self}
 use Rattle.store_rules.proofs.Said.{refuses, not-refused}
 use Rattle.engines.specs.Ends.{Taken}
 use Rattle.engines.specs.Engines.{Engine}
-use Rattle.engines.specs.Rows.{returnRows, askRows}
+use Rattle.store_rules.specs.Rows.{returnRows, askRows}
 use Rattle.engines.specs.Shapes.{Lent, wordsOf}
 
 -- where no number is given no row's words hold

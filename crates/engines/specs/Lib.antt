@@ -1,6 +1,4 @@
-pub mod Words
 pub mod Shapes
-pub mod Rows
 pub mod Refuses
 pub mod Keeps
 pub mod Serials

@@ -14,7 +14,7 @@ use Rattle.counter.specs.declared.answers.Block.{Block}
 use Rattle.counter.specs.declared.answers.Outcome.{Outcome}
 use Rattle.store_rules.specs.Outcomes.{out, listed}
 use Rattle.store_rules.specs.Refusals.{lostFor}
-use Rattle.engines.specs.Rows.{gateRows, listRows, keptRows, setUpRows, askRows, deliverRows, returnRows}
+use Rattle.store_rules.specs.Rows.{gateRows, listRows, keptRows, setUpRows, askRows, deliverRows, returnRows}
 use Rattle.engines.specs.Shapes.{Lent, Call, setsUp, Shape, does, Marked, lentList, wordsOf}
 
 pub record Refuses (E : Shape) : Type 0 where

@@ -13,7 +13,7 @@ use Rattle.counter.specs.declared.answers.Block.{Block}
 use Rattle.store_rules.specs.Outcomes.{listed}
 use Rattle.store_rules.specs.Views.{All}
 use Rattle.store_rules.specs.declared.Loan.{Loan}
-use Rattle.engines.specs.Rows.{listRows}
+use Rattle.store_rules.specs.Rows.{listRows}
 use Rattle.engines.specs.Shapes.{Lent, Call, setsUp, Shape, does, Marked, wordsOf}
 
 -- the serial of a block that is lent

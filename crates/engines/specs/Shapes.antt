@@ -14,7 +14,7 @@ use Rattle.store_rules.specs.Delivery.{Engine}
 use Rattle.store_rules.specs.Outcomes.{Out, Listed, listed}
 use Rattle.store_rules.specs.Views.{View}
 use Rattle.store_rules.specs.declared.Loan.{Loan}
-use Rattle.engines.specs.Words.{Words}
+use Rattle.store_rules.specs.Words.{Words}
 
 -- every store lends five tables; room is the one that says what of its chunks is free
 pub record Lent : Type 0 where

@@ -28,7 +28,7 @@ use Rattle.freelist_rules.proofs.NeverAgain as Rules
 use Rattle.freelist_rules.proofs.Ordered.{ordered-in, ordered-out}
 use Rattle.freelist_rules.proofs.Swaps.{settled}
 use Rattle.freelist_outcomes.specs.Refusals.{listWords}
-use Rattle.engines.specs.Rows.{Stale, listRows}
+use Rattle.store_rules.specs.Rows.{Stale, listRows}
 use Rattle.freelist_outcomes.specs.Return.{wordFor, onLoanOk, givenTables, releasedTables, releaseOf, returnOf}
 use Rattle.freelist_outcomes.specs.SetUp.{SetUp, setUpOf}
 use Rattle.freelist_outcomes.proofs.Changed.{fresh-store}

@@ -27,6 +27,7 @@ use Rattle.store_rules.specs.declared.Region.{Region}
 use Rattle.store_rules.proofs.Amid.{amid-member}
 use Rattle.engines.specs.Shapes.{Lent}
 use Rattle.engines.specs.Tells.{lentBy, Same, Joined, Blocked, Ordered, Released, Refused, Tells}
+use Rattle.engines.proofs.Joins.{none-joined}
 use Rattle.freelist_rules.specs.Place.{sizeFor, maskFor, lentLoan, putLoan}
 use Rattle.freelist_rules.specs.Records.{Store, region}
 use Rattle.freelist_rules.specs.Steps.{noRegion, served, delivered}
@@ -78,9 +79,6 @@ own-says s a cleansUp t list = clean-up-says s a t list (cleanUpOf s a t list) (
 
 -- ---- loans
 
-nothing-new : (ls : List Loan) → Joined ls ls []
-nothing-new ls l = ((λ m. inl m), ⊎-elim (λ m. m) (λ m. absurd (List·Memᴰ·not-nil m)))
-
 put-joined : (n : Loan) (ls : List Loan) → Joined (putLoan n ls) ls (n ∷ [])
 put-joined n ls l = (
   (λ m. ⊎-elim (λ e. inr (List·Memᴰ·head e)) (λ k. inl k) (put-member n ls l m)),
@@ -92,18 +90,18 @@ abbrev Lends : FreeListSettings → Tables → Tables → Said → Type 0
 Lends s t u said = Joined (storeOf s u .loans) (storeOf s t .loans) (lentBy said)
 
 ask-lends : (s : FreeListSettings) (a : Account) (size mask : ℕ) (t : Tables) (r : Out Tables) → AskComes s a size mask t r → Lends s t (r .tables) (r .said)
-ask-lends s a size mask t _ (AskComes.denied n) = nothing-new (storeOf s t .loans)
+ask-lends s a size mask t _ (AskComes.denied n) = none-joined (storeOf s t .loans) (storeOf s t .loans) refl
 ask-lends s a size mask t _ (lends i p v) =
     let e = taken-store s t (p .settings) (lengths-are s t (p .lengths)) (p .sound) size mask i (v .aligned) (v .some) (v .place) (v .found) in
     subst (λ (x : Store). Joined (x .loans) (storeOf s t .loans) (loanFrom s size mask t i ∷ [])) (sym e) (put-joined (loanFrom s size mask t i) (storeOf s t .loans))
 ask-lends s a size mask t _ (orders p v) =
     let e = ordered-store s t (p .settings) (lengths-are s t (p .lengths)) (p .sound) (raisedFor s size t) in
-    subst (λ (x : Store). Joined (x .loans) (storeOf s t .loans) []) (sym e) (nothing-new (storeOf s t .loans))
+    subst (λ (x : Store). Joined (x .loans) (storeOf s t .loans) []) (sym e) (none-joined (storeOf s t .loans) (storeOf s t .loans) refl)
 
 deliver-lends : (s : FreeListSettings) (a : Account) (o : Outcome) (t : Tables) (r : Out Tables) → DeliverComes s a o t r → Lends s t (r .tables) (r .said)
 unfolding carryFate
-deliver-lends s a o t _ (DeliverComes.denied n) = nothing-new (storeOf s t .loans)
-deliver-lends s a o t _ (loses k n charged back w f h) = nothing-new (storeOf s t .loans)
+deliver-lends s a o t _ (DeliverComes.denied n) = none-joined (storeOf s t .loans) (storeOf s t .loans) refl
+deliver-lends s a o t _ (loses k n charged back w f h) = none-joined (storeOf s t .loans) (storeOf s t .loans) refl
 deliver-lends s a o t _ (keeps k m f w new) =
     let e = lent-store s a t k w (m .number) new in
     let loanIn : Store → Loan = λ x. lentLoan (x .given + 1) (served (maskFor s (k .ask .mask)) (sizeFor s (k .ask .size)) x (length (storeOf s t .regions))) in

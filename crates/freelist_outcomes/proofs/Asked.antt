@@ -42,7 +42,7 @@ use Rattle.freelist_rules.specs.Tables.{Tables, placesIn, chunksIn, storeOf, va
 use Rattle.store_rules.specs.declared.Chunk.{Chunk}
 use Rattle.store_rules.specs.declared.Region.{Region}
 use Rattle.freelist_rules.proofs.Base.{at-in}
-use Rattle.freelist_rules.proofs.Enters.{on-loan-amid, on-loan-past}
+use Rattle.book_rules.proofs.Entering.{on-loan-amid, on-loan-past}
 use Rattle.freelist_rules.proofs.Facts.{region-home, once}
 use Rattle.freelist_rules.proofs.Fits.{chunks-length}
 use Rattle.freelist_rules.proofs.Lends.{fits-is, lent-block}
@@ -52,7 +52,7 @@ use Rattle.freelist_rules.proofs.Orders.{order-when}
 use Rattle.freelist_rules.proofs.Search.{find-fits}
 use Rattle.freelist_outcomes.specs.Ask.{foundFor, needs, raisedFor, sizeOk, roomOk, countOk, objectsOk, lateRow, askRow, planned, decideAsk}
 use Rattle.freelist_outcomes.specs.Refusals.{SizeOff, Fitting, Needed, listWords}
-use Rattle.engines.specs.Rows.{Full, NoObject, Spent, askTests}
+use Rattle.store_rules.specs.Rows.{Full, NoObject, Spent, askTests}
 use Rattle.freelist_outcomes.proofs.Plans.{planned-take, planned-buy, size-some}
 
 -- ---- how many are on loan

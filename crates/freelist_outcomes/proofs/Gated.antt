@@ -27,7 +27,7 @@ use Rattle.freelist_rules.proofs.Fits.{lengths-are, are-lengths, chunks-length}
 use Rattle.freelist_rules.proofs.Tested.{tables-yes, tables-all}
 use Rattle.freelist_outcomes.specs.Gate.{lentOk, accountOk}
 use Rattle.freelist_outcomes.specs.Refusals.{InTable, listWords}
-use Rattle.engines.specs.Rows.{Short, WithList, gateRows, listRows}
+use Rattle.store_rules.specs.Rows.{Short, WithList, gateRows, listRows}
 
 -- ---- 1
 

@@ -43,7 +43,7 @@ use Rattle.freelist_outcomes.specs.Return.{wordFor, onLoanOk, releaseOf,
 use Rattle.freelist_outcomes.specs.Return as R
 use Rattle.freelist_outcomes.specs.SetUp.{setUp, fitOk, setUpOf, freshTables}
 use Rattle.freelist_outcomes.specs.Refusals.{Needed, listWords}
-use Rattle.engines.specs.Rows.{Leads, Stale, askRows, askTests, deliverRows, gateRows, keptRows, listRows, returnRows, setUpRows}
+use Rattle.store_rules.specs.Rows.{Leads, Stale, askRows, askTests, deliverRows, gateRows, keptRows, listRows, returnRows, setUpRows}
 use Rattle.freelist_outcomes.proofs.Asked.{ask-decided, ask-buys}
 use Rattle.freelist_outcomes.proofs.Comes.{Arrival, early, fated, arrives}
 use Rattle.freelist_outcomes.proofs.Gated.{in-table, short, gate-decided, list-decided}

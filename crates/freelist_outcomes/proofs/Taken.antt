@@ -11,15 +11,16 @@ use lib.Seq.{getD-set-same, getD-set-other}
 use borrow.Author.Tests.{ne-eqb}
 use Rattle.lists.proofs.Bools.{told}
 use Rattle.words.specs.Rows.{rows}
-use Rattle.words.proofs.Records.{length-removeAt, cell-row}
+use Rattle.words.proofs.Records.{length-removeAt}
 use Rattle.counter.specs.InTable.{FreeListIn}
 use Rattle.counter.specs.Table.{alignmentOk}
 use Rattle.counter.specs.declared.settings.FreeListSettings.{FreeListSettings}
 use Rattle.slab.specs.Slab.{nowhere}
-use Rattle.store_rules.specs.Loans.{loanWords, sizeAt, loansOf}
+use Rattle.store_rules.specs.Loans.{loansOf}
 use Rattle.store_rules.specs.declared.Loan.{Loan}
 use Rattle.book_rules.specs.Book.{takenOf, entered, enteredIndex}
-use Rattle.book_rules.proofs.Keeps.{BookChained, BookParted, entered-long, entered-wide, taken-where, entered-chained, entered-parted}
+use Rattle.book_rules.proofs.Entering.{entered-amid}
+use Rattle.book_rules.proofs.Keeps.{BookChained, BookParted, entered-long, entered-wide, entered-chained, entered-parted}
 use Rattle.freelist_rules.specs.Records.{Store, chunkRow}
 use Rattle.freelist_rules.specs.Pieces.{All}
 use Rattle.freelist_rules.specs.Place.{sizeFor, maskFor, at, cutOff, putLoan}
@@ -28,7 +29,7 @@ use Rattle.freelist_rules.specs.Steps.{noRegion, lent}
 use Rattle.freelist_rules.specs.Tables.{Tables, markAt, givenAt, madeAt, chunkSizeAt, placesAt, chunksAt, headWords, regionsMost, Lengths, placesIn, ordered, storeOf, SoundTables, RegionsFit}
 use Rattle.store_rules.specs.declared.Region.{Region}
 use Rattle.freelist_rules.proofs.Base.{rising-low, rising-apart}
-use Rattle.freelist_rules.proofs.Enters.{enters-new, enters-again}
+use Rattle.freelist_rules.proofs.Enters.{put-amid}
 use Rattle.freelist_rules.proofs.Fits.{regions-length, laid-long, laid-count, laid-regions}
 use Rattle.freelist_rules.proofs.Gaps.{begins, stops}
 use Rattle.freelist_rules.proofs.Lends.{lent-block, lent-sound}
@@ -109,15 +110,12 @@ module _ (s : FreeListSettings) (t : Tables) (fit : FreeListIn s) (lengths : Len
   -- ---- the loans
 
   loans-after : ordered (loansOf used (entered (placesIn t) (t .index) new (t .loans))) ≡ putLoan new (before .loans)
-  unfolding storeOf entered
+  unfolding storeOf
   loans-after =
       let n : ℕ = placesIn t in
       let o : All (λ (d : Loan). begins d ≡ begins new → ⊥) (loansOf n (t .loans)) = λ d m. new-clear d (ordered-in d (loansOf n (t .loans)) m) in
       let some : eqb (new .size) 0 ≡ false = ne-eqb (new .size) 0 new-some in
-      ⊎-elim
-      (λ w. rw (w .0, w .1) (enters-new new some n (t .loans) (omega (arith, lengths .loans, place, w .0)) o))
-      (λ w. rw (w .2) (enters-again new some n (takenOf n (t .index) .place) (t .loans) (w .0) (omega (arith, lengths .loans, sound .parted .limit)) (ap (λ (k : ℕ). eqb k 0) (sym (cell-row (t .loans) sizeAt loanWords (takenOf n (t .index) .place))) ∙ w .1) o))
-      (taken-where (t .loans) (t .index) (s .store .loans) n few (sound .parted))
+      put-amid new (loansOf n (t .loans)) _ (entered-amid new some (t .loans) (t .index) (s .store .loans) n few (sound .parted) place (omega (arith, lengths .loans))) o
 
   -- ---- the regions
 

@@ -11,7 +11,7 @@ use Rattle.counter.specs.Limits.{heapsMost, heapBytesMost, spent}
 use Rattle.counter.specs.declared.account.Account.{Account}
 use Rattle.counter.specs.declared.settings.FreeListSettings.{FreeListSettings}
 use Rattle.store_rules.specs.Views.{View}
-use Rattle.engines.specs.Words.{Words}
+use Rattle.store_rules.specs.Words.{Words}
 use Rattle.freelist_rules.specs.Records.{Store}
 use Rattle.freelist_rules.specs.Tables.{Tables, Lengths, givenAt, storeOf, SoundTables}
 use Rattle.store_rules.specs.declared.Chunk.{Chunk}

@@ -13,7 +13,7 @@ use Rattle.counter.specs.declared.settings.FreeListSettings.{FreeListSettings}
 use Rattle.store_rules.specs.Delivery as Kind
 use Rattle.store_rules.specs.Outcomes.{Listed, listed}
 use Rattle.engines.specs.Histories.{State, storeAt, step, run, NoSetUp, handBack}
-use Rattle.engines.specs.Rows.{listRows}
+use Rattle.store_rules.specs.Rows.{listRows}
 use Rattle.engines.specs.Shapes.{Lent, wordsOf}
 use Rattle.engines.proofs.NeverAgain.{never-again}
 use Rattle.freelist_outcomes.specs.Return as FreeList

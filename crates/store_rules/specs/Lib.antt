@@ -7,3 +7,5 @@ pub mod Refusals
 pub mod Arrivals
 pub mod Views
 pub mod Shares
+pub mod Words
+pub mod Rows

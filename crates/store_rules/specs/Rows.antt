@@ -15,11 +15,11 @@ use Rattle.counter.specs.declared.account.OpenOrder.the-variants.{Kept}
 use Rattle.counter.specs.declared.answers.Block.{Block}
 use Rattle.counter.specs.declared.answers.Outcome.{Outcome}
 use Rattle.counter.specs.declared.settings.StoreSettings.{StoreSettings}
 use Rattle.store_rules.specs.Orders.{orderFrom}
 use Rattle.store_rules.specs.Refusals.{OrderOpen, NoneFor, Uncovered, MaskOff, UnwelcomeTo, DeviceOut, HostOut}
 use Rattle.store_rules.specs.Views.{loanOf, sizes}
 use Rattle.store_rules.specs.declared.Chunk.{Chunk}
-use Rattle.engines.specs.Words.{Words}
+use Rattle.store_rules.specs.Words.{Words}
 
 -- an open order to which the tests of its ask lead: none of them speaks, a chunk is needed, and this is the order for it
 pub record LeadsTo (own : StoreSettings) (a : Account) (tests : KeptOrder → Reasons) (Lacks : KeptOrder → Type 0) (size : KeptOrder → ℕ) : Type 0 where
