@@ -1,4 +1,4 @@
--- A loan entered step by step is entered as the book says. Assumes nothing.
+-- A loan entered step by step is entered as the book says.
 use mathlib.Core.Path.{_≡_, ap, _∙_}
 use mathlib.Core.List.{List}
 use Prim.Native.Nat.{ℕ, _%_}

@@ -1,4 +1,4 @@
--- A loan struck out step by step is struck out as the book says. Assumes nothing.
+-- A loan struck out step by step is struck out as the book says.
 use mathlib.Core.Path.{_≡_, ap, _∙_}
 use mathlib.Core.List.{List}
 use Prim.Native.Nat.{ℕ}

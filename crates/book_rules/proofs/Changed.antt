@@ -1,5 +1,5 @@
 -- What the words of a book say after a loan is entered or struck out. The words that lead to a chain, on in a chain and on
--- among the vacant places are all different. Assumes nothing.
+-- among the vacant places are all different.
 use mathlib.Core.Path.{_≡_, refl, sym, ap, _∙_}
 use mathlib.Core.Bool.{true, false}
 use mathlib.Core.Logic.{⊎-elim}

@@ -1,5 +1,5 @@
 -- The way along a chain, word by word: a loan of it is found, one that is not there is missed, and a chain that goes past
--- one of its places is whole. Assumes nothing.
+-- one of its places is whole.
 use mathlib.Core.Path.{_≡_, refl, sym, _∙_}
 use mathlib.Core.Logic.{_⊎_, inl, inr, ⊎-elim}
 use mathlib.Core.List.{List, [], _∷_, _++_}

@@ -1,5 +1,5 @@
 -- The test of the chains decides what it stands for: it passes where each chain has the loans of its serials, and there
--- only; and then no two loans have one serial. Assumes nothing.
+-- only; and then no two loans have one serial.
 use mathlib.Core.Path.{_≡_, refl, sym, ap, _∙_}
 use mathlib.Core.Bool.{Bool, true, false}
 use mathlib.Core.Logic.{_⊎_, inl, inr, ⊎-elim}

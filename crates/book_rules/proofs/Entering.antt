@@ -1,4 +1,4 @@
--- The loans of a book after a loan is entered: it stands amid those that there were. Assumes nothing.
+-- The loans of a book after a loan is entered: it stands amid those that there were.
 use mathlib.Core.Path.{_≡_, sym, ap, _∙_}
 use mathlib.Core.Bool.{true, false}
 use mathlib.Core.Logic.{⊎-elim}

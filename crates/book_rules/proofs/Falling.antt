@@ -1,4 +1,4 @@
--- Serials that fall along a chain. Assumes nothing.
+-- Serials that fall along a chain.
 use mathlib.Core.Path.{_≡_, refl, sym, ap, _∙_}
 use mathlib.Core.Bool.{Bool}
 use mathlib.Core.Logic.{inl, inr}

@@ -1,4 +1,4 @@
--- The first place of a chain: by its word where a serial of it may have been given, else nowhere. Assumes nothing.
+-- The first place of a chain: by its word where a serial of it may have been given, else nowhere.
 use mathlib.Core.Path.{_≡_, sym, ap, _∙_}
 use mathlib.Core.Bool.{cond}
 use mathlib.Core.Logic.{⊎-elim}

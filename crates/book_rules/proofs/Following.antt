@@ -1,4 +1,4 @@
--- The test of the chains by one place more: what each turn of its loops shows. Assumes nothing.
+-- The test of the chains by one place more: what each turn of its loops shows.
 use mathlib.Core.Path.{_≡_, refl, sym, _∙_}
 use mathlib.Core.Bool.{Bool, true, false, cond, _&&_}
 use Prim.Native.Nat.{ℕ, zero, suc, _+_, _-_, _%_, _≤_, _<_}

@@ -1,4 +1,4 @@
--- What the test of a book comes to. Assumes nothing.
+-- What the test of a book comes to.
 use mathlib.Core.Path.{_≡_, refl, sym, _∙_}
 use mathlib.Core.Bool.{Bool, true, false}
 use mathlib.Core.List.{List}

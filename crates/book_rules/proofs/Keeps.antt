@@ -1,5 +1,4 @@
 -- Entering a loan and striking one out keep the chains and the vacant places right, and each loan is found by its serial.
--- Assumes nothing.
 use mathlib.Core.Path.{_≡_, refl, sym, ap, subst, _∙_}
 use mathlib.Core.Bool.{Bool, true, false}
 use mathlib.Core.Logic.{_⊎_, inl, inr, ⊎-elim}

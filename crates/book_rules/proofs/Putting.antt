@@ -1,4 +1,4 @@
--- Chains with a loan put first in its own: they are right again. Assumes nothing.
+-- Chains with a loan put first in its own: they are right again.
 use mathlib.Core.Path.{_≡_, sym, ap, _∙_}
 use mathlib.Core.Bool.{Bool, true, false}
 use mathlib.Core.Logic.{inl, inr, ⊎-elim}

@@ -1,4 +1,4 @@
--- A loan looked for by its serial, one place of its chain after the other. Assumes nothing.
+-- A loan looked for by its serial, one place of its chain after the other.
 use mathlib.Core.Path.{_≡_, refl, _∙_}
 use mathlib.Core.Bool.{cond}
 use mathlib.Core.List.{List}

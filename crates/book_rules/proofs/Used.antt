@@ -1,4 +1,4 @@
--- The places in use: as many as the places less the vacant ones. Assumes nothing.
+-- The places in use: as many as the places less the vacant ones.
 use mathlib.Core.Path.{_≡_, refl}
 use mathlib.Core.Bool.{Bool, true, false, cond}
 use mathlib.Core.List.{List, _∷_}

@@ -1,4 +1,4 @@
--- A word that a serial was looked for and found by leads to a place in use that has the serial. Assumes nothing.
+-- A word that a serial was looked for and found by leads to a place in use that has the serial.
 use mathlib.Core.Path.{_≡_, refl, sym, ap, subst, _∙_}
 use mathlib.Core.Bool.{false}
 use mathlib.Core.Logic.{_⊎_, inl, inr, ⊎-elim}

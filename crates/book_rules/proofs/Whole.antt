@@ -1,4 +1,4 @@
--- Loans read and written word by word are read and written whole. Assumes nothing.
+-- Loans read and written word by word are read and written whole.
 use mathlib.Core.Path.{_≡_, ap, _∙_}
 use mathlib.Core.List.{List}
 use Prim.Native.Nat.{ℕ, suc, _+_, _*_}

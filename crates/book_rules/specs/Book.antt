@@ -2,7 +2,6 @@
 -- from them: the place vacated last, and for each i below the limit n the first place of chain i, the place after i in its
 -- chain, and the vacant place after i. A loan is in the chain of its serial modulo n, the newest first. Serials count up from
 -- 1, so chain i has no loan before serial i is given: until then the word that leads to it is spare.
--- Assumes nothing: these are definitions.
 use mathlib.Core.Bool.{cond}
 use mathlib.Core.List.{List}
 use Prim.Native.Nat.{ℕ, zero, suc, _+_, _*_, _%_}

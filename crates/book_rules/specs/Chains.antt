@@ -1,5 +1,4 @@
--- When the chains of a book are right, and the test of it: linear in the places ever used. Assumes nothing: these are
--- definitions.
+-- When the chains of a book are right, and the test of it: linear in the places ever used.
 use mathlib.Core.Path.{_≡_}
 use mathlib.Core.Bool.{Bool, false, cond, _&&_}
 use mathlib.Core.List.{List, [], _∷_}

@@ -1,5 +1,4 @@
--- The test of a book: its places are parted into used and vacant ones, and the chains lead to each loan. Assumes nothing:
--- these are definitions.
+-- The test of a book: its places are parted into used and vacant ones, and the chains lead to each loan.
 use mathlib.Core.Bool.{Bool, _&&_}
 use mathlib.Core.List.{List}
 use Prim.Native.Nat.{ℕ}

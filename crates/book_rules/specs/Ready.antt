@@ -1,5 +1,5 @@
 -- What the code that writes a book asks of its tables, so that every word it writes is there: the gate has tested their lengths, and
--- the tests behind it the place. Assumes nothing: these are definitions.
+-- the tests behind it the place.
 use mathlib.Core.Path.{_≡_}
 use mathlib.Core.List.{List}
 use Prim.Native.Nat.{ℕ, _*_, _≤_, _<_}

@@ -1,12 +1,10 @@
 -- What a return comes to by a store's book of loans, the same of every engine. 01, "When the counter says no": 7.
--- Assumes nothing: these are definitions.
 use mathlib.Core.Bool.{Bool, cond, _&&_, not}
 use mathlib.Core.List.{List}
 use Prim.Native.Nat.{ℕ}
 use lib.Dec.{eqb}
 use lib.ListN.{getD}
 use Rattle.words.specs.Rows.{row}
-use Rattle.counter.specs.Gate.{Verdict, pass, refuse}
 use Rattle.counter.specs.declared.answers.Block.{Block}
 use Rattle.slab.specs.Slab.{nowhere}
 use Rattle.store_rules.specs.Loans.{loanRow}
@@ -33,7 +31,3 @@ module _ (loans index : List ℕ) (n places given : ℕ) (b : Block) where
 
   abbrev pub decideReturn : Plan
   decideReturn = decided onLoanOk wordFor
-
-abbrev pub gated : Verdict → Plan → Plan
-gated (refuse n) p = deny n
-gated pass p = p

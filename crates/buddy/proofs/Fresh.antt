@@ -1,9 +1,8 @@
--- Set-up leaves the tables of a store with nothing in it. Assumes nothing.
-use mathlib.Core.Path.{_≡_, refl, sym, ap, _∙_}
-use mathlib.Core.Bool.{Bool, true, false, _&&_}
-use mathlib.Core.List.{List, [], _∷_}
+-- Set-up leaves the tables of a store with nothing in it.
+use mathlib.Core.Path.{_≡_, refl, sym, _∙_}
+use mathlib.Core.Bool.{true, false}
+use mathlib.Core.List.{List, []}
 use Prim.Native.Nat.{ℕ}
-use native.Mathlib.Omega.{arith}
 use lib.ListN.{length, set}
 use Rattle.lists.proofs.Bools.{and-left, and-right}
 use Rattle.counter.specs.InTable.{BuddyIn}
@@ -13,30 +12,10 @@ use Rattle.counter.specs.declared.settings.BuddySettings.{BuddySettings}
 use Rattle.counter.proofs.Tables.{buddy-yes}
 use Rattle.slab.specs.Slab.{nowhere}
 use Rattle.book_rules.specs.Book.{freshIndex}
-use Rattle.buddy_rules.specs.Tables.{Tables, tables, mark, markAt, givenAt, levelsAt, placesAt, chunkPlacesAt, headWords, chunksFrom, initialLevels, lengthsOk}
+use Rattle.buddy_rules.specs.Tables.{Tables, tables, headWords, chunksFrom, initialLevels, lengthsOk}
 use Rattle.buddy_outcomes.specs.Ask.{freshLevels}
 use Rattle.buddy_outcomes.specs.SetUp.{setUp, freshHead, freshTables, fitOk, setUpOf}
 use Rattle.buddy_outcomes.proofs.Passing.{lengths-are}
-
-pub head-fresh : (s : BuddySettings) (t : List ℕ) (n : ℕ) → length t ≡ headWords → n ≡ initialLevels s
-    → set (set (set (set (set t markAt mark) givenAt 0) levelsAt n) placesAt 0) chunkPlacesAt 0 ≡ freshHead s
-head-fresh s [] n l e = absurd (omega arith)
-head-fresh s (a ∷ []) n l e = absurd (omega arith)
-head-fresh s (a ∷ b ∷ []) n l e = absurd (omega arith)
-head-fresh s (a ∷ b ∷ c ∷ []) n l e = absurd (omega arith)
-head-fresh s (a ∷ b ∷ c ∷ d ∷ []) n l e = absurd (omega arith)
-head-fresh s (a ∷ b ∷ c ∷ d ∷ f ∷ []) n l e = λ j. mark ∷ 0 ∷ e j ∷ 0 ∷ 0 ∷ []
-head-fresh s (a ∷ b ∷ c ∷ d ∷ f ∷ g ∷ t) n l e = absurd (omega arith)
-
--- ---- whether the tables fit
-
-pub fit-in : (s : BuddySettings) (t : Tables) (m r : Bool) → m ≡ true → m ≡ buddyOk s → r ≡ lengthsOk s t → r ≡ fitOk s t
-unfolding fitOk
-fit-in s t m r h e f = f ∙ ap (λ (b : Bool). b && lengthsOk s t) (sym h ∙ e)
-
-pub fit-out : (s : BuddySettings) (t : Tables) (m : Bool) → m ≡ false → m ≡ buddyOk s → false ≡ fitOk s t
-unfolding fitOk
-fit-out s t m h e = ap (λ (b : Bool). b && lengthsOk s t) (sym h ∙ e)
 
 -- ---- what it says and leaves
 

@@ -1,4 +1,4 @@
--- A call on an account is the call on the store's share of it, with the rest left as it was. Assumes nothing.
+-- A call on an account is the call on the store's share of it, with the rest left as it was.
 use mathlib.Core.Path.{_≡_, refl, ap, subst, _∙_}
 use mathlib.Core.List.{List}
 use Prim.Native.Nat.{ℕ}
@@ -9,7 +9,8 @@ use Rattle.counter.specs.declared.answers.Block.{Block}
 use Rattle.counter.specs.declared.answers.Outcome.{Outcome}
 use Rattle.counter.specs.declared.settings.BuddySettings.{BuddySettings}
 use Rattle.store_rules.specs.Outcomes.{out, listed}
-use Rattle.store_rules.specs.Shares.{shareOf, withShare, holding, holder, askLeft}
+use Rattle.store_rules.specs.Shares.{shareOf, withShare, askLeft}
+use Rattle.store_rules.proofs.Holders.{holding, holder}
 use Rattle.store_rules.specs.declared.Share.{Share}
 use Rattle.store_rules.proofs.Shares.{held-alike, holder-alike}
 use Rattle.store.proofs.Wholes.{whole-ask, whole-deliver, whole-listed}

@@ -1,1 +1,1 @@
-pub mod Comings
+pub mod Ready

@@ -1,8 +1,70 @@
-// A buddy store's calls, told of its share of the account.
-mod asks;
-mod deliveries;
-mod returns;
+// A buddy store's calls, told of its share of the account: each planned, and then carried out.
+ghost use mathlib.Core.Path.{_≡_};
+ghost use Rattle.counter.specs.Paper.{askSaid, deliverSaid, releaseSaid};
+ghost use Rattle.store_rules.specs.Outcomes.{out, listed};
+ghost use Rattle.store_rules.specs.Shares.{askLeft};
+ghost use Rattle.store_rules.proofs.Holders.{holding, holder};
+ghost use Rattle.buddy_rules.specs.Tables.{tables};
+ghost use Rattle.buddy_outcomes.specs.Ask.{askOf};
+ghost use Rattle.buddy_outcomes.specs.Deliver.{deliverOf};
+ghost use Rattle.buddy_outcomes.specs.Return.{returnOf};
+use counter::AskAnswer;
+use counter::Block;
+use counter::BuddySettings;
+use counter::OpenOrder;
+use counter::Outcome;
+use store_rules::DeliveredShare;
+use store_rules::ReleasedShare;
+use store_rules::Share;
 
-pub use asks::ask;
-pub use deliveries::deliver;
-pub use returns::return_block;
+pub fn ask(
+    s: BuddySettings,
+    share: Share,
+    size: u64,
+    mask: u64,
+    head: &mut [u64],
+    loans: &mut [u64],
+    chunks: &[u64],
+    index: &mut [u64],
+    tree: &mut [u64],
+) -> AskAnswer
+    ensures { λ r. ⌜ out (askSaid r) (askLeft (holder (s .store) share) size mask (askSaid r)) (tables (now (head .exit)) (now (loans .exit)) (now (chunks .entry)) (now (index .exit)) (now (tree .exit))) ≡ askOf s (holder (s .store) share) size mask (tables (now (head .entry)) (now (loans .entry)) (now (chunks .entry)) (now (index .entry)) (now (tree .entry))) ⌝ }
+{
+    let plan = crate::plans::plan_ask(s, share, size, mask, head, loans, chunks, index, tree);
+    crate::carries::carry_ask(s, plan, head, loans, index, tree)
+}
+
+pub fn deliver(
+    s: BuddySettings,
+    share: Share,
+    order: OpenOrder,
+    o: Outcome,
+    head: &mut [u64],
+    loans: &mut [u64],
+    chunks: &mut [u64],
+    index: &mut [u64],
+    tree: &mut [u64],
+) -> DeliveredShare
+    ensures { λ r. ⌜ out (deliverSaid (r .answer)) (holding (s .store) (r .share) (r .order)) (tables (now (head .exit)) (now (loans .exit)) (now (chunks .exit)) (now (index .exit)) (now (tree .exit))) ≡ deliverOf s (holding (s .store) share order) o (tables (now (head .entry)) (now (loans .entry)) (now (chunks .entry)) (now (index .entry)) (now (tree .entry))) ⌝ }
+{
+    let plan = crate::plans::plan_deliver(s, share, order, o, head, loans, chunks, index, tree);
+    crate::carries::carry_deliver(s, share, order, plan, head, loans, chunks, index, tree)
+}
+
+// A block comes back. The memory number of its chunk, where that goes, then stands at the front of `list`.
+pub fn return_block(
+    s: BuddySettings,
+    share: Share,
+    b: Block,
+    head: &[u64],
+    loans: &mut [u64],
+    chunks: &mut [u64],
+    index: &mut [u64],
+    tree: &mut [u64],
+    list: &mut [u64],
+) -> ReleasedShare
+    ensures { λ r. ⌜ listed (releaseSaid (r .answer)) (holder (s .store) (r .share)) (tables (now (head .entry)) (now (loans .exit)) (now (chunks .exit)) (now (index .exit)) (now (tree .exit))) (now (list .exit)) ≡ returnOf s (holder (s .store) share) b (tables (now (head .entry)) (now (loans .entry)) (now (chunks .entry)) (now (index .entry)) (now (tree .entry))) (now (list .entry)) ⌝ }
+{
+    let plan = crate::plans::plan_return(s, share, b, head, loans, chunks, index, tree, list);
+    crate::carries::carry_return(s, share, b, plan, head, loans, chunks, index, tree, list)
+}

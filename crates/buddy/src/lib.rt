@@ -1,15 +1,21 @@
-// A buddy store as its user calls it: set up, ask, deliver, return. What a call comes to is decided first, by the gate and the
-// tests behind it, and then carried out; `calls` has the calls told of the store's share of the account.
-mod asking;
+// A buddy store as its user calls it: set up, ask, deliver, return. Each call is planned, by the gate and the tests behind it, and
+// then carried out; `calls` has the calls told of the store's share of the account.
 mod asks;
 pub mod calls;
+mod carries;
 mod deliveries;
-mod delivering;
+mod plans;
 mod returns;
 mod set_ups;
-mod taking_back;
 
 pub use asks::ask;
+pub use carries::carry_ask;
+pub use carries::carry_deliver;
+pub use carries::carry_return;
 pub use deliveries::deliver;
+pub use plans::Delivery;
+pub use plans::plan_ask;
+pub use plans::plan_deliver;
+pub use plans::plan_return;
 pub use returns::return_block;
 pub use set_ups::set_up;

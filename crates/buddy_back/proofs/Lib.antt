@@ -1,2 +1,2 @@
+pub mod Freed
 pub mod Returned
-pub mod Settled

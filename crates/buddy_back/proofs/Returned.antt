@@ -1,4 +1,4 @@
--- A block taken back leaves the tables as they are defined. Assumes nothing.
+-- A block taken back leaves the tables as they are defined.
 use mathlib.Core.Path.{_≡_, refl, sym, ap, _∙_}
 use mathlib.Core.Bool.{Bool, true, false, cond}
 use mathlib.Core.List.{List, []}

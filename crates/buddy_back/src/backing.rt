@@ -1,4 +1,4 @@
-// A block taken back: its node climbs and the loan is struck out of the book; and a chunk that is wholly free goes.
+// A loan struck out of the book, its node climbing; and a chunk that is wholly free going.
 ghost use mathlib.Core.Path.{_≡_};
 ghost use mathlib.Core.List.{[]};
 ghost use lib.ListN.{set};
@@ -29,9 +29,9 @@ pub fn vacate(s: BuddySettings, c: u64, chunks: &mut [u64], tree: &mut [u64])
     words::put(tree, at, c);
 }
 
-// The block that the word at `at` of the index leads to, at this loan place. Answers whether its chunk is wholly free then, and has to
-// go with it.
-pub fn take_back(
+// The loan that the word at `at` of the index leads to goes, and its node climbs. Tells whether the chunk is wholly free then, and
+// has to go with it.
+pub fn strike_out(
     s: BuddySettings,
     b: Block,
     at: usize,

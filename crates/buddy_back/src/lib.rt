@@ -1,5 +1,6 @@
-// A return of a buddy store carried out: its tables written as the block is taken back, and what that releases settled.
+// A buddy store's tables written as a block is taken back, and what that frees told.
 mod backing;
-mod settling;
+mod freeing;
 
-pub use settling::carry_return;
+pub use freeing::Freed;
+pub use freeing::take_back;

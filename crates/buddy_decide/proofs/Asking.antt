@@ -1,4 +1,4 @@
--- What an ask looks for: the mask is a mask, and the size fits a word where its multiple does. Assumes nothing.
+-- What an ask looks for: the mask is a mask, and the size fits a word where its multiple does.
 use mathlib.Core.Path.{_≡_, refl, sym, ap, _∙_, subst}
 use mathlib.Core.Logic.{⊎-elim}
 use Prim.Native.Nat.{ℕ, _-_, _^_, max, _≤_}

@@ -1,5 +1,7 @@
--- What the code that decides an ask shows of it.
+-- What the code that decides a call shows of it.
 pub mod Asking
+pub mod Fewer
+pub mod Known
 pub mod Reading
 pub mod Shows
 pub mod Tests

@@ -1,4 +1,4 @@
--- What the code of the search and of its looks for places shows: each turn, and each of its answers. Assumes nothing.
+-- What the code of the search and of its looks for places shows: each turn, and each of its answers; and that of a return's test.
 use mathlib.Core.Path.{_≡_, refl, sym, ap, _∙_}
 use mathlib.Core.Bool.{true, false, _&&_}
 use mathlib.Core.List.{List, []}
@@ -8,16 +8,19 @@ use lib.Dec.{eqb}
 use lib.ListN.{getD}
 use borrow.Author.Tests.{lt-ltb, le-ltb, lt-leb, le-leb, eq-eqb, ne-eqb}
 use Rattle.counter.specs.Limits.{levelsMost}
+use Rattle.counter.specs.declared.answers.Block.{Block}
 use Rattle.counter.specs.declared.settings.BuddySettings.{BuddySettings}
 use Rattle.slab.specs.Slab.{inserted}
 use Rattle.slab.specs.Slab as Slab
 use Rattle.slab.specs.declared.Taken.{Taken}
+use Rattle.book_rules.specs.Returns as Returns
 use Rattle.buddy_trees.specs.Trees.{bytes}
-use Rattle.buddy_rules.specs.Level.{levelWords, ringAt, spotIn}
-use Rattle.buddy_levels.specs.Seen.{read, looked}
-use Rattle.buddy_rules.specs.Tables.{Tables, levelAfter, afterAt, placeWords}
-use Rattle.buddy_outcomes.specs.Ask.{at, pairRoom, pairsRoom, chunkSpot, searchFrom}
+use Rattle.buddy_rules.specs.Level.{levelWords, ringAt, pairTaken}
+use Rattle.buddy_levels.specs.Seen.{partSettings, levelPart}
+use Rattle.buddy_rules.specs.Tables.{Tables, tables, givenAt, placesAt, levelStart, afterAt, placeWords}
+use Rattle.buddy_outcomes.specs.Ask.{at, pairRoom, pairsRoom, chunkTaken, searchFrom}
 use Rattle.buddy_outcomes.specs.Ask as Ask
+use Rattle.buddy_outcomes.specs.Return.{onLoanOk, decideReturn}
 use Rattle.buddy_decide.specs.Sought.{yielded, sought}
 use Rattle.buddy_decide.specs.declared.seeking.Found.{Found}
 use Rattle.buddy_decide.specs.declared.seeking.Found.the-variants.{At, Order}
@@ -25,7 +28,7 @@ use Rattle.buddy_decide.specs.declared.seeking.Found.the-variants.{At, O
 -- ---- the chunk place that is taken next
 
 pub spot-is : (pairs places : ℕ) (tree : List ℕ) (b v : ℕ) (r : Taken) → b ≡ levelWords pairs * levelsMost → v ≡ getD tree b 0
-    → r ≡ inserted (record { places = places; vacant = v }) tree (b + (1 + afterAt)) placeWords → r ≡ chunkSpot (read 0 pairs 0) (looked 0 places [] tree)
+    → r ≡ inserted (record { places = places; vacant = v }) tree (b + (1 + afterAt)) placeWords → r ≡ chunkTaken (partSettings 0 pairs 0) (levelPart 0 places [] tree)
 spot-is pairs places tree b v r d e f =
     let g : v ≡ getD tree (levelWords pairs * levelsMost) 0 = e ∙ ap (λ (x : ℕ). getD tree x 0) d in
     f ∙ (λ j. inserted (record { places = places; vacant = g j }) tree (d j + (1 + afterAt)) placeWords)
@@ -46,10 +49,10 @@ module _ (s : BuddySettings) (t : Tables) (level n i : ℕ) where
 
 module _ (pairs level n levels : ℕ) (tree : List ℕ) (i : ℕ) (more : i < n) where
   abbrev s : BuddySettings
-  s = read 0 pairs 0
+  s = partSettings 0 pairs 0
 
   abbrev t : Tables
-  t = looked levels 0 [] tree
+  t = levelPart levels 0 [] tree
 
   abbrev Here : Type 0
   Here = pairsRoom s t (level + i) (n - i) ≡ pairsRoom s t (level + (i + 1)) (n - (i + 1))
@@ -58,9 +61,9 @@ module _ (pairs level n levels : ℕ) (tree : List ℕ) (i : ℕ) (more : i < n)
   pub pairs-past : levels ≤ level + i → Here
   pairs-past h = turn s t level n i more ∙ rw (le-leb levels (level + i) h) refl
 
-  module _ (there : level + i < levels) (b : ℕ) (r : Taken) (e : b ≡ levelAfter pairs (level + i)) (f : r ≡ spotIn b tree) where
-    abbrev same : spotIn (levelAfter pairs (level + i)) tree .place ≡ r .place
-    same = ap (λ (x : Taken). x .place) (sym (f ∙ ap (λ (x : ℕ). spotIn x tree) e))
+  module _ (there : level + i < levels) (b : ℕ) (r : Taken) (e : b ≡ levelStart pairs (level + i)) (f : r ≡ pairTaken b tree) where
+    abbrev same : pairTaken (levelStart pairs (level + i)) tree .place ≡ r .place
+    same = ap (λ (x : Taken). x .place) (sym (f ∙ ap (λ (x : ℕ). pairTaken x tree) e))
 
     pub pairs-none : pairs ≤ r .place → pairsRoom s t (level + i) (n - i) ≡ false
     pairs-none h = turn s t level n i more ∙ rw (lt-leb levels (level + i) there, same, le-ltb (r .place) pairs h) refl
@@ -73,36 +76,45 @@ module _ (pairs level n levels : ℕ) (tree : List ℕ) (i : ℕ) (more : i < n)
 module _ (minimal pairs level levels : ℕ) (tree : List ℕ) (l : ℕ) where
   -- what is found from level l on
   abbrev pub Onward : Ask.Found
-  Onward = searchFrom (read minimal pairs 0) tree l (levels - l)
+  Onward = searchFrom (partSettings minimal pairs 0) tree l (levels - l)
 
   seek-done : levels ≤ l → Onward ≡ Ask.nowhere
   unfolding searchFrom
   seek-done h = let e : levels - l ≡ 0 = omega arith in rw e refl
 
-  seek-turn : l < levels → Onward ≡ searchFrom (read minimal pairs 0) tree l (suc (levels - (l + 1)))
-  seek-turn h = let e : levels - l ≡ suc (levels - (l + 1)) = omega arith in ap (searchFrom (read minimal pairs 0) tree l) e
+  seek-turn : l < levels → Onward ≡ searchFrom (partSettings minimal pairs 0) tree l (suc (levels - (l + 1)))
+  seek-turn h = let e : levels - l ≡ suc (levels - (l + 1)) = omega arith in ap (searchFrom (partSettings minimal pairs 0) tree l) e
 
-  module _ (there : l < levels) (b w : ℕ) (d : b ≡ levelAfter pairs l) (e : w ≡ getD tree (b + ringAt) 0) where
-    abbrev head : getD tree (levelAfter pairs l + ringAt) 0 ≡ w
+  module _ (there : l < levels) (b w : ℕ) (d : b ≡ levelStart pairs l) (e : w ≡ getD tree (b + ringAt) 0) where
+    abbrev head : getD tree (levelStart pairs l + ringAt) 0 ≡ w
     head = sym (e ∙ ap (λ (x : ℕ). getD tree (x + ringAt) 0) d)
 
-    pub seek-on : w ≡ Slab.nowhere → Onward ≡ searchFrom (read minimal pairs 0) tree (l + 1) (levels - (l + 1))
+    pub seek-on : w ≡ Slab.nowhere → Onward ≡ searchFrom (partSettings minimal pairs 0) tree (l + 1) (levels - (l + 1))
     unfolding searchFrom
     seek-on h =
         let f : l + 1 ≡ suc l = omega arith in
-        let g : eqb (getD tree (levelAfter pairs l + ringAt) 0) Slab.nowhere ≡ true = ap (λ (x : ℕ). eqb x Slab.nowhere) head ∙ eq-eqb w Slab.nowhere h in
+        let g : eqb (getD tree (levelStart pairs l + ringAt) 0) Slab.nowhere ≡ true = ap (λ (x : ℕ). eqb x Slab.nowhere) head ∙ eq-eqb w Slab.nowhere h in
         seek-turn there ∙ rw (f, g) refl
 
     seek-here : (w ≡ Slab.nowhere → ⊥) → Onward ≡ at l
     unfolding searchFrom
     seek-here h =
-        let g : eqb (getD tree (levelAfter pairs l + ringAt) 0) Slab.nowhere ≡ false = ap (λ (x : ℕ). eqb x Slab.nowhere) head ∙ ne-eqb w Slab.nowhere h in
+        let g : eqb (getD tree (levelStart pairs l + ringAt) 0) Slab.nowhere ≡ false = ap (λ (x : ℕ). eqb x Slab.nowhere) head ∙ ne-eqb w Slab.nowhere h in
         seek-turn there ∙ rw g refl
 
-    pub seek-at : searchFrom (read minimal pairs 0) tree level (levels - level) ≡ Onward → (w ≡ Slab.nowhere → ⊥) → At w l ≡ sought minimal pairs level levels tree
+    pub seek-at : searchFrom (partSettings minimal pairs 0) tree level (levels - level) ≡ Onward → (w ≡ Slab.nowhere → ⊥) → At w l ≡ sought minimal pairs level levels tree
     unfolding sought
     seek-at inv h = sym (ap (yielded minimal pairs level levels tree) (inv ∙ seek-here h) ∙ ap (λ (x : ℕ). At x l) head)
 
-  pub seek-none : searchFrom (read minimal pairs 0) tree level (levels - level) ≡ Onward → levels ≤ l → (order : ℕ) → order ≡ bytes minimal (max levels (level + 1)) → Order order ≡ sought minimal pairs level levels tree
+  pub seek-none : searchFrom (partSettings minimal pairs 0) tree level (levels - level) ≡ Onward → levels ≤ l → (order top : ℕ) → top ≡ max levels (level + 1) → order ≡ bytes minimal top → Order order top ≡ sought minimal pairs level levels tree
   unfolding sought
-  seek-none inv h order e = ap Order e ∙ sym (ap (yielded minimal pairs level levels tree) (inv ∙ seek-done h))
+  seek-none inv h order top f e =
+      let g : order ≡ bytes minimal (max levels (level + 1)) = e ∙ ap (bytes minimal) f in
+      (λ j. Order (g j) (f j)) ∙ sym (ap (yielded minimal pairs level levels tree) (inv ∙ seek-done h))
+
+-- ---- a return
+
+pub return-is : (s : BuddySettings) (b : Block) (head loans index : List ℕ) (places given : ℕ) (p : Returns.Plan) → places ≡ getD head placesAt 0 → given ≡ getD head givenAt 0
+    → p ≡ Returns.decideReturn loans index (s .store .loans) places given b → p ≡ decideReturn s b (tables head loans [] index [])
+unfolding decideReturn onLoanOk
+return-is s b head loans index places given p f g d = d ∙ (λ j. Returns.decideReturn loans index (s .store .loans) (f j) (g j) b)

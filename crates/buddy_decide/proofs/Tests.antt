@@ -1,8 +1,8 @@
--- An ask's tests in the code's order come to the plan that is defined. Assumes nothing.
+-- An ask's tests in the code's order come to the plan that is defined.
 use mathlib.Core.Path.{_≡_, refl, sym, ap, _∙_, subst}
 use mathlib.Core.Bool.{Bool, true, false, _&&_}
 use mathlib.Core.List.{List, [], _∷_}
-use Prim.Native.Nat.{ℕ, _+_, _-_, _^_, max, _≤_, _<_}
+use Prim.Native.Nat.{ℕ, _+_, _-_, _^_, _≤_, _<_}
 use native.Mathlib.Omega.{arith}
 use lib.Dec.{ltb}
 use lib.ListN.{getD}
@@ -24,25 +24,24 @@ use Rattle.slab.specs.declared.Taken.{Taken}
 use Rattle.store_rules.specs.Orders.{Plan, deny, take, buy}
 use Rattle.book_rules.specs.Book.{takenOf}
 use Rattle.buddy_trees.specs.Trees.{bytes}
-use Rattle.buddy_levels.specs.Seen.{read, looked}
+use Rattle.buddy_levels.specs.Seen.{partSettings, levelPart}
 use Rattle.buddy_levels.proofs.Bounds.{node-bytes-most}
 use Rattle.buddy_rules.specs.Tables.{Tables, tables, givenAt, levelsAt, placesAt, chunkPlacesAt}
-use Rattle.buddy_outcomes.specs.Ask.{Found, at, nowhere, sizeFor, levelFor, searchFrom, foundAt, foundFor, fitsAt, sizeOk, pairsRoom, chunkSpot, roomAt, roomOk, countAt, countOk, objectsOk, orderAt, lateAt, plannedAt, decideAsk}
+use Rattle.buddy_outcomes.specs.Ask.{Found, at, nowhere, sizeFor, levelFor, grownTo, searchFrom, foundFrom, fitsAt, sizeOk, pairsRoom, chunkTaken, roomOk, countOk, objectsOk, orderBytes, lateRow, planned, decideAsk}
 use Rattle.buddy_outcomes.proofs.Rounds.{level-low}
 use Rattle.buddy_outcomes.proofs.Searches.{search-at}
-use Rattle.buddy_decide.specs.Plans.{planOf, Sized, NoTake, Tells, LookTake, LookSized, LookOf}
-use Rattle.buddy_decide.specs.declared.deciding.Looked.{Looked}
-use Rattle.buddy_decide.specs.declared.deciding.Looked.the-variants as L
-use Rattle.buddy_decide.specs.declared.deciding.Needing.{Needing}
-use Rattle.buddy_decide.specs.declared.deciding.Plan as Decided
-use Rattle.buddy_decide.specs.declared.deciding.Plan.the-variants.{Refuse, Take, Buy}
+use Rattle.buddy_decide.specs.Plans.{planOf, PlannedAt, Planned, placesRoom, Tells, TryTake, TrySized, TryOf}
+use Rattle.buddy_decide.specs.declared.plans.Tried.{Tried}
+use Rattle.buddy_decide.specs.declared.plans.Tried.the-variants as L
+use Rattle.buddy_decide.specs.declared.plans.Needing.{Needing}
+use Rattle.buddy_decide.specs.declared.plans.Plan as Decided
 use Rattle.buddy_decide.proofs.Reading.{pairs-read}
 
 -- what tells of one plan tells of its equal
-tells-same : (s : BuddySettings) (z l : ℕ) (t : Tables) (p q : Heap → ℕ → Plan ℕ) (r : Looked) → ((h : Heap) (objects : ℕ) → p h objects ≡ q h objects) → Tells s z l t p r → Tells s z l t q r
-tells-same s z l t p q (L.Refuse k) e f = λ h objects. f h objects ∙ e h objects
-tells-same s z l t p q (L.Take k) e f = (λ h objects. f .0 h objects ∙ e h objects, f .1, f .2)
-tells-same s z l t p q (L.Need n) e f = (f .0, f .1, λ h objects. f .2 h objects ∙ e h objects)
+tells-same : (s : BuddySettings) (z l : ℕ) (t : Tables) (p q : Heap → ℕ → Plan ℕ) (r : Tried) → ((h : Heap) (objects : ℕ) → p h objects ≡ q h objects) → Tells s z l t p r → Tells s z l t q r
+tells-same s z l t p q (L.Refuse k) e f = (λ h objects. f .0 h objects ∙ e h objects, f .1)
+tells-same s z l t p q (L.Take k) e f = (λ h objects. f .0 h objects ∙ e h objects, f .1)
+tells-same s z l t p q (L.Need n) e f = (f .0, f .1, f .2, f .3, f .4, λ h objects. f .5 h objects ∙ e h objects)
 
 -- the size is below that of level 32
 module _ (s : BuddySettings) (size b : ℕ) (e : b ≡ bytes (s .minimal) levelsMost) where
@@ -60,62 +59,81 @@ module _ (s : BuddySettings) (level : ℕ) (head index tree : List ℕ) where
   abbrev pub left : Bool
   left = ltb (takenOf (getD head placesAt 0) index .place) (s .store .loans)
 
-  pub pairs-are : (n levels : ℕ) (r : Bool) → levels ≡ getD head levelsAt 0 → r ≡ pairsRoom (read 0 (s .pairs) 0) (looked levels 0 [] tree) level n → r ≡ pairsRoom s now level n
-  pairs-are n levels r d e = e ∙ ap (λ (x : ℕ). pairsRoom (read 0 (s .pairs) 0) (looked x 0 [] tree) level n) d ∙ pairs-read s now level n
+  module _ (k : Taken) (next : k ≡ takenOf (getD head placesAt 0) index) where
+    place-is : k .place ≡ takenOf (getD head placesAt 0) index .place
+    place-is = ap (λ (x : Taken). x .place) next
+
+    pub left-no : s .store .loans ≤ k .place → left ≡ false
+    left-no h = le-ltb (takenOf (getD head placesAt 0) index .place) (s .store .loans) (omega (arith, place-is, h))
+
+    pub left-yes : k .place < s .store .loans → left ≡ true
+    left-yes h = lt-ltb (takenOf (getD head placesAt 0) index .place) (s .store .loans) (omega (arith, place-is, h))
+
+  pub pairs-are : (n levels : ℕ) (r : Bool) → levels ≡ getD head levelsAt 0 → r ≡ pairsRoom (partSettings 0 (s .pairs) 0) (levelPart levels 0 [] tree) level n → r ≡ pairsRoom s now level n
+  pairs-are n levels r d e = e ∙ ap (λ (x : ℕ). pairsRoom (partSettings 0 (s .pairs) 0) (levelPart x 0 [] tree) level n) d ∙ pairs-read s now level n
 
   -- ---- the head pair of level i serves
 
   module _ (i : ℕ) where
     abbrev pub Taking : Plan ℕ
-    Taking = plannedAt s level now (at i) (first ((roomAt s level now (at i), 8) ∷ (ltb (getD head givenAt 0) spent, 10) ∷ []))
+    Taking = planned s level now (at i) (first ((roomOk s level now (at i), 8) ∷ (ltb (getD head givenAt 0) spent, 10) ∷ []))
 
     pub take-full : left ≡ false → deny 8 ≡ Taking
+    unfolding roomOk
     take-full e = rw e refl
 
     pub take-none : left ≡ true → pairsRoom s now level (i - level) ≡ false → deny 8 ≡ Taking
+    unfolding roomOk
     take-none e p = rw (e, p) refl
 
     pub take-spent : (w : ℕ) → left ≡ true → pairsRoom s now level (i - level) ≡ true → w ≡ getD head givenAt 0 → w ≡ spent → deny 10 ≡ Taking
+    unfolding roomOk
     take-spent w e p g h = rw (e, p, le-ltb (getD head givenAt 0) spent (omega (arith, g, h))) refl
 
     pub take-go : (w : ℕ) → left ≡ true → pairsRoom s now level (i - level) ≡ true → w ≡ getD head givenAt 0 → w < spent → take i ≡ Taking
+    unfolding roomOk
     take-go w e p g h = rw (e, p, lt-ltb (getD head givenAt 0) spent (omega (arith, g, h))) refl
 
   -- ---- a chunk is needed
 
-  pub room-is : (levels top places : ℕ) (spot : Taken) (pairs has : Bool)
-      → levels ≡ getD head levelsAt 0 → top ≡ max levels (level + 1) → places ≡ getD head chunkPlacesAt 0
-      → spot ≡ chunkSpot (read 0 (s .pairs) 0) (looked 0 places [] tree) → pairs ≡ pairsRoom (read 0 (s .pairs) 0) (looked levels 0 [] tree) level (top - level)
-      → has ≡ left → (has && (ltb (spot .place) (s .store .chunks) && pairs)) ≡ roomAt s level now nowhere
-  room-is levels top places spot pairs has a b c d e f =
-      let g : spot ≡ chunkSpot s now = d ∙ ap (λ (x : ℕ). chunkSpot (read 0 (s .pairs) 0) (looked 0 x [] tree)) c in
-      let k : top ≡ max (getD head levelsAt 0) (level + 1) = b ∙ ap (λ (x : ℕ). max x (level + 1)) a in
-      let p : pairs ≡ pairsRoom s now level (max (getD head levelsAt 0) (level + 1) - level) = pairs-are (top - level) levels pairs a e ∙ ap (λ (x : ℕ). pairsRoom s now level (x - level)) k in
-      λ j. f j && (ltb (g j .place) (s .store .chunks) && p j)
+  pub chunk-is : (places : ℕ) (chunk : Taken) → places ≡ getD head chunkPlacesAt 0 → chunk ≡ chunkTaken (partSettings 0 (s .pairs) 0) (levelPart 0 places [] tree) → chunk ≡ chunkTaken s now
+  chunk-is places chunk b d = d ∙ ap (λ (x : ℕ). chunkTaken (partSettings 0 (s .pairs) 0) (levelPart 0 x [] tree)) b
+
+  -- the places that the code found, and its number of levels
+  pub room-is : (top places : ℕ) (loan chunk : Taken) (has : Bool)
+      → top ≡ grownTo level (tables head [] [] [] []) → places ≡ getD head chunkPlacesAt 0
+      → loan ≡ takenOf (getD head placesAt 0) index → chunk ≡ chunkTaken (partSettings 0 (s .pairs) 0) (levelPart 0 places [] tree)
+      → has ≡ placesRoom s level top (loan .place) (chunk .place) (tables head [] [] [] tree) → has ≡ roomOk s level now nowhere
+  unfolding roomOk
+  room-is top places loan chunk has a b c d e =
+      let g = chunk-is places chunk b d in
+      let p : pairsRoom s (tables head [] [] [] tree) level (top - level) ≡ pairsRoom s now level (grownTo level now - level) = sym (pairs-read s (tables head [] [] [] tree) level (top - level)) ∙ pairs-read s now level (top - level) ∙ ap (λ (x : ℕ). pairsRoom s now level (x - level)) a in
+      e ∙ (λ j. ltb (c j .place) (s .store .loans) && (ltb (g j .place) (s .store .chunks) && p j))
 
   module _ (h : Heap) (objects : ℕ) where
     abbrev pub Buying : Plan ℕ
-    Buying = plannedAt s level now nowhere (first (lateAt s h objects level now nowhere))
+    Buying = planned s level now nowhere (first (lateRow s h objects level now nowhere))
 
     -- what the code read says the same
-    pub counts-are : (order w : ℕ) (bears v : Bool) → order ≡ orderAt s level (tables head [] [] [] []) → w ≡ getD head givenAt 0 → bears ≡ bearsOk h order
-        → (ltb w spent && bears) ≡ v → countAt s h level now nowhere ≡ v
+    pub counts-are : (order w : ℕ) (bears v : Bool) → order ≡ orderBytes s level (tables head [] [] [] []) → w ≡ getD head givenAt 0 → bears ≡ bearsOk h order
+        → (ltb w spent && bears) ≡ v → countOk s h level now nowhere ≡ v
+    unfolding countOk
     counts-are order w bears v o g e r =
-        let f : bears ≡ bearsOk h (orderAt s level now) = e ∙ ap (bearsOk h) o in
+        let f : bears ≡ bearsOk h (orderBytes s level now) = e ∙ ap (bearsOk h) o in
         (λ j. ltb (sym g j) spent && sym f j) ∙ r
 
-    module _ (r : Bool) (d : r ≡ roomAt s level now nowhere) where
+    module _ (r : Bool) (d : r ≡ roomOk s level now nowhere) where
       pub buy-full : r ≡ false → deny 8 ≡ Buying
       buy-full e = rw (sym d ∙ e) refl
 
-      pub buy-spent : r ≡ true → countAt s h level now nowhere ≡ false → deny 10 ≡ Buying
+      pub buy-spent : r ≡ true → countOk s h level now nowhere ≡ false → deny 10 ≡ Buying
       buy-spent e c = rw (sym d ∙ e, c) refl
 
-      pub buy-none : r ≡ true → countAt s h level now nowhere ≡ true → objects ≡ 0 → deny 9 ≡ Buying
+      pub buy-none : r ≡ true → countOk s h level now nowhere ≡ true → objects ≡ 0 → deny 9 ≡ Buying
       unfolding objectsOk
       buy-none e c z = rw (sym d ∙ e, c, le-ltb 0 objects (omega arith)) refl
 
-      pub buy-go : (order : ℕ) → order ≡ orderAt s level (tables head [] [] [] []) → r ≡ true → countAt s h level now nowhere ≡ true → 0 < objects → buy order ≡ Buying
+      pub buy-go : (order : ℕ) → order ≡ orderBytes s level (tables head [] [] [] []) → r ≡ true → countOk s h level now nowhere ≡ true → 0 < objects → buy order ≡ Buying
       unfolding objectsOk
       buy-go order o e c z = ap buy o ∙ rw (sym d ∙ e, c, lt-ltb 0 objects z) refl
 
@@ -123,48 +141,42 @@ module _ (s : BuddySettings) (level : ℕ) (head index tree : List ℕ) where
 
     module _ (size : ℕ) where
       abbrev pub Sizing : Found → Plan ℕ
-      Sizing f = plannedAt s level now f (first ((fitsAt levelsMost s size, 6) ∷ lateAt s h objects level now f))
+      Sizing f = planned s level now f (first ((fitsAt levelsMost s size, 6) ∷ lateRow s h objects level now f))
 
       pub sized-not : (f : Found) (b : ℕ) → b ≡ bytes (s .minimal) levelsMost → b ≤ size → deny 6 ≡ Sizing f
       sized-not f b e l = rw (fits-no s size b e l) refl
 
       -- of a level that serves, two tests are left
-      fewer : (i : ℕ) (r g : Bool) → plannedAt s level now (at i) (first ((r, 8) ∷ (g, 10) ∷ [])) ≡ plannedAt s level now (at i) (first ((r, 8) ∷ (g && true, 10) ∷ (true, 9) ∷ []))
+      fewer : (i : ℕ) (r g : Bool) → planned s level now (at i) (first ((r, 8) ∷ (g, 10) ∷ [])) ≡ planned s level now (at i) (first ((r, 8) ∷ (g && true, 10) ∷ (true, 9) ∷ []))
       fewer i true true = refl
       fewer i true false = refl
       fewer i false g = refl
 
       sized-at : (i : ℕ) (f : Found) → fitsAt levelsMost s size ≡ true → f ≡ at i → Taking i ≡ Sizing f
-      unfolding objectsOk
-      sized-at i f e g = fewer i (roomAt s level now (at i)) (ltb (getD head givenAt 0) spent) ∙ rw (e, g) refl
+      unfolding objectsOk countOk
+      sized-at i f e g = fewer i (roomOk s level now (at i)) (ltb (getD head givenAt 0) spent) ∙ rw (e, g) refl
 
       sized-nowhere : (f : Found) → fitsAt levelsMost s size ≡ true → f ≡ nowhere → Buying ≡ Sizing f
       sized-nowhere f e g = rw (e, g) refl
 
   -- the code's level is that of the size, l
   module _ (size l : ℕ) (d : level ≡ l) (fits : fitsAt levelsMost s size ≡ true) where
-    pub look-at : (i : ℕ) (r : Looked) → foundAt s level now ≡ at i → LookTake s size level i now r → LookSized s size l now r
+    pub look-at : (i : ℕ) (r : Tried) → foundFrom s level now ≡ at i → TryTake s size level i now r → TrySized s size l now r
     look-at i r g f =
-        subst (λ (x : ℕ). LookSized s size x now r) d
-        (tells-same s size level now (λ h objects. Taking i) (λ h objects. Sizing h objects size (foundAt s level now)) r (λ h objects. sized-at h objects size i (foundAt s level now) fits g) f)
+        subst (λ (x : ℕ). TrySized s size x now r) d
+        (tells-same s size level now (λ h objects. Taking i) (λ h objects. Sizing h objects size (foundFrom s level now)) r (λ h objects. sized-at h objects size i (foundFrom s level now) fits g) f)
 
-    pub look-nowhere : foundAt s level now ≡ nowhere → (h : Heap) (objects : ℕ)
-        → Buying h objects ≡ plannedAt s l now (foundAt s l now) (first ((fitsAt levelsMost s size, 6) ∷ lateAt s h objects l now (foundAt s l now)))
+    pub look-nowhere : foundFrom s level now ≡ nowhere → (h : Heap) (objects : ℕ)
+        → Buying h objects ≡ planned s l now (foundFrom s l now) (first ((fitsAt levelsMost s size, 6) ∷ lateRow s h objects l now (foundFrom s l now)))
     look-nowhere g h objects =
-        sized-nowhere h objects size (foundAt s level now) fits g
-        ∙ ap (λ (x : ℕ). plannedAt s x now (foundAt s x now) (first ((fitsAt levelsMost s size, 6) ∷ lateAt s h objects x now (foundAt s x now)))) d
+        sized-nowhere h objects size (foundFrom s level now) fits g
+        ∙ ap (λ (x : ℕ). planned s x now (foundFrom s x now) (first ((fitsAt levelsMost s size, 6) ∷ lateRow s h objects x now (foundFrom s x now)))) d
 
 -- ---- where the search ended
 
 -- the level found is there
 pub found-low : (s : BuddySettings) (tree : List ℕ) (level levels i : ℕ) → levels ≤ levelsMost → level < levelsMost → searchFrom s tree level (levels - level) ≡ at i → (level ≤ i) × (i ≤ levelsMost)
 found-low s tree level levels i a b e = let r = search-at s tree level (levels - level) i e in (r .0, omega (arith, r .0, r .1))
-
--- what orders a chunk takes no block
-none-sized : (p : Decided.Plan) (z l : ℕ) → NoTake p → Sized z l p
-none-sized (Refuse r) z l n = tt
-none-sized (Take t) z l n = absurd n
-none-sized (Buy b) z l n = tt
 
 -- ---- the whole of it
 
@@ -211,24 +223,25 @@ module _ (s : BuddySettings) (h : Heap) (objects size mask : ℕ) (head index tr
   decide-over r d fit e some f = unsized e (over-size s size mask fit some (raised-not (sym d ∙ f)))
 
   abbrev Then : ℕ → Plan ℕ
-  Then z = Sizing s (levelOf z (s .minimal)) head index tree h objects z (foundAt s (levelOf z (s .minimal)) all)
+  Then z = Sizing s (levelOf z (s .minimal)) head index tree h objects z (foundFrom s (levelOf z (s .minimal)) all)
 
   sized : alignmentOk mask ≡ true → 0 < size → Then (sizeFor s size mask) ≡ decideAsk s h objects size mask all
-  unfolding decideAsk sizeOk roomOk countOk levelFor foundFor
+  unfolding decideAsk sizeOk roomOk countOk levelFor foundFrom
   sized e some = rw (e, lt-ltb 0 size some) refl
 
 -- z is the size looked for
-pub look-sized : (s : BuddySettings) (size mask : ℕ) (head index tree : List ℕ) (z : ℕ) (r : Looked) → z ≡ sizeFor s size mask → alignmentOk mask ≡ true → 0 < size
-    → LookSized s z (levelOf z (s .minimal)) (tables head [] [] index tree) r → LookOf s size mask (tables head [] [] index tree) r
+pub look-sized : (s : BuddySettings) (size mask : ℕ) (head index tree : List ℕ) (z : ℕ) (r : Tried) → z ≡ sizeFor s size mask → alignmentOk mask ≡ true → 0 < size
+    → TrySized s z (levelOf z (s .minimal)) (tables head [] [] index tree) r → TryOf s size mask (tables head [] [] index tree) r
 unfolding levelFor
 look-sized s size mask head index tree z r d e some f =
     let t = tables head [] [] index tree in
     tells-same s (sizeFor s size mask) (levelFor s size mask) t (λ h objects. Then s h objects size mask head index tree (sizeFor s size mask)) (λ h objects. decideAsk s h objects size mask t) r
     (λ h objects. sized s h objects size mask head index tree e some)
-    (subst (λ (x : ℕ). LookSized s x (levelOf x (s .minimal)) t r) d f)
+    (subst (λ (x : ℕ). TrySized s x (levelOf x (s .minimal)) t r) d f)
 
--- where a chunk is needed, what its tests come to is the plan, and takes no block
-pub look-buys : (s : BuddySettings) (size mask : ℕ) (t : Tables) (n : Needing) (h : Heap) (objects : ℕ) (p : Decided.Plan) → LookOf s size mask t (L.Need n)
-    → planOf p ≡ plannedAt s (n .level) t nowhere (first (lateAt s h objects (n .level) t nowhere)) → NoTake p
-    → (planOf p ≡ decideAsk s h objects size mask t) × Sized (sizeFor s size mask) (levelFor s size mask) p
-look-buys s size mask t n h objects p f e none = (e ∙ f .2 h objects, none-sized p (sizeFor s size mask) (levelFor s size mask) none)
+-- where a chunk is needed, what its tests come to is the plan
+pub look-buys : (s : BuddySettings) (size mask : ℕ) (t : Tables) (n : Needing) (h : Heap) (objects : ℕ) (p : Decided.Plan) → TryOf s size mask t (L.Need n)
+    → planOf p ≡ planned s (n .level) t nowhere (first (lateRow s h objects (n .level) t nowhere)) → PlannedAt s (n .size) (n .level) t p
+    → (planOf p ≡ decideAsk s h objects size mask t) × Planned s size mask t p
+look-buys s size mask t n h objects p f e g =
+    (e ∙ f .5 h objects, subst (λ (x : ℕ). PlannedAt s x (levelFor s size mask) t p) (f .0) (subst (λ (x : ℕ). PlannedAt s (n .size) x t p) (f .1) g))

@@ -3,16 +3,21 @@ ghost use mathlib.Core.Path.{_≡_};
 ghost use mathlib.Core.Bool.{true};
 ghost use mathlib.Core.List.{[]};
 ghost use Prim.Native.Nat.{_≤_, _<_};
-ghost use lib.Dec.{ltb};
 ghost use lib.ListN.{getD};
 ghost use Rattle.rounding_rules.specs.Raising.{levelOf};
 ghost use Rattle.counter.specs.Gate.{first};
 ghost use Rattle.counter.specs.InTable.{BuddyIn};
 ghost use Rattle.counter.specs.Limits.{levelsMost};
 ghost use Rattle.book_rules.specs.Book.{takenOf};
-ghost use Rattle.buddy_rules.specs.Tables.{tables, levelsAt, placesAt};
-ghost use Rattle.buddy_outcomes.specs.Ask.{nowhere, levelFor, sizeFor, fitsAt, roomAt, lateAt, orderAt, plannedAt, decideAsk};
-ghost use Rattle.buddy_decide.specs.Plans.{planOf, Sized, NoTake, LookTake, LookSized, LookOf};
+ghost use Rattle.buddy_rules.specs.Level.{ringHead};
+ghost use Rattle.buddy_rules.specs.Tables.{tables, levelsAt, placesAt, levelFrom};
+ghost use Rattle.buddy_outcomes.specs.Ask.{nowhere, grownTo, fitsAt, lateRow, orderBytes, planned, decideAsk};
+ghost use Rattle.buddy_decide.specs.Plans.{planOf, PlannedAt, Planned, placesRoom, TryTake, TrySized, TryOf};
+use crate::plans::Buying;
+use crate::plans::Needing;
+use crate::plans::Plan;
+use crate::plans::Taking;
+use crate::plans::Tried;
 use crate::seeking::Found;
 use buddy_rules::CHUNK_PLACES_AT;
 use buddy_rules::GIVEN_AT;
@@ -23,157 +28,149 @@ use counter::Heap;
 use counter::LEVELS_MOST;
 use counter::Refusal;
 use rounding_rules::Raised;
+use slab::Taken;
 
-// A block of this size and level, from the head pair of the level `from`.
-pub struct Taking {
-    pub size: u64,
-    pub level: u64,
-    pub from: u64,
-}
-
-pub enum Plan {
-    Refuse(Refusal),
-    Take(Taking),
-    // a chunk of so many bytes
-    Buy(u64),
-}
-
-// A chunk of so many bytes is needed, for an ask of this level.
-pub struct Needing {
-    pub level: u64,
-    pub order: u64,
-}
-
-// What an ask comes to short of what a new chunk asks of heap and objects.
-pub enum Looked {
-    Refuse(Refusal),
-    Take(Taking),
-    Need(Needing),
-}
-
-// Whether a loan place is left.
-fn has_place(s: BuddySettings, head: &[u64], index: &[u64]) -> bool
-    ensures { λ r. ⌜ r ≡ ltb (takenOf (getD (now (head .entry)) placesAt 0) (now (index .entry)) .place) (s .store .loans) ⌝ }
+// The place of the book that a loan takes next.
+fn next_loan(head: &[u64], index: &[u64]) -> Taken
+    ensures { λ r. ⌜ r ≡ takenOf (getD (now (head .entry)) placesAt 0) (now (index .entry)) ⌝ }
 {
-    let t = book::next_place(words::word(head, PLACES_AT), index);
-    let own = s.store;
-    t.place < own.loans as u64
+    book::next_place(words::word(head, PLACES_AT), index)
 }
 
 // The head pair of a level serves.
-fn look_take(
+fn try_take(
     s: BuddySettings,
     size: u64,
     level: u64,
     from: u64,
+    pair: u64,
     head: &[u64],
     index: &[u64],
     tree: &[u64],
-) -> Looked
-    requires { ⌜ BuddyIn s × (getD (now head) levelsAt 0 ≤ levelsMost) × (level ≤ from) × (from ≤ levelsMost) ⌝ }
-    ensures { λ r. ⌜ LookTake s size level from (tables (now (head .entry)) [] [] (now (index .entry)) (now (tree .entry))) r ⌝ }
+) -> Tried
+    requires { ⌜ BuddyIn s × (getD (now head) levelsAt 0 ≤ levelsMost) × (level ≤ from) × (from ≤ levelsMost) × (pair ≡ ringHead (levelFrom s from) (now tree)) ⌝ }
+    ensures { λ r. ⌜ TryTake s size level from (tables (now (head .entry)) [] [] (now (index .entry)) (now (tree .entry))) r ⌝ }
 {
     let levels = words::word(head, LEVELS_AT);
-    if !has_place(s, head, index) {
-        return Looked::Refuse(Refusal::Full);
+    let loan = next_loan(head, index);
+    let own = s.store;
+    if own.loans as u64 <= loan.place {
+        return Tried::Refuse(Refusal::Full);
     }
     if !crate::seeking::has_pairs(s.pairs, level, from - level, levels, tree) {
-        return Looked::Refuse(Refusal::Full);
+        return Tried::Refuse(Refusal::Full);
     }
     if words::word(head, GIVEN_AT) == u64::MAX {
-        return Looked::Refuse(Refusal::Count);
+        return Tried::Refuse(Refusal::Count);
     }
-    Looked::Take(Taking {
+    Tried::Take(Taking {
         size: size,
         level: level,
         from: from,
+        pair: pair,
+        loan: loan,
     })
 }
 
-// Whether a chunk place and the pairs of a new chunk's split are left.
-fn has_room(s: BuddySettings, level: u64, head: &[u64], index: &[u64], tree: &[u64]) -> bool
-    requires { ⌜ BuddyIn s × (getD (now head) levelsAt 0 ≤ levelsMost) × (level < levelsMost) ⌝ }
-    ensures { λ r. ⌜ r ≡ roomAt s level (tables (now (head .entry)) [] [] (now (index .entry)) (now (tree .entry))) nowhere ⌝ }
+// Whether these places of a loan and a chunk are left, and the pairs of a split from above level `top` down to this one.
+fn has_room(
+    s: BuddySettings,
+    level: u64,
+    top: u64,
+    loan: u64,
+    chunk: u64,
+    head: &[u64],
+    tree: &[u64],
+) -> bool
+    requires { ⌜ BuddyIn s × (getD (now head) levelsAt 0 ≤ levelsMost) × (level ≤ top) × (top ≤ levelsMost) ⌝ }
+    ensures { λ r. ⌜ r ≡ placesRoom s level top loan chunk (tables (now (head .entry)) [] [] [] (now (tree .entry))) ⌝ }
 {
-    let levels = words::word(head, LEVELS_AT);
     let own = s.store;
-    let top = if levels <= level { level + 1 } else { levels };
-    let spot = crate::seeking::chunk_spot(s.pairs, words::word(head, CHUNK_PLACES_AT), tree);
-    let vacant = spot.place < own.chunks as u64;
+    let levels = words::word(head, LEVELS_AT);
     let pairs = crate::seeking::has_pairs(s.pairs, level, top - level, levels, tree);
-    has_place(s, head, index) & (vacant & pairs)
+    (loan < own.loans as u64) & ((chunk < own.chunks as u64) & pairs)
 }
 
-// None does: a chunk of so many bytes is needed.
+// None does: a chunk is needed.
 pub fn decide_buy(
     s: BuddySettings,
     h: Heap,
     objects: u32,
-    level: u64,
-    order: u64,
+    n: Needing,
     head: &[u64],
     index: &[u64],
     tree: &[u64],
 ) -> Plan
-    requires { ⌜ BuddyIn s × (getD (now head) levelsAt 0 ≤ levelsMost) × (level < levelsMost) × (order ≡ orderAt s level (tables (now head) [] [] [] [])) ⌝ }
-    ensures { λ r. ⌜ planOf r ≡ plannedAt s level (tables (now (head .entry)) [] [] (now (index .entry)) (now (tree .entry))) nowhere (first (lateAt s h objects level (tables (now (head .entry)) [] [] (now (index .entry)) (now (tree .entry))) nowhere)) ⌝ }
-    ensures { λ r. ⌜ NoTake r ⌝ }
+    requires { ⌜ BuddyIn s × (getD (now head) levelsAt 0 ≤ levelsMost) × (n .level < levelsMost) × (n .order ≡ orderBytes s (n .level) (tables (now head) [] [] [] [])) × (n .levels ≡ grownTo (n .level) (tables (now head) [] [] [] [])) ⌝ }
+    ensures { λ r. ⌜ planOf r ≡ planned s (n .level) (tables (now (head .entry)) [] [] (now (index .entry)) (now (tree .entry))) nowhere (first (lateRow s h objects (n .level) (tables (now (head .entry)) [] [] (now (index .entry)) (now (tree .entry))) nowhere)) ⌝ }
+    ensures { λ r. ⌜ PlannedAt s (n .size) (n .level) (tables (now (head .entry)) [] [] (now (index .entry)) (now (tree .entry))) r ⌝ }
 {
-    if !has_room(s, level, head, index, tree) {
+    let loan = next_loan(head, index);
+    let chunk = crate::seeking::chunk_taken(s.pairs, words::word(head, CHUNK_PLACES_AT), tree);
+    if !has_room(s, n.level, n.levels, loan.place, chunk.place, head, tree) {
         return Plan::Refuse(Refusal::Full);
     }
     let given = words::word(head, GIVEN_AT) < u64::MAX;
-    if !(given & heap::bears(h, order)) {
+    if !(given & heap::bears(h, n.order)) {
         return Plan::Refuse(Refusal::Count);
     }
     if objects == 0 {
-        return Plan::Refuse(Refusal::Objects);
+        return Plan::Lack(n.levels);
     }
-    Plan::Buy(order)
+    Plan::Buy(Buying {
+        order: n.order,
+        size: n.size,
+        level: n.level,
+        levels: n.levels,
+        loan: loan,
+        chunk: chunk,
+    })
 }
 
 // An ask for so many bytes, a power of two.
-fn look_sized(s: BuddySettings, size: u64, head: &[u64], index: &[u64], tree: &[u64]) -> Looked
+fn try_sized(s: BuddySettings, size: u64, head: &[u64], index: &[u64], tree: &[u64]) -> Tried
     requires { ⌜ BuddyIn s × (getD (now head) levelsAt 0 ≤ levelsMost) × (fitsAt levelsMost s size ≡ true → levelOf size (s .minimal) < levelsMost) ⌝ }
-    ensures { λ r. ⌜ LookSized s size (levelOf size (s .minimal)) (tables (now (head .entry)) [] [] (now (index .entry)) (now (tree .entry))) r ⌝ }
+    ensures { λ r. ⌜ TrySized s size (levelOf size (s .minimal)) (tables (now (head .entry)) [] [] (now (index .entry)) (now (tree .entry))) r ⌝ }
 {
     if buddy_levels::node_bytes(s.minimal, LEVELS_MOST as u64) <= size {
-        return Looked::Refuse(Refusal::Size);
+        return Tried::Refuse(Refusal::Size);
     }
     let level = rounding::level(size, s.minimal) as u64;
     let levels = words::word(head, LEVELS_AT);
     let found = crate::seeking::seek(s.minimal, s.pairs, level, levels, tree);
     match found {
-        Found::At(_, from) => look_take(s, size, level, from, head, index, tree),
-        Found::Order(order) => Looked::Need(Needing {
-            level: level,
+        Found::At(pair, from) => try_take(s, size, level, from, pair, head, index, tree),
+        Found::Order(order, grown) => Tried::Need(Needing {
             order: order,
+            size: size,
+            level: level,
+            levels: grown,
         }),
     }
 }
 
 // Heap and objects are left out: only an ask that needs a chunk is tested by them.
-pub fn look(
+pub fn try_held(
     s: BuddySettings,
     size: u64,
     mask: u64,
     head: &[u64],
     index: &[u64],
     tree: &[u64],
-) -> Looked
+) -> Tried
     requires { ⌜ BuddyIn s × (getD (now head) levelsAt 0 ≤ levelsMost) ⌝ }
-    ensures { λ r. ⌜ LookOf s size mask (tables (now (head .entry)) [] [] (now (index .entry)) (now (tree .entry))) r ⌝ }
+    ensures { λ r. ⌜ TryOf s size mask (tables (now (head .entry)) [] [] (now (index .entry)) (now (tree .entry))) r ⌝ }
 {
     if !counter::is_alignment(mask) {
-        return Looked::Refuse(Refusal::Mask);
+        return Tried::Refuse(Refusal::Mask);
     }
     if size == 0 {
-        return Looked::Refuse(Refusal::Size);
+        return Tried::Refuse(Refusal::Size);
     }
     let raised = crate::asks::size_for(s, size, mask);
     match raised {
-        Raised::To(z) => look_sized(s, z, head, index, tree),
-        Raised::Overflow => Looked::Refuse(Refusal::Size),
+        Raised::To(z) => try_sized(s, z, head, index, tree),
+        Raised::Overflow => Tried::Refuse(Refusal::Size),
     }
 }
 
@@ -190,12 +187,12 @@ pub fn decide(
 ) -> Plan
     requires { ⌜ BuddyIn s × (getD (now head) levelsAt 0 ≤ levelsMost) ⌝ }
     ensures { λ r. ⌜ planOf r ≡ decideAsk s h objects size mask (tables (now (head .entry)) [] [] (now (index .entry)) (now (tree .entry))) ⌝ }
-    ensures { λ r. ⌜ Sized (sizeFor s size mask) (levelFor s size mask) r ⌝ }
+    ensures { λ r. ⌜ Planned s size mask (tables (now (head .entry)) [] [] (now (index .entry)) (now (tree .entry))) r ⌝ }
 {
-    let looked = look(s, size, mask, head, index, tree);
-    match looked {
-        Looked::Refuse(r) => Plan::Refuse(r),
-        Looked::Take(t) => Plan::Take(t),
-        Looked::Need(n) => decide_buy(s, h, objects, n.level, n.order, head, index, tree),
+    let tried = try_held(s, size, mask, head, index, tree);
+    match tried {
+        Tried::Refuse(r) => Plan::Refuse(r),
+        Tried::Take(t) => Plan::Take(t),
+        Tried::Need(n) => decide_buy(s, h, objects, n, head, index, tree),
     }
 }

@@ -3,9 +3,8 @@ ghost use mathlib.Core.Path.{_≡_};
 ghost use mathlib.Core.List.{[]};
 ghost use Prim.Native.Nat.{_+_, _^_, max, _≤_, _<_};
 ghost use Rattle.counter.specs.Limits.{levelsMost, pairsMost, minimalBits};
-ghost use Rattle.buddy_trees.specs.Trees.{bytes};
-ghost use Rattle.buddy_levels.specs.Seen.{read, looked};
-ghost use Rattle.buddy_outcomes.specs.Ask.{pairsRoom, chunkSpot};
+ghost use Rattle.buddy_levels.specs.Seen.{partSettings, levelPart};
+ghost use Rattle.buddy_outcomes.specs.Ask.{pairsRoom, chunkTaken};
 ghost use Rattle.buddy_decide.specs.Sought.{sought};
 use buddy_levels::RING_AT;
 use buddy_levels::level_from;
@@ -15,22 +14,25 @@ use slab::NOWHERE;
 use slab::Slab;
 use slab::Taken;
 
-// The head pair of a level, and that level; or the size of the chunk to order.
+// The head pair of a level, and that level; or the size of the chunk to order, and the levels that it needs.
 pub enum Found {
     At(u64, u64),
-    Order(u64),
+    Order(u64, u64),
 }
 
-// The chunk to order where no level serves: twice a node of the top level, which is the asked one where there are no more.
-fn order_size(minimal: u64, level: u64, levels: u64) -> u64
-    requires { ⌜ (minimal ≤ 2 ^ minimalBits) × (level < levelsMost) × (levels ≤ levelsMost) ⌝ }
-    ensures { λ r. ⌜ r ≡ bytes minimal (max levels (level + 1)) ⌝ }
+// As many levels as there are, or as this one needs.
+fn grown(level: u64, levels: u64) -> u64
+    requires { ⌜ level < levelsMost ⌝ }
+    ensures { λ r. ⌜ r ≡ max levels (level + 1) ⌝ }
 {
-    let top = if levels <= level { level + 1 } else { levels };
-    buddy_levels::node_bytes(minimal, top)
+    if levels <= level {
+        return level + 1;
+    }
+    levels
 }
 
-// From this level on: the first with a ready side ends the search.
+// From this level on: the first with a ready side ends the search. Where none has, the chunk to order is a node of the level
+// above the top.
 pub fn seek(minimal: u64, pairs: usize, level: u64, levels: u64, tree: &[u64]) -> Found
     requires { ⌜ (minimal ≤ 2 ^ minimalBits) × (pairs ≤ pairsMost) × (level < levelsMost) × (levels ≤ levelsMost) ⌝ }
     ensures { λ r. ⌜ r ≡ sought minimal pairs level levels (now (tree .entry)) ⌝ }
@@ -38,7 +40,8 @@ pub fn seek(minimal: u64, pairs: usize, level: u64, levels: u64, tree: &[u64]) -
     let mut l = level;
     let found = loop {
         if levels <= l {
-            break Found::Order(order_size(minimal, level, levels));
+            let top = grown(level, levels);
+            break Found::Order(buddy_levels::node_bytes(minimal, top), top);
         }
         let head = words::word(tree, level_from(pairs, l as usize) + RING_AT);
         if head != NOWHERE {
@@ -52,13 +55,13 @@ pub fn seek(minimal: u64, pairs: usize, level: u64, levels: u64, tree: &[u64]) -
 // Whether each of n levels from this one on has a place for a new pair; one that is not there yet has.
 pub fn has_pairs(pairs: usize, level: u64, n: u64, levels: u64, tree: &[u64]) -> bool
     requires { ⌜ (pairs ≤ pairsMost) × (levels ≤ levelsMost) × (level + n ≤ levelsMost) ⌝ }
-    ensures { λ r. ⌜ r ≡ pairsRoom (read 0 pairs 0) (looked levels 0 [] (now (tree .entry))) level n ⌝ }
+    ensures { λ r. ⌜ r ≡ pairsRoom (partSettings 0 pairs 0) (levelPart levels 0 [] (now (tree .entry))) level n ⌝ }
 {
     let mut i = 0;
     while i < n {
         let l = level + i;
         if l < levels {
-            let spot = buddy_levels::spot(tree, level_from(pairs, l as usize));
+            let spot = buddy_levels::pair_taken(tree, level_from(pairs, l as usize));
             if pairs as u64 <= spot.place {
                 return false;
             }
@@ -69,9 +72,9 @@ pub fn has_pairs(pairs: usize, level: u64, n: u64, levels: u64, tree: &[u64]) ->
 }
 
 // The chunk place that is taken next, and the slab from then on.
-pub fn chunk_spot(pairs: usize, places: u64, tree: &[u64]) -> Taken
+pub fn chunk_taken(pairs: usize, places: u64, tree: &[u64]) -> Taken
     requires { ⌜ pairs ≤ pairsMost ⌝ }
-    ensures { λ r. ⌜ r ≡ chunkSpot (read 0 pairs 0) (looked 0 places [] (now (tree .entry))) ⌝ }
+    ensures { λ r. ⌜ r ≡ chunkTaken (partSettings 0 pairs 0) (levelPart 0 places [] (now (tree .entry))) ⌝ }
 {
     let at = buddy_levels::chunks_from(pairs);
     let s = Slab {

@@ -1,6 +1,6 @@
 -- The buddy books as an engine has to: what one call of it charges and releases, and how many device objects it takes and
--- gives. Assumes nothing.
-use mathlib.Core.Path.{_≡_, refl, sym, ap, _∙_}
+-- gives.
+use mathlib.Core.Path.{_≡_, refl, sym, ap, subst, _∙_}
 use mathlib.Core.Bool.{true, false, _&&_}
 use mathlib.Core.Logic.{⊎-elim}
 use mathlib.Core.List.{List, [], _∷_}
@@ -8,7 +8,7 @@ use Prim.Native.Nat.{ℕ, _+_, _-_}
 use native.Mathlib.Omega.{arith}
 use Rattle.lists.proofs.Bools.{told, and-right}
 use Rattle.counter.specs.Account.{heapAt}
-use Rattle.counter.specs.Gate.{Verdict, pass, refuse}
+use Rattle.counter.specs.Gate.{Verdict, pass, refuse, gated}
 use Rattle.counter.specs.Paper as Paper
 use Rattle.counter.specs.declared.account.Account.{Account}
 use Rattle.counter.specs.declared.account.KeptOrder.{KeptOrder}
@@ -28,10 +28,10 @@ use Rattle.heap.specs.History.{release}
 use Rattle.heap.proofs.Bounds.{agrees-yes}
 use Rattle.store_rules.specs.Delivery.{buddy, mapped, fateOf, deliveryOk}
 use Rattle.store_rules.specs.Orders.{Plan, deny, take, buy}
-use Rattle.store_rules.specs.Outcomes.{Out, Listed, listed, listOk, lostAccount, releasedAccount}
-use Rattle.store_rules.specs.Tests.{orderFor, coversOk, gateRow}
+use Rattle.store_rules.specs.Outcomes.{Out, out, Listed, listed, listOk, chargedAccount, lostAccount, releasedAccount}
+use Rattle.store_rules.specs.Tests.{openFor, coversOk, gateRow}
 use Rattle.store_rules.specs.Views.{sizes}
-use Rattle.store_rules.proofs.Accounts.{covers-yes}
+use Rattle.store_rules.proofs.Accounts.{covers-yes, lost-nothing}
 use Rattle.store_rules.proofs.Refused.{leads-buy}
 use Rattle.engines.specs.Books.{accepted, takes, Booked, Books}
 use Rattle.engines.specs.Books as Entries
@@ -41,10 +41,10 @@ use Rattle.engines.proofs.Booking.{not-accepted, Bears, still, early-booked, ch
 use Rattle.buddy_rules.specs.Tables.{Tables, chunkSizeIn, chunkPlacesIn, memories}
 use Rattle.buddy_rules.specs.Test.{soundOk}
 use Rattle.buddy_rules.specs.Views.{chunksIn}
-use Rattle.buddy_outcomes.specs.Gate.{lentOk, heldCount, heldBytes, accountOk}
+use Rattle.buddy_outcomes.specs.Gate.{inTableOk, heldCount, heldBytes, accountOk}
 use Rattle.buddy_outcomes.specs.Ask.{decideAsk, carryAsk, planAsk, askOf}
 use Rattle.buddy_outcomes.specs.Deliver as Deliver
-use Rattle.buddy_outcomes.specs.Deliver.{stillOk, deliverGateOf, carryFate, decideDeliver, planDeliver, carryDeliver, deliverOf}
+use Rattle.buddy_outcomes.specs.Deliver.{asOrdered, stillOk, deliverGateOf, carryFate, decideDeliver, planDeliver, carryDeliver, deliverOf}
 use Rattle.buddy_outcomes.specs.Return.{wordFor, onLoanOk, climbFor, givenTables, releasedBy, returnOf}
 use Rattle.buddy_outcomes.specs.SetUp.{fitOk, setUpOf}
 use Rattle.buddy_outcomes.proofs.Counting.{bytes-is}
@@ -84,7 +84,7 @@ module _ (s : BuddySettings) (a : Account) (t : Tables) where
   unfolding deliverGateOf accountOk
   opened k e g =
       let h = heapAt a (s .store .heap) in
-      let r = passed (gateRow (lentOk s a t) (orderFor (s .store .number) (a .order)) (soundOk s t && stillOk s a t (a .order)) (accountOk s a t)) g in
+      let r = passed (gateRow (inTableOk s a t) (openFor (s .store .number) (a .order)) (soundOk s t && stillOk s a t (a .order)) (accountOk s a t)) g in
       let ask : stillOk s a t (Kept k) ≡ true = ap (stillOk s a t) (sym e) ∙ and-right (soundOk s t) (stillOk s a t (a .order)) (r .1 .1 .0) in
       let l = leads-buy (s .store) (k .order) (decideAsk s h (a .objects) (k .ask .size) (k .ask .mask) t) ask in
       let z : k .order .size ≡ l .0 = ap (λ (x : Order). x .size) (l .2) in
@@ -100,7 +100,7 @@ module _ (s : BuddySettings) (a : Account) (t : Tables) where
 
   module _ (k : KeptOrder) (w : Bears (s .store) a k) where
     made-booked : (m : Memory) (x : Mapping) → BuddyBooked (delivers (O.Made m)) (arrived (carryFate s a k t (mapped buddy (m .number) x)))
-    unfolding carryFate lostAccount
+    unfolding carryFate lostAccount chargedAccount
     made-booked m M.Mapped = charged-booked (s .store) a k w m _ _ refl refl
     made-booked m M.NotWanted = charged-booked (s .store) a k w m _ _ refl refl
     made-booked m M.Failed = charged-booked (s .store) a k w m _ _ refl refl
@@ -108,22 +108,26 @@ module _ (s : BuddySettings) (a : Account) (t : Tables) where
     made-booked m M.OutOfHost = charged-booked (s .store) a k w m _ _ refl refl
 
     fated-booked : (o : Outcome) → BuddyBooked (delivers o) (arrived (carryFate s a k t (fateOf buddy o)))
-    unfolding carryFate lostAccount
-    fated-booked O.OutOfDevice = still (s .store .heap) a _ _ _ refl refl refl refl refl
-    fated-booked O.OutOfHost = still (s .store .heap) a _ _ _ refl refl refl refl refl
+    unfolding carryFate lostAccount chargedAccount
+    fated-booked O.OutOfDevice =
+        subst (λ (b : Account). BuddyBooked (delivers O.OutOfDevice) (arrived (out (Paper.refusal 11 []) b (asOrdered s k t)))) (sym (lost-nothing (s .store) a (k .order .size) []))
+        (still (s .store .heap) a _ _ _ refl refl refl refl refl)
+    fated-booked O.OutOfHost =
+        subst (λ (b : Account). BuddyBooked (delivers O.OutOfHost) (arrived (out (Paper.refusal 12 []) b (asOrdered s k t)))) (sym (lost-nothing (s .store) a (k .order .size) []))
+        (still (s .store .heap) a _ _ _ refl refl refl refl refl)
     fated-booked (O.Made m) = made-booked m (m .mapping)
 
   gate-number : (n : ℕ) → deliverGateOf s a t ≡ refuse n → accepted (Paper.refusal n []) ≡ false
   unfolding deliverGateOf
   gate-number n e =
-      let low = gate-low (lentOk s a t) (orderFor (s .store .number) (a .order)) (soundOk s t && stillOk s a t (a .order)) (accountOk s a t) n e in
+      let low = gate-low (inTableOk s a t) (openFor (s .store .number) (a .order)) (soundOk s t && stillOk s a t (a .order)) (accountOk s a t) n e in
       not-accepted n (λ q. omega (arith, low)) (λ q. omega (arith, low))
 
   module _ (o : Outcome) where
     abbrev held : List ℕ
     held = memories t (chunkPlacesIn t)
 
-    after-delivery : (v : Verdict) → deliverGateOf s a t ≡ v → (x : OpenOrder) → a .order ≡ x → BuddyBooked (delivers o) (arrived (carryDeliver s a t (Deliver.gated v (decideDeliver o held x))))
+    after-delivery : (v : Verdict) → deliverGateOf s a t ≡ v → (x : OpenOrder) → a .order ≡ x → BuddyBooked (delivers o) (arrived (carryDeliver s a t (gated Deliver.deny v (decideDeliver o held x))))
     unfolding carryDeliver
     after-delivery (refuse n) g x e = early-booked (s .store) a n (asLent t) (gate-number n g) o
     after-delivery pass g Nothing e = early-booked (s .store) a 2 (asLent t) refl o

@@ -1,5 +1,4 @@
--- The buddy gives serials as an engine has to: they count up, and one that is gone stays so and is never taken. Assumes
--- nothing.
+-- The buddy gives serials as an engine has to: they count up, and one that is gone stays so and is never taken.
 use mathlib.Core.Path.{_≡_, refl, sym, ap, _∙_}
 use mathlib.Core.Bool.{Bool, true, false, cond}
 use mathlib.Core.Logic.{_⊎_}

@@ -1,4 +1,4 @@
--- Blocks handed back to a buddy store end as an engine's have to: by the set of them. Assumes nothing.
+-- Blocks handed back to a buddy store end as an engine's have to: by the set of them.
 use mathlib.Core.Path.{_≡_, refl, sym, ap, subst, _∙_}
 use mathlib.Core.Bool.{true}
 use mathlib.Core.Logic.{_↔_}
@@ -10,7 +10,7 @@ use Rattle.counter.specs.Gate.{pass}
 use Rattle.counter.specs.declared.account.Account.{Account}
 use Rattle.counter.specs.declared.answers.Block.{Block}
 use Rattle.counter.specs.declared.settings.BuddySettings.{BuddySettings}
-use Rattle.store_rules.specs.Views.{View, loanOf, loansLess}
+use Rattle.store_rules.specs.Views.{View, Matches, OnLoan, loansLess}
 use Rattle.store_rules.specs.declared.Loan.{Loan}
 use Rattle.store_rules.proofs.Accounts.{covers-yes}
 use Rattle.store_rules.proofs.Lessening.{less-one}
@@ -27,14 +27,14 @@ use Rattle.buddy_outcomes.proofs.Passing.{gate-passed}
 use Rattle.buddy_engine.specs.Shape.{asBuddy, buddyShape, countsOf}
 
 module _ (s : BuddySettings) (a : Account) (b : Block) (t : Tables) (list : List ℕ) (passes : gateOf s a t true ≡ pass)
-    (lent : List·Memᴰ (loanOf b) (loansIn t)) (long : s .store .chunks ≤ length list) where
+    (lent : OnLoan b (loansIn t)) (long : s .store .chunks ≤ length list) where
   -- the loans left are the others
   loans-left : loansIn (returnOf s a b t list .tables) ≡ loansLess (b ∷ []) (loansIn t)
   unfolding atOnce
   loans-left = ap (λ (v : View). v .loans) (return-view s a b t list passes lent long)
 
-  loans-are : (l : Loan) → List·Memᴰ l (loansIn (returnOf s a b t list .tables)) ↔ (List·Memᴰ l (loansIn t) × (l ≡ loanOf b → ⊥))
-  loans-are l = subst (λ (ls : List Loan). List·Memᴰ l ls ↔ (List·Memᴰ l (loansIn t) × (l ≡ loanOf b → ⊥))) (sym loans-left) (less-one b (loansIn t) l)
+  loans-are : (l : Loan) → List·Memᴰ l (loansIn (returnOf s a b t list .tables)) ↔ (List·Memᴰ l (loansIn t) × (Matches b l → ⊥))
+  loans-are l = subst (λ (ls : List Loan). List·Memᴰ l ls ↔ (List·Memᴰ l (loansIn t) × (Matches b l → ⊥))) (sym loans-left) (less-one b (loansIn t) l)
 
 -- every order of returns ends alike
 pub ends : Ends buddyShape

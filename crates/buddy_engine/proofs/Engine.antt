@@ -1,4 +1,4 @@
--- The buddy is an engine: every law of one holds of it. Assumes nothing.
+-- The buddy is an engine: every law of one holds of it.
 use Rattle.engines.specs.Engines.{Engine}
 use Rattle.buddy_engine.specs.Shape.{buddyShape}
 use Rattle.buddy_engine.proofs.Booking.{books}

@@ -1,4 +1,4 @@
--- The buddy stays sound and filled as an engine has to, and lends good blocks. Assumes nothing.
+-- The buddy stays sound and filled as an engine has to, and lends good blocks.
 use mathlib.Core.Path.{_≡_, refl, sym, ap, _∙_}
 use mathlib.Core.Bool.{Bool, true, false, cond}
 use mathlib.Core.List.{[]}

@@ -1,4 +1,4 @@
--- How many bytes of chunks a buddy's return leaves: those that there were less the chunk that goes. Assumes nothing.
+-- How many bytes of chunks a buddy's return leaves: those that there were less the chunk that goes.
 use mathlib.Core.Path.{_≡_, refl, ap, _∙_}
 use mathlib.Core.Bool.{Bool, true, false, cond, _&&_, not}
 use mathlib.Core.Logic.{⊎-elim}

@@ -1,5 +1,5 @@
 -- The buddy refuses as an engine has to: each number exactly when, and what a refusal leaves; its calls on another engine's
--- tables too. Assumes nothing.
+-- tables too.
 use mathlib.Core.Path.{_≡_, refl, ap, _∙_}
 use mathlib.Core.Bool.{Bool, true, _&&_}
 use mathlib.Core.Logic.{_↔_}
@@ -18,7 +18,7 @@ use Rattle.counter.specs.declared.answers.Outcome.{Outcome}
 use Rattle.counter.specs.declared.settings.BuddySettings.{BuddySettings}
 use Rattle.counter.proofs.Reasoned.{clear-first}
 use Rattle.store_rules.specs.Outcomes.{Out, out, listed, listOk}
-use Rattle.store_rules.specs.Tests.{noOrder, orderFor, gateRow}
+use Rattle.store_rules.specs.Tests.{noOrder, openFor, gateRow}
 use Rattle.engines.specs.Refuses.{Refuses}
 use Rattle.store_rules.specs.Rows.{gateRows, keptRows}
 use Rattle.engines.specs.Shapes.{Lent, Call, setsUp, asks, delivers, returns, others, does, Marked, lentList, wordsOf}
@@ -26,8 +26,8 @@ use Rattle.engines.proofs.Shutting.{shut}
 use Rattle.buddy_rules.specs.Tables.{Tables, mark, markAt}
 use Rattle.buddy_rules.specs.Views.{viewOf}
 use Rattle.buddy_rules.specs.Test.{soundRow, soundOk}
-use Rattle.buddy_outcomes.specs.Gate.{lentOk, accountOk, gateOf}
-use Rattle.buddy_outcomes.specs.Ask.{grownFor, deniedTables, carryAsk, planAsk, askOf}
+use Rattle.buddy_outcomes.specs.Gate.{inTableOk, accountOk, gateOf}
+use Rattle.buddy_outcomes.specs.Ask.{grownTo, deniedTables, carryAsk, planAsk, askOf, levelFor}
 use Rattle.buddy_outcomes.specs.Deliver.{stillOk, deliverGateOf, planDeliver, carryDeliver, deliverOf}
 use Rattle.buddy_outcomes.specs.Refusals.{buddyWords}
 use Rattle.buddy_outcomes.specs.Return.{planReturn, carryReturn, returnOf}
@@ -46,12 +46,12 @@ module _ (s : BuddySettings) (a : Account) (t : Tables) (other : getD (t .head) 
 
   gate-shut : (list : Bool) → (n : ℕ) × (gateOf s a t list ≡ refuse n) × (0 < n) × (n ≤ 3)
   unfolding gateOf
-  gate-shut list = shut (lentOk s a t && list) (noOrder (a .order)) (soundOk s t) (accountOk s a t) not-sound
+  gate-shut list = shut (inTableOk s a t && list) (noOrder (a .order)) (soundOk s t) (accountOk s a t) not-sound
 
   deliver-gate-shut : (n : ℕ) × (deliverGateOf s a t ≡ refuse n) × (0 < n) × (n ≤ 3)
   unfolding deliverGateOf
   deliver-gate-shut =
-      shut (lentOk s a t) (orderFor (s .store .number) (a .order)) (soundOk s t && stillOk s a t (a .order)) (accountOk s a t)
+      shut (inTableOk s a t) (openFor (s .store .number) (a .order)) (soundOk s t && stillOk s a t (a .order)) (accountOk s a t)
       (λ e. not-sound (and-left (soundOk s t) (stillOk s a t (a .order)) e))
 
   ask-shut : (size mask : ℕ) → (n : ℕ) × (askOf s a size mask t ≡ out (Paper.refusal n []) a t) × (0 < n) × (n ≤ 3)
@@ -87,13 +87,13 @@ gate-clear : (s : BuddySettings) (a : Account) (t : Lent) → (gateOf s a (asBud
 unfolding gateOf
 gate-clear s a t =
     let u = asBuddy t in
-    clear-first (gateRow (lentOk s a u && true) (noOrder (a .order)) (soundOk s u) (accountOk s a u)) (gateRows buddyWords s a u) (gate-decided s a u)
+    clear-first (gateRow (inTableOk s a u && true) (noOrder (a .order)) (soundOk s u) (accountOk s a u)) (gateRows buddyWords s a u) (gate-decided s a u)
 
 deliver-clear : (s : BuddySettings) (a : Account) (t : Lent) → (deliverGateOf s a (asBuddy t) ≡ pass) ↔ Clear (keptRows (wordsOf buddyShape) s a t)
 unfolding deliverGateOf
 deliver-clear s a t =
     let u = asBuddy t in
-    clear-first (gateRow (lentOk s a u) (orderFor (s .store .number) (a .order)) (soundOk s u && stillOk s a u (a .order)) (accountOk s a u)) (keptRows buddyWords s a u) (kept-decided s a u)
+    clear-first (gateRow (inTableOk s a u) (openFor (s .store .number) (a .order)) (soundOk s u && stillOk s a u (a .order)) (accountOk s a u)) (keptRows buddyWords s a u) (kept-decided s a u)
 
 -- the buddy refuses as an engine has to
 pub refuses : Refuses buddyShape
@@ -117,10 +117,10 @@ refuses =
       nine-leaves = λ s a size mask t back e.
           let u : Tables = asBuddy t in
           let r = ask-leaves-grown s a size mask u back e in
-          (ap (λ (o : Out Tables). o .account) r, ap (λ (o : Out Tables). viewOf s (o .tables)) r ∙ grown-view s (grownFor s size mask u) u);
+          (ap (λ (o : Out Tables). o .account) r, ap (λ (o : Out Tables). viewOf s (o .tables)) r ∙ grown-view s (grownTo (levelFor s size mask) u) u);
       lost-leaves = λ s a o t k n back its e number.
           let u : Tables = asBuddy t in
           let r = deliver-lost s a o u k n back its e number in
-          (ap (λ (x : Out Tables). x .account) r, ap (λ (x : Out Tables). viewOf s (x .tables)) r ∙ grown-view s (grownFor s (k .ask .size) (k .ask .mask) u) u);
+          (ap (λ (x : Out Tables). x .account) r, ap (λ (x : Out Tables). viewOf s (x .tables)) r ∙ grown-view s (grownTo (levelFor s (k .ask .size) (k .ask .mask)) u) u);
       foreign = foreign;
     }

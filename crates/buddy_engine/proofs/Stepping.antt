@@ -1,5 +1,4 @@
 -- Each call of a buddy but set-up gives as many serials as it lends blocks, the next ones, and leaves its tables their mark.
--- Assumes nothing.
 use mathlib.Core.Path.{_≡_, refl, sym, ap, _∙_}
 use mathlib.Core.Bool.{true, _&&_}
 use mathlib.Core.Logic.{⊎-elim}
@@ -10,7 +9,7 @@ use lib.Dec.{eqb}
 use lib.ListN.{length, getD}
 use Rattle.lists.proofs.Bools.{told}
 use Rattle.counter.specs.Account.{heapAt}
-use Rattle.counter.specs.Gate.{Verdict, refuse, pass}
+use Rattle.counter.specs.Gate.{Verdict, refuse, pass, gated}
 use Rattle.counter.specs.Paper.{Said}
 use Rattle.counter.specs.Paper as Paper
 use Rattle.counter.specs.declared.account.Account.{Account}
@@ -24,13 +23,13 @@ use Rattle.counter.proofs.Gates.{passed}
 use Rattle.store_rules.specs.Delivery.{Fate, kept, lost, buddy, fateOf, deliveryOk}
 use Rattle.store_rules.specs.Orders.{Plan, deny, take, buy}
 use Rattle.store_rules.specs.Outcomes.{Listed}
-use Rattle.store_rules.specs.Tests.{orderFor, gateRow}
+use Rattle.store_rules.specs.Tests.{openFor, gateRow}
 use Rattle.engines.specs.Serials.{serialSaid, upFrom}
 use Rattle.buddy_rules.specs.Tables.{Tables, mark, markAt, givenAt, headWords, givenIn, chunkPlacesIn, memories}
 use Rattle.buddy_rules.specs.Test.{soundOk}
-use Rattle.buddy_outcomes.specs.Gate.{lentOk, accountOk, gateOf}
+use Rattle.buddy_outcomes.specs.Gate.{inTableOk, accountOk, gateOf}
 use Rattle.buddy_outcomes.specs.Ask as Ask
-use Rattle.buddy_outcomes.specs.Ask.{grownFor, decideAsk, grownTables, takenTables, deniedTables, carryAsk, planAsk, askOf}
+use Rattle.buddy_outcomes.specs.Ask.{grownTo, decideAsk, grownTables, takenTables, deniedTables, carryAsk, planAsk, askOf, sizeFor, levelFor}
 use Rattle.buddy_outcomes.specs.Deliver as Deliver
 use Rattle.buddy_outcomes.specs.Deliver.{stillOk, deliverGateOf, chunkTables, asOrdered, servedTables, carryFate, decideDeliver, planDeliver, carryDeliver, deliverOf}
 use Rattle.buddy_outcomes.specs.Return.{wordFor, climbFor, givenTables, releasedBy, returnOf}
@@ -62,27 +61,27 @@ grown-silent s n t = (grown-word s n t givenAt (λ e. omega arith), grown-word s
 -- ---- an ask
 
 module _ (s : BuddySettings) (a : Account) (size mask : ℕ) (t : Tables) where
-  denied-silent : (n : ℕ) → Silent t (deniedTables s size mask n t)
+  denied-silent : (n : ℕ) → Silent t (deniedTables s (levelFor s size mask) n t)
   unfolding deniedTables
-  denied-silent n = ⊎-elim (λ e. rw e (grown-silent s (grownFor s size mask t) t)) (λ e. rw e (refl, refl)) (told (eqb n 9))
+  denied-silent n = ⊎-elim (λ e. rw e (grown-silent s (grownTo (levelFor s size mask) t) t)) (λ e. rw e (refl, refl)) (told (eqb n 9))
 
-  taken-given : length (t .head) ≡ headWords → (i : ℕ) → givenIn (takenTables s size mask t i) ≡ givenIn t + 1
+  taken-given : length (t .head) ≡ headWords → (i : ℕ) → givenIn (takenTables s (sizeFor s size mask) (levelFor s size mask) t i) ≡ givenIn t + 1
   unfolding takenTables
   taken-given head i = booked-given s t _ _ _ _ head
 
-  taken-mark : (i : ℕ) → getD (takenTables s size mask t i .head) markAt 0 ≡ getD (t .head) markAt 0
+  taken-mark : (i : ℕ) → getD (takenTables s (sizeFor s size mask) (levelFor s size mask) t i .head) markAt 0 ≡ getD (t .head) markAt 0
   unfolding takenTables
   taken-mark i = booked-mark s t _ _ _ _
 
   carried : length (t .head) ≡ headWords → (p : Plan ℕ) → Stepped t (carryAsk s a size mask t p .tables) (carryAsk s a size mask t p .said)
   unfolding carryAsk
-  carried head (deny n) = quiet t (deniedTables s size mask n t) (Paper.refusal n []) refl (denied-silent n)
+  carried head (deny n) = quiet t (deniedTables s (levelFor s size mask) n t) (Paper.refusal n []) refl (denied-silent n)
   carried head (take i) = record { gives = taken-given head i; nexts = refl; marks = λ m. taken-mark i ∙ m }
-  carried head (buy z) = quiet t (grownTables s (grownFor s size mask t) t) _ refl (grown-silent s (grownFor s size mask t) t)
+  carried head (buy z) = quiet t (grownTables s (grownTo (levelFor s size mask) t) t) _ refl (grown-silent s (grownTo (levelFor s size mask) t) t)
 
-  after-ask : (v : Verdict) → gateOf s a t true ≡ v → (p : Plan ℕ) → Stepped t (carryAsk s a size mask t (Ask.gated v p) .tables) (carryAsk s a size mask t (Ask.gated v p) .said)
+  after-ask : (v : Verdict) → gateOf s a t true ≡ v → (p : Plan ℕ) → Stepped t (carryAsk s a size mask t (gated Ask.deny v p) .tables) (carryAsk s a size mask t (gated Ask.deny v p) .said)
   unfolding carryAsk
-  after-ask (refuse n) e p = quiet t (deniedTables s size mask n t) (Paper.refusal n []) refl (denied-silent n)
+  after-ask (refuse n) e p = quiet t (deniedTables s (levelFor s size mask) n t) (Paper.refusal n []) refl (denied-silent n)
   after-ask pass e p = carried (gate-passed s a t true (sym e) .lent .lengths .head) p
 
   -- an ask
@@ -94,13 +93,13 @@ module _ (s : BuddySettings) (a : Account) (size mask : ℕ) (t : Tables) where
 
 module _ (s : BuddySettings) (a : Account) (t : Tables) where
   module _ (size mask memory z : ℕ) (u : Tables) where
-    served-given : length (u .head) ≡ headWords → givenIn (servedTables s size mask memory z u) ≡ givenIn u + 1
+    served-given : length (u .head) ≡ headWords → givenIn (servedTables s (sizeFor s size mask) (levelFor s size mask) memory z u) ≡ givenIn u + 1
     unfolding servedTables
     served-given head =
         booked-given s (chunkTables s memory z u) _ _ _ _ (chunk-head s memory z u ∙ head)
         ∙ ap (λ (g : ℕ). g + 1) (chunk-word s memory z u givenAt (λ e. omega arith))
 
-    served-mark : getD (servedTables s size mask memory z u .head) markAt 0 ≡ getD (u .head) markAt 0
+    served-mark : getD (servedTables s (sizeFor s size mask) (levelFor s size mask) memory z u .head) markAt 0 ≡ getD (u .head) markAt 0
     unfolding servedTables
     served-mark = booked-mark s (chunkTables s memory z u) _ _ _ _ ∙ chunk-word s memory z u markAt (λ e. omega arith)
 
@@ -108,19 +107,19 @@ module _ (s : BuddySettings) (a : Account) (t : Tables) where
   unfolding carryFate
   fated head k (kept m) =
       let u : Tables = asOrdered s k t in
-      let w = grown-silent s (grownFor s (k .ask .size) (k .ask .mask) t) t in
-      let h = grown-head-words s (grownFor s (k .ask .size) (k .ask .mask) t) t ∙ head in
+      let w = grown-silent s (grownTo (levelFor s (k .ask .size) (k .ask .mask)) t) t in
+      let h = grown-head-words s (grownTo (levelFor s (k .ask .size) (k .ask .mask)) t) t ∙ head in
       record {
         gives = served-given (k .ask .size) (k .ask .mask) m (k .order .size) u h ∙ ap (λ (g : ℕ). g + 1) (w .0);
         nexts = ap (λ (g : ℕ). (g + 1) ∷ []) (w .0);
         marks = λ e. served-mark (k .ask .size) (k .ask .mask) m (k .order .size) u ∙ w .1 ∙ e;
       }
-  fated head k (lost n c back) = quiet t (asOrdered s k t) (Paper.refusal n back) refl (grown-silent s (grownFor s (k .ask .size) (k .ask .mask) t) t)
+  fated head k (lost n c back) = quiet t (asOrdered s k t) (Paper.refusal n back) refl (grown-silent s (grownTo (levelFor s (k .ask .size) (k .ask .mask)) t) t)
 
   gate-head : deliverGateOf s a t ≡ pass → length (t .head) ≡ headWords
   unfolding deliverGateOf
   gate-head e =
-      lent-in s a t (passed (gateRow (lentOk s a t) (orderFor (s .store .number) (a .order)) (soundOk s t && stillOk s a t (a .order)) (accountOk s a t)) e .0) .lengths .head
+      lent-in s a t (passed (gateRow (inTableOk s a t) (openFor (s .store .number) (a .order)) (soundOk s t && stillOk s a t (a .order)) (accountOk s a t)) e .0) .lengths .head
 
   stayed : (n : ℕ) → Stepped t t (Paper.refusal n [])
   stayed n = quiet t t (Paper.refusal n []) refl (refl, refl)
@@ -130,7 +129,7 @@ module _ (s : BuddySettings) (a : Account) (t : Tables) where
     held = memories t (chunkPlacesIn t)
 
     after-delivery : (v : Verdict) → deliverGateOf s a t ≡ v → (x : OpenOrder)
-        → Stepped t (carryDeliver s a t (Deliver.gated v (decideDeliver o held x)) .tables) (carryDeliver s a t (Deliver.gated v (decideDeliver o held x)) .said)
+        → Stepped t (carryDeliver s a t (gated Deliver.deny v (decideDeliver o held x)) .tables) (carryDeliver s a t (gated Deliver.deny v (decideDeliver o held x)) .said)
     unfolding carryDeliver
     after-delivery (refuse n) e x = stayed n
     after-delivery pass e Nothing = stayed 2

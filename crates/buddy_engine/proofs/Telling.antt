@@ -1,4 +1,4 @@
--- The buddy tells its caller of every loan and every chunk, as an engine has to. Assumes nothing.
+-- The buddy tells its caller of every loan and every chunk, as an engine has to.
 use mathlib.Core.Path.{_≡_, refl, sym, ap, subst, _∙_}
 use mathlib.Core.Bool.{Bool, true, false, cond}
 use mathlib.Core.Logic.{_⊎_, inl, inr, ⊎-elim, _↔_}
@@ -23,10 +23,10 @@ use Rattle.store_rules.specs.declared.Loan.{Loan}
 use Rattle.store_rules.proofs.Amid.{amid-member}
 use Rattle.store_rules.proofs.Said.{not-refused, refusal-block, same-block}
 use Rattle.engines.specs.Tells.{lentBy, Joined, Blocked, Ordered, Released, Refused, Tells}
-use Rattle.engines.proofs.Joins.{none-joined, amid-joined}
+use Rattle.engines.proofs.Joins.{blockOf, own-block, none-joined, amid-joined}
 use Rattle.buddy_rules.specs.Tables.{Tables}
 use Rattle.buddy_rules.specs.Views.{loansIn, chunksIn}
-use Rattle.buddy_outcomes.specs.Ask.{grownFor, grownTables, loanFrom, deniedTables, chunkSpot, carryAsk, askOf}
+use Rattle.buddy_outcomes.specs.Ask.{grownTo, grownTables, loanFrom, deniedTables, chunkTaken, carryAsk, askOf, sizeFor, levelFor}
 use Rattle.buddy_outcomes.specs.Deliver.{loanIn, asOrdered, carryFate, deliverOf}
 use Rattle.buddy_outcomes.specs.Return.{wordFor, climbFor, releasedBy, returnOf}
 use Rattle.buddy_outcomes.specs.SetUp.{setUp, freshTables, fitOk, setUpOf}
@@ -64,17 +64,20 @@ return-says s a b t list _ (Returned.takes p on) = ⊎-elim (λ e. inl (1, rw e)
 ask-lends : (s : BuddySettings) (a : Account) (size mask : ℕ) (t : Tables) (r : Out Tables) → AskComes s a size mask t r → Joined (loansIn (r .tables)) (loansIn t) (lentBy (r .said))
 unfolding carryAsk
 ask-lends s a size mask t _ (denied n) =
-    none-joined (loansIn (deniedTables s size mask n t)) (loansIn t)
-    (⊎-elim (λ e. ap loansIn e ∙ grown-loans s (grownFor s size mask t) t) (λ e. ap loansIn e) (denied-tables s size mask n t))
-ask-lends s a size mask t _ (lends i p w) = amid-joined (loanFrom s size mask t i) (loansIn t) _ (taken-amid s t (p .lent .settings) (p .lent .lengths) (p .sound) size mask i w)
-ask-lends s a size mask t _ (orders z p e) = none-joined (loansIn (grownTables s (grownFor s size mask t) t)) (loansIn t) (grown-loans s (grownFor s size mask t) t)
+    none-joined (loansIn (deniedTables s (levelFor s size mask) n t)) (loansIn t)
+    (⊎-elim (λ e. ap loansIn e ∙ grown-loans s (grownTo (levelFor s size mask) t) t) (λ e. ap loansIn e) (denied-tables s size mask n t))
+ask-lends s a size mask t _ (lends i p w) =
+    let l = loanFrom s (sizeFor s size mask) t i in
+    amid-joined (blockOf l) l (loansIn t) _ (own-block l) (taken-amid s t (p .lent .settings) (p .lent .lengths) (p .sound) size mask i w)
+ask-lends s a size mask t _ (orders z p e) = none-joined (loansIn (grownTables s (grownTo (levelFor s size mask) t) t)) (loansIn t) (grown-loans s (grownTo (levelFor s size mask) t) t)
 
 deliver-lends : (s : BuddySettings) (a : Account) (o : Outcome) (t : Tables) (r : Out Tables) → DeliverComes s a o t r → Joined (loansIn (r .tables)) (loansIn t) (lentBy (r .said))
 unfolding carryFate
 deliver-lends s a o t _ (early n) = none-joined (loansIn t) (loansIn t) refl
-deliver-lends s a o t _ (loses k n charged back) = none-joined (loansIn (asOrdered s k t)) (loansIn t) (grown-loans s (grownFor s (k .ask .size) (k .ask .mask) t) t)
+deliver-lends s a o t _ (loses k n charged back) = none-joined (loansIn (asOrdered s k t)) (loansIn t) (grown-loans s (grownTo (levelFor s (k .ask .size) (k .ask .mask)) t) t)
 deliver-lends s a o t _ (keeps k m f e l sound b) =
-    amid-joined (loanIn s (k .ask .size) (k .ask .mask) (asOrdered s k t)) (loansIn t) _
+    let x = loanIn s (k .ask .size) (k .ask .mask) (asOrdered s k t) in
+    amid-joined (blockOf x) x (loansIn t) _ (own-block x)
     (served-amid s t (l .settings) (l .lengths) sound (k .ask .size) (k .ask .mask) (k .order .size) (m .number) b)
 
 fresh-none : (s : BuddySettings) (t : Tables) → setUpOf s t .said ≡ Paper.ready → loansIn (setUpOf s t .tables) ≡ []
@@ -89,9 +92,9 @@ fresh-none s t = by (fitOk s t)
 
 ask-leaves : (s : BuddySettings) (a : Account) (size mask : ℕ) (t : Tables) (r : Out Tables) → AskComes s a size mask t r → chunksIn (r .tables) ≡ chunksIn t
 unfolding carryAsk
-ask-leaves s a size mask t _ (denied n) = ⊎-elim (λ e. ap chunksIn e ∙ grown-chunks s (grownFor s size mask t) t) (λ e. ap chunksIn e) (denied-tables s size mask n t)
+ask-leaves s a size mask t _ (denied n) = ⊎-elim (λ e. ap chunksIn e ∙ grown-chunks s (grownTo (levelFor s size mask) t) t) (λ e. ap chunksIn e) (denied-tables s size mask n t)
 ask-leaves s a size mask t _ (lends i p w) = taken-chunks s size mask t i
-ask-leaves s a size mask t _ (orders z p e) = grown-chunks s (grownFor s size mask t) t
+ask-leaves s a size mask t _ (orders z p e) = grown-chunks s (grownTo (levelFor s size mask) t) t
 
 abbrev Arrives : BuddySettings → Account → Outcome → Tables → Tables → ℕ → Type 0
 Arrives s a o t u number =
@@ -106,14 +109,14 @@ deliver-arrives s a o t serial number offset len _ (early n) q = refusal-block n
 deliver-arrives s a o t serial number offset len _ (loses k n charged back) q = refusal-block n back serial number offset len q
 deliver-arrives s a o t serial number offset len _ (keeps k m f e l sound b) q =
     let x : Loan = loanIn s (k .ask .size) (k .ask .mask) (asOrdered s k t) in
-    let its : number ≡ chunkSpot s (asOrdered s k t) .place = sym (same-block (x .serial) (x .chunk) (x .offset) (x .size) serial number offset len q .1) in (
+    let its : number ≡ chunkTaken s (asOrdered s k t) .place = sym (same-block (x .serial) (x .chunk) (x .offset) (x .size) serial number offset len q .1) in (
       k,
       m,
       e,
       f,
       λ c.
           subst (λ (n : ℕ). List·Memᴰ c (chunksIn (carryFate s a k t (kept (m .number)) .tables)) ↔ (List·Memᴰ c (chunksIn t) ⊎ (c ≡ chunk n (m .number) (k .order .size)))) (sym its)
-          (amid-member (chunk (chunkSpot s (asOrdered s k t) .place) (m .number) (k .order .size)) (chunksIn t) _ (served-chunks s t (l .settings) (l .lengths) sound (k .ask .size) (k .ask .mask) (k .order .size) (m .number) b) c),
+          (amid-member (chunk (chunkTaken s (asOrdered s k t) .place) (m .number) (k .order .size)) (chunksIn t) _ (served-chunks s t (l .settings) (l .lengths) sound (k .ask .size) (k .ask .mask) (k .order .size) (m .number) b) c),
     )
 
 -- the buddy tells as an engine has to

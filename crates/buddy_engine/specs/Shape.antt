@@ -1,4 +1,4 @@
--- The buddy's calls and tables as those of an engine. Assumes nothing: these are definitions.
+-- The buddy's calls and tables as those of an engine.
 use mathlib.Core.Bool.{true}
 use Prim.Native.Nat.{ℕ}
 use Rattle.counter.specs.InTable.{BuddyIn}
@@ -11,9 +11,9 @@ use Rattle.buddy_rules.specs.Sound.{Sound}
 use Rattle.buddy_rules.specs.Tables.{Tables, tables, Lengths, mark, givenIn, levelsIn}
 use Rattle.buddy_rules.specs.Views.{loansIn, viewOf}
 use Rattle.buddy_outcomes.specs.Gate.{gateOf}
-use Rattle.buddy_outcomes.specs.Ask.{orderFor, askOf}
+use Rattle.buddy_outcomes.specs.Ask.{orderBytes, askOf, levelFor}
 use Rattle.buddy_outcomes.specs.Deliver.{deliverGateOf, deliverOf}
-use Rattle.buddy_outcomes.specs.Refusals.{InTable, SizeOff, Needed, PairsOut}
+use Rattle.buddy_outcomes.specs.Refusals.{SizeOff, Needed, PairsOut}
 use Rattle.buddy_outcomes.specs.Return.{returnOf}
 use Rattle.buddy_outcomes.specs.SetUp.{SetUp, setUpOf}
 
@@ -53,7 +53,7 @@ buddyShape =
       deliver = λ s a o t. outAs (deliverOf s a o (asBuddy t));
       return = λ s a b t list. listedAs (returnOf s a b (asBuddy t) list);
       other = λ s a c t list. absurd c;
-      kind = buddy;
+      engine = buddy;
       mark = mark;
       given = λ t. givenIn (asBuddy t);
       loans = λ t. loansIn (asBuddy t);
@@ -62,12 +62,13 @@ buddyShape =
       rest = λ s t. countsOf (asBuddy t);
       Sound = λ s t. Sound s (asBuddy t);
       Needed = λ s size mask t. Needed s size mask (asBuddy t);
-      orderSize = λ s size mask t. orderFor s size mask (asBuddy t);
+      orderSize = λ s size mask t. orderBytes s (levelFor s size mask) (asBuddy t);
       Fits = λ s t. BuddyIn s × Lengths s (asBuddy t);
-      InTable = λ s a t. InTable s a (asBuddy t);
+      MaskHigh = λ s mask. ⊥;
       SizeOff = λ s size mask. SizeOff s size mask;
       Roomless = λ s size mask t. PairsOut s size mask (asBuddy t);
       Numberless = λ s t. ⊥;
+      ownRows = λ s a c t list. absurd c;
       gate = λ s a t. gateOf s a (asBuddy t) true;
       deliverGate = λ s a t. deliverGateOf s a (asBuddy t);
       atOnce = λ s bs t. atOnce (s .minimal) bs (viewOf s (asBuddy t));

@@ -1,4 +1,4 @@
--- The gate's tests in the code's words. Assumes nothing.
+-- The gate's tests in the code's words.
 use mathlib.Core.Path.{_≡_, refl, sym, ap, _∙_}
 use mathlib.Core.Bool.{Bool, true, false, _&&_}
 use mathlib.Core.Logic.{⊎-elim}
@@ -20,7 +20,7 @@ use Rattle.counter.specs.declared.account.OpenOrder.{OpenOrder}
 use Rattle.counter.specs.declared.settings.BuddySettings.{BuddySettings}
 use Rattle.counter.proofs.Tables.{buddy-yes}
 use Rattle.store_rules.specs.Loans.{loanWords}
-use Rattle.store_rules.specs.Shares.{holding, orderBy, holder}
+use Rattle.store_rules.proofs.Holders.{holding, orderBy, holder}
 use Rattle.store_rules.specs.Tests.{coversOk}
 use Rattle.store_rules.specs.declared.Share.{Share}
 use Rattle.store_rules.proofs.Shares.{held-heap, held-table, held-free}
@@ -29,7 +29,8 @@ use Rattle.buddy_levels.proofs.Bounds.{node-bytes-most}
 use Rattle.buddy_rules.specs.Tables.{Tables, tables, headWords, chunkWords, chunkPlacesIn, chunkSizeIn, heldIn, highIn, nodesFrom, lengthsOk}
 use Rattle.buddy_rules.specs.Sound.{Sound}
 use Rattle.buddy_rules.specs.Test.{soundOk}
-use Rattle.buddy_outcomes.specs.Gate.{lentOk, heldCount, heldBytes, accountOk, gateOf}
+use Rattle.buddy_outcomes.specs.Gate.{inTableOk, heldCount, heldBytes, accountOk, gateOf}
+use Rattle.buddy_outcomes.specs.SetUp.{fitOk}
 use Rattle.buddy_outcomes.proofs.Passing.{lent-in}
 use Rattle.buddy_gate.specs.Gates.{storeGate}
 use Rattle.buddy_gate.proofs.Held.{count-same, bytes-same, sizeMost}
@@ -50,12 +51,12 @@ module _ (s : BuddySettings) (t : Tables) where
       joined (eqb (length (t .head)) headWords) (eqb (length (t .loans)) (loanWords * s .store .loans)) (eqb (length (t .chunks)) (chunkWords * s .store .chunks)) (eqb (length (t .index)) (indexWords (s .store .loans))) (eqb (length (t .tree)) (nodes + s .store .loans))
       ∙ rw e refl
 
-  pub lent-yes : (h : Share) (own f : Bool) → buddyOk s ≡ true → own ≡ heapOk (h .heap) → f ≡ lengthsOk s t → (h .table && (own && f)) ≡ lentOk s (holder (s .store) h) t
-  unfolding lentOk
+  pub lent-yes : (h : Share) (own f : Bool) → buddyOk s ≡ true → own ≡ heapOk (h .heap) → f ≡ lengthsOk s t → (h .bounded && (own && f)) ≡ inTableOk s (holder (s .store) h) t
+  unfolding inTableOk
   lent-yes h own f e p q =
-      three (h .table) own f
-      ∙ (λ j. (h .table && p j) && q j)
-      ∙ ap (λ (b : Bool). b && lengthsOk s t) (sym (held-table (s .store) h (orderBy (h .free)) (buddy-yes s e .store .heap)))
+      three (h .bounded) own f
+      ∙ (λ j. (h .bounded && p j) && q j)
+      ∙ ap (λ (b : Bool). b && lengthsOk s t) (sym (held-table (s .store) h (orderBy (h .idle)) (buddy-yes s e .store .heap)))
       ∙ rw e refl
     where
       three : (a b c : Bool) → (a && (b && c)) ≡ ((a && b) && c)
@@ -63,13 +64,23 @@ module _ (s : BuddySettings) (t : Tables) where
       three false b c = refl
 
   -- whatever order is open
-  pub lent-held : (h : Share) (o p : OpenOrder) → lentOk s (holding (s .store) h o) t ≡ lentOk s (holding (s .store) h p) t
-  unfolding lentOk holding
+  pub lent-held : (h : Share) (o p : OpenOrder) → inTableOk s (holding (s .store) h o) t ≡ inTableOk s (holding (s .store) h p) t
+  unfolding inTableOk holding
   lent-held h o p = refl
 
-  pub lent-no : (a : Account) → buddyOk s ≡ false → false ≡ lentOk s a t
-  unfolding lentOk
+  pub lent-no : (a : Account) → buddyOk s ≡ false → false ≡ inTableOk s a t
+  unfolding inTableOk
   lent-no a e = rw e refl
+
+-- ---- whether the tables of a set-up fit
+
+pub fit-in : (s : BuddySettings) (t : Tables) (m r : Bool) → m ≡ true → m ≡ buddyOk s → r ≡ lengthsOk s t → r ≡ fitOk s t
+unfolding fitOk
+fit-in s t m r h e f = f ∙ ap (λ (b : Bool). b && lengthsOk s t) (sym h ∙ e)
+
+pub fit-out : (s : BuddySettings) (t : Tables) (m : Bool) → m ≡ false → m ≡ buddyOk s → false ≡ fitOk s t
+unfolding fitOk
+fit-out s t m h e = ap (λ (b : Bool). b && lengthsOk s t) (sym h ∙ e)
 
 -- ---- what a sound store's chunks come to
 
@@ -121,18 +132,18 @@ module _ (s : BuddySettings) (h : Share) (t : Tables) (list : Bool) where
   abbrev held : Account
   held = holder (s .store) h
 
-  pub gate-lent : (lentOk s held t && list) ≡ false → refuse 1 ≡ gateOf s held t list
+  pub gate-lent : (inTableOk s held t && list) ≡ false → refuse 1 ≡ gateOf s held t list
   unfolding gateOf
   gate-lent e = rw e refl
 
-  pub gate-order : (lentOk s held t && list) ≡ true → h .free ≡ false → refuse 2 ≡ gateOf s held t list
+  pub gate-order : (inTableOk s held t && list) ≡ true → h .idle ≡ false → refuse 2 ≡ gateOf s held t list
   unfolding gateOf holding
-  gate-order e f = rw (e, held-free (h .free) ∙ f) refl
+  gate-order e f = rw (e, held-free (h .idle) ∙ f) refl
 
-  pub gate-rest : (v : Verdict) → (lentOk s held t && list) ≡ true → h .free ≡ true → v ≡ storeGate s (h .heap) (h .objects) t → v ≡ gateOf s held t list
+  pub gate-rest : (v : Verdict) → (inTableOk s held t && list) ≡ true → h .idle ≡ true → v ≡ storeGate s (h .heap) (h .objects) t → v ≡ gateOf s held t list
   unfolding gateOf storeGate accountOk holding
   gate-rest v e f g =
-      let below = lent-in s held t (and-left (lentOk s held t) list e) .settings .store .heap in
+      let below = lent-in s held t (and-left (inTableOk s held t) list e) .settings .store .heap in
       g
-      ∙ ap (λ (x : Heap). storeGate s x (h .objects) t) (sym (held-heap (s .store) h (orderBy (h .free)) below))
-      ∙ rw (e, held-free (h .free) ∙ f) refl
+      ∙ ap (λ (x : Heap). storeGate s x (h .objects) t) (sym (held-heap (s .store) h (orderBy (h .idle)) below))
+      ∙ rw (e, held-free (h .idle) ∙ f) refl

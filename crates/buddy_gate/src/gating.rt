@@ -7,11 +7,12 @@ ghost use Rattle.words.specs.Words.{cellOf};
 ghost use Rattle.counter.specs.Gate.{verdictOf};
 ghost use Rattle.counter.specs.InTable.{BuddyIn};
 ghost use Rattle.counter.specs.Limits.{chunksMost, minimalBits, levelsMost};
-ghost use Rattle.store_rules.specs.Shares.{holder};
+ghost use Rattle.store_rules.proofs.Holders.{holder};
 ghost use Rattle.store_rules.specs.Tests.{coversOk};
-ghost use Rattle.buddy_levels.specs.Seen.{looked};
+ghost use Rattle.buddy_levels.specs.Seen.{levelPart};
 ghost use Rattle.buddy_rules.specs.Tables.{tables, lengthsOk, chunkPlacesAt, chunkWords, chunkSizeAt};
-ghost use Rattle.buddy_outcomes.specs.Gate.{lentOk, heldCount, heldBytes, gateOf};
+ghost use Rattle.buddy_outcomes.specs.Gate.{inTableOk, heldCount, heldBytes, gateOf};
+ghost use Rattle.buddy_outcomes.specs.SetUp.{fitOk};
 ghost use Rattle.buddy_gate.specs.Gates.{storeGate};
 use book::ENTRY_WORDS;
 use buddy_rules::CHUNK_PLACES_AT;
@@ -45,22 +46,40 @@ pub fn lengths_fit(
                     & (tree.len() == nodes + own.loans))))
 }
 
-// Test 1: every value, and every table's length.
-pub fn is_lent(
+// Test 1 of a set-up: the settings, and every table's length.
+pub fn is_fit(
     s: BuddySettings,
-    h: Share,
     head: &[u64],
     loans: &[u64],
     chunks: &[u64],
     index: &[u64],
     tree: &[u64],
 ) -> bool
-    ensures { λ r. ⌜ r ≡ lentOk s (holder (s .store) h) (tables (now (head .entry)) (now (loans .entry)) (now (chunks .entry)) (now (index .entry)) (now (tree .entry))) ⌝ }
+    ensures { λ r. ⌜ r ≡ fitOk s (tables (now (head .entry)) (now (loans .entry)) (now (chunks .entry)) (now (index .entry)) (now (tree .entry))) ⌝ }
 {
     if s.in_table() {
-        let heap = h.heap;
+        lengths_fit(s, head, loans, chunks, index, tree)
+    } else {
+        false
+    }
+}
+
+// Test 1: every value, and every table's length.
+pub fn is_in_table(
+    s: BuddySettings,
+    share: Share,
+    head: &[u64],
+    loans: &[u64],
+    chunks: &[u64],
+    index: &[u64],
+    tree: &[u64],
+) -> bool
+    ensures { λ r. ⌜ r ≡ inTableOk s (holder (s .store) share) (tables (now (head .entry)) (now (loans .entry)) (now (chunks .entry)) (now (index .entry)) (now (tree .entry))) ⌝ }
+{
+    if s.in_table() {
+        let heap = share.heap;
         let fit = lengths_fit(s, head, loans, chunks, index, tree);
-        h.table & (counter::heap_in_table(heap) & fit)
+        share.bounded & (counter::heap_in_table(heap) & fit)
     } else {
         false
     }
@@ -68,7 +87,7 @@ pub fn is_lent(
 
 // How many chunks stand at the first n places.
 fn held_count(chunks: &[u64], n: u64) -> u64
-    ensures { λ r. ⌜ r ≡ heldCount (looked 0 n (now (chunks .entry)) []) n ⌝ }
+    ensures { λ r. ⌜ r ≡ heldCount (levelPart 0 n (now (chunks .entry)) []) n ⌝ }
 {
     let mut count = 0;
     let mut c = 0;
@@ -84,7 +103,7 @@ fn held_count(chunks: &[u64], n: u64) -> u64
 // And how many bytes they have.
 fn held_bytes(chunks: &[u64], n: u64) -> u64
     requires { ⌜ (n ≤ chunksMost) × ((c : _) → c < n → getD (now chunks) (cellOf chunkSizeAt chunkWords c) 0 ≤ 2 ^ (minimalBits + levelsMost)) ⌝ }
-    ensures { λ r. ⌜ r ≡ heldBytes (looked 0 n (now (chunks .entry)) []) n ⌝ }
+    ensures { λ r. ⌜ r ≡ heldBytes (levelPart 0 n (now (chunks .entry)) []) n ⌝ }
 {
     let mut sum = 0;
     let mut c = 0;
@@ -130,7 +149,7 @@ fn gate_store(
 // The gate of an ask and a return. `list` says whether a release list is long enough.
 pub fn gate(
     s: BuddySettings,
-    h: Share,
+    share: Share,
     list: bool,
     head: &[u64],
     loans: &[u64],
@@ -138,15 +157,15 @@ pub fn gate(
     index: &[u64],
     tree: &[u64],
 ) -> Gate
-    ensures { λ r. ⌜ verdictOf r ≡ gateOf s (holder (s .store) h) (tables (now (head .entry)) (now (loans .entry)) (now (chunks .entry)) (now (index .entry)) (now (tree .entry))) list ⌝ }
+    ensures { λ r. ⌜ verdictOf r ≡ gateOf s (holder (s .store) share) (tables (now (head .entry)) (now (loans .entry)) (now (chunks .entry)) (now (index .entry)) (now (tree .entry))) list ⌝ }
 {
-    let lent = is_lent(s, h, head, loans, chunks, index, tree);
+    let lent = is_in_table(s, share, head, loans, chunks, index, tree);
     if !(lent & list) {
         return Gate::Shut(Refusal::Setup);
     }
-    if !h.free {
+    if !share.idle {
         return Gate::Shut(Refusal::Order);
     }
-    let heap = h.heap;
-    gate_store(s, heap, h.objects, head, loans, chunks, index, tree)
+    let heap = share.heap;
+    gate_store(s, heap, share.objects, head, loans, chunks, index, tree)
 }

@@ -1,7 +1,10 @@
-// The gate of a buddy store's calls.
+// The gate of a buddy store's calls: the tests 1 to 4 of each, and whether settings and tables fit.
+mod deliveries;
 mod gating;
 
+pub use deliveries::Passing;
+pub use deliveries::Still;
+pub use deliveries::gate_delivery;
 pub use gating::gate;
-pub use gating::is_covered;
-pub use gating::is_lent;
+pub use gating::is_fit;
 pub use gating::lengths_fit;

@@ -1,12 +1,12 @@
--- Levels made one by one are the levels made. Assumes nothing.
+-- Levels made one by one are the levels made.
 use mathlib.Core.Path.{_≡_, refl, _∙_}
-use mathlib.Core.List.{List, []}
+use mathlib.Core.List.{List, [], _∷_}
 use Prim.Native.Nat.{ℕ, zero, suc, _+_, _-_, _<_}
 use native.Mathlib.Omega.{arith}
-use lib.ListN.{getD, set}
+use lib.ListN.{length, getD, set}
 use Rattle.counter.specs.declared.settings.BuddySettings.{BuddySettings}
 use Rattle.buddy_rules.specs.Level.{freshLevel}
-use Rattle.buddy_rules.specs.Tables.{tables, levelsAt, levelAfter, levelFrom}
+use Rattle.buddy_rules.specs.Tables.{tables, mark, markAt, givenAt, levelsAt, placesAt, chunkPlacesAt, headWords, levelStart, levelFrom}
 use Rattle.buddy_outcomes.specs.Ask.{freshLevels, grownTables}
 
 module _ (s : BuddySettings) where
@@ -24,7 +24,7 @@ module _ (s : BuddySettings) where
       rw (p, q, f, e) refl
 
   -- the same after i of n
-  pub fresh-next : (l n i : ℕ) (t t′ : List ℕ) (b : ℕ) → i < n → b ≡ levelAfter (s .pairs) (l + i) → t′ ≡ freshLevel b t
+  pub fresh-next : (l n i : ℕ) (t t′ : List ℕ) (b : ℕ) → i < n → b ≡ levelStart (s .pairs) (l + i) → t′ ≡ freshLevel b t
       → freshLevels s (l + i) (n - i) t ≡ freshLevels s (l + (i + 1)) (n - (i + 1)) t′
   fresh-next l n i t t′ b h e f =
       let p : n - (i + 1) ≡ n - i - 1 = omega arith in
@@ -42,3 +42,14 @@ module _ (s : BuddySettings) where
   unfolding grownTables
   grown-done n levels head tree h′ t′ e f g =
       (λ j. tables (g j) [] [] [] (f j)) ∙ (λ j. tables (set head levelsAt n) [] [] [] (freshLevels s (e j) (n - e j) tree))
+
+-- ---- at set-up
+
+pub head-fresh : (t : List ℕ) (n : ℕ) → length t ≡ headWords → set (set (set (set (set t markAt mark) givenAt 0) levelsAt n) placesAt 0) chunkPlacesAt 0 ≡ mark ∷ 0 ∷ n ∷ 0 ∷ 0 ∷ []
+head-fresh [] n l = absurd (omega arith)
+head-fresh (a ∷ []) n l = absurd (omega arith)
+head-fresh (a ∷ b ∷ []) n l = absurd (omega arith)
+head-fresh (a ∷ b ∷ c ∷ []) n l = absurd (omega arith)
+head-fresh (a ∷ b ∷ c ∷ d ∷ []) n l = absurd (omega arith)
+head-fresh (a ∷ b ∷ c ∷ d ∷ f ∷ []) n l = refl
+head-fresh (a ∷ b ∷ c ∷ d ∷ f ∷ g ∷ t) n l = absurd (omega arith)

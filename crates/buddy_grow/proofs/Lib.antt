@@ -1,3 +1,2 @@
--- What the code that grows levels shows.
+-- What the code that makes levels shows.
 pub mod Grown
-pub mod Asked

@@ -2,11 +2,11 @@
 ghost use mathlib.Core.Path.{_≡_};
 ghost use mathlib.Core.List.{[]};
 ghost use Prim.Native.Nat.{_+_, _≤_};
-ghost use lib.ListN.{getD};
 ghost use Rattle.counter.specs.InTable.{BuddyIn};
 ghost use Rattle.counter.specs.Limits.{levelsMost};
-ghost use Rattle.buddy_rules.specs.Tables.{tables, levelsAt};
+ghost use Rattle.buddy_rules.specs.Tables.{tables};
 ghost use Rattle.buddy_outcomes.specs.Ask.{freshLevels, grownTables};
+ghost use Rattle.buddy_grow.specs.Grows.{Grows};
 use buddy_rules::LEVELS_AT;
 use counter::BuddySettings;
 
@@ -24,7 +24,7 @@ pub fn fresh_levels(s: BuddySettings, level: usize, n: usize, tree: &mut [u64])
 
 // The store has n levels from now on, which are no fewer than it had.
 pub fn grow(s: BuddySettings, n: u64, head: &mut [u64], tree: &mut [u64])
-    requires { ⌜ BuddyIn s × (n ≤ levelsMost) × (getD (now head) levelsAt 0 ≤ n) ⌝ }
+    requires { ⌜ Grows s n (now head) ⌝ }
     ensures { λ _. ⌜ tables (now (head .exit)) [] [] [] (now (tree .exit)) ≡ grownTables s n (tables (now (head .entry)) [] [] [] (now (tree .entry))) ⌝ }
 {
     let levels = words::word(head, LEVELS_AT);

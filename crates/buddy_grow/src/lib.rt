@@ -1,8 +1,6 @@
-// A buddy store's levels grown: to a number, and as an ask needs them.
-mod asks;
+// A buddy store's levels written: fresh at set-up, and grown to a number.
+mod blank;
 mod growing;
 
-pub use asks::grow_for;
-pub use asks::refuse;
-pub use asks::size_of;
-pub use growing::fresh_levels;
+pub use blank::fresh;
+pub use growing::grow;

@@ -1,4 +1,4 @@
--- A loan entered in the book and its node beside the tree are the tables with the loan booked. Assumes nothing.
+-- A loan entered in the book and its node beside the tree are the tables with the loan booked.
 use mathlib.Core.Path.{_≡_, refl, ap, _∙_}
 use mathlib.Core.List.{List, []}
 use Prim.Native.Nat.{ℕ, _+_, _*_, _%_, _<_}
@@ -14,11 +14,6 @@ use Rattle.book.proofs.Entering.{entered-loans, entered-index}
 use Rattle.buddy_rules.specs.Level.{levelWords}
 use Rattle.buddy_rules.specs.Tables.{Tables, tables, givenAt, placesAt, placeWords, nodesFrom}
 use Rattle.buddy_outcomes.specs.Ask.{bookedTables}
-
--- the next place, looked up by how many places the head says were used
-module _ (head index : List ℕ) (places : ℕ) (used : places ≡ getD head placesAt 0) (taken : Taken) (next : taken ≡ takenOf places index) where
-  pub taken-is : taken ≡ takenOf (getD head placesAt 0) index
-  taken-is = next ∙ ap (λ (x : ℕ). takenOf x index) used
 
 module _ (s : BuddySettings) (head index : List ℕ) (taken : Taken) (next : taken ≡ takenOf (getD head placesAt 0) index) where
   -- the place that the loan takes is one of the store's

@@ -1,4 +1,4 @@
--- The ready side of a level's head pair, as the code reads it, and the tables when a block of it is lent. Assumes nothing.
+-- The ready side of a level's head pair, as the code reads it, and the tables when a block of it is lent.
 use mathlib.Core.Path.{_≡_, sym, ap, subst, _∙_}
 use mathlib.Core.List.{List, []}
 use Prim.Native.Nat.{ℕ, _+_, _-_, _^_, _≤_, _<_}
@@ -13,13 +13,13 @@ use Rattle.book_rules.specs.Book.{takenOf}
 use Rattle.buddy_trees.specs.Trees.{bytes}
 use Rattle.buddy_rules.specs.Nodes.{Ent}
 use Rattle.buddy_rules.specs.Levels.{sideOf, baseOf}
-use Rattle.buddy_rules.specs.Level.{tagAt, pairCell, entOf, ringAt, ringHead, acquired}
+use Rattle.buddy_rules.specs.Level.{tagAt, pairCell, entOf, ringHead, acquired}
 use Rattle.buddy_levels.specs.Pairs.{entFrom}
 use Rattle.buddy_levels.specs.declared.pairs.Pair.{Pair}
-use Rattle.buddy_rules.specs.Tables.{Tables, tables, givenAt, placesAt, levelAfter, levelFrom}
+use Rattle.buddy_rules.specs.Tables.{Tables, tables, givenAt, placesAt, levelStart, levelFrom}
 use Rattle.buddy_rules.specs.Moves.{Cut, splitDown, readyNode}
 use Rattle.buddy_moves.specs.Roomy.{Roomy}
-use Rattle.buddy_outcomes.specs.Ask.{loanAt, takenAt, bookedTables}
+use Rattle.buddy_outcomes.specs.Ask.{loanFrom, takenTables, bookedTables}
 
 -- where the ready side begins
 module _ (u : ℕ) (e : Pair) (l : ℕ) where
@@ -29,16 +29,13 @@ module _ (u : ℕ) (e : Pair) (l : ℕ) where
   pub right-from : (e .tag ≡ 2 → ⊥) → (b : ℕ) → b ≡ bytes u l → e .off + b ≡ baseOf u (entFrom e) l
   right-from h b q = ap (λ (x : ℕ). e .off + x) q ∙ sym (simp (ne-eqb (e .tag) 2 h))
 
-module _ (s : BuddySettings) (i : ℕ) (tree : List ℕ) (base : ℕ) (at : base ≡ levelAfter (s .pairs) i) (h : ℕ) (ring : h ≡ getD tree (base + ringAt) 0) (e : Pair) (reads : entFrom e ≡ entOf base tree h) where
-  pub ring-is : h ≡ ringHead (levelFrom s i) tree
-  ring-is = ring ∙ ap (λ (b : ℕ). ringHead b tree) at
-
+module _ (s : BuddySettings) (i : ℕ) (tree : List ℕ) (base : ℕ) (at : base ≡ levelStart (s .pairs) i) (h : ℕ) (ring : h ≡ ringHead (levelFrom s i) tree) (e : Pair) (reads : entFrom e ≡ entOf base tree h) where
   -- the head pair's entry
   pub ent-is : entFrom e ≡ entOf (levelFrom s i) tree (ringHead (levelFrom s i) tree)
-  ent-is = reads ∙ (λ j. entOf (at j) tree (ring-is j))
+  ent-is = reads ∙ (λ j. entOf (at j) tree (ring j))
 
   pub pair-low : ringHead (levelFrom s i) tree < pairsMost → h < pairsMost
-  pair-low l = rw ring-is l
+  pair-low l = rw ring l
 
   pub off-low : entOf (levelFrom s i) tree (ringHead (levelFrom s i) tree) .off ≤ 2 ^ 62 → e .off ≤ 2 ^ 62
   off-low l = let q : e .off ≡ entOf (levelFrom s i) tree (ringHead (levelFrom s i) tree) .off = ap (λ (x : Ent). x .off) ent-is in rw q l
@@ -49,7 +46,7 @@ module _ (s : BuddySettings) (i : ℕ) (tree : List ℕ) (base : ℕ) (at : base
 
   module _ (size : ℕ) (head : List ℕ) (o : ℕ) (from : o ≡ baseOf (s .minimal) (entFrom e) i) (g : ℕ) (given : g ≡ getD head givenAt 0) where
     abbrev Served : Loan
-    Served = loanAt s size (tables head [] [] [] tree) i
+    Served = loanFrom s size (tables head [] [] [] tree) i
 
     -- the loan that it gives
     pub loan-is : loan (g + 1) (e .chunk) o size ≡ Served
@@ -72,8 +69,8 @@ module _ (s : BuddySettings) (i : ℕ) (tree : List ℕ) (base : ℕ) (at : base
 
         pub lent-done : (n : ℕ) (t₂ h′ l′ i′ t′ : List ℕ) → n ≡ cutBy (loan (g + 1) (e .chunk) o size) (k .place) .node → t₂ ≡ cutBy (loan (g + 1) (e .chunk) o size) (k .place) .tree
             → tables h′ l′ [] i′ t′ ≡ bookedTables s (e .chunk) o size (record { node = n; tree = t₂ }) (tables head loans [] index [])
-            → tables h′ l′ [] i′ t′ ≡ takenAt s size level (tables head loans [] index tree) i
-        unfolding bookedTables
+            → tables h′ l′ [] i′ t′ ≡ takenTables s size level (tables head loans [] index tree) i
+        unfolding bookedTables takenTables
         lent-done n t₂ h′ l′ i′ t′ a b d =
             let l = loan (g + 1) (e .chunk) o size in
             d

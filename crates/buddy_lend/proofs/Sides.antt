@@ -1,4 +1,4 @@
--- The ready side of a level's head pair taken, and split down to the asked level. Assumes nothing.
+-- The ready side of a level's head pair taken, and split down to the asked level.
 use mathlib.Core.Path.{_≡_, sym, ap, subst, _∙_}
 use mathlib.Core.Bool.{Bool, true, false}
 use mathlib.Core.List.{List}
@@ -9,7 +9,7 @@ use Rattle.buddy_rules.specs.Nodes.{Side, nodeOf}
 use Rattle.buddy_rules.specs.Levels.{sideBy, sideOf}
 use Rattle.buddy_rules.proofs.Climbs.{node-pair, node-side}
 use Rattle.buddy_rules.specs.Level.{tagAt, sideAt, pairCell, ringHead, acquired}
-use Rattle.buddy_rules.specs.Tables.{levelAfter}
+use Rattle.buddy_rules.specs.Tables.{levelStart}
 use Rattle.buddy_rules.specs.Moves.{Cut, readyNode, splitDown}
 use Rattle.buddy_rules.proofs.Worded.{acquired-again}
 use Rattle.buddy_moves.specs.Roomy.{Roomy}
@@ -17,7 +17,7 @@ use Rattle.buddy_moves.proofs.Moved.{split-done}
 
 module _ (pairs i : ℕ) (tree : List ℕ) where
   abbrev Base : ℕ
-  Base = levelAfter pairs i
+  Base = levelStart pairs i
 
   abbrev Head : ℕ
   Head = ringHead Base tree
@@ -46,7 +46,7 @@ module _ (pairs i : ℕ) (tree : List ℕ) where
         let w : t′ ≡ set (acquired Base 0 tree) (pairCell Base (sideAt Ready) Head) (2 * k + 1) = took ∙ ap (λ (x : ℕ). acquired x (2 * k + 1) tree) at ∙ sym (acquired-again Base (2 * k + 1) tree) in
         let e = node-side Head Ready in
         let f = node-pair Head Ready in
-        split-done pairs lev c o k (readyNode pairs i tree) (acquired Base 0 tree) (i - lev) (omega (arith, same)) Base (ap (levelAfter pairs) same) t′
+        split-done pairs lev c o k (readyNode pairs i tree) (acquired Base 0 tree) (i - lev) (omega (arith, same)) Base (ap (levelStart pairs) same) t′
         (w ∙ (λ j. set (acquired Base 0 tree) (pairCell Base (sideAt (sym e j)) (sym f j)) (2 * k + 1)))
         ∙ (λ j. record { node = sym ready j; tree = t′ })
 

@@ -2,18 +2,20 @@
 ghost use mathlib.Core.Path.{_≡_};
 ghost use mathlib.Core.List.{[]};
 ghost use Prim.Native.Nat.{_≤_, _^_};
+ghost use lib.ListN.{getD};
 ghost use Rattle.counter.specs.InTable.{BuddyIn};
 ghost use Rattle.counter.specs.Limits.{levelsMost};
+ghost use Rattle.book_rules.specs.Book.{takenOf};
+ghost use Rattle.buddy_rules.specs.Level.{ringHead};
 ghost use Rattle.buddy_rules.specs.Levels.{baseOf};
 ghost use Rattle.buddy_levels.specs.Pairs.{entFrom};
-ghost use Rattle.buddy_rules.specs.Tables.{tables};
-ghost use Rattle.buddy_outcomes.specs.Ask.{loanAt, takenAt};
+ghost use Rattle.buddy_rules.specs.Tables.{tables, placesAt, levelFrom};
+ghost use Rattle.buddy_outcomes.specs.Ask.{loanFrom, takenTables};
 ghost use Rattle.buddy_moves.specs.Ready.{Lends};
 use buddy_levels::Pair;
-use buddy_levels::RING_AT;
 use buddy_rules::GIVEN_AT;
-use buddy_rules::PLACES_AT;
 use counter::BuddySettings;
+use slab::Taken;
 use store_rules::Loan;
 
 // Where the ready side of a pair begins.
@@ -27,26 +29,26 @@ fn side_from(s: BuddySettings, e: Pair, level: u64) -> u64
     e.off + buddy_levels::node_bytes(s.minimal, level)
 }
 
-// A block of this size and level, from the level `from`, where the head pair is ready.
+// A block of this size and level, from the level `from`, where the head pair is ready; its loan takes this place of the book.
 pub fn lend(
     s: BuddySettings,
     size: u64,
     level: usize,
     from: usize,
+    pair: u64,
+    loan: Taken,
     head: &mut [u64],
     loans: &mut [u64],
     index: &mut [u64],
     tree: &mut [u64],
 ) -> Loan
-    requires { ⌜ Lends s size level from (tables (now head) (now loans) [] (now index) (now tree)) ⌝ }
-    ensures { λ r. ⌜ r ≡ loanAt s size (tables (now (head .entry)) [] [] [] (now (tree .entry))) from ⌝ }
-    ensures { λ _. ⌜ tables (now (head .exit)) (now (loans .exit)) [] (now (index .exit)) (now (tree .exit)) ≡ takenAt s size level (tables (now (head .entry)) (now (loans .entry)) [] (now (index .entry)) (now (tree .entry))) from ⌝ }
+    requires { ⌜ Lends s size level from (tables (now head) (now loans) [] (now index) (now tree)) × (pair ≡ ringHead (levelFrom s from) (now tree)) × (loan ≡ takenOf (getD (now head) placesAt 0) (now index)) ⌝ }
+    ensures { λ r. ⌜ r ≡ loanFrom s size (tables (now (head .entry)) [] [] [] (now (tree .entry))) from ⌝ }
+    ensures { λ _. ⌜ tables (now (head .exit)) (now (loans .exit)) [] (now (index .exit)) (now (tree .exit)) ≡ takenTables s size level (tables (now (head .entry)) (now (loans .entry)) [] (now (index .entry)) (now (tree .entry))) from ⌝ }
 {
     let base = buddy_levels::level_from(s.pairs, from);
-    let h = words::word(tree, base + RING_AT);
-    let e = buddy_levels::pair_at(tree, base, h);
+    let e = buddy_levels::pair_at(tree, base, pair);
     let offset = side_from(s, e, from as u64);
-    let taken = book::next_place(words::word(head, PLACES_AT), index);
     let l = Loan {
         serial: words::word(head, GIVEN_AT) + 1,
         chunk: e.chunk,
@@ -58,14 +60,14 @@ pub fn lend(
         s.pairs,
         level,
         from,
-        h,
+        pair,
         e.tag == 2,
         l.chunk,
         l.offset,
-        taken.place,
+        loan.place,
     );
     let own = s.store;
-    crate::booking::put_node(s, taken.place, n, tree);
-    crate::booking::book_loan(own.loans, taken, l, head, loans, index);
+    crate::booking::put_node(s, loan.place, n, tree);
+    crate::booking::book_loan(own.loans, loan, l, head, loans, index);
     l
 }

@@ -6,12 +6,13 @@ ghost use lib.ListN.{getD, set};
 ghost use Rattle.counter.specs.InTable.{BuddyIn};
 ghost use Rattle.counter.specs.Limits.{levelsMost, pairsMost};
 ghost use Rattle.words.specs.Words.{cellOf};
-ghost use Rattle.buddy_rules.specs.Level.{spotIn};
-ghost use Rattle.buddy_rules.specs.Tables.{tables, givenAt, levelsAt, levelFrom, chunksFrom, placeAt, topAt, placeWords, chunkWords, memoryAt, chunkSizeAt};
-ghost use Rattle.buddy_levels.specs.Seen.{read};
-ghost use Rattle.store_rules.specs.Loans.{loan};
-ghost use Rattle.buddy_outcomes.specs.Ask.{chunkSpot};
-ghost use Rattle.buddy_outcomes.specs.Deliver.{chunkTables, servedAt};
+ghost use Rattle.buddy_rules.specs.Level.{pairTaken};
+ghost use Rattle.buddy_rules.specs.Tables.{tables, givenAt, levelsAt, placesAt, levelFrom, chunksFrom, placeAt, topAt, placeWords, chunkWords, memoryAt, chunkSizeAt};
+ghost use Rattle.buddy_levels.specs.Seen.{partSettings};
+ghost use Rattle.store_rules.specs.Loans as Loans;
+ghost use Rattle.book_rules.specs.Book.{takenOf};
+ghost use Rattle.buddy_outcomes.specs.Ask.{chunkTaken};
+ghost use Rattle.buddy_outcomes.specs.Deliver.{chunkTables, servedTables};
 ghost use Rattle.buddy_moves.specs.Ready.{Serves};
 use buddy_rules::CHUNK_PLACES_AT;
 use buddy_rules::CHUNK_SIZE_AT;
@@ -20,10 +21,9 @@ use buddy_rules::GIVEN_AT;
 use buddy_rules::LEVELS_AT;
 use buddy_rules::MEMORY_AT;
 use buddy_rules::PLACE_WORDS;
-use buddy_rules::PLACES_AT;
 use buddy_rules::TOP_AT;
 use counter::BuddySettings;
-use slab::NOWHERE;
+use slab::Taken;
 use store_rules::Loan;
 
 // A chunk's two words.
@@ -37,44 +37,44 @@ fn put_chunk(chunks: &mut [u64], c: u64, memory: u64, bytes: u64)
 // The top node of the chunk at c is split into the pair p from now on, and the place vacated last is this.
 fn put_top(pairs: usize, c: u64, p: u64, vacant: u64, tree: &mut [u64])
     requires { ⌜ (pairs ≤ pairsMost) × (p < pairsMost) ⌝ }
-    ensures { λ _. ⌜ now (tree .exit) ≡ set (set (now (tree .entry)) (chunksFrom (read 0 pairs 0)) vacant) (cellOf (placeAt (read 0 pairs 0) topAt) placeWords c) (2 * p + 2) ⌝ }
+    ensures { λ _. ⌜ now (tree .exit) ≡ set (set (now (tree .entry)) (chunksFrom (partSettings 0 pairs 0)) vacant) (cellOf (placeAt (partSettings 0 pairs 0) topAt) placeWords c) (2 * p + 2) ⌝ }
 {
     let at = buddy_levels::chunks_from(pairs);
     words::put(tree, at, vacant);
     words::put_cell(tree, at + (1 + TOP_AT), PLACE_WORDS, c as usize, 2 * p + 2);
 }
 
-// Memory of so many bytes is a chunk; its top node is split into the pair that the top level takes next. Answers its place.
+// Memory of so many bytes is the chunk at this place; its top node is split into the pair that the top level takes next.
 fn add_chunk(
     s: BuddySettings,
+    chunk: Taken,
     memory: u64,
     bytes: u64,
     head: &mut [u64],
     chunks: &mut [u64],
     tree: &mut [u64],
-) -> u64
-    requires { ⌜ BuddyIn s × (0 < getD (now head) levelsAt 0) × (getD (now head) levelsAt 0 ≤ levelsMost) × (spotIn (levelFrom s (getD (now head) levelsAt 0 - 1)) (now tree) .place < pairsMost) ⌝ }
-    ensures { λ r. ⌜ r ≡ chunkSpot s (tables (now (head .entry)) [] [] [] (now (tree .entry))) .place ⌝ }
+)
+    requires { ⌜ BuddyIn s × (0 < getD (now head) levelsAt 0) × (getD (now head) levelsAt 0 ≤ levelsMost) × (pairTaken (levelFrom s (getD (now head) levelsAt 0 - 1)) (now tree) .place < pairsMost) × (chunk ≡ chunkTaken s (tables (now head) [] [] [] (now tree))) ⌝ }
     ensures { λ _. ⌜ tables (now (head .exit)) [] (now (chunks .exit)) [] (now (tree .exit)) ≡ chunkTables s memory bytes (tables (now (head .entry)) [] (now (chunks .entry)) [] (now (tree .entry))) ⌝ }
 {
     let levels = words::word(head, LEVELS_AT);
-    let spot = buddy_decide::chunk_spot(s.pairs, words::word(head, CHUNK_PLACES_AT), tree);
-    let after = spot.slab;
-    let top = buddy_levels::spot(
+    let after = chunk.slab;
+    let top = buddy_levels::pair_taken(
         tree,
         buddy_levels::level_from(s.pairs, (levels - 1) as usize),
     );
-    put_chunk(chunks, spot.place, memory, bytes);
-    put_top(s.pairs, spot.place, top.place, after.vacant, tree);
+    put_chunk(chunks, chunk.place, memory, bytes);
+    put_top(s.pairs, chunk.place, top.place, after.vacant, tree);
     words::put(head, CHUNK_PLACES_AT, after.places);
-    spot.place
 }
 
-// The block is of this size and level.
+// The block is of this size and level; loan and chunk take these places.
 pub fn serve(
     s: BuddySettings,
     size: u64,
     level: usize,
+    loan: Taken,
+    chunk: Taken,
     memory: u64,
     bytes: u64,
     head: &mut [u64],
@@ -83,31 +83,22 @@ pub fn serve(
     index: &mut [u64],
     tree: &mut [u64],
 ) -> Loan
-    requires { ⌜ Serves s level memory bytes (tables (now head) (now loans) (now chunks) (now index) (now tree)) ⌝ }
-    ensures { λ r. ⌜ r ≡ loan (getD (now (head .entry)) givenAt 0 + 1) (chunkSpot s (tables (now (head .entry)) [] [] [] (now (tree .entry))) .place) 0 size ⌝ }
-    ensures { λ _. ⌜ tables (now (head .exit)) (now (loans .exit)) (now (chunks .exit)) (now (index .exit)) (now (tree .exit)) ≡ servedAt s size level memory bytes (tables (now (head .entry)) (now (loans .entry)) (now (chunks .entry)) (now (index .entry)) (now (tree .entry))) ⌝ }
+    requires { ⌜ Serves s level memory bytes (tables (now head) (now loans) (now chunks) (now index) (now tree)) × (loan ≡ takenOf (getD (now head) placesAt 0) (now index)) × (chunk ≡ chunkTaken s (tables (now head) [] [] [] (now tree))) ⌝ }
+    ensures { λ r. ⌜ r ≡ Loans.loan (getD (now (head .entry)) givenAt 0 + 1) (chunkTaken s (tables (now (head .entry)) [] [] [] (now (tree .entry))) .place) 0 size ⌝ }
+    ensures { λ _. ⌜ tables (now (head .exit)) (now (loans .exit)) (now (chunks .exit)) (now (index .exit)) (now (tree .exit)) ≡ servedTables s size level memory bytes (tables (now (head .entry)) (now (loans .entry)) (now (chunks .entry)) (now (index .entry)) (now (tree .entry))) ⌝ }
 {
     let levels = words::word(head, LEVELS_AT) as usize;
-    let taken = book::next_place(words::word(head, PLACES_AT), index);
-    let c = add_chunk(s, memory, bytes, head, chunks, tree);
+    add_chunk(s, chunk, memory, bytes, head, chunks, tree);
     let l = Loan {
         serial: words::word(head, GIVEN_AT) + 1,
-        chunk: c,
+        chunk: chunk.place,
         offset: 0,
         size: size,
     };
-    let n = buddy_moves::split_down(
-        tree,
-        s.pairs,
-        level,
-        levels - level,
-        c,
-        0,
-        taken.place,
-        NOWHERE,
-    );
+    let above = levels - level - 1;
+    let n = buddy_moves::split_chunk(tree, s.pairs, level, above, l.chunk, loan.place);
     let own = s.store;
-    crate::booking::put_node(s, taken.place, n, tree);
-    crate::booking::book_loan(own.loans, taken, l, head, loans, index);
+    crate::booking::put_node(s, loan.place, n, tree);
+    crate::booking::book_loan(own.loans, loan, l, head, loans, index);
     l
 }

@@ -5,7 +5,7 @@ ghost use lib.ListN.{getD};
 ghost use Rattle.counter.specs.Limits.{levelsMost, pairsMost, loansMost};
 ghost use Rattle.buddy_rules.specs.Levels.{sideBy, sideOf};
 ghost use Rattle.buddy_rules.specs.Level.{tagAt, pairCell, ringHead, acquired};
-ghost use Rattle.buddy_rules.specs.Tables.{levelAfter};
+ghost use Rattle.buddy_rules.specs.Tables.{levelStart};
 ghost use Rattle.buddy_rules.specs.Moves.{readyNode, splitDown};
 ghost use Rattle.buddy_moves.specs.Roomy.{Roomy};
 use buddy_levels::level_from;
@@ -24,10 +24,10 @@ pub fn take_side(
     loan: u64,
 ) -> u64
     requires { ⌜ (pairs ≤ pairsMost) × (level ≤ from) × (from < levelsMost) × (loan < loansMost) × (h < pairsMost) ⌝ }
-    requires { ⌜ (h ≡ ringHead (levelAfter pairs from) (now tree)) × (sideBy left ≡ sideOf (getD (now tree) (pairCell (levelAfter pairs from) tagAt h) 0)) ⌝ }
-    requires { ⌜ Roomy pairs level chunk offset (readyNode pairs from (now tree)) (from - level) (acquired (levelAfter pairs from) 0 (now tree)) ⌝ }
-    ensures { λ r. ⌜ r ≡ splitDown pairs level chunk offset loan (readyNode pairs from (now (tree .entry))) (from - level) (acquired (levelAfter pairs from) 0 (now (tree .entry))) .node ⌝ }
-    ensures { λ _. ⌜ now (tree .exit) ≡ splitDown pairs level chunk offset loan (readyNode pairs from (now (tree .entry))) (from - level) (acquired (levelAfter pairs from) 0 (now (tree .entry))) .tree ⌝ }
+    requires { ⌜ (h ≡ ringHead (levelStart pairs from) (now tree)) × (sideBy left ≡ sideOf (getD (now tree) (pairCell (levelStart pairs from) tagAt h) 0)) ⌝ }
+    requires { ⌜ Roomy pairs level chunk offset (readyNode pairs from (now tree)) (from - level) (acquired (levelStart pairs from) 0 (now tree)) ⌝ }
+    ensures { λ r. ⌜ r ≡ splitDown pairs level chunk offset loan (readyNode pairs from (now (tree .entry))) (from - level) (acquired (levelStart pairs from) 0 (now (tree .entry))) .node ⌝ }
+    ensures { λ _. ⌜ now (tree .exit) ≡ splitDown pairs level chunk offset loan (readyNode pairs from (now (tree .entry))) (from - level) (acquired (levelStart pairs from) 0 (now (tree .entry))) .tree ⌝ }
 {
     let base = level_from(pairs, from);
     let node = if left { 2 * h } else { 2 * h + 1 };

@@ -1,4 +1,4 @@
--- No level begins past what code can reach, and no node is longer than a word. Assumes nothing.
+-- No level begins past what code can reach, and no node is longer than a word.
 use mathlib.Core.Path.{_≡_}
 use Prim.Native.Nat.{ℕ, _+_, _*_, _%_, _^_, _≤_, _<_}
 use native.Mathlib.Omega.{arith}
@@ -7,9 +7,9 @@ use lib.Pow.{shl-exact, pow-mono}
 use Rattle.counter.specs.Limits.{levelsMost, pairsMost, minimalBits}
 use Rattle.buddy_trees.specs.Trees.{bytes}
 use Rattle.buddy_rules.specs.Level.{baseMost, levelWords}
-use Rattle.buddy_rules.specs.Tables.{levelAfter}
+use Rattle.buddy_rules.specs.Tables.{levelStart}
 
-pub level-low : (pairs l : ℕ) → pairs ≤ pairsMost → l ≤ levelsMost → levelAfter pairs l ≤ baseMost
+pub level-low : (pairs l : ℕ) → pairs ≤ pairsMost → l ≤ levelsMost → levelStart pairs l ≤ baseMost
 level-low pairs l p h = omega (arith, mul-le-mul-left (levelWords pairs) h)
 
 module _ (minimal level : ℕ) (small : minimal ≤ 2 ^ minimalBits) (low : level ≤ levelsMost) where

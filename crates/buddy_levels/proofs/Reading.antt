@@ -1,4 +1,4 @@
--- A pair read field by field. Assumes nothing.
+-- A pair read field by field.
 use mathlib.Core.Path.{_≡_, ap}
 use mathlib.Core.Bool.{true, false}
 use mathlib.Core.List.{List}

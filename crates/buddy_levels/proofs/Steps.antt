@@ -1,4 +1,4 @@
--- What the code of a level has done where it returns. Assumes nothing.
+-- What the code of a level has done where it returns.
 use mathlib.Core.Path.{_≡_, ap, _∙_}
 use mathlib.Core.Bool.{Bool, true, false}
 use mathlib.Core.List.{List}
@@ -25,7 +25,7 @@ use Rattle.buddy_rules.specs.Level.{
   fieldAt,
   pairCell,
   ringHead,
-  spotIn,
+  pairTaken,
   leaves,
   joins,
   dropped,
@@ -82,11 +82,11 @@ module _ (b : ℕ) (t : List ℕ) where
 
   -- ---- the place that a new pair takes
 
-  pub spot-read : (u v : ℕ) (k : Taken) → u ≡ getD t (b + usedAt) 0 → v ≡ getD t (b + vacatedAt) 0 → k ≡ inserted (record { places = u; vacant = v }) t (fieldAt b offAt) pairWords → k ≡ spotIn b t
+  pub spot-read : (u v : ℕ) (k : Taken) → u ≡ getD t (b + usedAt) 0 → v ≡ getD t (b + vacatedAt) 0 → k ≡ inserted (record { places = u; vacant = v }) t (fieldAt b offAt) pairWords → k ≡ pairTaken b t
   spot-read u v k d e f = f ∙ (λ j. inserted (record { places = d j; vacant = e j }) t (fieldAt b offAt) pairWords)
 
-  module _ (k : Taken) (s : k ≡ spotIn b t) where
-    pub spot-place : k .place ≡ spotIn b t .place
+  module _ (k : Taken) (s : k ≡ pairTaken b t) where
+    pub spot-place : k .place ≡ pairTaken b t .place
     spot-place = ap (λ (u : Taken). u .place) s
 
     pub pair-added : (c o n w : ℕ) (x y z : List ℕ) → x ≡ set t (b + usedAt) (k .slab .places) → y ≡ set x (b + vacatedAt) (k .slab .vacant) → z ≡ entered b (k .place) c o n w y → z ≡ added b c o n w t

@@ -1,4 +1,4 @@
--- What the code of a level's test shows: each turn of its walk, and each of its answers. Assumes nothing.
+-- What the code of a level's test shows: each turn of its walk, and each of its answers.
 use mathlib.Core.Path.{_≡_, refl, sym, ap, _∙_}
 use mathlib.Core.Bool.{Bool, true, false, _&&_}
 use mathlib.Core.List.{List}

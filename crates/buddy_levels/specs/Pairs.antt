@@ -1,4 +1,4 @@
--- A pair's entry as the code reads it. Assumes nothing: these are definitions.
+-- A pair's entry as the code reads it.
 use Rattle.buddy_rules.specs.Nodes.{Ent}
 use Rattle.buddy_levels.specs.declared.pairs.Pair.{Pair}
 

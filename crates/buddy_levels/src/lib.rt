@@ -17,7 +17,7 @@ ghost use Prim.Native.Nat.{_+_, _≤_, _<_};
 ghost use lib.ListN.{getD, set};
 ghost use Rattle.buddy_rules.specs.Levels.{sideBy, sideOf};
 ghost use Rattle.ring_rules.specs.Ring.{alone};
-ghost use Rattle.buddy_rules.specs.Level.{baseMost, pairWords, tagAt, chunkAt, offAt, leftAt, rightAt, nextAt, prevAt, upAt, ringAt, fieldAt, pairCell, ringHead, leaves, joins, spotIn, dropped, backed, acquired, entered, added, freshLevel};
+ghost use Rattle.buddy_rules.specs.Level.{baseMost, pairWords, tagAt, chunkAt, offAt, leftAt, rightAt, nextAt, prevAt, upAt, ringAt, fieldAt, pairCell, ringHead, leaves, joins, pairTaken, dropped, backed, acquired, entered, added, freshLevel};
 use slab::NOWHERE;
 use slab::Slab;
 use slab::Taken;
@@ -142,9 +142,9 @@ pub fn acquire(tree: &mut [u64], base: usize, h: u64, left: bool, w: u64)
 }
 
 // The place that a new pair takes, and the slab from then on.
-pub fn spot(tree: &[u64], base: usize) -> Taken
+pub fn pair_taken(tree: &[u64], base: usize) -> Taken
     requires { ⌜ base ≤ baseMost ⌝ }
-    ensures { λ r. ⌜ r ≡ spotIn base (now (tree .entry)) ⌝ }
+    ensures { λ r. ⌜ r ≡ pairTaken base (now (tree .entry)) ⌝ }
 {
     let s = Slab {
         places: words::word(tree, base + USED_AT),
@@ -156,10 +156,10 @@ pub fn spot(tree: &[u64], base: usize) -> Taken
 // A new pair of a node, whose left node has the word `left`: ready at its right, and alone in the ring. Answers its place.
 pub fn add_pair(tree: &mut [u64], base: usize, chunk: u64, offset: u64, node: u64, left: u64) -> u64
     requires { ⌜ base ≤ baseMost ⌝ }
-    ensures { λ r. ⌜ r ≡ spotIn base (now (tree .entry)) .place ⌝ }
+    ensures { λ r. ⌜ r ≡ pairTaken base (now (tree .entry)) .place ⌝ }
     ensures { λ _. ⌜ now (tree .exit) ≡ added base chunk offset node left (now (tree .entry)) ⌝ }
 {
-    let taken = spot(tree, base);
+    let taken = pair_taken(tree, base);
     let s = taken.slab;
     words::put(tree, base + USED_AT, s.places);
     words::put(tree, base + VACATED_AT, s.vacant);

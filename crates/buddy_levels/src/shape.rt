@@ -4,7 +4,7 @@ ghost use Prim.Native.Nat.{_+_, _*_, _^_, _≤_, _<_};
 ghost use Rattle.counter.specs.Limits.{levelsMost, pairsMost, chunksMost, minimalBits};
 ghost use Rattle.buddy_trees.specs.Trees.{bytes};
 ghost use Rattle.buddy_rules.specs.Level.{baseMost, levelWords};
-ghost use Rattle.buddy_rules.specs.Tables.{levelAfter, placeWords};
+ghost use Rattle.buddy_rules.specs.Tables.{levelStart, placeWords};
 use crate::HEADER_WORDS;
 use crate::PAIR_WORDS;
 use buddy_rules::PLACE_WORDS;
@@ -13,7 +13,7 @@ use counter::LEVELS_MOST;
 // Where level l begins.
 pub fn level_from(pairs: usize, l: usize) -> usize
     requires { ⌜ (pairs ≤ pairsMost) × (l ≤ levelsMost) ⌝ }
-    ensures { λ r. ⌜ r ≡ levelAfter pairs l ⌝ }
+    ensures { λ r. ⌜ r ≡ levelStart pairs l ⌝ }
     ensures { λ r. ⌜ r ≤ baseMost ⌝ }
 {
     (HEADER_WORDS + PAIR_WORDS * pairs) * l

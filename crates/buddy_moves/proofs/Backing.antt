@@ -1,5 +1,4 @@
 -- A block that is on loan can be taken back; and where its chunk goes, one more device object is still within the limit.
--- Assumes nothing.
 use mathlib.Core.Path.{_≡_, refl, sym, ap, _∙_}
 use mathlib.Core.Bool.{Bool, true, _&&_}
 use mathlib.Core.Logic.{⊎-elim}

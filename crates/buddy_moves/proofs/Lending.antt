@@ -1,4 +1,4 @@
--- Where an ask comes to a level with a ready side, its head pair can serve. Assumes nothing.
+-- Where an ask comes to a level with a ready side, its head pair can serve.
 use mathlib.Core.Path.{_≡_, ap}
 use mathlib.Core.Logic.{inl}
 use mathlib.Core.List.{List}
@@ -27,7 +27,7 @@ use Rattle.buddy_rules.specs.Sound.{Sound}
 use Rattle.buddy_rules.proofs.Splitting.{tree-short, head-used, head-low, acquire-in}
 use Rattle.buddy_rules.proofs.Worded.{Left, Fits, within-left}
 use Rattle.buddy_moves.specs.Roomy.{Roomy}
-use Rattle.buddy_outcomes.specs.Ask.{at, sizeFor, levelFor, decideAsk, headEnt, loanAt}
+use Rattle.buddy_outcomes.specs.Ask.{at, sizeFor, levelFor, decideAsk, headEnt, loanFrom}
 use Rattle.buddy_outcomes.proofs.Changed.{few-pairs}
 use Rattle.buddy_outcomes.proofs.Plans.{Takes, takes}
 use Rattle.buddy_outcomes.proofs.Rounds.{bytes-low}
@@ -114,7 +114,7 @@ module _ (s : BuddySettings) (t : Tables) (fit : BuddyIn s) (lengths : Lengths s
         low = low;
         pair = omega (arith, below, fit .pairs-most);
         offset = offset-low;
-        roomy = split-room (loanAt s (sizeFor s size mask) t i .chunk) (loanAt s (sizeFor s size mask) t i .offset);
+        roomy = split-room (loanFrom s (sizeFor s size mask) t i .chunk) (loanFrom s (sizeFor s size mask) t i .offset);
       }
 
 pub lends-ready : (s : BuddySettings) (h : Heap) (objects size mask : ℕ) (t : Tables) → BuddyIn s → Lengths s t → Sound s t → (i : ℕ) → decideAsk s h objects size mask t ≡ take i

@@ -1,4 +1,4 @@
--- What each turn of the climb and of the split comes to. Assumes nothing.
+-- What each turn of the climb and of the split comes to.
 use mathlib.Core.Path.{_≡_, refl, sym, ap, _∙_}
 use mathlib.Core.Bool.{true, false, cond, _&&_, not}
 use mathlib.Core.Logic.{_⊎_, ⊎-elim}
@@ -9,13 +9,15 @@ use lib.Dec.{eqb, ltb}
 use lib.ListN.{getD, set}
 use borrow.Author.Tests.{eqb-false, eq-eqb, ne-eqb, ltb-true, ltb-false}
 use Rattle.lists.proofs.Bools.{and-left, and-right, not-yes, not-no, told}
+use Rattle.counter.specs.Limits.{pairsMost}
 use Rattle.slab.specs.Slab.{nowhere}
 use Rattle.buddy_rules.specs.Nodes.{other, word}
-use Rattle.buddy_rules.specs.Level.{entOf, pairCell, sideAt, leftAt, rightAt, upAt, spotIn, dropped, backed, added}
-use Rattle.buddy_rules.specs.Tables.{levelAfter}
-use Rattle.buddy_rules.specs.Moves.{sideIn, climbed, worded, splitDown}
+use Rattle.buddy_rules.specs.Level.{entOf, pairCell, sideAt, leftAt, rightAt, upAt, pairTaken, dropped, backed, added}
+use Rattle.buddy_rules.specs.Tables.{levelStart}
+use Rattle.buddy_rules.specs.Moves.{Cut, sideIn, climbed, worded, leftNext, splitInto, splitDown, splitChunk}
 use Rattle.buddy_trees.specs.Trees.{up}
-use Rattle.buddy_moves.specs.Roomy.{Roomy, halved}
+use Rattle.buddy_rules.proofs.Fitting.{up-add}
+use Rattle.buddy_moves.specs.Roomy.{Roomy}
 
 -- ---- the two nodes of a pair
 
@@ -53,8 +55,8 @@ module _ (pairs f l n : ℕ) (t : List ℕ) where
           lt-one : 0 < f → ltb 0 f ≡ true
           lt-one o = ⊎-elim (λ a. a) (λ a. absurd (omega (arith, ltb-false 0 f a))) (told (ltb 0 f))
 
-  module _ (o : 0 < f) (top : n ≡ nowhere → ⊥) (b : ℕ) (at : b ≡ levelAfter pairs l) (w : ℕ) (twin : w ≡ word (other (sideIn n)) (entOf b t (n / 2))) where
-    twin-is : w ≡ word (other (sideIn n)) (entOf (levelAfter pairs l) t (n / 2))
+  module _ (o : 0 < f) (top : n ≡ nowhere → ⊥) (b : ℕ) (at : b ≡ levelStart pairs l) (w : ℕ) (twin : w ≡ word (other (sideIn n)) (entOf b t (n / 2))) where
+    twin-is : w ≡ word (other (sideIn n)) (entOf (levelStart pairs l) t (n / 2))
     twin-is = twin ∙ ap (λ (d : ℕ). word (other (sideIn n)) (entOf d t (n / 2))) at
 
     step : climbed pairs f l n t
@@ -86,28 +88,28 @@ up-sum zero lev = omega arith
 up-sum (suc d) lev = omega (arith, up-sum d lev)
 
 module _ (pairs lev c o k n : ℕ) (t : List ℕ) where
-  pub split-done : (d : ℕ) → d ≤ 0 → (b : ℕ) → b ≡ levelAfter pairs lev → (t′ : List ℕ) → t′ ≡ set t (pairCell b (sideAt (sideIn n)) (n / 2)) (2 * k + 1)
+  pub split-done : (d : ℕ) → d ≤ 0 → (b : ℕ) → b ≡ levelStart pairs lev → (t′ : List ℕ) → t′ ≡ set t (pairCell b (sideAt (sideIn n)) (n / 2)) (2 * k + 1)
       → splitDown pairs lev c o k n d t ≡ record { node = n; tree = t′ }
   unfolding splitDown worded
   split-done zero h b e t′ f = rw (f, e) refl
   split-done (suc d) h b e t′ f = absurd (omega arith)
 
   -- one level, from d levels above
-  module _ (b p : ℕ) (place : p ≡ spotIn b t .place) where
-    pub roomy-place : (d : ℕ) → 0 < d → b ≡ levelAfter pairs (lev + (d - 1)) → Roomy pairs lev c o n d t → p < pairs
+  module _ (b p : ℕ) (place : p ≡ pairTaken b t .place) where
+    pub roomy-place : (d : ℕ) → 0 < d → b ≡ levelStart pairs (lev + (d - 1)) → Roomy pairs lev c o n d t → p < pairs
     unfolding Roomy
     roomy-place zero h e r = absurd (omega arith)
     roomy-place (suc d) h e r =
         let q : lev + (suc d - 1) ≡ up d lev = omega (arith, up-sum d lev) in
-        let i : p ≡ spotIn (levelAfter pairs (up d lev)) t .place = place ∙ ap (λ (z : ℕ). spotIn z t .place) (e ∙ ap (levelAfter pairs) q) in
+        let i : p ≡ pairTaken (levelStart pairs (up d lev)) t .place = place ∙ ap (λ (z : ℕ). pairTaken z t .place) (e ∙ ap (levelStart pairs) q) in
         rw i (r .0)
 
     module _ (t₁ t₂ : List ℕ) (g : ℕ) (more : t₁ ≡ added b c o n 0 t) (cut : t₂ ≡ set t₁ (pairCell g (sideAt (sideIn n)) (n / 2)) (2 * p + 2)) where
-      halved-is : (l : ℕ) → b ≡ levelAfter pairs l → g ≡ levelAfter pairs (suc l) → t₂ ≡ halved pairs l c o n t
+      into-is : (l : ℕ) → b ≡ levelStart pairs l → g ≡ levelStart pairs (suc l) → t₂ ≡ splitInto pairs l c o n t
       unfolding worded
-      halved-is l e f = rw (cut, more, place, e, f) refl
+      into-is l e f = rw (cut, more, place, e, f) refl
 
-      pub split-roomy : (d : ℕ) → 0 < d → b ≡ levelAfter pairs (lev + (d - 1)) → g ≡ levelAfter pairs (lev + (d - 1) + 1) → Roomy pairs lev c o n d t
+      pub split-roomy : (d : ℕ) → 0 < d → b ≡ levelStart pairs (lev + (d - 1)) → g ≡ levelStart pairs (lev + (d - 1) + 1) → Roomy pairs lev c o n d t
           → Roomy pairs lev c o (2 * p) (d - 1) t₂
       unfolding Roomy
       split-roomy zero h e f r = absurd (omega arith)
@@ -115,12 +117,12 @@ module _ (pairs lev c o k n : ℕ) (t : List ℕ) where
           let q : lev + (suc d - 1) ≡ up d lev = omega (arith, up-sum d lev) in
           let i : suc d - 1 ≡ d = omega arith in
           let j : lev + (suc d - 1) + 1 ≡ suc (up d lev) = omega (arith, up-sum d lev) in
-          let e′ : b ≡ levelAfter pairs (up d lev) = e ∙ ap (levelAfter pairs) q in
-          let x : t₂ ≡ halved pairs (up d lev) c o n t = halved-is (up d lev) e′ (f ∙ ap (levelAfter pairs) j) in
-          let y : p ≡ spotIn (levelAfter pairs (up d lev)) t .place = place ∙ ap (λ (z : ℕ). spotIn z t .place) e′ in
+          let e′ : b ≡ levelStart pairs (up d lev) = e ∙ ap (levelStart pairs) q in
+          let x : t₂ ≡ splitInto pairs (up d lev) c o n t = into-is (up d lev) e′ (f ∙ ap (levelStart pairs) j) in
+          let y : p ≡ pairTaken (levelStart pairs (up d lev)) t .place = place ∙ ap (λ (z : ℕ). pairTaken z t .place) e′ in
           rw (i, x, y) (r .1)
 
-      pub split-on : (d : ℕ) → 0 < d → b ≡ levelAfter pairs (lev + (d - 1)) → g ≡ levelAfter pairs (lev + (d - 1) + 1)
+      pub split-on : (d : ℕ) → 0 < d → b ≡ levelStart pairs (lev + (d - 1)) → g ≡ levelStart pairs (lev + (d - 1) + 1)
           → splitDown pairs lev c o k n d t ≡ splitDown pairs lev c o k (2 * p) (d - 1) t₂
       unfolding splitDown
       split-on zero h e f = absurd (omega arith)
@@ -128,7 +130,29 @@ module _ (pairs lev c o k n : ℕ) (t : List ℕ) where
           let q : lev + (suc d - 1) ≡ up d lev = omega (arith, up-sum d lev) in
           let i : suc d - 1 ≡ d = omega arith in
           let j : lev + (suc d - 1) + 1 ≡ suc (up d lev) = omega (arith, up-sum d lev) in
-          let e′ : b ≡ levelAfter pairs (up d lev) = e ∙ ap (levelAfter pairs) q in
-          let x : t₂ ≡ halved pairs (up d lev) c o n t = halved-is (up d lev) e′ (f ∙ ap (levelAfter pairs) j) in
-          let y : p ≡ spotIn (levelAfter pairs (up d lev)) t .place = place ∙ ap (λ (z : ℕ). spotIn z t .place) e′ in
+          let e′ : b ≡ levelStart pairs (up d lev) = e ∙ ap (levelStart pairs) q in
+          let x : t₂ ≡ splitInto pairs (up d lev) c o n t = into-is (up d lev) e′ (f ∙ ap (levelStart pairs) j) in
+          let y : p ≡ pairTaken (levelStart pairs (up d lev)) t .place = place ∙ ap (λ (z : ℕ). pairTaken z t .place) e′ in
           rw (i, x, y) refl
+
+-- ---- a new chunk: its own pair p entered in the level that begins at b, and its left node split down
+
+module _ (pairs level above c k b p : ℕ) (t t₁ : List ℕ) (at : b ≡ levelStart pairs (level + above)) (place : p ≡ pairTaken b t .place) (entered : t₁ ≡ added b c 0 nowhere 0 t) where
+  top-at : b ≡ levelStart pairs (up above level)
+  top-at = at ∙ ap (levelStart pairs) (omega (arith, up-add above level))
+
+  pub top-place : pairTaken (levelStart pairs (up above level)) t .place < pairsMost → p < pairsMost
+  top-place h = let e = top-at in rw (place, e) h
+
+  pub top-roomy : Roomy pairs level c 0 (leftNext pairs (up above level) t) above (added (levelStart pairs (up above level)) c 0 nowhere 0 t) → Roomy pairs level c 0 (2 * p) above t₁
+  top-roomy h = let e = top-at in rw (entered, place, e) h
+
+  top-split : splitDown pairs level c 0 k (2 * p) above t₁ ≡ splitChunk pairs level c k above t
+  unfolding splitChunk
+  top-split = let e = top-at in rw (entered, place, e) refl
+
+  pub top-node : (n : ℕ) → n ≡ splitDown pairs level c 0 k (2 * p) above t₁ .node → n ≡ splitChunk pairs level c k above t .node
+  top-node n e = e ∙ ap (λ (r : Cut). r .node) top-split
+
+  pub top-tree : (t₂ : List ℕ) → t₂ ≡ splitDown pairs level c 0 k (2 * p) above t₁ .tree → t₂ ≡ splitChunk pairs level c k above t .tree
+  top-tree t₂ e = e ∙ ap (λ (r : Cut). r .tree) top-split

@@ -1,5 +1,5 @@
 -- A node can be split down where each level on the way had a place for a pair before the first split: a split writes words of its
--- pair's level and of the level above alone. Assumes nothing.
+-- pair's level and of the level above alone.
 use mathlib.Core.Path.{_≡_, sym, ap, _∙_}
 use mathlib.Core.Logic.{inl}
 use mathlib.Core.List.{List}
@@ -12,7 +12,7 @@ use Rattle.buddy_trees.specs.Trees.{up}
 use Rattle.buddy_trees.proofs.Bytes.{up-le}
 use Rattle.buddy_rules.specs.Nodes.{L, nodeOf}
 use Rattle.buddy_rules.proofs.Climbs.{node-pair}
-use Rattle.buddy_rules.specs.Level.{spotIn, added, Good, part}
+use Rattle.buddy_rules.specs.Level.{pairTaken, added, Good, part}
 use Rattle.buddy_rules.proofs.Parts.{part-good, part-spot, part-added}
 use Rattle.buddy_rules.specs.Tables.{levelFrom}
 use Rattle.buddy_rules.specs.Moves.{worded}
@@ -26,10 +26,10 @@ module _ (s : BuddySettings) (tree : List ℕ) where
     good-too : Good (levelFrom s m) (s .pairs) t
     good-too = part-good (s .pairs) m t .1 (rw same (part-good (s .pairs) m tree .0 good))
 
-    spot-too : spotIn (levelFrom s m) t .place ≡ spotIn (levelFrom s m) tree .place
+    spot-too : pairTaken (levelFrom s m) t .place ≡ pairTaken (levelFrom s m) tree .place
     spot-too =
         ap (λ (z : Taken). z .place) (part-spot (s .pairs) m t good-too)
-        ∙ ap (λ (v : List ℕ). spotIn 0 v .place) same
+        ∙ ap (λ (v : List ℕ). pairTaken 0 v .place) same
         ∙ sym (ap (λ (z : Taken). z .place) (part-spot (s .pairs) m tree good))
 
   -- ---- down to level lev, in any tree with the words of the levels below
@@ -38,7 +38,7 @@ module _ (s : BuddySettings) (tree : List ℕ) where
     pub roomy : (d n : ℕ) (t : List ℕ) → up d lev ≤ levelsMost → Fits s (up d lev) n → Short s t
         → ((i : ℕ) → lev ≤ i → i < up d lev → part (s .pairs) i t ≡ part (s .pairs) i tree)
         → ((i : ℕ) → lev ≤ i → i < up d lev → Good (levelFrom s i) (s .pairs) tree)
-        → ((i : ℕ) → lev ≤ i → i < up d lev → spotIn (levelFrom s i) tree .place < s .pairs) → Roomy (s .pairs) lev c o n d t
+        → ((i : ℕ) → lev ≤ i → i < up d lev → pairTaken (levelFrom s i) tree .place < s .pairs) → Roomy (s .pairs) lev c o n d t
     unfolding Roomy
     roomy zero n t high f h a g room = tt
     roomy (suc d) n t high f h a g room =
@@ -46,8 +46,8 @@ module _ (s : BuddySettings) (tree : List ℕ) where
         let low : m < levelsMost = omega arith in
         let am = a m (up-le d lev) (omega arith) in
         let gm = g m (up-le d lev) (omega arith) in
-        let q = spotIn (levelFrom s m) t .place in
-        let e : q ≡ spotIn (levelFrom s m) tree .place = spot-too m t am gm in
+        let q = pairTaken (levelFrom s m) t .place in
+        let e : q ≡ pairTaken (levelFrom s m) tree .place = spot-too m t am gm in
         let r : q < s .pairs = rw e (room m (up-le d lev) (omega arith)) in
         let t₁ : List ℕ = added (levelFrom s m) c o n 0 t in
         let D = within-left s m t t₁ _ low (part-added (s .pairs) m t (good-too m t am gm) c o n 0 r) in

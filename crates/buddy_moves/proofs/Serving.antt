@@ -1,22 +1,26 @@
--- Where an ask comes to an order, a chunk can be added to the store as the order grew it, and its left end lent. Assumes nothing.
-use mathlib.Core.Path.{_≡_, refl}
+-- Where an ask comes to an order, a chunk can be added to the store as the order grew it, and its left end lent.
+use mathlib.Core.Path.{_≡_, refl, subst}
 use mathlib.Core.Logic.{inr}
 use mathlib.Core.List.{List}
-use Prim.Native.Nat.{ℕ, _-_, _≤_, _<_}
+use Prim.Native.Nat.{ℕ, suc, _-_, _≤_, _<_}
 use native.Mathlib.Omega.{arith}
 use Rattle.counter.specs.InTable.{BuddyIn}
-use Rattle.counter.specs.Limits.{levelsMost, spent}
+use Rattle.counter.specs.Limits.{levelsMost, pairsMost, spent}
 use Rattle.counter.specs.declared.account.Heap.{Heap}
 use Rattle.counter.specs.declared.settings.BuddySettings.{BuddySettings}
 use Rattle.slab.specs.Slab.{nowhere}
 use Rattle.store_rules.specs.Orders.{buy}
 use Rattle.buddy_trees.specs.Trees.{up}
 use Rattle.buddy_rules.proofs.Fitting.{up-add}
-use Rattle.buddy_rules.specs.Tables.{Tables, Lengths, givenIn, levelsIn}
+use Rattle.buddy_rules.specs.Nodes.{freeWord}
+use Rattle.buddy_rules.specs.Level.{pairTaken, added}
+use Rattle.buddy_rules.specs.Moves.{leftNext}
+use Rattle.buddy_rules.specs.Tables.{Tables, Lengths, givenIn, levelsIn, levelFrom}
 use Rattle.buddy_rules.specs.Sound.{Sound}
-use Rattle.buddy_rules.proofs.Splitting.{tree-short}
+use Rattle.buddy_rules.proofs.Splitting.{tree-short, first-into}
+use Rattle.buddy_rules.proofs.Worded.{Short}
 use Rattle.buddy_moves.specs.Roomy.{Roomy}
-use Rattle.buddy_outcomes.specs.Ask.{levelFor, grownFor, chunkSpot, decideAsk, grownTables}
+use Rattle.buddy_outcomes.specs.Ask.{levelFor, grownTo, chunkTaken, decideAsk, grownTables}
 use Rattle.buddy_outcomes.specs.Deliver.{chunkTables}
 use Rattle.buddy_outcomes.proofs.Changed.{few-pairs, grown-lengths, grown-given}
 use Rattle.buddy_outcomes.proofs.Chunked.{chunked, chunked-lengths, chunked-level}
@@ -32,7 +36,7 @@ module _ (s : BuddySettings) (t : Tables) (fit : BuddyIn s) (lengths : Lengths s
 
   -- the store as the order grew it
   abbrev grown : Tables
-  grown = grownTables s (grownFor s size mask t) t
+  grown = grownTables s (grownTo (levelFor s size mask) t) t
 
   tall : lev < levelsIn grown
   tall = omega (arith, count s t fit lengths sound size mask z b)
@@ -41,35 +45,57 @@ module _ (s : BuddySettings) (t : Tables) (fit : BuddyIn s) (lengths : Lengths s
   low = omega (arith, count s t fit lengths sound size mask z b, most s t fit lengths sound size mask z b)
 
   serial : givenIn grown < spent
-  serial = omega (arith, grown-given s t fit lengths sound (grownFor s size mask t) (more s t fit lengths sound size mask z b) (most s t fit lengths sound size mask z b), b .serial)
+  serial = omega (arith, grown-given s t fit lengths sound (grownTo (levelFor s size mask) t) (more s t fit lengths sound size mask z b) (most s t fit lengths sound size mask z b), b .serial)
 
-  height : up (levelsIn grown - lev) lev ≡ levelsIn grown
-  height = omega (arith, up-add (levelsIn grown - lev) lev, tall)
+  abbrev under : ℕ
+  under = levelsIn grown - lev - 1
+
+  height : up (suc under) lev ≡ levelsIn grown
+  height = omega (arith, up-add under lev, tall)
 
   module _ (memory : ℕ) where
-    -- a chunk's words are past the levels
-    split-room : Roomy (s .pairs) lev (chunkSpot s grown .place) 0 nowhere (levelsIn grown - lev) (chunkTables s memory z grown .tree)
+    abbrev chunky : List ℕ
+    chunky = chunkTables s memory z grown .tree
+
+    short : Short s chunky
     unfolding chunkTables
-    split-room =
-        let long = grown-lengths s t fit lengths sound (grownFor s size mask t) in
-        let tree : List ℕ = chunked s grown fit long memory z .tree in
-        roomy s (grown .tree) lev (chunkSpot s grown .place) 0 (levelsIn grown - lev) nowhere tree (omega (arith, height, low)) (inr refl)
-        (tree-short s (few-pairs s fit) tree fit (chunked-lengths s grown fit long memory z .tree))
+    short =
+        let long = grown-lengths s t fit lengths sound (grownTo (levelFor s size mask) t) in
+        tree-short s (few-pairs s fit) (chunked s grown fit long memory z .tree) fit (chunked-lengths s grown fit long memory z .tree)
+
+    -- a chunk's words are past the levels
+    all-room : Roomy (s .pairs) lev (chunkTaken s grown .place) 0 nowhere (suc under) chunky
+    unfolding chunkTables
+    all-room =
+        let long = grown-lengths s t fit lengths sound (grownTo (levelFor s size mask) t) in
+        roomy s (grown .tree) lev (chunkTaken s grown .place) 0 (suc under) nowhere (chunked s grown fit long memory z .tree) (omega (arith, height, low)) (inr refl) short
         (λ j h g. chunked-level s grown fit long memory z j (omega (arith, height, low)))
         (λ j h g. grown-sound s t fit lengths sound size mask z b .good j (omega (arith, height)))
         (λ j h g. pair s t fit lengths sound size mask z b j h (omega (arith, height)))
 
-    serves : Serves s (levelFor s size mask) memory z (grownTables s (grownFor s size mask t) t)
+    own-room : pairTaken (levelFrom s (up under lev)) chunky .place < pairsMost
+    unfolding Roomy
+    own-room = omega (arith, all-room .0, fit .pairs-most)
+
+    split-room : Roomy (s .pairs) lev (chunkTaken s grown .place) 0 (leftNext (s .pairs) (up under lev) chunky) under
+        (added (levelFrom s (up under lev)) (chunkTaken s grown .place) 0 nowhere freeWord chunky)
+    unfolding Roomy
+    split-room =
+        let c = chunkTaken s grown .place in
+        subst (Roomy (s .pairs) lev c 0 (leftNext (s .pairs) (up under lev) chunky) under) (first-into s (few-pairs s fit) chunky short (up under lev) c) (all-room .1)
+
+    serves : Serves s (levelFor s size mask) memory z (grownTables s (grownTo (levelFor s size mask) t) t)
     serves =
         record {
-          enters = record { fit = fit; serial = serial; opens = opens s grown fit (grown-lengths s t fit lengths sound (grownFor s size mask t)) (place s t fit lengths sound size mask z b) };
+          enters = record { fit = fit; serial = serial; opens = opens s grown fit (grown-lengths s t fit lengths sound (grownTo (levelFor s size mask) t)) (place s t fit lengths sound size mask z b) };
           below = tall;
           low = low;
           chunk = omega (arith, spot s t fit lengths sound size mask z b, fit .store .chunks-most);
           pair = omega (arith, pair s t fit lengths sound size mask z b (levelsIn grown - 1) (omega (arith, tall)) (omega (arith, tall)), fit .pairs-most);
+          own = own-room;
           roomy = split-room;
         }
 
 pub serves-ready : (s : BuddySettings) (h : Heap) (objects size mask : ℕ) (t : Tables) → BuddyIn s → Lengths s t → Sound s t → (z : ℕ) → decideAsk s h objects size mask t ≡ buy z → (memory : ℕ)
-    → Serves s (levelFor s size mask) memory z (grownTables s (grownFor s size mask t) t)
+    → Serves s (levelFor s size mask) memory z (grownTables s (grownTo (levelFor s size mask) t) t)
 serves-ready s h objects size mask t fit lengths sound z e memory = serves s t fit lengths sound size mask z (buys s h objects size mask t z e) memory

@@ -1,5 +1,5 @@
 -- An ask that is served, that opens an order, or that is refused as 9 for want of an object has a size that a word holds, of a
--- level that is allowed; so the levels grown for it are allowed too. Assumes nothing.
+-- level that is allowed; so the levels grown for it are allowed too.
 use mathlib.Core.Path.{_≡_}
 use mathlib.Core.Bool.{true}
 use Prim.Native.Nat.{ℕ, _^_, _≤_, _<_}
@@ -12,7 +12,7 @@ use Rattle.counter.specs.declared.settings.BuddySettings.{BuddySettings}
 use Rattle.store_rules.specs.Orders.{Plan, deny, take, buy}
 use Rattle.buddy_rules.specs.Tables.{Tables, levelsIn}
 use Rattle.buddy_rules.specs.Sound.{Sound}
-use Rattle.buddy_outcomes.specs.Ask.{sizeFor, levelFor, grownFor, sizeOk, decideAsk}
+use Rattle.buddy_outcomes.specs.Ask.{sizeFor, levelFor, grownTo, sizeOk, decideAsk}
 use Rattle.buddy_outcomes.proofs.Plans.{takes, buys, nine}
 use Rattle.buddy_outcomes.proofs.Rounds.{size-low, level-low}
 
@@ -39,7 +39,7 @@ module _ (s : BuddySettings) (h : Heap) (objects size mask : ℕ) (t : Tables) w
   sized-ready (deny n) late e = nine s h objects size mask t (rw late at e)
 
   pub grows-ready : BuddyIn s → Sound s t → (p : Plan ℕ) → Late p → decideAsk s h objects size mask t ≡ p
-      → (levelsIn t ≤ grownFor s size mask t) × (grownFor s size mask t ≤ levelsMost)
+      → (levelsIn t ≤ grownTo (levelFor s size mask) t) × (grownTo (levelFor s size mask) t ≤ levelsMost)
   grows-ready fit sound p late e =
       let r = sized-ready p late e in
       (omega arith, omega (arith, level-low s fit size mask (r .1), sound .levels-most))

@@ -1,5 +1,5 @@
 -- What the code that writes a buddy store's tables asks of them, so that no number it makes overflows and the words of the book are
--- there; proofs/ shows that a passed gate and a decided call give it. Assumes nothing: these are definitions.
+-- there; proofs/ shows that a passed gate and a decided call give it.
 use Prim.Native.Nat.{ℕ, _-_, _^_, _≤_, _<_}
 use lib.ListN.{getD}
 use Rattle.rounding_rules.specs.Raising.{levelOf}
@@ -10,11 +10,13 @@ use Rattle.counter.specs.declared.settings.BuddySettings.{BuddySettings}
 use Rattle.slab.specs.Slab.{nowhere}
 use Rattle.book_rules.specs.Book.{takenOf}
 use Rattle.book_rules.specs.Ready.{Opens, Strikes}
-use Rattle.buddy_rules.specs.Level.{ringHead, spotIn, acquired}
+use Rattle.buddy_trees.specs.Trees.{up}
+use Rattle.buddy_rules.specs.Nodes.{freeWord}
+use Rattle.buddy_rules.specs.Level.{ringHead, pairTaken, acquired, added}
 use Rattle.buddy_rules.specs.Tables.{Tables, givenIn, levelsIn, placesIn, levelFrom}
-use Rattle.buddy_rules.specs.Moves.{readyNode}
+use Rattle.buddy_rules.specs.Moves.{readyNode, leftNext}
 use Rattle.buddy_moves.specs.Roomy.{Roomy}
-use Rattle.buddy_outcomes.specs.Ask.{chunkSpot, headEnt, loanAt}
+use Rattle.buddy_outcomes.specs.Ask.{chunkTaken, headEnt, loanFrom}
 use Rattle.buddy_outcomes.specs.Deliver.{chunkTables}
 
 -- the next loan can be entered
@@ -30,16 +32,19 @@ pub record Lends (s : BuddySettings) (z l i : ℕ) (t : Tables) : Type 0 where
   pub low : i < levelsMost
   pub pair : ringHead (levelFrom s i) (t .tree) < pairsMost
   pub offset : headEnt s t i .off ≤ 2 ^ 62
-  pub roomy : Roomy (s .pairs) l (loanAt s z t i .chunk) (loanAt s z t i .offset) (readyNode (s .pairs) i (t .tree)) (i - l) (acquired (levelFrom s i) 0 (t .tree))
+  pub roomy : Roomy (s .pairs) l (loanFrom s z t i .chunk) (loanFrom s z t i .offset) (readyNode (s .pairs) i (t .tree)) (i - l) (acquired (levelFrom s i) 0 (t .tree))
 
 -- a chunk can be added, and serve as much
 pub record Serves (s : BuddySettings) (l memory bytes : ℕ) (t : Tables) : Type 0 where
   pub enters : Enters s t
   pub below : l < levelsIn t
   pub low : levelsIn t ≤ levelsMost
-  pub chunk : chunkSpot s t .place < chunksMost
-  pub pair : spotIn (levelFrom s (levelsIn t - 1)) (t .tree) .place < pairsMost
-  pub roomy : Roomy (s .pairs) l (chunkSpot s t .place) 0 nowhere (levelsIn t - l) (chunkTables s memory bytes t .tree)
+  pub chunk : chunkTaken s t .place < chunksMost
+  pub pair : pairTaken (levelFrom s (levelsIn t - 1)) (t .tree) .place < pairsMost
+  -- the chunk's own pair, which is entered first, and those behind it
+  pub own : pairTaken (levelFrom s (up (levelsIn t - l - 1) l)) (chunkTables s memory bytes t .tree) .place < pairsMost
+  pub roomy : Roomy (s .pairs) l (chunkTaken s t .place) 0 (leftNext (s .pairs) (up (levelsIn t - l - 1) l) (chunkTables s memory bytes t .tree)) (levelsIn t - l - 1)
+      (added (levelFrom s (up (levelsIn t - l - 1) l)) (chunkTaken s t .place) 0 nowhere freeWord (chunkTables s memory bytes t .tree))
 
 -- the block that word w of the index leads to can be taken back
 pub record Backs (s : BuddySettings) (b : Block) (w : ℕ) (t : Tables) : Type 0 where

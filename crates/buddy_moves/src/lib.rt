@@ -4,9 +4,12 @@ ghost use mathlib.Core.Path.{_≡_};
 ghost use lib.ListN.{set};
 ghost use Prim.Native.Nat.{_+_, _*_, _/_, _≤_, _<_};
 ghost use Rattle.counter.specs.Limits.{levelsMost, pairsMost, loansMost};
-ghost use Rattle.buddy_rules.specs.Nodes.{other, word};
-ghost use Rattle.buddy_rules.specs.Level.{baseMost, entOf, pairCell, sideAt};
-ghost use Rattle.buddy_rules.specs.Moves.{sideIn, climbed, splitDown};
+ghost use Rattle.slab.specs.Slab.{nowhere};
+ghost use Rattle.buddy_trees.specs.Trees.{up};
+ghost use Rattle.buddy_rules.specs.Nodes.{freeWord, other, word};
+ghost use Rattle.buddy_rules.specs.Level.{baseMost, entOf, pairCell, sideAt, pairTaken, added};
+ghost use Rattle.buddy_rules.specs.Tables.{levelStart};
+ghost use Rattle.buddy_rules.specs.Moves.{sideIn, climbed, leftNext, splitDown, splitChunk};
 ghost use Rattle.buddy_moves.specs.Roomy.{Roomy};
 use buddy_levels::LEFT_AT;
 use buddy_levels::RIGHT_AT;
@@ -91,4 +94,22 @@ pub fn split_down(
     }
     put_word(tree, level_from(pairs, level), n, 2 * loan + 1);
     n
+}
+
+// A new chunk's own pair, `above` levels over the asked one, and its left node split down and lent. Answers that node.
+pub fn split_chunk(
+    tree: &mut [u64],
+    pairs: usize,
+    level: usize,
+    above: usize,
+    chunk: u64,
+    loan: u64,
+) -> u64
+    requires { ⌜ (pairs ≤ pairsMost) × (level + above < levelsMost) × (loan < loansMost) × (pairTaken (levelStart pairs (up above level)) (now tree) .place < pairsMost) ⌝ }
+    requires { ⌜ Roomy pairs level chunk 0 (leftNext pairs (up above level) (now tree)) above (added (levelStart pairs (up above level)) chunk 0 nowhere freeWord (now tree)) ⌝ }
+    ensures { λ r. ⌜ r ≡ splitChunk pairs level chunk loan above (now (tree .entry)) .node ⌝ }
+    ensures { λ _. ⌜ now (tree .exit) ≡ splitChunk pairs level chunk loan above (now (tree .entry)) .tree ⌝ }
+{
+    let p = buddy_levels::add_pair(tree, level_from(pairs, level + above), chunk, 0, NOWHERE, 0);
+    split_down(tree, pairs, level, above, chunk, 0, loan, 2 * p)
 }

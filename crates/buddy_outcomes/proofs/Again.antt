@@ -1,4 +1,4 @@
--- After a call that opened no order, on a store that passes tests 1 to 4, they pass again. Assumes nothing.
+-- After a call that opened no order, on a store that passes tests 1 to 4, they pass again.
 use mathlib.Core.Path.{_≡_, refl, sym, ap, subst, _∙_}
 use mathlib.Core.Bool.{Bool, true, false, not, _&&_}
 use mathlib.Core.Logic.{⊎-elim}
@@ -9,7 +9,7 @@ use lib.Dec.{eqb}
 use borrow.Author.Tests.{eqb-true}
 use Rattle.lists.proofs.Bools.{told, true-false, and-left, and-both, not-yes}
 use Rattle.counter.specs.Account.{Typed, heapAt}
-use Rattle.counter.specs.Gate.{Verdict, pass}
+use Rattle.counter.specs.Gate.{Verdict, pass, gated}
 use Rattle.counter.specs.InTable.{BuddyIn}
 use Rattle.counter.specs.Table.{buddyOk, heapsOk}
 use Rattle.counter.specs.declared.account.Account.{Account}
@@ -28,16 +28,16 @@ use Rattle.counter.proofs.Tables.{buddy-all}
 use Rattle.store_rules.specs.Delivery.{kept, lost, buddy, holds, suits, deliveryOk, mapped, fateOf}
 use Rattle.store_rules.specs.Orders.{Plan, deny, take, buy}
 use Rattle.store_rules.specs.Outcomes.{Out, Listed, chargedAccount, backAccount, lostAccount, releasedAccount}
-use Rattle.store_rules.specs.Tests.{noOrder, orderFor, coversOk, gateRow}
+use Rattle.store_rules.specs.Tests.{noOrder, openFor, coversOk, gateRow}
 use Rattle.store_rules.proofs.Accounts.{released-heaps, released-covered, charged-heaps, charged-covered, lost-heaps, lost-covered}
 use Rattle.buddy_trees.specs.Trees.{bytes}
 use Rattle.buddy_rules.specs.Tables.{Tables, Lengths, lengthsOk, levelsIn, chunkPlacesIn, chunkSizeIn, memoryIn, heldIn, memories}
 use Rattle.buddy_rules.specs.Sound.{Sound}
 use Rattle.buddy_rules.specs.Test.{soundOk}
 use Rattle.buddy_rules.proofs.Decides.{tables-yes, tables-all}
-use Rattle.buddy_outcomes.specs.Gate.{lentOk, heldCount, heldBytes, accountOk, gateOf}
+use Rattle.buddy_outcomes.specs.Gate.{inTableOk, heldCount, heldBytes, accountOk, gateOf}
 use Rattle.buddy_outcomes.specs.Ask as Ask
-use Rattle.buddy_outcomes.specs.Ask.{grownFor, sizeOk, decideAsk, grownTables, takenTables, deniedTables, carryAsk, planAsk, askOf}
+use Rattle.buddy_outcomes.specs.Ask.{grownTo, sizeOk, decideAsk, grownTables, takenTables, deniedTables, carryAsk, planAsk, askOf, sizeFor, levelFor}
 use Rattle.buddy_outcomes.specs.Deliver as Deliver
 use Rattle.buddy_outcomes.specs.Deliver.{stillOk, deliverGateOf, servedTables, carryFate, decideDeliver, planDeliver, carryDeliver, deliverOf}
 use Rattle.buddy_outcomes.specs.Return.{wordFor, onLoanOk, climbFor, givenTables, releasedBy, returnOf}
@@ -54,10 +54,10 @@ use Rattle.buddy_outcomes.proofs.Held.{chunksHeld, bytesHeld, Holds, ho
 
 -- what tests 1 to 4 ask for
 pub gate-passes : (s : BuddySettings) (a : Account) (t : Tables) → BuddyIn s → heapsOk (a .heaps) ≡ true → Lengths s t → noOrder (a .order) ≡ true → Sound s t → accountOk s a t ≡ true → gateOf s a t true ≡ pass
-unfolding gateOf lentOk
+unfolding gateOf inTableOk
 gate-passes s a t fit heaps lengths none sound covered =
-    passes (gateRow (lentOk s a t && true) (noOrder (a .order)) (soundOk s t) (accountOk s a t)) (
-      and-both (lentOk s a t) true (and-both (buddyOk s) (heapsOk (a .heaps) && lengthsOk s t) (buddy-all s fit) (and-both (heapsOk (a .heaps)) (lengthsOk s t) heaps (are-lengths s t lengths))) refl,
+    passes (gateRow (inTableOk s a t && true) (noOrder (a .order)) (soundOk s t) (accountOk s a t)) (
+      and-both (inTableOk s a t) true (and-both (buddyOk s) (heapsOk (a .heaps) && lengthsOk s t) (buddy-all s fit) (and-both (heapsOk (a .heaps)) (lengthsOk s t) heaps (are-lengths s t lengths))) refl,
       (none, (tables-all s t fit sound, (covered, tt))),
     )
 
@@ -66,7 +66,7 @@ module _ (s : BuddySettings) (a : Account) (t : Tables) (typed : Typed a) (passe
   -- no order is open
   none-open : noOrder (a .order) ≡ true
   unfolding gateOf
-  none-open = passed (gateRow (lentOk s a t && true) (noOrder (a .order)) (soundOk s t) (accountOk s a t)) passes-now .1 .0
+  none-open = passed (gateRow (inTableOk s a t && true) (noOrder (a .order)) (soundOk s t) (accountOk s a t)) passes-now .1 .0
 
   went : Passed s a t true
   went = gate-passed s a t true (sym passes-now)
@@ -86,29 +86,29 @@ module _ (s : BuddySettings) (a : Account) (t : Tables) (typed : Typed a) (passe
     abbrev plan : Plan ℕ
     plan = decideAsk s (heapAt a (s .store .heap)) (a .objects) size mask t
 
-    grown-again : sizeOk s size mask ≡ true → gateOf s a (grownTables s (grownFor s size mask t) t) true ≡ pass
+    grown-again : sizeOk s size mask ≡ true → gateOf s a (grownTables s (grownTo (levelFor s size mask) t) t) true ≡ pass
     grown-again sized =
-        let n = grownFor s size mask t in
+        let n = grownTo (levelFor s size mask) t in
         gate-passes s a (grownTables s n t) fit (went .lent .heaps) (grown-lengths s t fit lengths sound n) none-open
         (grown-tables-sound s t fit lengths sound n (omega arith) (omega (arith, level-low s fit size mask sized, sound .levels-most)))
         (holds-account s a (grownTables s n t) (chunksHeld t) (bytesHeld t) (grown-holds s t n) (account-covers s a t (went .covered)))
 
     -- refused as 9 it leaves the levels grown, otherwise everything
-    denied-again : (n : ℕ) → plan ≡ deny n → gateOf s a (deniedTables s size mask n t) true ≡ pass
+    denied-again : (n : ℕ) → plan ≡ deny n → gateOf s a (deniedTables s (levelFor s size mask) n t) true ≡ pass
     unfolding deniedTables
     denied-again n e = ⊎-elim (λ f. rw f (grown-again (late (eqb-true n 9 f)))) (λ f. rw f passes-now) (told (eqb n 9))
       where
         late : n ≡ 9 → sizeOk s size mask ≡ true
         late z = nine s (heapAt a (s .store .heap)) (a .objects) size mask t (e ∙ ap (λ (m : ℕ). deny m) z) .1
 
-    taken-again : (i : ℕ) → plan ≡ take i → gateOf s a (takenTables s size mask t i) true ≡ pass
+    taken-again : (i : ℕ) → plan ≡ take i → gateOf s a (takenTables s (sizeFor s size mask) (levelFor s size mask) t i) true ≡ pass
     taken-again i e =
         let v = takes s (heapAt a (s .store .heap)) (a .objects) size mask t i e in
-        gate-passes s a (takenTables s size mask t i) fit (went .lent .heaps)
+        gate-passes s a (takenTables s (sizeFor s size mask) (levelFor s size mask) t i) fit (went .lent .heaps)
         (taken-lengths s t fit lengths sound size mask i (v .found) (v .aligned) (v .sized) (v .room))
         none-open
         (taken-sound s t fit lengths sound size mask i (v .found) (v .aligned) (v .sized) (v .room))
-        (holds-account s a (takenTables s size mask t i) (chunksHeld t) (bytesHeld t) (taken-holds s size mask t i) (account-covers s a t (went .covered)))
+        (holds-account s a (takenTables s (sizeFor s size mask) (levelFor s size mask) t i) (chunksHeld t) (bytesHeld t) (taken-holds s size mask t i) (account-covers s a t (went .covered)))
 
     planned-again : (p : Plan ℕ) → plan ≡ p → noOrder (carryAsk s a size mask t p .account .order) ≡ true
         → gateOf s (carryAsk s a size mask t p .account) (carryAsk s a size mask t p .tables) true ≡ pass
@@ -119,7 +119,7 @@ module _ (s : BuddySettings) (a : Account) (t : Tables) (typed : Typed a) (passe
 
     carried : askOf s a size mask t ≡ carryAsk s a size mask t plan
     unfolding askOf planAsk
-    carried = ap (λ (v : Verdict). carryAsk s a size mask t (Ask.gated v plan)) passes-now
+    carried = ap (λ (v : Verdict). carryAsk s a size mask t (gated Ask.deny v plan)) passes-now
 
   -- after an ask that opened no order tests 1 to 4 pass again
   pub ask-again : (size mask : ℕ) → noOrder (askOf s a size mask t .account .order) ≡ true → gateOf s (askOf s a size mask t .account) (askOf s a size mask t .tables) true ≡ pass
@@ -174,15 +174,15 @@ module _ (s : BuddySettings) (a : Account) (t : Tables) (typed : Typed a) (passe
 -- ---- a delivery
 
 -- its gate asks for an order of this store
-deliver-for : (s : BuddySettings) (a : Account) (t : Tables) → deliverGateOf s a t ≡ pass → orderFor (s .store .number) (a .order) ≡ true
+deliver-for : (s : BuddySettings) (a : Account) (t : Tables) → deliverGateOf s a t ≡ pass → openFor (s .store .number) (a .order) ≡ true
 unfolding deliverGateOf
-deliver-for s a t g = passed (gateRow (lentOk s a t) (orderFor (s .store .number) (a .order)) (soundOk s t && stillOk s a t (a .order)) (accountOk s a t)) g .1 .0
+deliver-for s a t g = passed (gateRow (inTableOk s a t) (openFor (s .store .number) (a .order)) (soundOk s t && stillOk s a t (a .order)) (accountOk s a t)) g .1 .0
 
 -- and for a sound store
 deliver-holds : (s : BuddySettings) (a : Account) (t : Tables) → deliverGateOf s a t ≡ pass → Sound s t
 unfolding deliverGateOf
 deliver-holds s a t g =
-    let r = passed (gateRow (lentOk s a t) (orderFor (s .store .number) (a .order)) (soundOk s t && stillOk s a t (a .order)) (accountOk s a t)) g in
+    let r = passed (gateRow (inTableOk s a t) (openFor (s .store .number) (a .order)) (soundOk s t && stillOk s a t (a .order)) (accountOk s a t)) g in
     tables-yes s t (lent-in s a t (r .0) .settings) (and-left (soundOk s t) (stillOk s a t (a .order)) (r .1 .1 .0))
 
 module _ (s : BuddySettings) (a : Account) (o : Outcome) (t : Tables) (typed : Typed a) (sound : Sound s t) where
@@ -203,7 +203,7 @@ module _ (s : BuddySettings) (a : Account) (o : Outcome) (t : Tables) (typed : T
     z = k .order .size
 
     abbrev n : ℕ
-    n = grownFor s size mask t
+    n = grownTo (levelFor s size mask) t
 
     abbrev g : Tables
     g = grownTables s n t
@@ -212,7 +212,7 @@ module _ (s : BuddySettings) (a : Account) (o : Outcome) (t : Tables) (typed : T
     covered = account-covers s a t (w .covered)
 
     -- the memory is kept: one chunk more
-    served-now : (memory : ℕ) → Holds (servedTables s size mask memory z g) (chunksHeld t + 1) (bytesHeld t + z)
+    served-now : (memory : ℕ) → Holds (servedTables s (sizeFor s size mask) (levelFor s size mask) memory z g) (chunksHeld t + 1) (bytesHeld t + z)
     served-now memory =
         let fit = w .lent .settings in
         let lengths = w .lent .lengths in
@@ -231,7 +231,7 @@ module _ (s : BuddySettings) (a : Account) (o : Outcome) (t : Tables) (typed : T
         let b = w .buys-it in
         let low = fit .store .heap in
         let after : Account = chargedAccount (s .store) a z in
-        let u = servedTables s size mask memory z g in
+        let u = servedTables s (sizeFor s size mask) (levelFor s size mask) memory z g in
         gate-passes s after u fit
         (charged-heaps (s .store) a low z (w .bears) (w .lent .heaps))
         (arrived-lengths s t fit lengths sound size mask z b memory new)
@@ -278,14 +278,14 @@ module _ (s : BuddySettings) (a : Account) (o : Outcome) (t : Tables) (typed : T
   module _ (passes-now : deliverGateOf s a t ≡ pass) where
     decided-again : (x : OpenOrder) → a .order ≡ x → noOrder (carryDeliver s a t (decideDeliver o held x) .account .order) ≡ true → Passes (carryDeliver s a t (decideDeliver o held x))
     unfolding carryDeliver
-    decided-again Nothing e = λ none. absurd (true-false _ (deliver-for s a t passes-now) (ap (orderFor (s .store .number)) e))
+    decided-again Nothing e = λ none. absurd (true-false _ (deliver-for s a t passes-now) (ap (openFor (s .store .number)) e))
     decided-again (Kept k) e =
         ⊎-elim (λ d. rw d (λ none. fate-again k (opened s a o t sound k e passes-now) o d)) (λ d. rw d (λ none. absurd (true-false _ none (ap noOrder e))))
         (told (deliveryOk (k .order .map) held o))
 
     carried-out : deliverOf s a o t ≡ carryDeliver s a t (decideDeliver o held (a .order))
     unfolding deliverOf planDeliver
-    carried-out = ap (λ (v : Verdict). carryDeliver s a t (Deliver.gated v (decideDeliver o held (a .order)))) passes-now
+    carried-out = ap (λ (v : Verdict). carryDeliver s a t (gated Deliver.deny v (decideDeliver o held (a .order)))) passes-now
 
 -- and after a delivery that closed the order, into an account that has all its heaps: one that lacks the store's heap
 -- charges nothing for the chunk, and 4 would fail

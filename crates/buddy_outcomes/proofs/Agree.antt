@@ -1,4 +1,4 @@
--- A store that agrees with a sound one wherever soundness looks is sound. Assumes nothing.
+-- A store that agrees with a sound one wherever soundness looks is sound.
 use mathlib.Core.Path.{_≡_, sym, ap, _∙_}
 use mathlib.Core.Bool.{true}
 use Prim.Native.Nat.{ℕ, _<_}

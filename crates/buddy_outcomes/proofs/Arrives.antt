@@ -1,4 +1,4 @@
--- A delivery answered by a block: which order it was for, which block it is, and that it is good. Assumes nothing.
+-- A delivery answered by a block: which order it was for, which block it is, and that it is good.
 use mathlib.Core.Path.{_≡_, refl, sym, ap, subst, _∙_}
 use mathlib.Core.Bool.{true, false}
 use mathlib.Core.Logic.{⊎-elim}
@@ -9,7 +9,7 @@ use native.Mathlib.Omega.{arith}
 use lib.Pow.{pow-pos}
 use Rattle.lists.proofs.Bools.{told, true-false}
 use Rattle.words.proofs.Records.{cell-row}
-use Rattle.counter.specs.Gate.{Verdict, pass, refuse}
+use Rattle.counter.specs.Gate.{Verdict, pass, refuse, gated}
 use Rattle.counter.specs.InTable.{BuddyIn}
 use Rattle.counter.specs.Paper as Paper
 use Rattle.counter.specs.declared.account.Account.{Account}
@@ -31,7 +31,7 @@ use Rattle.buddy_rules.specs.Tables.{Tables, Lengths, givenIn, levelsIn, chunkP
 use Rattle.buddy_rules.specs.Sound.{Sound}
 use Rattle.buddy_rules.specs.Views.{loansIn, chunksIn}
 use Rattle.buddy_rules.proofs.Viewed.{loan-live, chunkAt, held-seen}
-use Rattle.buddy_outcomes.specs.Ask.{sizeFor, levelFor, grownFor, chunkSpot, grownTables}
+use Rattle.buddy_outcomes.specs.Ask.{sizeFor, levelFor, grownTo, chunkTaken, grownTables}
 use Rattle.buddy_outcomes.specs.Deliver as Deliver
 use Rattle.buddy_outcomes.specs.Deliver.{chunkTables, loanIn as lentIn, servedTables, asOrdered, carryFate, decideDeliver, deliverGateOf, planDeliver, carryDeliver, deliverOf}
 use Rattle.buddy_outcomes.proofs.Changed.{grown-lengths, grown-held, grown-given}
@@ -52,10 +52,10 @@ pub record Came (s : BuddySettings) (a : Account) (o : Outcome) (t : Tables) (se
   pub sound : Sound s t
   pub bought : Buys s (order .ask .size) (order .ask .mask) t (order .order .size)
   pub serial-is : serial ≡ givenIn (asOrdered s order t) + 1
-  pub chunk-is : chunk ≡ chunkSpot s (asOrdered s order t) .place
+  pub chunk-is : chunk ≡ chunkTaken s (asOrdered s order t) .place
   pub offset-is : offset ≡ 0
   pub len-is : len ≡ sizeFor s (order .ask .size) (order .ask .mask)
-  pub left : deliverOf s a o t .tables ≡ servedTables s (order .ask .size) (order .ask .mask) memory (order .order .size) (asOrdered s order t)
+  pub left : deliverOf s a o t .tables ≡ servedTables s (sizeFor s (order .ask .size) (order .ask .mask)) (levelFor s (order .ask .size) (order .ask .mask)) memory (order .order .size) (asOrdered s order t)
   pub charged : deliverOf s a o t .account ≡ chargedAccount (s .store) a (order .order .size)
 
 module _ (s : BuddySettings) (a : Account) (o : Outcome) (t : Tables) (serial chunk offset len : ℕ) (q : deliverOf s a o t .said ≡ Paper.block serial chunk offset len) where
@@ -86,7 +86,7 @@ module _ (s : BuddySettings) (a : Account) (o : Outcome) (t : Tables) (serial ch
       }
 
   came-by : (v : Verdict) → deliverGateOf s a t ≡ v → (ord : OpenOrder) → a .order ≡ ord
-      → deliverOf s a o t ≡ carryDeliver s a t (Deliver.gated v (decideDeliver o (memories t (chunkPlacesIn t)) ord)) → Came s a o t serial chunk offset len
+      → deliverOf s a o t ≡ carryDeliver s a t (gated Deliver.deny v (decideDeliver o (memories t (chunkPlacesIn t)) ord)) → Came s a o t serial chunk offset len
   unfolding carryDeliver
   came-by (refuse n) g ord e r = refusal-block n [] serial chunk offset len (tells _ r)
   came-by pass g Nothing e r = refusal-block 2 [] serial chunk offset len (tells _ r)
@@ -104,13 +104,13 @@ module _ (s : BuddySettings) (a : Account) (o : Outcome) (t : Tables) (serial ch
 -- the chunk that arrives, and what is lent of it
 module _ (s : BuddySettings) (t : Tables) (fit : BuddyIn s) (lengths : Lengths s t) (sound : Sound s t) (size mask z memory : ℕ) (b : Buys s size mask t z) where
   abbrev n : ℕ
-  n = grownFor s size mask t
+  n = grownTo (levelFor s size mask) t
 
   abbrev g : Tables
   g = grownTables s n t
 
   abbrev c : ℕ
-  c = chunkSpot s g .place
+  c = chunkTaken s g .place
 
   many : levelsIn g ≡ n
   many = count s t fit lengths sound size mask z b
@@ -127,7 +127,7 @@ module _ (s : BuddySettings) (t : Tables) (fit : BuddyIn s) (lengths : Lengths s
   g-sound : Sound s g
   g-sound = grown-sound s t fit lengths sound size mask z b
 
-  room : chunkSpot s g .place < s .store .chunks
+  room : chunkTaken s g .place < s .store .chunks
   room = spot s t fit lengths sound size mask z b
 
   -- it was not there
@@ -153,7 +153,7 @@ module _ (s : BuddySettings) (t : Tables) (fit : BuddyIn s) (lengths : Lengths s
       omega (arith, e, size-level s fit size mask (b .sized), bytes-end (s .minimal) d lev 0 (pow-pos d))
 
   -- it is seen
-  chunk-seen : (d : Chunk) × List·Memᴰ d (chunksIn (servedTables s size mask memory z g)) × (d .number ≡ c) × (0 + sizeFor s size mask ≤ d .size)
+  chunk-seen : (d : Chunk) × List·Memᴰ d (chunksIn (servedTables s (sizeFor s size mask) (levelFor s size mask) memory z g)) × (d .number ≡ c) × (0 + sizeFor s size mask ≤ d .size)
   unfolding servedTables chunkTables
   chunk-seen =
       let u : Tables = chunked s g fit g-lengths memory z in
@@ -162,7 +162,7 @@ module _ (s : BuddySettings) (t : Tables) (fit : BuddyIn s) (lengths : Lengths s
       (chunkAt u c, subst (λ (cs : List Chunk). List·Memᴰ (chunkAt u c) cs) (sym (booked-chunks s _ _ _ _ u)) (held-seen u c h), refl, omega (arith, e, fits-in))
 
   -- a block lent of it is good
-  pub came-good : GoodBlock (s .store .atom) size mask (givenIn t) (loansIn t) (chunksIn (servedTables s size mask memory z g)) (givenIn g + 1) c 0 (sizeFor s size mask)
+  pub came-good : GoodBlock (s .store .atom) size mask (givenIn t) (loansIn t) (chunksIn (servedTables s (sizeFor s size mask) (levelFor s size mask) memory z g)) (givenIn g + 1) c 0 (sizeFor s size mask)
   came-good =
       let e : givenIn g ≡ givenIn t = grown-given s t fit lengths sound n (more s t fit lengths sound size mask z b) (most s t fit lengths sound size mask z b) in
       record {

@@ -1,4 +1,4 @@
--- A new block is as it has to be, and of its own size: what an ask and a delivery lend. Assumes nothing.
+-- A new block is as it has to be, and of its own size: what an ask and a delivery lend.
 use mathlib.Core.Path.{_≡_, sym, ap, ap₂, subst, _∙_}
 use mathlib.Core.List.{List}
 use Prim.Native.Nat.{ℕ, _%_}

@@ -1,5 +1,4 @@
 -- A loan entered in a buddy store's book, and its node beside the tree: the tables are sound when the store with that loan is.
--- Assumes nothing.
 use mathlib.Core.Path.{_≡_, refl, sym, ap, _∙_, subst}
 use mathlib.Core.Bool.{Bool, true, false, cond, _&&_, not}
 use mathlib.Core.Logic.{_⊎_, inl, inr, ⊎-elim}

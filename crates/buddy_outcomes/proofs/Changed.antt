@@ -1,4 +1,4 @@
--- What the tables hold after set-up, and when levels have grown: they are sound. Assumes nothing.
+-- What the tables hold after set-up, and when levels have grown: they are sound.
 use mathlib.Core.Path.{_≡_, refl, sym, ap, _∙_, subst}
 use mathlib.Core.Bool.{Bool, true, false, cond, _&&_, not}
 use mathlib.Core.Logic.{⊎-elim}
@@ -20,6 +20,7 @@ use Rattle.slab.specs.Slab.{nowhere, Parted}
 use Rattle.slab.specs.declared.Slab.{Slab}
 use Rattle.slab.specs.declared.Taken.{Taken}
 use Rattle.slab.proofs.Places.{parted-fresh, parted-same}
+use Rattle.store_rules.specs.Loans.{loanWords, sizeAt}
 use Rattle.book_rules.proofs.Firsts.{fresh-wide, fresh-vacated, fresh-first}
 use Rattle.book_rules.proofs.Keeps.{BookChained, BookParted, fresh-chained}
 use Rattle.buddy_trees.specs.Trees.{Tree, free}
@@ -27,7 +28,7 @@ use Rattle.buddy_rules.specs.Nodes.{Ent}
 use Rattle.buddy_rules.specs.Stores.{Store, grownTo}
 use Rattle.buddy_rules.specs.Stores as Stores
 use Rattle.buddy_rules.proofs.Made.{empty-sound, grown-sound}
-use Rattle.buddy_rules.specs.Level.{levelWords, ringHead, spotIn, freshLevel, part, pairIn}
+use Rattle.buddy_rules.specs.Level.{levelWords, ringHead, pairTaken, freshLevel, part, pairIn}
 use Rattle.buddy_rules.proofs.Fresh.{fresh-length, fresh-head, fresh-spot, fresh-none, fresh-good}
 use Rattle.buddy_rules.proofs.Ops.{levelOps}
 use Rattle.buddy_rules.proofs.Parts.{part-length, part-head, part-spot}
@@ -175,7 +176,7 @@ module _ (s : BuddySettings) (t : Tables) (fit : BuddyIn s) (lengths : Lengths s
       held c = ap (λ (p : ℕ). ltb c p && not (eqb (getD (t .chunks) (cellOf 1 2 c) 0) 0)) chunk-places
 
       live : (k : ℕ) → liveIn grown k ≡ liveIn t k
-      live k = ap (λ (p : ℕ). ltb k p && not (eqb (getD (t .loans) (cellOf 3 4 k) 0) 0)) places
+      live k = ap (λ (p : ℕ). ltb k p && not (eqb (getD (t .loans) (cellOf sizeAt loanWords k) 0) 0)) places
 
       high : (c : ℕ) → highIn s grown c ≡ highIn s t c
       high c = ap (λ (b : Bool). cond b (levelOf (getD (t .chunks) (cellOf 1 2 c) 0) (s .minimal)) 0) (held c)
@@ -271,21 +272,21 @@ module _ (s : BuddySettings) (t : Tables) (fit : BuddyIn s) (lengths : Lengths s
           (λ k. ap (ringHead 0) (made n more most .inside j k (omega arith)) ∙ fresh-head 0 (part (s .pairs) j (t .tree)) (omega (arith, fresh-part j (omega arith))))
           (lt-or-le j (levelsIn t))
 
-      spot-there : (j : ℕ) → j < n → (j < levelsIn t → spotIn (levelFrom s j) (t .tree) .place < s .pairs) → spotIn 0 (part (s .pairs) j (grownTables s n t .tree)) .place < s .pairs
+      spot-there : (j : ℕ) → j < n → (j < levelsIn t → pairTaken (levelFrom s j) (t .tree) .place < s .pairs) → pairTaken 0 (part (s .pairs) j (grownTables s n t .tree)) .place < s .pairs
       unfolding grownTables
       spot-there j h f = ⊎-elim
-          (λ k. let e : spotIn 0 (part (s .pairs) j (grown n more most .tree)) .place ≡ spotIn (levelFrom s j) (t .tree) .place =
-          ap (λ (x : List ℕ). spotIn 0 x .place) (made n more most .below j k) ∙ sym (ap (λ (x : Taken). x .place) (part-spot (s .pairs) j (t .tree) (sound .good j k))) in
+          (λ k. let e : pairTaken 0 (part (s .pairs) j (grown n more most .tree)) .place ≡ pairTaken (levelFrom s j) (t .tree) .place =
+          ap (λ (x : List ℕ). pairTaken 0 x .place) (made n more most .below j k) ∙ sym (ap (λ (x : Taken). x .place) (part-spot (s .pairs) j (t .tree) (sound .good j k))) in
           omega (arith, e, f k))
-          (λ k. let e : spotIn 0 (part (s .pairs) j (grown n more most .tree)) .place ≡ 0 =
-          ap (λ (x : List ℕ). spotIn 0 x .place) (made n more most .inside j k (omega arith)) ∙ fresh-spot 0 (part (s .pairs) j (t .tree)) (omega (arith, fresh-part j (omega arith))) in
+          (λ k. let e : pairTaken 0 (part (s .pairs) j (grown n more most .tree)) .place ≡ 0 =
+          ap (λ (x : List ℕ). pairTaken 0 x .place) (made n more most .inside j k (omega arith)) ∙ fresh-spot 0 (part (s .pairs) j (t .tree)) (omega (arith, fresh-part j (omega arith))) in
           omega (arith, e, fit .pairs-some))
           (lt-or-le j (levelsIn t))
 
       -- and all its pair places
-      pub grown-spot : (j : ℕ) → j < n → (j < levelsIn t → spotIn (levelFrom s j) (t .tree) .place < s .pairs) → spotIn (levelFrom s j) (grownTables s n t .tree) .place < s .pairs
+      pub grown-spot : (j : ℕ) → j < n → (j < levelsIn t → pairTaken (levelFrom s j) (t .tree) .place < s .pairs) → pairTaken (levelFrom s j) (grownTables s n t .tree) .place < s .pairs
       grown-spot j h f =
           let v = part (s .pairs) j (grownTables s n t .tree) in
           let G = grown-tables-sound n more most .good j (omega (arith, grown-count)) in
-          let e : spotIn (levelFrom s j) (grownTables s n t .tree) .place ≡ spotIn 0 v .place = ap (λ (x : Taken). x .place) (part-spot (s .pairs) j (grownTables s n t .tree) G) in
+          let e : pairTaken (levelFrom s j) (grownTables s n t .tree) .place ≡ pairTaken 0 v .place = ap (λ (x : Taken). x .place) (part-spot (s .pairs) j (grownTables s n t .tree) G) in
           omega (arith, e, spot-there j h f)

@@ -1,4 +1,4 @@
--- What the tables say when a chunk stands at the place that is taken next: all but its tree. Assumes nothing.
+-- What the tables say when a chunk stands at the place that is taken next: all but its tree.
 use mathlib.Core.Path.{_≡_, refl, sym, ap, _∙_, subst}
 use mathlib.Core.Bool.{Bool, true, false, cond, _&&_, not}
 use mathlib.Core.Logic.{_⊎_, inl, inr, ⊎-elim}
@@ -25,11 +25,11 @@ use Rattle.book_rules.proofs.Keeps.{BookChained, BookParted}
 use Rattle.buddy_trees.specs.Trees.{bytes}
 use Rattle.buddy_trees.proofs.Bytes.{bytes-pos}
 use Rattle.buddy_rules.specs.Stores.{with}
-use Rattle.buddy_rules.specs.Level.{spotIn, part}
+use Rattle.buddy_rules.specs.Level.{pairTaken, part}
 use Rattle.buddy_rules.specs.Tables.{Tables, tables, Lengths, markAt, givenAt, levelsAt, placesAt, chunkPlacesAt, memoryAt, chunkSizeAt, chunkWords, givenIn, levelsIn, placesIn, chunkPlacesIn, memoryIn, chunkSizeIn, levelFrom, chunksFrom, placeAt, topAt, afterAt, placeWords, nodesFrom, loanIn, liveIn, loanCell, heldIn, highIn, topIn, vacantChunk, chunkAfter, chunkSlab, initialLevels}
 use Rattle.buddy_rules.specs.Sound.{Sound}
 use Rattle.buddy_rules.proofs.Walks.{minimal-pos, level-bytes}
-use Rattle.buddy_outcomes.specs.Ask.{chunkSpot}
+use Rattle.buddy_outcomes.specs.Ask.{chunkTaken}
 use Rattle.buddy_outcomes.proofs.Changed.{part-set}
 use Rattle.buddy_outcomes.proofs.Booked.{Kept, and-no, lower}
 
@@ -59,23 +59,23 @@ inserted-where free links at step s most P few = by (P .chained) refl
 
 module _ (s : BuddySettings) (t : Tables) (fit : BuddyIn s) (lengths : Lengths s t) (memory z : ℕ) where
   abbrev p : ℕ
-  p = chunkSpot s t .place
+  p = chunkTaken s t .place
 
   abbrev q : ℕ
-  q = chunkSpot s t .slab .places
+  q = chunkTaken s t .slab .places
 
   abbrev topCell : ℕ
   topCell = cellOf (placeAt s topAt) placeWords p
 
   abbrev topWord : ℕ
-  topWord = 2 * spotIn (levelFrom s (levelsIn t - 1)) (t .tree) .place + 2
+  topWord = 2 * pairTaken (levelFrom s (levelsIn t - 1)) (t .tree) .place + 2
 
   abbrev pub chunked : Tables
   chunked =
       tables (set (t .head) chunkPlacesAt q) (t .loans)
       (set (set (t .chunks) (cellOf memoryAt chunkWords p) memory) (cellOf chunkSizeAt chunkWords p) z)
       (t .index)
-      (set (set (t .tree) (chunksFrom s) (chunkSpot s t .slab .vacant)) topCell topWord)
+      (set (set (t .tree) (chunksFrom s) (chunkTaken s t .slab .vacant)) topCell topWord)
 
   pub chunked-lengths : Lengths s chunked
   chunked-lengths = record {
@@ -83,7 +83,7 @@ module _ (s : BuddySettings) (t : Tables) (fit : BuddyIn s) (lengths : Lengths s
     loans = lengths .loans;
     chunks = length-set (set (t .chunks) (cellOf memoryAt chunkWords p) memory) (cellOf chunkSizeAt chunkWords p) z ∙ length-set (t .chunks) (cellOf memoryAt chunkWords p) memory ∙ lengths .chunks;
     index = lengths .index;
-    tree = length-set (set (t .tree) (chunksFrom s) (chunkSpot s t .slab .vacant)) topCell topWord ∙ length-set (t .tree) (chunksFrom s) (chunkSpot s t .slab .vacant) ∙ lengths .tree;
+    tree = length-set (set (t .tree) (chunksFrom s) (chunkTaken s t .slab .vacant)) topCell topWord ∙ length-set (t .tree) (chunksFrom s) (chunkTaken s t .slab .vacant) ∙ lengths .tree;
   }
 
   -- ---- words of the head
@@ -101,21 +101,21 @@ module _ (s : BuddySettings) (t : Tables) (fit : BuddyIn s) (lengths : Lengths s
   chunked-places = head-other placesAt (λ e. omega arith)
 
   pub chunked-level : (i : ℕ) → i < levelsMost → part (s .pairs) i (chunked .tree) ≡ part (s .pairs) i (t .tree)
-  chunked-level i h = part-set s i topCell topWord (set (t .tree) (chunksFrom s) (chunkSpot s t .slab .vacant)) h (omega arith) ∙ part-set s i (chunksFrom s) (chunkSpot s t .slab .vacant) (t .tree) h (omega arith)
+  chunked-level i h = part-set s i topCell topWord (set (t .tree) (chunksFrom s) (chunkTaken s t .slab .vacant)) h (omega arith) ∙ part-set s i (chunksFrom s) (chunkTaken s t .slab .vacant) (t .tree) h (omega arith)
 
   -- ---- words of the tree
 
   tree-other : (i : ℕ) → (i ≡ chunksFrom s → ⊥) → (i ≡ topCell → ⊥) → getD (chunked .tree) i 0 ≡ getD (t .tree) i 0
-  tree-other i a b = getD-set-other (set (t .tree) (chunksFrom s) (chunkSpot s t .slab .vacant)) topCell i topWord 0 b ∙ getD-set-other (t .tree) (chunksFrom s) i (chunkSpot s t .slab .vacant) 0 a
+  tree-other i a b = getD-set-other (set (t .tree) (chunksFrom s) (chunkTaken s t .slab .vacant)) topCell i topWord 0 b ∙ getD-set-other (t .tree) (chunksFrom s) i (chunkTaken s t .slab .vacant) 0 a
 
-  module _ (room : chunkSpot s t .place < s .store .chunks) where
-    tree-vacated : getD (chunked .tree) (chunksFrom s) 0 ≡ chunkSpot s t .slab .vacant
+  module _ (room : chunkTaken s t .place < s .store .chunks) where
+    tree-vacated : getD (chunked .tree) (chunksFrom s) 0 ≡ chunkTaken s t .slab .vacant
     tree-vacated =
-        getD-set-other (set (t .tree) (chunksFrom s) (chunkSpot s t .slab .vacant)) topCell (chunksFrom s) topWord 0 (λ e. omega arith)
-        ∙ getD-set-same (t .tree) (chunksFrom s) (chunkSpot s t .slab .vacant) 0 (omega (arith, lengths .tree))
+        getD-set-other (set (t .tree) (chunksFrom s) (chunkTaken s t .slab .vacant)) topCell (chunksFrom s) topWord 0 (λ e. omega arith)
+        ∙ getD-set-same (t .tree) (chunksFrom s) (chunkTaken s t .slab .vacant) 0 (omega (arith, lengths .tree))
 
-    tree-top : getD (chunked .tree) (cellOf (placeAt s topAt) placeWords (chunkSpot s t .place)) 0 ≡ topWord
-    tree-top = getD-set-same (set (t .tree) (chunksFrom s) (chunkSpot s t .slab .vacant)) topCell topWord 0 (omega (arith, length-set (t .tree) (chunksFrom s) (chunkSpot s t .slab .vacant), lengths .tree))
+    tree-top : getD (chunked .tree) (cellOf (placeAt s topAt) placeWords (chunkTaken s t .place)) 0 ≡ topWord
+    tree-top = getD-set-same (set (t .tree) (chunksFrom s) (chunkTaken s t .slab .vacant)) topCell topWord 0 (omega (arith, length-set (t .tree) (chunksFrom s) (chunkTaken s t .slab .vacant), lengths .tree))
 
     -- ---- the loans are the same
 
@@ -135,7 +135,7 @@ module _ (s : BuddySettings) (t : Tables) (fit : BuddyIn s) (lengths : Lengths s
     first-long : length first ≡ chunkWords * s .store .chunks
     first-long = length-set (t .chunks) (cellOf memoryAt chunkWords p) memory ∙ lengths .chunks
 
-    pub size-here : chunkSizeIn chunked (chunkSpot s t .place) ≡ z
+    pub size-here : chunkSizeIn chunked (chunkTaken s t .place) ≡ z
     size-here = getD-set-same first (cellOf chunkSizeAt chunkWords p) z 0 (omega (arith, first-long))
 
     pub size-other : (b : ℕ) → (b ≡ p → ⊥) → chunkSizeIn chunked b ≡ chunkSizeIn t b
@@ -143,12 +143,12 @@ module _ (s : BuddySettings) (t : Tables) (fit : BuddyIn s) (lengths : Lengths s
         getD-set-other first (cellOf chunkSizeAt chunkWords p) (cellOf chunkSizeAt chunkWords b) z 0 (λ e. n (omega arith))
         ∙ getD-set-other (t .chunks) (cellOf memoryAt chunkWords p) (cellOf chunkSizeAt chunkWords b) memory 0 (λ e. omega arith)
 
-    pub memory-here : memoryIn chunked (chunkSpot s t .place) ≡ memory
+    pub memory-here : memoryIn chunked (chunkTaken s t .place) ≡ memory
     memory-here =
         getD-set-other first (cellOf chunkSizeAt chunkWords p) (cellOf memoryAt chunkWords p) z 0 (λ e. omega arith)
         ∙ getD-set-same (t .chunks) (cellOf memoryAt chunkWords p) memory 0 (omega (arith, lengths .chunks))
 
-    pub memory-other : (b : ℕ) → (b ≡ chunkSpot s t .place → ⊥) → memoryIn chunked b ≡ memoryIn t b
+    pub memory-other : (b : ℕ) → (b ≡ chunkTaken s t .place → ⊥) → memoryIn chunked b ≡ memoryIn t b
     memory-other b n =
         getD-set-other first (cellOf chunkSizeAt chunkWords p) (cellOf memoryAt chunkWords b) z 0 (λ e. omega arith)
         ∙ getD-set-other (t .chunks) (cellOf memoryAt chunkWords p) (cellOf memoryAt chunkWords b) memory 0 (λ e. n (omega arith))
@@ -171,14 +171,14 @@ module _ (s : BuddySettings) (t : Tables) (fit : BuddyIn s) (lengths : Lengths s
       pub within-places : p < q
       within-places = ⊎-elim (λ w. omega (arith, w .0, w .1)) (λ w. omega (arith, w .0, w .1)) spot-low
 
-      pub spot-dead : heldIn t (chunkSpot s t .place) ≡ false
+      pub spot-dead : heldIn t (chunkTaken s t .place) ≡ false
       spot-dead = by spot
         where
           by : ((p ≡ chunkPlacesIn t) × (q ≡ chunkPlacesIn t + 1)) ⊎ ((p < chunkPlacesIn t) × (vacantChunk t p ≡ true) × (q ≡ chunkPlacesIn t)) → heldIn t p ≡ false
           by (inl w) = rw (le-ltb p (chunkPlacesIn t) (omega (arith, w .0)))
           by (inr w) = and-no (ltb p (chunkPlacesIn t)) (not (vacantChunk t p)) (ap not (w .1))
 
-      pub held-here : heldIn chunked (chunkSpot s t .place) ≡ true
+      pub held-here : heldIn chunked (chunkTaken s t .place) ≡ true
       held-here = rw (head-places, size-here, lt-ltb p q within-places, ne-eqb z 0 some)
 
       pub held-other : (b : ℕ) → (b ≡ p → ⊥) → heldIn chunked b ≡ heldIn t b
@@ -190,7 +190,7 @@ module _ (s : BuddySettings) (t : Tables) (fit : BuddyIn s) (lengths : Lengths s
       high-other : (b : ℕ) → (b ≡ p → ⊥) → highIn s chunked b ≡ highIn s t b
       high-other b n = rw (held-other b n, size-other b n)
 
-      pub chunked-high : (b : ℕ) → highIn s chunked b ≡ with (highIn s t) (chunkSpot s t .place) (levelsIn t) b
+      pub chunked-high : (b : ℕ) → highIn s chunked b ≡ with (highIn s t) (chunkTaken s t .place) (levelsIn t) b
       chunked-high b = ⊎-elim (λ e. rw (eq-eqb b p e) (ap (highIn s chunked) e ∙ high-here)) (λ n. rw (ne-eqb b p n) (high-other b n)) (same? b p)
 
       top-other : (b : ℕ) → (b ≡ p → ⊥) → topIn s chunked b ≡ topIn s t b
@@ -201,7 +201,7 @@ module _ (s : BuddySettings) (t : Tables) (fit : BuddyIn s) (lengths : Lengths s
       top-here : topIn s chunked p ≡ topWord
       top-here = ap (λ (x : Bool). cond x (getD (chunked .tree) topCell 0) 0) held-here ∙ tree-top
 
-      pub chunked-top : (b : ℕ) → topIn s chunked b ≡ with (topIn s t) (chunkSpot s t .place) (2 * spotIn (levelFrom s (levelsIn t - 1)) (t .tree) .place + 2) b
+      pub chunked-top : (b : ℕ) → topIn s chunked b ≡ with (topIn s t) (chunkTaken s t .place) (2 * pairTaken (levelFrom s (levelsIn t - 1)) (t .tree) .place + 2) b
       chunked-top b = ⊎-elim (λ e. rw (eq-eqb b p e) (ap (topIn s chunked) e ∙ top-here)) (λ n. rw (ne-eqb b p n) (top-other b n)) (same? b p)
 
       -- ---- the slab of chunk places
@@ -212,14 +212,14 @@ module _ (s : BuddySettings) (t : Tables) (fit : BuddyIn s) (lengths : Lengths s
           (λ n. ap (λ (w : ℕ). eqb w 0) (size-other x n) ∙ sym (changed-other (vacantChunk t) p false x n))
           (same? x p)
 
-      slab : chunkSpot s t .slab ≡ chunkSlab s chunked
+      slab : chunkTaken s t .slab ≡ chunkSlab s chunked
       slab = let a = sym head-places in let b = sym tree-vacated in (λ j. record { places = a j; vacant = b j })
 
       chunks-parted : Parted (vacantChunk chunked) (chunkAfter s chunked) (chunkSlab s chunked) (s .store .chunks)
       chunks-parted =
           let h : headOr (chunkPlacesIn t) (sound .chunks-parted .chained) < s .store .chunks = omega (arith, insert-last (vacantChunk t) (t .tree) (placeAt s afterAt) placeWords (chunkSlab s t) (s .store .chunks) (sound .chunks-parted) few, room) in
           subst (λ (y : Slab). Parted (vacantChunk chunked) (chunkAfter s chunked) y (s .store .chunks)) slab
-          (parted-same (changed (vacantChunk t) p false) (vacantChunk chunked) (chunkAfter s t) (chunkAfter s chunked) (chunkSpot s t .slab) (s .store .chunks) (λ x g. vacant-now x)
+          (parted-same (changed (vacantChunk t) p false) (vacantChunk chunked) (chunkAfter s t) (chunkAfter s chunked) (chunkTaken s t .slab) (s .store .chunks) (λ x g. vacant-now x)
           (λ x g. tree-other (cellOf (placeAt s afterAt) placeWords x) (λ e. omega arith) (λ e. omega arith))
           (inserted-parted (vacantChunk t) (t .tree) (placeAt s afterAt) placeWords (chunkSlab s t) (s .store .chunks) (sound .chunks-parted) few h))
 

@@ -1,4 +1,4 @@
--- What an ask and a delivery of a buddy store come to, and what they do to its loans and chunks. Assumes nothing.
+-- What an ask and a delivery of a buddy store come to, and what they do to its loans and chunks.
 use mathlib.Core.Path.{_≡_, refl, sym, ap, subst, _∙_}
 use mathlib.Core.Bool.{Bool, true, false, cond}
 use mathlib.Core.Logic.{_⊎_, inl, inr, ⊎-elim}
@@ -10,7 +10,7 @@ use lib.ListN.{length}
 use borrow.Author.Tests.{ltb-true, ne-eqb}
 use Rattle.lists.proofs.Bools.{told, and-left}
 use Rattle.counter.specs.Account.{heapAt}
-use Rattle.counter.specs.Gate.{Verdict, pass, refuse}
+use Rattle.counter.specs.Gate.{Verdict, pass, refuse, gated}
 use Rattle.counter.specs.InTable.{BuddyIn}
 use Rattle.counter.specs.Paper as Paper
 use Rattle.counter.specs.declared.account.Account.{Account}
@@ -41,7 +41,7 @@ use Rattle.buddy_rules.specs.Tables.{Tables, Lengths, placesAt, headWords, give
 use Rattle.buddy_rules.specs.Views.{loansIn, chunksOf, chunksIn}
 use Rattle.buddy_rules.proofs.Viewed.{chunkAt}
 use Rattle.buddy_outcomes.specs.Ask as Ask
-use Rattle.buddy_outcomes.specs.Ask.{sizeFor, grownFor, sizeOk, chunkSpot, grownTables, bookedTables, loanFrom, takenTables, deniedTables, decideAsk, carryAsk, planAsk, askOf}
+use Rattle.buddy_outcomes.specs.Ask.{sizeFor, grownTo, sizeOk, chunkTaken, grownTables, bookedTables, loanFrom, takenTables, deniedTables, decideAsk, carryAsk, planAsk, askOf, levelFor}
 use Rattle.buddy_outcomes.specs.Deliver as Deliver
 use Rattle.buddy_outcomes.specs.Deliver.{chunkTables, loanIn, servedTables, carryFate, decideDeliver, deliverGateOf, planDeliver, carryDeliver, deliverOf}
 use Rattle.buddy_outcomes.specs.Gate.{gateOf}
@@ -59,15 +59,15 @@ use Rattle.buddy_outcomes.proofs.Searches.{room-place}
 -- ---- an ask
 
 pub data AskComes (s : BuddySettings) (a : Account) (size mask : ℕ) (t : Tables) : Out Tables → Type 0 where
-  denied : (n : ℕ) → AskComes s a size mask t (out (Paper.refusal n []) a (deniedTables s size mask n t))
-  lends : (i : ℕ) → Passed s a t true → Takes s size mask t i → AskComes s a size mask t (out (blockSaid (loanFrom s size mask t i)) a (takenTables s size mask t i))
+  denied : (n : ℕ) → AskComes s a size mask t (out (Paper.refusal n []) a (deniedTables s (levelFor s size mask) n t))
+  lends : (i : ℕ) → Passed s a t true → Takes s size mask t i → AskComes s a size mask t (out (blockSaid (loanFrom s (sizeFor s size mask) t i)) a (takenTables s (sizeFor s size mask) (levelFor s size mask) t i))
   orders : (z : ℕ) → Passed s a t true → decideAsk s (heapAt a (s .store .heap)) (a .objects) size mask t ≡ buy z → AskComes s a size mask t (carryAsk s a size mask t (buy z))
 
 module _ (s : BuddySettings) (a : Account) (size mask : ℕ) (t : Tables) where
   abbrev decided : Plan ℕ
   decided = decideAsk s (heapAt a (s .store .heap)) (a .objects) size mask t
 
-  after-gate : (v : Verdict) (p : Plan ℕ) → gateOf s a t true ≡ v → decided ≡ p → AskComes s a size mask t (carryAsk s a size mask t (Ask.gated v p))
+  after-gate : (v : Verdict) (p : Plan ℕ) → gateOf s a t true ≡ v → decided ≡ p → AskComes s a size mask t (carryAsk s a size mask t (gated Ask.deny v p))
   unfolding carryAsk
   after-gate (refuse n) p g e = denied n
   after-gate pass (deny n) g e = denied n
@@ -108,7 +108,7 @@ module _ (s : BuddySettings) (a : Account) (o : Outcome) (t : Tables) where
   abbrev held : List ℕ
   held = memories t (chunkPlacesIn t)
 
-  after-delivery : (v : Verdict) → deliverGateOf s a t ≡ v → (x : OpenOrder) → a .order ≡ x → DeliverComes s a o t (carryDeliver s a t (Deliver.gated v (decideDeliver o held x)))
+  after-delivery : (v : Verdict) → deliverGateOf s a t ≡ v → (x : OpenOrder) → a .order ≡ x → DeliverComes s a o t (carryDeliver s a t (gated Deliver.deny v (decideDeliver o held x)))
   unfolding carryDeliver
   after-delivery (refuse n) g x e = early n
   after-delivery pass g Nothing e = early 2
@@ -127,7 +127,7 @@ grown-loans s n t = ap (λ (v : View). v .loans) (grown-view s n t)
 pub grown-chunks : (s : BuddySettings) (n : ℕ) (t : Tables) → chunksIn (grownTables s n t) ≡ chunksIn t
 grown-chunks s n t = ap (λ (v : View). v .chunks) (grown-view s n t)
 
-pub denied-tables : (s : BuddySettings) (size mask n : ℕ) (t : Tables) → (deniedTables s size mask n t ≡ grownTables s (grownFor s size mask t) t) ⊎ (deniedTables s size mask n t ≡ t)
+pub denied-tables : (s : BuddySettings) (size mask n : ℕ) (t : Tables) → (deniedTables s (levelFor s size mask) n t ≡ grownTables s (grownTo (levelFor s size mask) t) t) ⊎ (deniedTables s (levelFor s size mask) n t ≡ t)
 unfolding deniedTables
 denied-tables s size mask n t = ⊎-elim (λ e. inl (rw e)) (λ e. inr (rw e)) (told (eqb n 9))
 
@@ -146,7 +146,7 @@ size-some : (s : BuddySettings) → BuddyIn s → (size mask : ℕ) → sizeOk s
 unfolding sizeOk
 size-some s fit size mask e z = omega (arith, ltb-true 0 size (and-left (ltb 0 size) _ e), size-enough s fit size mask e)
 
-pub taken-amid : (s : BuddySettings) (t : Tables) → BuddyIn s → Lengths s t → Sound s t → (size mask i : ℕ) → Takes s size mask t i → Amid (loanFrom s size mask t i) (loansIn t) (loansIn (takenTables s size mask t i))
+pub taken-amid : (s : BuddySettings) (t : Tables) → BuddyIn s → Lengths s t → Sound s t → (size mask i : ℕ) → Takes s size mask t i → Amid (loanFrom s (sizeFor s size mask) t i) (loansIn t) (loansIn (takenTables s (sizeFor s size mask) (levelFor s size mask) t i))
 unfolding takenTables
 taken-amid s t fit lengths sound size mask i w =
     booked-amid s t _ _ _ _ fit (lengths .head) (lengths .loans) (sound .loans-parted) (room-place s t size mask (Ask.at i) (w .room)) (size-some s fit size mask (w .sized))
@@ -158,10 +158,10 @@ past-one t n e = ap (λ (b : Bool). chunksOf t n ++ cond b (chunkAt t n ∷ []) 
 
 module _ (s : BuddySettings) (t : Tables) (fit : BuddyIn s) (lengths : Lengths s t) (sound : Sound s t) (size mask z memory : ℕ) (b : Buys s size mask t z) where
   abbrev g : Tables
-  g = grownTables s (grownFor s size mask t) t
+  g = grownTables s (grownTo (levelFor s size mask) t) t
 
   g-lengths : Lengths s g
-  g-lengths = grown-lengths s t fit lengths sound (grownFor s size mask t)
+  g-lengths = grown-lengths s t fit lengths sound (grownTo (levelFor s size mask) t)
 
   g-sound : Sound s g
   g-sound = grown-sound s t fit lengths sound size mask z b
@@ -170,7 +170,7 @@ module _ (s : BuddySettings) (t : Tables) (fit : BuddyIn s) (lengths : Lengths s
   u = chunked s g fit g-lengths memory z
 
   abbrev p : ℕ
-  p = chunkSpot s g .place
+  p = chunkTaken s g .place
 
   is : chunkTables s memory z g ≡ u
   unfolding chunkTables
@@ -184,10 +184,10 @@ module _ (s : BuddySettings) (t : Tables) (fit : BuddyIn s) (lengths : Lengths s
 
   same-loans : loansIn (chunkTables s memory z g) ≡ loansIn t
   unfolding chunkTables
-  same-loans = ap (λ (k : ℕ). loansOf k (g .loans)) same-places ∙ grown-loans s (grownFor s size mask t) t
+  same-loans = ap (λ (k : ℕ). loansOf k (g .loans)) same-places ∙ grown-loans s (grownTo (levelFor s size mask) t) t
 
   -- the new chunk's block stands amid the loans that there were
-  pub served-amid : Amid (loanIn s size mask g) (loansIn t) (loansIn (servedTables s size mask memory z g))
+  pub served-amid : Amid (loanIn s size mask g) (loansIn t) (loansIn (servedTables s (sizeFor s size mask) (levelFor s size mask) memory z g))
   unfolding servedTables chunkTables
   served-amid =
       let v : Tables = chunkTables s memory z g in
@@ -195,8 +195,8 @@ module _ (s : BuddySettings) (t : Tables) (fit : BuddyIn s) (lengths : Lengths s
       (subst (BookParted (g .loans) (g .index) (s .store .loans)) (sym same-places) (g-sound .loans-parted))
       (subst (λ (k : ℕ). takenOf k (g .index) .place < s .store .loans) (sym same-places) (place s t fit lengths sound size mask z b))
       (size-some s fit size mask (b .sized)) in
-      subst (λ (n : ℕ). Amid (loan (n + 1) p 0 (sizeFor s size mask)) (loansIn t) (loansIn (servedTables s size mask memory z g))) same-given
-      (subst (λ (ls : List Loan). Amid (loan (givenIn v + 1) p 0 (sizeFor s size mask)) ls (loansIn (servedTables s size mask memory z g))) same-loans A)
+      subst (λ (n : ℕ). Amid (loan (n + 1) p 0 (sizeFor s size mask)) (loansIn t) (loansIn (servedTables s (sizeFor s size mask) (levelFor s size mask) memory z g))) same-given
+      (subst (λ (ls : List Loan). Amid (loan (givenIn v + 1) p 0 (sizeFor s size mask)) ls (loansIn (servedTables s (sizeFor s size mask) (levelFor s size mask) memory z g))) same-loans A)
 
   -- ---- the chunks
 
@@ -210,27 +210,27 @@ module _ (s : BuddySettings) (t : Tables) (fit : BuddyIn s) (lengths : Lengths s
   is-chunk = sym (b .order) ∙ ap (bytes (s .minimal)) (sym (count s t fit lengths sound size mask z b))
 
   -- the chunks are those before and the new one: its place is vacant or past the last
-  pub served-chunks : Amid (chunk (chunkSpot s (grownTables s (grownFor s size mask t) t) .place) memory z) (chunksIn t) (chunksIn (servedTables s size mask memory z (grownTables s (grownFor s size mask t) t)))
+  pub served-chunks : Amid (chunk (chunkTaken s (grownTables s (grownTo (levelFor s size mask) t) t) .place) memory z) (chunksIn t) (chunksIn (servedTables s (sizeFor s size mask) (levelFor s size mask) memory z (grownTables s (grownTo (levelFor s size mask) t) t)))
   unfolding servedTables chunkTables
   served-chunks = by-parts (parts u g p q (within-places s g fit g-lengths memory z room g-sound tall is-chunk) (held-here s g fit g-lengths memory z room g-sound tall is-chunk) (spot-dead s g fit g-lengths memory z room g-sound tall is-chunk) same)
     where
       q : ℕ
-      q = chunkSpot s g .slab .places
+      q = chunkTaken s g .slab .places
 
-      same : (x : ℕ) → (x ≡ chunkSpot s g .place → ⊥) → SameAt u g x
+      same : (x : ℕ) → (x ≡ chunkTaken s g .place → ⊥) → SameAt u g x
       same x o =
           let m = sym (memory-other s g fit g-lengths memory z room x o) in
           let y = sym (size-other s g fit g-lengths memory z room x o) in
           (sym (held-other s g fit g-lengths memory z room g-sound tall is-chunk x o), λ j. chunk x (m j) (y j))
 
-      all : chunksOf g (chunkSpot s g .slab .places) ≡ chunksIn g
+      all : chunksOf g (chunkTaken s g .slab .places) ≡ chunksIn g
       all =
           ⊎-elim
           (λ w. ap (chunksOf g) (omega (arith, w .1)) ∙ past-one g (chunkPlacesIn g) (subst (λ (x : ℕ). heldIn g x ≡ false) (w .0) (spot-dead s g fit g-lengths memory z room g-sound tall is-chunk)))
           (λ w. ap (chunksOf g) (w .1))
           (spot-low s g fit g-lengths memory z room g-sound tall is-chunk)
 
-      by-parts : Parts u g p q → Amid (chunk p memory z) (chunksIn t) (chunksIn (servedTables s size mask memory z g))
+      by-parts : Parts u g p q → Amid (chunk p memory z) (chunksIn t) (chunksIn (servedTables s (sizeFor s size mask) (levelFor s size mask) memory z g))
       by-parts w =
           let f : chunksIn u ≡ chunksOf u q = ap (chunksOf u) (head-places s g fit g-lengths memory z) in
           let m = memory-here s g fit g-lengths memory z room in
@@ -238,6 +238,6 @@ module _ (s : BuddySettings) (t : Tables) (fit : BuddyIn s) (lengths : Lengths s
           record {
             earlier = w .before;
             later = w .past;
-            were = sym (grown-chunks s (grownFor s size mask t) t) ∙ sym all ∙ w .is;
+            were = sym (grown-chunks s (grownTo (levelFor s size mask) t) t) ∙ sym all ∙ w .is;
             are = booked-chunks s _ _ _ _ u ∙ f ∙ w .was ∙ ap (λ (d : Chunk). w .before ++ (d ∷ w .past)) (λ j. chunk p (m j) (y j));
           }

@@ -1,5 +1,5 @@
 -- What a buddy store counts of its loans and chunks is what its user sees of them: how many, how many bytes, which memory
--- numbers. Assumes nothing.
+-- numbers.
 use mathlib.Core.Path.{_≡_, refl, sym, ap, _∙_, subst}
 use mathlib.Core.Bool.{Bool, true, false, cond, not, _&&_}
 use mathlib.Core.List.{List, [], _∷_, _++_, map}

@@ -1,4 +1,4 @@
--- A delivery on a sound store leaves it sound, whatever it answers: the memory kept, lost, or refused. Assumes nothing.
+-- A delivery on a sound store leaves it sound, whatever it answers: the memory kept, lost, or refused.
 use mathlib.Core.Path.{_≡_, refl, sym, ap, subst, _∙_}
 use mathlib.Core.Bool.{Bool, true, false, cond, not, _&&_, _||_}
 use mathlib.Core.Logic.{⊎-elim}
@@ -9,7 +9,7 @@ use lib.Dec.{eqb, ltb}
 use borrow.Author.Tests.{eqb-false, ltb-true}
 use Rattle.lists.proofs.Bools.{told, true-false, and-left, and-right, not-yes, same?}
 use Rattle.counter.specs.Account.{heapAt}
-use Rattle.counter.specs.Gate.{Verdict, refuse, pass}
+use Rattle.counter.specs.Gate.{Verdict, refuse, pass, gated}
 use Rattle.counter.specs.InTable.{BuddyIn}
 use Rattle.counter.specs.Limits.{levelsMost}
 use Rattle.counter.specs.declared.account.Account.{Account}
@@ -28,19 +28,19 @@ use Rattle.heap.specs.Heap.{bearsOk}
 use Rattle.slab.specs.Slab.{inserted}
 use Rattle.slab.specs.declared.Slab.{Slab}
 use Rattle.store_rules.specs.Delivery.{buddy, holds, suits, deliveryOk, mapped, fateOf}
-use Rattle.store_rules.specs.Tests.{orderFor, gateRow}
+use Rattle.store_rules.specs.Tests.{openFor, gateRow}
 use Rattle.store_rules.proofs.Refused.{leads-buy}
 use Rattle.book_rules.specs.Book.{takenOf}
 use Rattle.buddy_trees.specs.Trees.{bytes}
-use Rattle.buddy_rules.specs.Level.{spotIn, ringHead}
+use Rattle.buddy_rules.specs.Level.{pairTaken, ringHead}
 use Rattle.buddy_rules.specs.Tables.{Tables, Lengths, levelsIn, placesIn, chunkPlacesIn, heldIn, memoryIn, levelFrom, placeAt, afterAt, placeWords, memories}
 use Rattle.buddy_rules.specs.Sound.{Sound}
 use Rattle.buddy_rules.specs.Test.{soundOk}
 use Rattle.buddy_rules.proofs.Decides.{tables-yes}
 use Rattle.slab.specs.Slab as Slab
-use Rattle.buddy_outcomes.specs.Gate.{lentOk, accountOk}
+use Rattle.buddy_outcomes.specs.Gate.{inTableOk, accountOk}
 use Rattle.buddy_outcomes.specs.Ask as Ask
-use Rattle.buddy_outcomes.specs.Ask.{levelFor, grownFor, foundFor, chunkSpot, decideAsk, grownTables}
+use Rattle.buddy_outcomes.specs.Ask.{levelFor, grownTo, foundFrom, chunkTaken, decideAsk, grownTables, sizeFor}
 use Rattle.buddy_outcomes.specs.Deliver as Deliver
 use Rattle.buddy_outcomes.specs.Deliver.{stillOk, deliverGateOf, servedTables, carryFate, decideDeliver, planDeliver, carryDeliver, deliverOf}
 use Rattle.buddy_outcomes.proofs.Passing.{Lent, lent-in}
@@ -59,7 +59,7 @@ spot-same z x y f w = ⊎-elim (λ e. rw e refl) (λ e. rw e refl) (told (ltb (z
 
 module _ (s : BuddySettings) (t : Tables) (fit : BuddyIn s) (lengths : Lengths s t) (sound : Sound s t) (size mask z : ℕ) (b : Buys s size mask t z) where
   abbrev n : ℕ
-  n = grownFor s size mask t
+  n = grownTo (levelFor s size mask) t
 
   pub more : levelsIn t ≤ n
   more = omega arith
@@ -80,20 +80,20 @@ module _ (s : BuddySettings) (t : Tables) (fit : BuddyIn s) (lengths : Lengths s
   pub place : takenOf (placesIn (grownTables s n t)) (grownTables s n t .index) .place < s .store .loans
   place = subst (λ (p : ℕ). takenOf p (grownTables s n t .index) .place < s .store .loans) (sym (grown-places s t fit lengths sound n more most)) place-before
 
-  pub spot : chunkSpot s (grownTables s n t) .place < s .store .chunks
+  pub spot : chunkTaken s (grownTables s n t) .place < s .store .chunks
   spot =
-      let e : chunkSpot s (grownTables s n t) .place ≡ chunkSpot s t .place =
+      let e : chunkTaken s (grownTables s n t) .place ≡ chunkTaken s t .place =
       ap (λ (z : Slab). inserted z (grownTables s n t .tree) (placeAt s afterAt) placeWords .place) (grown-slab s t fit lengths sound n more most)
       ∙ spot-same _ (grownTables s n t .tree) (t .tree) (placeAt s afterAt) placeWords in
       omega (arith, e, room-chunk s t size mask Ask.nowhere (b .room) refl)
 
   pub empty : (j : ℕ) → levelFor s size mask ≤ j → j < levelsIn (grownTables s n t) → ringHead (levelFrom s j) (grownTables s n t .tree) ≡ Slab.nowhere
-  unfolding foundFor
+  unfolding foundFrom
   empty j h g =
       grown-head s t fit lengths sound n more most j (omega (arith, count))
       (λ k. search-none s (t .tree) (levelFor s size mask) (levelsIn t - levelFor s size mask) (b .found) j h (omega arith))
 
-  pub pair : (j : ℕ) → levelFor s size mask ≤ j → j < levelsIn (grownTables s n t) → spotIn (levelFrom s j) (grownTables s n t .tree) .place < s .pairs
+  pub pair : (j : ℕ) → levelFor s size mask ≤ j → j < levelsIn (grownTables s n t) → pairTaken (levelFrom s j) (grownTables s n t .tree) .place < s .pairs
   pair j h g =
       grown-spot s t fit lengths sound n more most j (omega (arith, count)) (λ k. room-pair s t size mask Ask.nowhere (b .room) j h (omega (arith, count)) k)
 
@@ -102,16 +102,16 @@ module _ (s : BuddySettings) (t : Tables) (fit : BuddyIn s) (lengths : Lengths s
     unfolding grownTables
     new-in c h e = new c (sym (grown-held s t fit lengths sound n more most c) ∙ h) e
 
-    pub arrived-lengths : Lengths s (servedTables s size mask memory z (grownTables s n t))
+    pub arrived-lengths : Lengths s (servedTables s (sizeFor s size mask) (levelFor s size mask) memory z (grownTables s n t))
     arrived-lengths =
         let e : bytes (s .minimal) (levelsIn (grownTables s n t)) ≡ z = ap (bytes (s .minimal)) count ∙ b .order in
-        subst (λ (x : ℕ). Lengths s (servedTables s size mask memory x (grownTables s n t))) e
+        subst (λ (x : ℕ). Lengths s (servedTables s (sizeFor s size mask) (levelFor s size mask) memory x (grownTables s n t))) e
         (served-lengths s (grownTables s n t) fit (grown-lengths s t fit lengths sound n) grown-sound size mask memory (b .sized) (omega (arith, count)) new-in empty pair place spot)
 
-    pub arrived-sound : Sound s (servedTables s size mask memory z (grownTables s n t))
+    pub arrived-sound : Sound s (servedTables s (sizeFor s size mask) (levelFor s size mask) memory z (grownTables s n t))
     arrived-sound =
         let e : bytes (s .minimal) (levelsIn (grownTables s n t)) ≡ z = ap (bytes (s .minimal)) count ∙ b .order in
-        subst (λ (x : ℕ). Sound s (servedTables s size mask memory x (grownTables s n t))) e
+        subst (λ (x : ℕ). Sound s (servedTables s (sizeFor s size mask) (levelFor s size mask) memory x (grownTables s n t))) e
         (served-sound s (grownTables s n t) fit (grown-lengths s t fit lengths sound n) grown-sound size mask memory (b .sized) (omega (arith, count)) new-in empty pair place spot)
 
 -- ---- the memory is new
@@ -153,7 +153,7 @@ held-low t c e = ltb-true c (chunkPlacesIn t) (and-left (ltb c (chunkPlacesIn t)
 pub gate-sound : (s : BuddySettings) (a : Account) (t : Tables) → deliverGateOf s a t ≡ pass → Sound s t
 unfolding deliverGateOf
 gate-sound s a t e =
-    let r = passed (gateRow (lentOk s a t) (orderFor (s .store .number) (a .order)) (soundOk s t && stillOk s a t (a .order)) (accountOk s a t)) e in
+    let r = passed (gateRow (inTableOk s a t) (openFor (s .store .number) (a .order)) (soundOk s t && stillOk s a t (a .order)) (accountOk s a t)) e in
     tables-yes s t (lent-in s a t (r .0) .settings) (and-left (soundOk s t) (stillOk s a t (a .order)) (r .1 .1 .0))
 
 module _ (s : BuddySettings) (a : Account) (o : Outcome) (t : Tables) (sound : Sound s t) where
@@ -161,7 +161,7 @@ module _ (s : BuddySettings) (a : Account) (o : Outcome) (t : Tables) (sound : S
   held = memories t (chunkPlacesIn t)
 
   module _ (k : KeptOrder) (fit : BuddyIn s) (lengths : Lengths s t) (b : Buys s (k .ask .size) (k .ask .mask) t (k .order .size)) where
-    lost-sound : Sound s (grownTables s (grownFor s (k .ask .size) (k .ask .mask) t) t)
+    lost-sound : Sound s (grownTables s (grownTo (levelFor s (k .ask .size) (k .ask .mask)) t) t)
     lost-sound = grown-sound s t fit lengths sound (k .ask .size) (k .ask .mask) (k .order .size) b
 
     made-sound : (m : Memory) (x : Mapping) → holds (m .number) held ≡ false → Sound s (carryFate s a k t (mapped buddy (m .number) x) .tables)
@@ -189,7 +189,7 @@ module _ (s : BuddySettings) (a : Account) (o : Outcome) (t : Tables) (sound : S
   pub opened : (k : KeptOrder) → a .order ≡ Kept k → deliverGateOf s a t ≡ pass → Open k
   unfolding deliverGateOf
   opened k e g =
-      let r = passed (gateRow (lentOk s a t) (orderFor (s .store .number) (a .order)) (soundOk s t && stillOk s a t (a .order)) (accountOk s a t)) g in
+      let r = passed (gateRow (inTableOk s a t) (openFor (s .store .number) (a .order)) (soundOk s t && stillOk s a t (a .order)) (accountOk s a t)) g in
       let still : stillOk s a t (Kept k) ≡ true = ap (stillOk s a t) (sym e) ∙ and-right (soundOk s t) (stillOk s a t (a .order)) (r .1 .1 .0) in
       let l = leads-buy (s .store) (k .order) (decideAsk s (heapAt a (s .store .heap)) (a .objects) (k .ask .size) (k .ask .mask) t) still in
       let z : k .order .size ≡ l .0 = ap (λ (x : Order). x .size) (l .2) in
@@ -202,7 +202,7 @@ module _ (s : BuddySettings) (a : Account) (o : Outcome) (t : Tables) (sound : S
         buys-it = subst (λ (z : ℕ). Buys s (k .ask .size) (k .ask .mask) t z) (sym z) (buys s (heapAt a (s .store .heap)) (a .objects) (k .ask .size) (k .ask .mask) t (l .0) (l .1));
       }
 
-  after : (v : Verdict) → deliverGateOf s a t ≡ v → (ord : OpenOrder) → a .order ≡ ord → Sound s (carryDeliver s a t (Deliver.gated v (decideDeliver o held ord)) .tables)
+  after : (v : Verdict) → deliverGateOf s a t ≡ v → (ord : OpenOrder) → a .order ≡ ord → Sound s (carryDeliver s a t (gated Deliver.deny v (decideDeliver o held ord)) .tables)
   unfolding carryDeliver
   after (refuse n) g ord e = sound
   after pass g Nothing e = sound

@@ -1,5 +1,4 @@
 -- The rings of a buddy store's levels over an order and a delivery, and what a user sees after a delivery: one loan and one chunk more.
--- Assumes nothing.
 use mathlib.Core.Path.{_≡_, sym, ap, subst}
 use mathlib.Core.Logic.{⊎-elim}
 use mathlib.Core.List.{List}
@@ -17,15 +16,14 @@ use Rattle.counter.specs.declared.account.OpenOrder.the-variants.{Kept}
 use Rattle.counter.specs.declared.account.Order.{Order}
 use Rattle.counter.specs.declared.answers.Outcome.{Outcome}
 use Rattle.counter.specs.declared.settings.BuddySettings.{BuddySettings}
-use Rattle.store_rules.specs.Loans.{loan}
 use Rattle.store_rules.specs.Outcomes.{Out}
-use Rattle.store_rules.specs.Views.{chunk}
+use Rattle.store_rules.specs.Views.{chunk, block, Matches}
 use Rattle.store_rules.specs.declared.Loan.{Loan}
 use Rattle.store_rules.proofs.Amid.{Amid}
 use Rattle.book_rules.specs.Book.{takenOf}
 use Rattle.buddy_trees.specs.Trees.{up}
 use Rattle.buddy_rules.proofs.Fitting.{up-add}
-use Rattle.buddy_rules.specs.Level.{spotIn}
+use Rattle.buddy_rules.specs.Level.{pairTaken}
 use Rattle.buddy_rules.specs.Ringed.{Ringed}
 use Rattle.buddy_rules.proofs.Ringed.{part-ringed, ringed-part}
 use Rattle.buddy_rules.specs.Rings.{Rings, ringsLent, ringsGrown}
@@ -34,8 +32,8 @@ use Rattle.buddy_rules.specs.Tables.{Tables, Lengths, levelsIn, placesIn, level
 use Rattle.buddy_rules.specs.Views.{loansIn, chunksIn, viewOf}
 use Rattle.buddy_rules.proofs.Ringing.{served-rings}
 use Rattle.buddy_outcomes.specs.Ask as Ask
-use Rattle.buddy_outcomes.specs.Ask.{sizeFor, levelFor, grownFor, chunkSpot, grownTables, askOf}
-use Rattle.buddy_outcomes.specs.Deliver.{asOrdered, chunkTables, servedTables, deliverOf}
+use Rattle.buddy_outcomes.specs.Ask.{sizeFor, levelFor, grownTo, chunkTaken, grownTables, askOf}
+use Rattle.buddy_outcomes.specs.Deliver.{loanIn, asOrdered, chunkTables, servedTables, deliverOf}
 use Rattle.buddy_outcomes.proofs.Arrives.{deliver-came}
 use Rattle.buddy_outcomes.proofs.Changed.{few-pairs, grown-lengths, grown-count, grown-head}
 use Rattle.buddy_outcomes.proofs.Chunked.{chunked, chunked-lengths, chunked-count, chunked-level}
@@ -73,18 +71,18 @@ grown-rings s t fit lengths sound n more most W rings l h = ⊎-elim old new (lt
 pub order-rings : (s : BuddySettings) (a : Account) (size mask : ℕ) (t : Tables) (o : Order) → askOf s a size mask t .said ≡ Paper.orderOf o → (W : ℕ → List ℕ) → Rings s t W
     → Rings s (askOf s a size mask t .tables) (ringsGrown (levelsIn t) W)
 order-rings s a size mask t o q W rings =
-    let b = order-buying s a size mask t (o .store) (o .size) (o .kind) (o .map) q in
+    let b = order-buying s a size mask t (o .store) (o .size) (o .memtype) (o .map) q in
     let p = b .passed in
     let fit = p .lent .settings in
-    let w = buys s (heapAt a (s .store .heap)) (a .objects) size mask t (Ask.orderFor s size mask t) (b .buys-it) in
+    let w = buys s (heapAt a (s .store .heap)) (a .objects) size mask t (Ask.orderBytes s (levelFor s size mask) t) (b .buys-it) in
     subst (λ (u : Tables). Rings s u (ringsGrown (levelsIn t) W)) (sym (ap (λ (r : Out Tables). r .tables) (b .leaves)))
-    (grown-rings s t fit (p .lent .lengths) (p .sound) (grownFor s size mask t) (omega arith) (omega (arith, level-low s fit size mask (w .sized), p .sound .levels-most)) W rings)
+    (grown-rings s t fit (p .lent .lengths) (p .sound) (grownTo (levelFor s size mask) t) (omega arith) (omega (arith, level-low s fit size mask (w .sized), p .sound .levels-most)) W rings)
 
 -- ---- a chunk arrives
 
 module _ (s : BuddySettings) (t : Tables) (fit : BuddyIn s) (lengths : Lengths s t) (sound : Sound s t) (size mask z memory : ℕ) (b : Buys s size mask t z) where
   abbrev n : ℕ
-  n = grownFor s size mask t
+  n = grownTo (levelFor s size mask) t
 
   abbrev g : Tables
   g = grownTables s n t
@@ -104,30 +102,29 @@ module _ (s : BuddySettings) (t : Tables) (fit : BuddyIn s) (lengths : Lengths s
   abbrev u : Tables
   u = chunked s g fit g-lengths memory z
 
-  top : levelsIn g ≡ up (suc (levelsIn g - 1 - lev)) lev
-  top = omega (arith, up-add (levelsIn g - 1 - lev) lev, many)
-
-  steps : levelsIn g - lev ≡ suc (levelsIn g - 1 - lev)
-  steps = omega (arith, many)
+  top : levelsIn g ≡ up (suc (levelsIn g - lev - 1)) lev
+  top = omega (arith, up-add (levelsIn g - lev - 1) lev, many)
 
   -- each level from the block's on has a new pair alone, and the others are as they were
-  pub arrived-rings : (W : ℕ → List ℕ) → Rings s (grownTables s (grownFor s size mask t) t) W
-      → Rings s (servedTables s size mask memory z (grownTables s (grownFor s size mask t) t)) (ringsLent (λ (j : ℕ). spotIn (levelFrom s j) (grownTables s (grownFor s size mask t) t .tree) .place) (levelFor s size mask) (levelsIn (grownTables s (grownFor s size mask t) t)) W)
+  pub arrived-rings : (W : ℕ → List ℕ) → Rings s (grownTables s (grownTo (levelFor s size mask) t) t) W
+      → Rings s (servedTables s (sizeFor s size mask) (levelFor s size mask) memory z (grownTables s (grownTo (levelFor s size mask) t) t)) (ringsLent (λ (j : ℕ). pairTaken (levelFrom s j) (grownTables s (grownTo (levelFor s size mask) t) t .tree) .place) (levelFor s size mask) (levelsIn (grownTables s (grownTo (levelFor s size mask) t) t)) W)
   unfolding servedTables chunkTables
   arrived-rings W rings =
-      let c = chunkSpot s g .place in
+      let c = chunkTaken s g .place in
       let k = takenOf (placesIn g) (g .index) .place in
-      let d = levelsIn g - 1 - lev in
+      let d = levelsIn g - lev - 1 in
       let r = served-rings s (few-pairs s fit) g fit g-lengths g-sound W rings (u .tree) (chunked-lengths s g fit g-lengths memory z .tree) (chunked-level s g fit g-lengths memory z) lev d c k top
       (λ i x y. Delivered.pair s t fit lengths sound size mask z b i x y) in
       booked-rings s u (omega (arith, chunked-count s g fit g-lengths memory z, g-sound .levels-most)) c 0 (sizeFor s size mask) _ _
-      (λ l h. rw steps (r l (omega (arith, h, chunked-count s g fit g-lengths memory z))))
+      (λ l h. r l (omega (arith, h, chunked-count s g fit g-lengths memory z)))
 
 -- ---- a delivery
 
 module _ (s : BuddySettings) (a : Account) (o : Outcome) (t : Tables) (serial number offset len : ℕ) (q : deliverOf s a o t .said ≡ Paper.block serial number offset len) where
-  -- a delivery that says a block: the loans are those before and that block, and the chunks those before and the one that was ordered
-  pub deliver-view : (k : KeptOrder) × (memory : ℕ) × (a .order ≡ Kept k) × Amid (loan serial number offset len) (viewOf s t .loans) (viewOf s (deliverOf s a o t .tables) .loans)
+  -- a delivery that says a block: the loans are those before and one that matches the block, and the chunks those before and the
+  -- one that was ordered
+  pub deliver-view : (k : KeptOrder) × (memory : ℕ) × (a .order ≡ Kept k)
+      × (l : Loan) × Matches (block serial number offset len) l × Amid l (viewOf s t .loans) (viewOf s (deliverOf s a o t .tables) .loans)
       × Amid (chunk number memory (k .order .size)) (viewOf s t .chunks) (viewOf s (deliverOf s a o t .tables) .chunks)
   deliver-view =
       let v = deliver-came s a o t serial number offset len q in
@@ -135,18 +132,16 @@ module _ (s : BuddySettings) (a : Account) (o : Outcome) (t : Tables) (serial nu
       let fit = v .lent .settings in
       let len-of = v .lent .lengths in
       let e = v .left in
-      let x = v .serial-is in
-      let y = v .chunk-is in
-      let f = v .offset-is in
-      let m = v .len-is in (
+      let y = v .chunk-is in (
         k,
         v .memory,
         v .ordered,
-        subst (λ (u : Tables). Amid (loan serial number offset len) (loansIn t) (loansIn u)) (sym e)
-            (subst (λ (l : Loan). Amid l (loansIn t) (loansIn (servedTables s (k .ask .size) (k .ask .mask) (v .memory) (k .order .size) (asOrdered s k t)))) (sym (λ j. loan (x j) (y j) (f j) (m j)))
-            (served-amid s t fit len-of (v .sound) (k .ask .size) (k .ask .mask) (k .order .size) (v .memory) (v .bought))),
+        loanIn s (k .ask .size) (k .ask .mask) (asOrdered s k t),
+        record { serial = sym (v .serial-is); chunk = sym y; offset = sym (v .offset-is); size = sym (v .len-is) },
+        subst (λ (u : Tables). Amid (loanIn s (k .ask .size) (k .ask .mask) (asOrdered s k t)) (loansIn t) (loansIn u)) (sym e)
+            (served-amid s t fit len-of (v .sound) (k .ask .size) (k .ask .mask) (k .order .size) (v .memory) (v .bought)),
         subst (λ (u : Tables). Amid (chunk number (v .memory) (k .order .size)) (chunksIn t) (chunksIn u)) (sym e)
-            (subst (λ (c : ℕ). Amid (chunk c (v .memory) (k .order .size)) (chunksIn t) (chunksIn (servedTables s (k .ask .size) (k .ask .mask) (v .memory) (k .order .size) (asOrdered s k t)))) (sym y)
+            (subst (λ (c : ℕ). Amid (chunk c (v .memory) (k .order .size)) (chunksIn t) (chunksIn (servedTables s (sizeFor s (k .ask .size) (k .ask .mask)) (levelFor s (k .ask .size) (k .ask .mask)) (v .memory) (k .order .size) (asOrdered s k t)))) (sym y)
             (served-chunks s t fit len-of (v .sound) (k .ask .size) (k .ask .mask) (k .order .size) (v .memory) (v .bought))),
       )
 
@@ -154,7 +149,7 @@ module _ (s : BuddySettings) (a : Account) (o : Outcome) (t : Tables) (serial nu
   pub deliver-rings : (W : ℕ → List ℕ) → Rings s t W
       → (k : KeptOrder) × (a .order ≡ Kept k)
       × Rings s (deliverOf s a o t .tables)
-      (ringsLent (λ (j : ℕ). spotIn (levelFrom s j) (asOrdered s k t .tree) .place) (levelFor s (k .ask .size) (k .ask .mask)) (levelsIn (asOrdered s k t)) (ringsGrown (levelsIn t) W))
+      (ringsLent (λ (j : ℕ). pairTaken (levelFrom s j) (asOrdered s k t .tree) .place) (levelFor s (k .ask .size) (k .ask .mask)) (levelsIn (asOrdered s k t)) (ringsGrown (levelsIn t) W))
   deliver-rings W rings =
       let v = deliver-came s a o t serial number offset len q in
       let k = v .order in
@@ -162,9 +157,9 @@ module _ (s : BuddySettings) (a : Account) (o : Outcome) (t : Tables) (serial nu
       let len-of = v .lent .lengths in
       let more = Delivered.more s t fit len-of (v .sound) (k .ask .size) (k .ask .mask) (k .order .size) (v .bought) in
       let most = Delivered.most s t fit len-of (v .sound) (k .ask .size) (k .ask .mask) (k .order .size) (v .bought) in
-      let r = grown-rings s t fit len-of (v .sound) (grownFor s (k .ask .size) (k .ask .mask) t) more most W rings in (
+      let r = grown-rings s t fit len-of (v .sound) (grownTo (levelFor s (k .ask .size) (k .ask .mask)) t) more most W rings in (
         k,
         v .ordered,
-        subst (λ (u : Tables). Rings s u (ringsLent (λ (j : ℕ). spotIn (levelFrom s j) (asOrdered s k t .tree) .place) (levelFor s (k .ask .size) (k .ask .mask)) (levelsIn (asOrdered s k t)) (ringsGrown (levelsIn t) W))) (sym (v .left))
+        subst (λ (u : Tables). Rings s u (ringsLent (λ (j : ℕ). pairTaken (levelFrom s j) (asOrdered s k t .tree) .place) (levelFor s (k .ask .size) (k .ask .mask)) (levelsIn (asOrdered s k t)) (ringsGrown (levelsIn t) W))) (sym (v .left))
             (arrived-rings s t fit len-of (v .sound) (k .ask .size) (k .ask .mask) (k .order .size) (v .memory) (v .bought) (ringsGrown (levelsIn t) W) r),
       )

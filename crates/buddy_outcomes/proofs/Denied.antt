@@ -1,4 +1,4 @@
--- Exactly when a delivery to a buddy store is refused with each number, and what 11 and 12 leave. Assumes nothing.
+-- Exactly when a delivery to a buddy store is refused with each number, and what 11 and 12 leave.
 use mathlib.Core.Path.{_≡_, refl, ap, _∙_, subst}
 use mathlib.Core.Bool.{true, false, _&&_}
 use mathlib.Core.Logic.{_⊎_, ⊎-elim, _↔_, Iff·trans}
@@ -7,7 +7,7 @@ use Prim.Native.Nat.{ℕ}
 use native.Mathlib.Omega.{arith}
 use Rattle.lists.proofs.Bools.{told, true-false, and-left, and-right, and-both}
 use Rattle.counter.specs.Account.{heapAt}
-use Rattle.counter.specs.Gate.{Verdict, pass, refuse, Row, first}
+use Rattle.counter.specs.Gate.{Verdict, pass, refuse, Row, first, gated}
 use Rattle.counter.specs.InTable.{BuddyIn}
 use Rattle.counter.specs.Paper as Paper
 use Rattle.counter.specs.Reasons.{none, reason, Given, Clear, Decides}
@@ -23,7 +23,7 @@ use Rattle.store_rules.specs.Delivery.{Fate, kept, lost, buddy, fateOf, deliver
 use Rattle.store_rules.specs.Orders.{buy, orderFrom, leadsTo}
 use Rattle.store_rules.specs.Outcomes.{out}
 use Rattle.store_rules.specs.Refusals.{UnwelcomeTo, DeviceOut, HostOut, lostFor}
-use Rattle.store_rules.specs.Tests.{orderFor, gateRow}
+use Rattle.store_rules.specs.Tests.{openFor, gateRow}
 use Rattle.store_rules.proofs.Refused.{fails, none-for, is-same-order, leads-buy}
 use Rattle.store_rules.proofs.Said.{not-refused, said-number, said-back, Tells, tells-refused, tells-passed}
 use Rattle.store_rules.proofs.Fates.{left, fateVerdict, fateRow, device-out, host-out, welcomeOk, unwelcomed, arrival-tells}
@@ -32,8 +32,8 @@ use Rattle.buddy_rules.specs.Sound.{Sound}
 use Rattle.buddy_rules.specs.Tables.{Tables, Lengths, chunkPlacesIn, memories}
 use Rattle.buddy_rules.specs.Test.{soundOk}
 use Rattle.buddy_rules.proofs.Decides.{tables-yes, tables-all}
-use Rattle.buddy_outcomes.specs.Gate.{lentOk, accountOk}
-use Rattle.buddy_outcomes.specs.Ask.{decideAsk}
+use Rattle.buddy_outcomes.specs.Gate.{inTableOk, accountOk}
+use Rattle.buddy_outcomes.specs.Ask.{decideAsk, levelFor}
 use Rattle.buddy_outcomes.specs.Ask as A
 use Rattle.buddy_outcomes.specs.Deliver.{stillOk, deliverGateOf, asOrdered, carryFate, decideDeliver, planDeliver, carryDeliver, deliverOf}
 use Rattle.buddy_outcomes.specs.Deliver as D
@@ -65,10 +65,10 @@ module _ (s : BuddySettings) (a : Account) (o : Outcome) (t : Tables) (k : KeptO
   fated (kept m) e q = not-refused (carryFate s a k t (kept m) .said) n back refl q
   fated (lost m c x) e q = λ i. out (Paper.refusal (said-number m n x back q i) (said-back m n x back q i)) (left buddy (s .store) a k o m c x e .1 i) (asOrdered s k t)
 
-  after : (v : Verdict) → deliverGateOf s a t ≡ v → Leaves (D.gated v (decideDeliver o (memories t (chunkPlacesIn t)) (Kept k)))
+  after : (v : Verdict) → deliverGateOf s a t ≡ v → Leaves (gated D.deny v (decideDeliver o (memories t (chunkPlacesIn t)) (Kept k)))
   unfolding deliverGateOf
   after (refuse m) g =
-      let h = gate-low (lentOk s a t) (orderFor (s .store .number) (a .order)) (soundOk s t && stillOk s a t (a .order)) (accountOk s a t) m g in
+      let h = gate-low (inTableOk s a t) (openFor (s .store .number) (a .order)) (soundOk s t && stillOk s a t (a .order)) (accountOk s a t) m g in
       denied m (λ z. omega arith) (λ z. omega arith)
   after pass g =
       ⊎-elim (λ d. rw d (fated (fateOf buddy o) refl)) (λ d. rw d (denied 13 (λ z. omega arith) (λ z. omega arith))) (told (deliveryOk (k .order .map) (memories t (chunkPlacesIn t)) o))
@@ -79,8 +79,8 @@ pub deliver-lost : (s : BuddySettings) (a : Account) (o : Outcome) (t : Tables) 
 unfolding deliverOf planDeliver
 deliver-lost s a o t k n back its e number = by (a .order) its e
   where
-    by : (x : OpenOrder) → x ≡ Kept k → carryDeliver s a t (D.gated (deliverGateOf s a t) (decideDeliver o (memories t (chunkPlacesIn t)) x)) .said ≡ Paper.refusal n back
-        → carryDeliver s a t (D.gated (deliverGateOf s a t) (decideDeliver o (memories t (chunkPlacesIn t)) x)) ≡ out (Paper.refusal n back) (lostFor buddy (s .store) a k o) (asOrdered s k t)
+    by : (x : OpenOrder) → x ≡ Kept k → carryDeliver s a t (gated D.deny (deliverGateOf s a t) (decideDeliver o (memories t (chunkPlacesIn t)) x)) .said ≡ Paper.refusal n back
+        → carryDeliver s a t (gated D.deny (deliverGateOf s a t) (decideDeliver o (memories t (chunkPlacesIn t)) x)) ≡ out (Paper.refusal n back) (lostFor buddy (s .store) a k o) (asOrdered s k t)
     by x q = rw q (after s a o t k n back number (deliverGateOf s a t) refl)
 
 -- ---- exactly when each number is given
@@ -96,14 +96,14 @@ module _ (s : BuddySettings) (a : Account) (t : Tables) where
 
   abbrev gates : Row
   gates =
-      gateRow (lentOk s a t) (orderFor (s .store .number) (a .order)) (soundOk s t && stillOk s a t (a .order)) (accountOk s a t)
+      gateRow (inTableOk s a t) (openFor (s .store .number) (a .order)) (soundOk s t && stillOk s a t (a .order)) (accountOk s a t)
 
   -- 3: the store is sound and the kept ask leads to the order
   leads : BuddyIn s → Lengths s t → ((soundOk s t && stillOk s a t (a .order)) ≡ true) ↔ (Sound s t × Leads buddyWords s a t)
   leads fit lengths = (there, back)
     where
       bought : Sound s t → (k : KeptOrder) (z : ℕ) → (decideAsk s (heapAt a (s .store .heap)) (a .objects) (k .ask .size) (k .ask .mask) t ≡ buy z)
-          ↔ (Clear (askTests buddyWords s (heapAt a (s .store .heap)) (a .objects) (k .ask .size) (k .ask .mask) t) × Needed s (k .ask .size) (k .ask .mask) t × (z ≡ A.orderFor s (k .ask .size) (k .ask .mask) t))
+          ↔ (Clear (askTests buddyWords s (heapAt a (s .store .heap)) (a .objects) (k .ask .size) (k .ask .mask) t) × Needed s (k .ask .size) (k .ask .mask) t × (z ≡ A.orderBytes s (levelFor s (k .ask .size) (k .ask .mask)) t))
       bought sound k z = ask-buys s t fit lengths sound (heapAt a (s .store .heap)) (a .objects) (k .ask .size) (k .ask .mask) z
 
       still : Sound s t → (ord : OpenOrder) → a .order ≡ ord → stillOk s a t ord ≡ true → Leads buddyWords s a t
@@ -122,7 +122,7 @@ module _ (s : BuddySettings) (a : Account) (t : Tables) where
       back w =
           let l = w .1 in
           let k = l .kept in
-          let z = A.orderFor s (k .ask .size) (k .ask .mask) t in
+          let z = A.orderBytes s (levelFor s (k .ask .size) (k .ask .mask)) t in
           and-both (soundOk s t) (stillOk s a t (a .order)) (tables-all s t fit (w .0))
           (ap (stillOk s a t) (l .its)
           ∙ ap (leadsTo (s .store) (k .order)) (bought (w .0) k z .1 (l .clear, l .needed, refl))
@@ -132,13 +132,13 @@ module _ (s : BuddySettings) (a : Account) (t : Tables) where
   pub kept-decided : Decides gates (keptRows buddyWords s a t)
   kept-decided = (
     refl,
-    fails (lentOk s a t) (in-table s a t .0) (in-table s a t .1),
+    fails (inTableOk s a t) (in-table s a t .0) (in-table s a t .1),
     (λ e. (
       refl,
       none-for (s .store .number) a,
       (λ _. (
         refl,
-        (let i = in-table s a t .0 e in let w = leads (i .settings) (i .lengths) in fails (soundOk s t && stillOk s a t (a .order)) (w .0) (w .1)),
+        (let i = in-table s a t .0 e in let w = leads (i .0 .0) (i .0 .1) in fails (soundOk s t && stillOk s a t (a .order)) (w .0) (w .1)),
         (λ _. (refl, short s a t, (λ _. tt))),
       )),
     )),

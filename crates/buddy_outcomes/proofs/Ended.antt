@@ -1,9 +1,9 @@
 -- A return that is taken, as the user sees it: the block is no longer on loan, its chunk goes exactly when no other loan lies in it,
--- and the answer, the account and the list tell so. Assumes nothing.
+-- and the answer, the account and the list tell so.
 use mathlib.Core.Path.{_≡_, refl, sym, ap, subst, _∙_}
 use mathlib.Core.Bool.{Bool, true, false, cond, not, _&&_, and-false}
 use mathlib.Core.Logic.{⊎-elim}
-use mathlib.Core.List.{List, [], _∷_, _++_, List·Memᴰ}
+use mathlib.Core.List.{List, [], _∷_, _++_}
 use Prim.Native.Nat.{ℕ, zero, suc, _*_, _-_, _≤_, _<_}
 use native.Mathlib.Omega.{arith}
 use lib.Dec.{eqb, ltb}
@@ -21,7 +21,7 @@ use Rattle.counter.specs.declared.answers.Block.{Block}
 use Rattle.counter.specs.declared.settings.BuddySettings.{BuddySettings}
 use Rattle.store_rules.specs.Loans.{loanWords, sizeAt}
 use Rattle.store_rules.specs.Outcomes.{Listed, listed, listOk, toFree, releasedAccount}
-use Rattle.store_rules.specs.Views.{chunk, loanOf, loansLess, Go, sizes}
+use Rattle.store_rules.specs.Views.{chunk, OnLoan, loansLess, Differ, Go, sizes}
 use Rattle.store_rules.specs.declared.Chunk.{Chunk}
 use Rattle.store_rules.specs.declared.Loan.{Loan}
 use Rattle.store_rules.proofs.Going.{none-go}
@@ -33,13 +33,13 @@ use Rattle.buddy_trees.proofs.Onces.{Once}
 use Rattle.buddy_rules.specs.Tables.{Tables, Lengths, chunkWords, memoryAt, chunkSizeAt, placesIn, chunkPlacesIn, chunkSizeIn, memoryIn, heldIn, vacantChunk}
 use Rattle.buddy_rules.specs.Sound.{Sound}
 use Rattle.buddy_rules.specs.Views.{loansIn, chunksOf, chunksIn, viewOf}
-use Rattle.buddy_rules.proofs.Viewed.{loanAt, loan-live, chunkAt, held-seen, seen-held}
+use Rattle.buddy_rules.proofs.Viewed.{loanAt, chunkAt, held-seen, seen-held}
 use Rattle.buddy_rules.proofs.Named.{standing, has-loan}
 use Rattle.buddy_rules.proofs.Onces.{loans-once, chunks-once}
 use Rattle.buddy_outcomes.specs.Gate.{gateOf}
 use Rattle.buddy_outcomes.specs.Return.{wordFor, onLoanOk, climbFor, givenTables, releasedBy, returnOf}
 use Rattle.buddy_outcomes.proofs.Passing.{gate-passed}
-use Rattle.buddy_outcomes.proofs.Loaned.{live-used, on-loan-is, is-on-loan}
+use Rattle.buddy_outcomes.proofs.Loaned.{live-used, lent-live, on-loan-is, is-on-loan}
 use Rattle.buddy_outcomes.proofs.Given as Back
 use Rattle.buddy_outcomes.proofs.Given.{given-sound, given-held, given-memory}
 use Rattle.buddy_outcomes.proofs.Returned.{held-taken}
@@ -64,10 +64,11 @@ module _ (s : BuddySettings) (t : Tables) (fit : BuddyIn s) (lengths : Lengths s
       let u = live-used t k (o .0) in
       let h : loanWords * placesIn t ≤ length (t .loans) = omega (arith, lengths .loans, sound .loans-parted .limit) in
       let z : eqb (loanAt t k .size) 0 ≡ false = ap (λ (n : ℕ). eqb n 0) (sym (cell-row (t .loans) sizeAt loanWords k)) ∙ u .1 in
-      let e : loansIn t ≡ earlier (placesIn t) k (t .loans) (u .0) h ++ (loanOf b ∷ later (placesIn t) k (t .loans) (u .0) h) =
-      loans-with (placesIn t) k (t .loans) (u .0) h z ∙ ap (λ (l : Loan). earlier (placesIn t) k (t .loans) (u .0) h ++ (l ∷ later (placesIn t) k (t .loans) (u .0) h)) (o .1) in
+      let xs = earlier (placesIn t) k (t .loans) (u .0) h in
+      let ys = later (placesIn t) k (t .loans) (u .0) h in
+      let e : loansIn t ≡ xs ++ (loanAt t k ∷ ys) = loans-with (placesIn t) k (t .loans) (u .0) h z in
       loans-less (placesIn t) k (t .loans) (u .0) h
-      ∙ sym (less-mid b (earlier (placesIn t) k (t .loans) (u .0) h) (later (placesIn t) k (t .loans) (u .0) h) (subst Once e (loans-once s t fit sound)))
+      ∙ sym (less-mid b (loanAt t k) xs ys (o .1) (subst Once e (loans-once s t fit sound)) (subst (Differ (λ (l : Loan). l .serial)) e (standing s t fit sound .serials)))
       ∙ ap (loansLess (b ∷ [])) (sym e)
 
   v-sound : Sound s v
@@ -260,23 +261,23 @@ module _ (s : BuddySettings) (a : Account) (b : Block) (t : Tables) (list : List
       (told (climbFor s b w t .freed))
 
 -- a block on loan that is handed back where tests 1 to 4 pass is taken
-pub return-told : (s : BuddySettings) (a : Account) (b : Block) (t : Tables) (list : List ℕ) → gateOf s a t true ≡ pass → List·Memᴰ (loanOf b) (loansIn t) → s .store .chunks ≤ length list
+pub return-told : (s : BuddySettings) (a : Account) (b : Block) (t : Tables) (list : List ℕ) → gateOf s a t true ≡ pass → OnLoan b (loansIn t) → s .store .chunks ≤ length list
     → Handed s a b t (returnOf s a b t list)
 return-told s a b t list passes lent long =
     let p = gate-passed s a t true (sym passes) in
     let fit = p .lent .settings in
-    let m = loan-live t (loanOf b) lent in
+    let m = lent-live t b lent in
     let on = is-on-loan s t fit (p .lent .lengths) (p .sound) b (m .0) (m .1) (m .2) in
     let gate : gateOf s a t (listOk (s .store) list) ≡ pass = ap (gateOf s a t) (le-leb (s .store .chunks) (length list) long) ∙ passes in
     subst (Handed s a b t) (sym (held-taken s a b t list gate (m .0) (m .1) (m .2)))
     (released-handed s a b t list fit (p .lent .lengths) (p .sound) on (omega (arith, fit .store .chunks-some, long)))
 
 -- and its tables are seen as the store with the block back
-pub return-view : (s : BuddySettings) (a : Account) (b : Block) (t : Tables) (list : List ℕ) → gateOf s a t true ≡ pass → List·Memᴰ (loanOf b) (loansIn t) → s .store .chunks ≤ length list
+pub return-view : (s : BuddySettings) (a : Account) (b : Block) (t : Tables) (list : List ℕ) → gateOf s a t true ≡ pass → OnLoan b (loansIn t) → s .store .chunks ≤ length list
     → viewOf s (returnOf s a b t list .tables) ≡ atOnce (s .minimal) (b ∷ []) (viewOf s t)
 return-view s a b t list passes lent long =
     let p = gate-passed s a t true (sym passes) in
     let fit = p .lent .settings in
-    let m = loan-live t (loanOf b) lent in
+    let m = lent-live t b lent in
     let on = is-on-loan s t fit (p .lent .lengths) (p .sound) b (m .0) (m .1) (m .2) in
     ap (viewOf s) (return-told s a b t list passes lent long .tables) ∙ back-view s t fit (p .lent .lengths) (p .sound) b on

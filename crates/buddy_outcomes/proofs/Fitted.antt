@@ -1,5 +1,4 @@
--- When an ask gives an order: exactly when no held chunk has a fitting free place, whatever the search looked at. Assumes
--- nothing.
+-- When an ask gives an order: exactly when no held chunk has a fitting free place, whatever the search looked at.
 use mathlib.Core.Path.{_≡_, refl, sym, ap, ap₂, subst, _∙_}
 use mathlib.Core.Bool.{true, false, cond}
 use mathlib.Core.Logic.{_⊎_, inl, inr, ⊎-elim, _↔_}
@@ -12,7 +11,7 @@ use Rattle.lists.proofs.Bools.{told, true-false, lt-or-le}
 use Rattle.rounding_rules.proofs.Raising.{whole}
 use Rattle.words.proofs.Records.{cell-row}
 use Rattle.counter.specs.Account.{heapAt}
-use Rattle.counter.specs.Gate.{Verdict, pass, refuse}
+use Rattle.counter.specs.Gate.{Verdict, pass, refuse, gated}
 use Rattle.counter.specs.InTable.{BuddyIn}
 use Rattle.counter.specs.Paper as Paper
 use Rattle.counter.specs.Table.{alignmentOk}
@@ -44,7 +43,7 @@ use Rattle.buddy_rules.proofs.Splitting.{head-is}
 use Rattle.buddy_rules.proofs.Viewed.{loanAt, live-loan, loan-live, chunkAt, held-seen, seen-held}
 use Rattle.buddy_rules.proofs.Walks.{minimal-pos}
 use Rattle.buddy_outcomes.specs.Ask as Ask
-use Rattle.buddy_outcomes.specs.Ask.{Found, at, sizeFor, levelFor, foundFor, sizeOk, decideAsk, headEnt, loanFrom, carryAsk, gated, planAsk, askOf}
+use Rattle.buddy_outcomes.specs.Ask.{Found, at, sizeFor, levelFor, foundFrom, sizeOk, decideAsk, headEnt, loanFrom, carryAsk, planAsk, askOf}
 use Rattle.buddy_outcomes.specs.Gate.{gateOf}
 use Rattle.buddy_outcomes.specs.Refusals.{Needed}
 use Rattle.buddy_outcomes.proofs.Changed.{few-pairs}
@@ -192,19 +191,19 @@ module _ (s : BuddySettings) (t : Tables) (fit : BuddyIn s) (lengths : Lengths s
       (r .0, r .1, omega (arith, r .2, size .3), λ g. level-empty s t fit sound (r .0) g (r .3))
 
 -- the search finds no level exactly when no held chunk has a fitting free place
-pub needs-when : (s : BuddySettings) (t : Tables) → BuddyIn s → Lengths s t → Sound s t → (size mask : ℕ) → alignmentOk mask ≡ true → sizeOk s size mask ≡ true → (foundFor s size mask t ≡ Ask.nowhere) ↔ Needed s size mask t
-unfolding foundFor
-needs-when s t fit lengths sound size mask aligned sized = (none, some (foundFor s size mask t) refl)
+pub needs-when : (s : BuddySettings) (t : Tables) → BuddyIn s → Lengths s t → Sound s t → (size mask : ℕ) → alignmentOk mask ≡ true → sizeOk s size mask ≡ true → (foundFrom s (levelFor s size mask) t ≡ Ask.nowhere) ↔ Needed s size mask t
+unfolding foundFrom
+needs-when s t fit lengths sound size mask aligned sized = (none, some (foundFrom s (levelFor s size mask) t) refl)
   where
     lev : ℕ
     lev = levelFor s size mask
 
-    none : foundFor s size mask t ≡ Ask.nowhere → Needed s size mask t
+    none : foundFrom s (levelFor s size mask) t ≡ Ask.nowhere → Needed s size mask t
     none e f =
         let r = fits-found s t fit lengths sound (sizeFor s size mask) lev (f .chunk .number) (f .start) (size-level s fit size mask sized) (fits-spot s t (sizeFor s size mask) f) in
         r .3 (search-none s (t .tree) lev (levelsIn t - lev) e (r .0) (r .1) (omega (arith, r .1, r .2)))
 
-    some : (g : Found) → foundFor s size mask t ≡ g → Needed s size mask t → foundFor s size mask t ≡ Ask.nowhere
+    some : (g : Found) → foundFrom s (levelFor s size mask) t ≡ g → Needed s size mask t → foundFrom s (levelFor s size mask) t ≡ Ask.nowhere
     some Ask.nowhere e n = e
     some (at i) e n =
         let r = search-at s (t .tree) lev (levelsIn t - lev) i e in
@@ -221,9 +220,9 @@ module _ (s : BuddySettings) (a : Account) (size mask : ℕ) (t : Tables) where
   decided = decideAsk s (heapAt a (s .store .heap)) (a .objects) size mask t
 
   -- it is what the gate and then the plan says
-  said-by : (v : Verdict) (p : Plan ℕ) → gateOf s a t true ≡ v → decided ≡ p → askOf s a size mask t .said ≡ carryAsk s a size mask t (gated v p) .said
+  said-by : (v : Verdict) (p : Plan ℕ) → gateOf s a t true ≡ v → decided ≡ p → askOf s a size mask t .said ≡ carryAsk s a size mask t (gated deny v p) .said
   unfolding askOf planAsk
-  said-by v p e g = ap₂ (λ (x : Verdict) (y : Plan ℕ). carryAsk s a size mask t (gated x y) .said) e g
+  said-by v p e g = ap₂ (λ (x : Verdict) (y : Plan ℕ). carryAsk s a size mask t (gated deny x y) .said) e g
 
   -- on an ask that is not refused an order is given exactly when no held chunk has a fitting free place
   pub orders-when : ((n : ℕ) (back : List ℕ) → askOf s a size mask t .said ≡ Paper.refusal n back → ⊥)
@@ -231,7 +230,7 @@ module _ (s : BuddySettings) (a : Account) (size mask : ℕ) (t : Tables) where
   unfolding carryAsk
   orders-when f = by (gateOf s a t true) decided refl refl
     where
-      when : gateOf s a t true ≡ pass → alignmentOk mask ≡ true → sizeOk s size mask ≡ true → (foundFor s size mask t ≡ Ask.nowhere) ↔ Needed s size mask t
+      when : gateOf s a t true ≡ pass → alignmentOk mask ≡ true → sizeOk s size mask ≡ true → (foundFrom s (levelFor s size mask) t ≡ Ask.nowhere) ↔ Needed s size mask t
       when e = let p = gate-passed s a t true (sym e) in needs-when s t (p .lent .settings) (p .lent .lengths) (p .sound) size mask
 
       by : (v : Verdict) (p : Plan ℕ) → gateOf s a t true ≡ v → decided ≡ p → ((z : ℕ) × (askOf s a size mask t .said ≡ Paper.orderOf (orderFrom (s .store) z))) ↔ Needed s size mask t
@@ -239,7 +238,7 @@ module _ (s : BuddySettings) (a : Account) (size mask : ℕ) (t : Tables) where
       by pass (deny n) e g = absurd (f n [] (said-by pass (deny n) e g))
       by pass (take i) e g =
           let w = takes s (heapAt a (s .store .heap)) (a .objects) size mask t i g in
-          let l : Loan = loanFrom s size mask t i in (
+          let l : Loan = loanFrom s (sizeFor s size mask) t i in (
             (λ q. order-block (orderFrom (s .store) (q .0)) (l .serial) (l .chunk) (l .offset) (l .size) (sym (q .1) ∙ said-by pass (take i) e g)),
             (λ n. not-both i (sym (w .found) ∙ when e (w .aligned) (w .sized) .1 n)),
           )

@@ -1,32 +1,30 @@
--- The gate of a buddy store decides rows 1 to 4 of 01's table. Assumes nothing.
+-- The gate of a buddy store decides rows 1 to 4 of 01's table.
 use mathlib.Core.Path.{_≡_, refl, subst, sym}
 use mathlib.Core.Bool.{Bool, true, false, _&&_}
 use mathlib.Core.Logic.{_↔_}
 use mathlib.Core.List.{List}
 use Prim.Native.Nat.{ℕ}
-use lib.Dec.{leb}
-use lib.ListN.{length, getD}
+use lib.ListN.{length}
 use borrow.Author.Tests.{leb-true, le-leb}
 use Rattle.lists.proofs.Bools.{and-left, and-right, and-both}
-use Rattle.counter.specs.Account.{heapAt, noHeap}
+use Rattle.counter.specs.Account.{heapAt}
 use Rattle.counter.specs.InTable.{BuddyIn}
-use Rattle.counter.specs.Limits.{heapsMost, heapBytesMost}
 use Rattle.counter.specs.Reasons.{none, reason, Decides}
 use Rattle.counter.specs.Table.{buddyOk, heapsOk}
 use Rattle.counter.specs.declared.account.Account.{Account}
 use Rattle.counter.specs.declared.settings.BuddySettings.{BuddySettings}
-use Rattle.counter.proofs.Tables.{buddy-all, heaps-each, each-heaps}
+use Rattle.counter.proofs.Tables.{buddy-all}
 use Rattle.store_rules.specs.Outcomes.{listOk}
 use Rattle.store_rules.specs.Refusals.{OrderOpen, Uncovered}
 use Rattle.store_rules.specs.Tests.{noOrder, gateRow}
-use Rattle.store_rules.proofs.Refused.{fails, order-open, uncovered}
+use Rattle.store_rules.proofs.Refused.{fails, heaps-in, order-open, uncovered}
 use Rattle.buddy_rules.specs.Sound.{Sound}
 use Rattle.buddy_rules.specs.Tables.{Tables, lengthsOk, chunkPlacesIn}
 use Rattle.buddy_rules.specs.Test.{soundOk}
 use Rattle.buddy_rules.proofs.Decides.{tables-yes, tables-all}
-use Rattle.buddy_outcomes.specs.Gate.{lentOk, heldCount, heldBytes, accountOk}
-use Rattle.buddy_outcomes.specs.Refusals.{InTable, buddyWords}
-use Rattle.store_rules.specs.Rows.{Short, WithList, gateRows, listRows}
+use Rattle.buddy_outcomes.specs.Gate.{inTableOk, heldCount, heldBytes, accountOk}
+use Rattle.buddy_outcomes.specs.Refusals.{buddyWords}
+use Rattle.store_rules.specs.Rows.{InTable, Short, WithList, gateRows, listRows}
 use Rattle.buddy_outcomes.proofs.Passing.{lent-in, are-lengths}
 use Rattle.buddy_outcomes.proofs.Counting.{count-is, bytes-is}
 use Rattle.buddy_rules.specs.Views.{chunksIn}
@@ -34,42 +32,28 @@ use Rattle.store_rules.specs.Views.{sizes}
 
 -- ---- 1
 
-pub in-table : (s : BuddySettings) (a : Account) (t : Tables) → (lentOk s a t ≡ true) ↔ InTable s a t
-unfolding lentOk
+pub in-table : (s : BuddySettings) (a : Account) (t : Tables) → (inTableOk s a t ≡ true) ↔ InTable buddyWords s a t
+unfolding inTableOk
 in-table s a t = (there, back)
   where
-    there : lentOk s a t ≡ true → InTable s a t
+    there : inTableOk s a t ≡ true → InTable buddyWords s a t
     there e =
         let l = lent-in s a t e in
-        let each = heaps-each (a .heaps) heapsMost (l .heaps) in
-        record {
-          settings = l .settings;
-          heaps = λ i low.
-              let h = getD (a .heaps) i noHeap in
-              let size = leb (h .size) heapBytesMost in
-              let used = leb (h .used) heapBytesMost in
-              (leb-true (h .size) heapBytesMost (and-left size used (each i low)), leb-true (h .used) heapBytesMost (and-right size used (each i low)));
-          lengths = l .lengths;
-        }
+        ((l .settings, l .lengths), heaps-in a .0 (l .heaps))
 
-    back : InTable s a t → lentOk s a t ≡ true
+    back : InTable buddyWords s a t → inTableOk s a t ≡ true
     back w =
-        and-both (buddyOk s) (heapsOk (a .heaps) && lengthsOk s t) (buddy-all s (w .settings))
-        (and-both (heapsOk (a .heaps)) (lengthsOk s t)
-        (each-heaps (a .heaps) heapsMost
-        (λ i low.
-        let h = getD (a .heaps) i noHeap in
-        and-both (leb (h .size) heapBytesMost) (leb (h .used) heapBytesMost) (le-leb (h .size) heapBytesMost (w .heaps i low .0)) (le-leb (h .used) heapBytesMost (w .heaps i low .1))))
-        (are-lengths s t (w .lengths)))
+        and-both (buddyOk s) (heapsOk (a .heaps) && lengthsOk s t) (buddy-all s (w .0 .0))
+        (and-both (heapsOk (a .heaps)) (lengthsOk s t) (heaps-in a .1 (w .1)) (are-lengths s t (w .0 .1)))
 
 module _ (s : BuddySettings) (a : Account) (t : Tables) where
-  with-list : (list : List ℕ) → ((lentOk s a t && listOk (s .store) list) ≡ true) ↔ WithList buddyWords s a t list
+  with-list : (list : List ℕ) → ((inTableOk s a t && listOk (s .store) list) ≡ true) ↔ WithList buddyWords s a t list
   with-list list = (
     (λ e. (
-      in-table s a t .0 (and-left (lentOk s a t) (listOk (s .store) list) e),
-      leb-true (s .store .chunks) (length list) (and-right (lentOk s a t) (listOk (s .store) list) e),
+      in-table s a t .0 (and-left (inTableOk s a t) (listOk (s .store) list) e),
+      leb-true (s .store .chunks) (length list) (and-right (inTableOk s a t) (listOk (s .store) list) e),
     )),
-    (λ w. and-both (lentOk s a t) (listOk (s .store) list) (in-table s a t .1 (w .0)) (le-leb (s .store .chunks) (length list) (w .1))),
+    (λ w. and-both (inTableOk s a t) (listOk (s .store) list) (in-table s a t .1 (w .0)) (le-leb (s .store .chunks) (length list) (w .1))),
   )
 
   -- ---- 4
@@ -100,11 +84,11 @@ module _ (s : BuddySettings) (a : Account) (t : Tables) where
     )),
   )
 
-  pub list-decided : (list : List ℕ) → Decides (gateRow (lentOk s a t && listOk (s .store) list) (noOrder (a .order)) (soundOk s t) (accountOk s a t)) (listRows buddyWords s a t list)
-  list-decided list = decided (lentOk s a t && listOk (s .store) list) (with-list list) (λ (i : WithList buddyWords s a t list). i .0 .settings)
+  pub list-decided : (list : List ℕ) → Decides (gateRow (inTableOk s a t && listOk (s .store) list) (noOrder (a .order)) (soundOk s t) (accountOk s a t)) (listRows buddyWords s a t list)
+  list-decided list = decided (inTableOk s a t && listOk (s .store) list) (with-list list) (λ (i : WithList buddyWords s a t list). i .0 .0 .0)
 
-  pub gate-decided : Decides (gateRow (lentOk s a t && true) (noOrder (a .order)) (soundOk s t) (accountOk s a t)) (gateRows buddyWords s a t)
+  pub gate-decided : Decides (gateRow (inTableOk s a t && true) (noOrder (a .order)) (soundOk s t) (accountOk s a t)) (gateRows buddyWords s a t)
   gate-decided =
-      decided (lentOk s a t && true)
-      ((λ e. in-table s a t .0 (and-left (lentOk s a t) true e)), (λ w. and-both (lentOk s a t) true (in-table s a t .1 w) refl))
-      (λ (i : InTable s a t). i .settings)
+      decided (inTableOk s a t && true)
+      ((λ e. in-table s a t .0 (and-left (inTableOk s a t) true e)), (λ w. and-both (inTableOk s a t) true (in-table s a t .1 w) refl))
+      (λ (i : InTable buddyWords s a t). i .0 .0)

@@ -1,5 +1,4 @@
 -- What the tables hold when a block on loan has been taken back: the store with that loan returned, which is sound.
--- Assumes nothing.
 use mathlib.Core.Path.{_≡_, refl, sym, ap, subst, _∙_}
 use mathlib.Core.Bool.{Bool, true, false, cond, not, _&&_, and-false}
 use mathlib.Core.Logic.{⊎-elim}
@@ -76,7 +75,7 @@ module _ (s : BuddySettings) (t : Tables) (fit : BuddyIn s) (lengths : Lengths s
   -- the word that leads to it is one of the index
   pub word-in : w < indexWords n
   word-in =
-      let serial : serialOf (t .loans) k ≡ b .serial = cell-row (t .loans) serialAt loanWords k ∙ ap (λ (d : Loan). d .serial) (on-loan-is s t fit lengths sound b on .1) in
+      let serial : serialOf (t .loans) k ≡ b .serial = cell-row (t .loans) serialAt loanWords k ∙ on-loan-is s t fit lengths sound b on .1 .serial in
       subst (λ (x : ℕ). wordTo (t .loans) (t .index) n (placesIn t) (givenIn t) x < indexWords n) serial
       (found (t .loans) (t .index) n (placesIn t) (givenIn t) (fit .store .loans-some) limit few (sound .chained) k (used .0) (used .1) .0)
 
@@ -90,9 +89,9 @@ module _ (s : BuddySettings) (t : Tables) (fit : BuddyIn s) (lengths : Lengths s
   says =
       let r = on-loan-is s t fit lengths sound b on .1 in
       record {
-        serial = cell-row (t .loans) serialAt loanWords k ∙ ap (λ (d : Loan). d .serial) r;
-        chunk = cell-row (t .loans) 1 loanWords k ∙ ap (λ (d : Loan). d .chunk) r;
-        size = cell-row (t .loans) sizeAt loanWords k ∙ ap (λ (d : Loan). d .size) r;
+        serial = cell-row (t .loans) serialAt loanWords k ∙ r .serial;
+        chunk = cell-row (t .loans) 1 loanWords k ∙ r .chunk;
+        size = cell-row (t .loans) sizeAt loanWords k ∙ r .size;
       }
 
   -- its chunk is held

@@ -1,4 +1,4 @@
--- One chunk goes, of chunks none of which stands twice; and none does. Assumes nothing.
+-- One chunk goes, of chunks none of which stands twice; and none does.
 use mathlib.Core.Path.{_≡_, refl, sym, ap, subst, _∙_}
 use mathlib.Core.Bool.{Bool, true, false, cond}
 use mathlib.Core.Logic.{_⊎_, inl, inr, ⊎-elim}

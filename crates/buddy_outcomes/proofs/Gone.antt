@@ -1,5 +1,5 @@
 -- A serial that was given and that no loan has: over one call of a buddy store, with any settings, account and arguments, it
--- stays so; a return that is taken makes it so; and where it is so the return of its block is refused. Assumes nothing.
+-- stays so; a return that is taken makes it so; and where it is so the return of its block is refused.
 use mathlib.Core.Path.{_≡_, refl, sym, ap, subst, _∙_}
 use mathlib.Core.Bool.{Bool, true, false, not, _&&_, and-false}
 use mathlib.Core.Logic.{_⊎_, inl, inr, ⊎-elim}
@@ -12,7 +12,7 @@ use lib.Seq.{getD-set-same, getD-set-other}
 use Rattle.lists.proofs.Bools.{told, true-false, same?}
 use Rattle.words.specs.Words.{cellOf}
 use Rattle.counter.specs.Account.{heapAt}
-use Rattle.counter.specs.Gate.{Verdict, refuse, pass}
+use Rattle.counter.specs.Gate.{Verdict, refuse, pass, gated}
 use Rattle.counter.specs.InTable.{BuddyIn}
 use Rattle.counter.specs.Paper as Paper
 use Rattle.counter.specs.Reasons.{none, reason, Given}
@@ -38,7 +38,7 @@ use Rattle.buddy_rules.specs.Moves.{Cut}
 use Rattle.buddy_rules.specs.Sound.{Sound}
 use Rattle.buddy_outcomes.specs.Gate.{gateOf}
 use Rattle.buddy_outcomes.specs.Ask as Ask
-use Rattle.buddy_outcomes.specs.Ask.{grownFor, decideAsk, grownTables, bookedTables, takenTables, deniedTables, carryAsk, planAsk, askOf}
+use Rattle.buddy_outcomes.specs.Ask.{grownTo, decideAsk, grownTables, bookedTables, takenTables, deniedTables, carryAsk, planAsk, askOf, sizeFor, levelFor}
 use Rattle.buddy_outcomes.specs.Deliver as Deliver
 use Rattle.buddy_outcomes.specs.Deliver.{deliverGateOf, chunkTables, servedTables, carryFate, decideDeliver, planDeliver, carryDeliver, deliverOf}
 use Rattle.buddy_outcomes.specs.Refusals.{buddyWords}
@@ -137,11 +137,11 @@ module _ (k : ℕ) (s : BuddySettings) (t : Tables) (fit : BuddyIn s) (r : Roomy
 -- ---- an ask
 
 module _ (k : ℕ) (s : BuddySettings) (a : Account) (size mask : ℕ) (t : Tables) (g : Gone k t) where
-  denied-gone : (n : ℕ) → Gone k (deniedTables s size mask n t)
+  denied-gone : (n : ℕ) → Gone k (deniedTables s (levelFor s size mask) n t)
   unfolding deniedTables
-  denied-gone n = ⊎-elim (λ e. rw e (grown-gone k s (grownFor s size mask t) t g)) (λ e. rw e g) (told (eqb n 9))
+  denied-gone n = ⊎-elim (λ e. rw e (grown-gone k s (grownTo (levelFor s size mask) t) t g)) (λ e. rw e g) (told (eqb n 9))
 
-  taken-gone : (i : ℕ) → Passed s a t true → Takes s size mask t i → Gone k (takenTables s size mask t i)
+  taken-gone : (i : ℕ) → Passed s a t true → Takes s size mask t i → Gone k (takenTables s (sizeFor s size mask) (levelFor s size mask) t i)
   unfolding takenTables
   taken-gone i p h =
       let r : Roomy s t = record {
@@ -152,13 +152,13 @@ module _ (k : ℕ) (s : BuddySettings) (a : Account) (size mask : ℕ) (t : Tabl
       } in
       booked-gone k s t (p .lent .settings) r _ _ _ _ g
 
-  carried-gone : (p : Plan ℕ) → ((i : ℕ) → p ≡ take i → Gone k (takenTables s size mask t i)) → Gone k (carryAsk s a size mask t p .tables)
+  carried-gone : (p : Plan ℕ) → ((i : ℕ) → p ≡ take i → Gone k (takenTables s (sizeFor s size mask) (levelFor s size mask) t i)) → Gone k (carryAsk s a size mask t p .tables)
   unfolding carryAsk
   carried-gone (deny n) f = denied-gone n
   carried-gone (take i) f = f i refl
-  carried-gone (buy z) f = grown-gone k s (grownFor s size mask t) t g
+  carried-gone (buy z) f = grown-gone k s (grownTo (levelFor s size mask) t) t g
 
-  asked-gone : (v : Verdict) → gateOf s a t true ≡ v → Gone k (carryAsk s a size mask t (Ask.gated v (decideAsk s (heapAt a (s .store .heap)) (a .objects) size mask t)) .tables)
+  asked-gone : (v : Verdict) → gateOf s a t true ≡ v → Gone k (carryAsk s a size mask t (gated Ask.deny v (decideAsk s (heapAt a (s .store .heap)) (a .objects) size mask t)) .tables)
   unfolding carryAsk
   asked-gone (refuse n) e = denied-gone n
   asked-gone pass e =
@@ -183,26 +183,26 @@ roomy-chunk s memory z t r =
     }
 
 module _ (k : ℕ) (s : BuddySettings) (a : Account) (o : Outcome) (t : Tables) (g : Gone k t) where
-  served-gone : BuddyIn s → Lengths s t → Sound s t → (size mask z memory : ℕ) → Buys s size mask t z → Gone k (servedTables s size mask memory z (grownTables s (grownFor s size mask t) t))
+  served-gone : BuddyIn s → Lengths s t → Sound s t → (size mask z memory : ℕ) → Buys s size mask t z → Gone k (servedTables s (sizeFor s size mask) (levelFor s size mask) memory z (grownTables s (grownTo (levelFor s size mask) t) t))
   unfolding servedTables
   served-gone fit lengths sound size mask z memory b =
-      let u : Tables = grownTables s (grownFor s size mask t) t in
-      let l = grown-lengths s t fit lengths sound (grownFor s size mask t) in
+      let u : Tables = grownTables s (grownTo (levelFor s size mask) t) t in
+      let l = grown-lengths s t fit lengths sound (grownTo (levelFor s size mask) t) in
       let r : Roomy s u = record {
         head = l .head;
         loans = l .loans;
         place = place s t fit lengths sound size mask z b;
         parted = grown-sound s t fit lengths sound size mask z b .loans-parted;
       } in
-      booked-gone k s (chunkTables s memory z u) fit (roomy-chunk s memory z u r) _ _ _ _ (chunk-gone s memory z u k (grown-gone k s (grownFor s size mask t) t g))
+      booked-gone k s (chunkTables s memory z u) fit (roomy-chunk s memory z u r) _ _ _ _ (chunk-gone s memory z u k (grown-gone k s (grownTo (levelFor s size mask) t) t g))
 
   fate-gone : BuddyIn s → Lengths s t → Sound s t → (x : KeptOrder) → Buys s (x .ask .size) (x .ask .mask) t (x .order .size) → (f : Fate) → Gone k (carryFate s a x t f .tables)
   unfolding carryFate
   fate-gone fit lengths sound x b (kept m) = served-gone fit lengths sound (x .ask .size) (x .ask .mask) (x .order .size) m b
-  fate-gone fit lengths sound x b (lost n c back) = grown-gone k s (grownFor s (x .ask .size) (x .ask .mask) t) t g
+  fate-gone fit lengths sound x b (lost n c back) = grown-gone k s (grownTo (levelFor s (x .ask .size) (x .ask .mask)) t) t g
 
   delivered-gone : (v : Verdict) → deliverGateOf s a t ≡ v → (ord : OpenOrder) → a .order ≡ ord
-      → Gone k (carryDeliver s a t (Deliver.gated v (decideDeliver o (memories t (chunkPlacesIn t)) ord)) .tables)
+      → Gone k (carryDeliver s a t (gated Deliver.deny v (decideDeliver o (memories t (chunkPlacesIn t)) ord)) .tables)
   unfolding carryDeliver
   delivered-gone (refuse n) e ord h = g
   delivered-gone pass e Nothing h = g

@@ -1,5 +1,4 @@
--- The head of a buddy store's tables after each way of writing them: levels grown, a chunk placed, a loan entered. Assumes
--- nothing.
+-- The head of a buddy store's tables after each way of writing them: levels grown, a chunk placed, a loan entered.
 use mathlib.Core.Path.{_≡_, _∙_}
 use Prim.Native.Nat.{ℕ, _+_}
 use native.Mathlib.Omega.{arith}

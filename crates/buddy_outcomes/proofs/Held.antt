@@ -1,5 +1,5 @@
 -- How many chunks a buddy store holds and how many bytes they have, after each call's step: as many as before, one more, or
--- one less. Assumes nothing.
+-- one less.
 use mathlib.Core.Path.{_≡_, refl, sym, ap, _∙_}
 use mathlib.Core.Bool.{Bool, true, false, cond, _&&_, not}
 use mathlib.Core.Logic.{⊎-elim}
@@ -24,7 +24,7 @@ use Rattle.buddy_rules.specs.Tables.{Tables, Lengths, chunkWords, chunkSizeAt, 
 use Rattle.buddy_rules.specs.Moves.{Cut}
 use Rattle.buddy_rules.specs.Sound.{Sound}
 use Rattle.buddy_outcomes.specs.Gate.{heldCount, heldBytes, accountOk}
-use Rattle.buddy_outcomes.specs.Ask.{chunkSpot, grownTables, bookedTables, takenTables}
+use Rattle.buddy_outcomes.specs.Ask.{chunkTaken, grownTables, bookedTables, takenTables, sizeFor, levelFor}
 use Rattle.buddy_outcomes.specs.Deliver.{chunkTables, servedTables}
 use Rattle.buddy_outcomes.specs.Return.{wordFor, onLoanOk, climbFor, givenTables}
 use Rattle.buddy_outcomes.proofs.Chunked.{chunked, head-places, size-here, size-other, spot-low, within-places, spot-dead, held-here, held-other}
@@ -64,13 +64,13 @@ sums-less f g c y less same (suc n) h =
 
 -- ---- of the chunks
 
-abbrev countAt : Tables → ℕ → ℕ
-countAt t c = cond (heldIn t c) 1 0
+abbrev heldOne : Tables → ℕ → ℕ
+heldOne t c = cond (heldIn t c) 1 0
 
 abbrev bytesAt : Tables → ℕ → ℕ
 bytesAt t c = cond (heldIn t c) (chunkSizeIn t c) 0
 
-count-is : (t : Tables) (n : ℕ) → heldCount t n ≡ sums (countAt t) n
+count-is : (t : Tables) (n : ℕ) → heldCount t n ≡ sums (heldOne t) n
 unfolding heldCount sums
 count-is t zero = refl
 count-is t (suc n) = omega (arith, count-is t n)
@@ -105,9 +105,9 @@ pub chunk-goes : (t u : Tables) (c n : ℕ) → c < n → heldIn t c ≡ true �
     → ((x : ℕ) → (x ≡ c → ⊥) → (heldIn u x ≡ heldIn t x) × (chunkSizeIn u x ≡ chunkSizeIn t x))
     → (heldCount u n + 1 ≡ heldCount t n) × (heldBytes u n + chunkSizeIn t c ≡ heldBytes t n)
 chunk-goes t u c n low was gone others =
-    let one : countAt u c + 1 ≡ countAt t c = rw (was, gone) refl in
+    let one : heldOne u c + 1 ≡ heldOne t c = rw (was, gone) refl in
     let size : bytesAt u c + chunkSizeIn t c ≡ bytesAt t c = rw (was, gone) (omega arith) in (
-      omega (arith, count-is u n, count-is t n, sums-less (countAt u) (countAt t) c 1 one (λ x o. ap (λ (b : Bool). cond b 1 0) (others x o .0)) n low),
+      omega (arith, count-is u n, count-is t n, sums-less (heldOne u) (heldOne t) c 1 one (λ x o. ap (λ (b : Bool). cond b 1 0) (others x o .0)) n low),
       omega (arith, bytes-is u n, bytes-is t n, sums-less (bytesAt u) (bytesAt t) c (chunkSizeIn t c) size (λ x o. (λ j. cond (others x o .0 j) (others x o .1 j) 0)) n low),
     )
 
@@ -116,7 +116,7 @@ pub held-past : (t : Tables) (n : ℕ) → chunkPlacesIn t ≤ n → (heldCount 
 held-past t n h =
     let m = chunkPlacesIn t in
     let none : (x : ℕ) → chunkPlacesIn t ≤ x → heldIn t x ≡ false = λ x k. rw (le-ltb x (chunkPlacesIn t) k) refl in (
-      count-is t n ∙ sums-past (countAt t) m (λ x k. ap (λ (b : Bool). cond b 1 0) (none x k)) n h ∙ sym (count-is t m),
+      count-is t n ∙ sums-past (heldOne t) m (λ x k. ap (λ (b : Bool). cond b 1 0) (none x k)) n h ∙ sym (count-is t m),
       bytes-is t n ∙ sums-past (bytesAt t) m (λ x k. ap (λ (b : Bool). cond b (chunkSizeIn t x) 0) (none x k)) n h ∙ sym (bytes-is t m),
     )
 
@@ -126,7 +126,7 @@ same-holds t u words places =
     let n = chunkPlacesIn u in
     let held-same : (x : ℕ) → heldIn u x ≡ heldIn t x = λ x. (λ j. ltb x (places j) && not (eqb (getD (words j) (cellOf chunkSizeAt chunkWords x) 0) 0)) in
     let size-same : (x : ℕ) → chunkSizeIn u x ≡ chunkSizeIn t x = λ x. ap (λ (w : List ℕ). getD w (cellOf chunkSizeAt chunkWords x) 0) words in (
-      count-is u n ∙ sums-same (countAt u) (countAt t) n (λ x h. ap (λ (b : Bool). cond b 1 0) (held-same x)) ∙ sym (count-is t n) ∙ ap (heldCount t) places,
+      count-is u n ∙ sums-same (heldOne u) (heldOne t) n (λ x h. ap (λ (b : Bool). cond b 1 0) (held-same x)) ∙ sym (count-is t n) ∙ ap (heldCount t) places,
       bytes-is u n ∙ sums-same (bytesAt u) (bytesAt t) n (λ x h. (λ j. cond (held-same x j) (size-same x j) 0)) ∙ sym (bytes-is t n) ∙ ap (heldBytes t) places,
     )
 
@@ -146,19 +146,19 @@ booked-holds s c o size cut t =
     (getD-set-other given placesAt chunkPlacesAt q 0 (λ e. omega arith) ∙ getD-set-other (t .head) givenAt chunkPlacesAt (givenIn t + 1) 0 (λ e. omega arith))
 
 -- nor does a loan from a level with a ready side
-pub taken-holds : (s : BuddySettings) (size mask : ℕ) (t : Tables) (i : ℕ) → Holds (takenTables s size mask t i) (chunksHeld t) (bytesHeld t)
+pub taken-holds : (s : BuddySettings) (size mask : ℕ) (t : Tables) (i : ℕ) → Holds (takenTables s (sizeFor s size mask) (levelFor s size mask) t i) (chunksHeld t) (bytesHeld t)
 unfolding takenTables
 taken-holds s size mask t i = booked-holds s _ _ _ _ t
 
 -- ---- a delivery: a chunk of z bytes stands at a place that was vacant
 
 module _ (s : BuddySettings) (t : Tables) (fit : BuddyIn s) (lengths : Lengths s t) (sound : Sound s t) (memory z : ℕ)
-    (room : chunkSpot s t .place < s .store .chunks) (tall : 0 < levelsIn t) (is : z ≡ bytes (s .minimal) (levelsIn t)) where
+    (room : chunkTaken s t .place < s .store .chunks) (tall : 0 < levelsIn t) (is : z ≡ bytes (s .minimal) (levelsIn t)) where
   abbrev p : ℕ
-  p = chunkSpot s t .place
+  p = chunkTaken s t .place
 
   abbrev q : ℕ
-  q = chunkSpot s t .slab .places
+  q = chunkTaken s t .slab .places
 
   chunked-holds : Holds (chunked s t fit lengths memory z) (chunksHeld t + 1) (bytesHeld t + z)
   chunked-holds =
@@ -175,7 +175,7 @@ module _ (s : BuddySettings) (t : Tables) (fit : BuddyIn s) (lengths : Lengths s
       )
 
   -- it is one more, and its bytes are more
-  pub served-holds : (size mask : ℕ) → Holds (servedTables s size mask memory z t) (chunksHeld t + 1) (bytesHeld t + z)
+  pub served-holds : (size mask : ℕ) → Holds (servedTables s (sizeFor s size mask) (levelFor s size mask) memory z t) (chunksHeld t + 1) (bytesHeld t + z)
   unfolding servedTables chunkTables
   served-holds size mask =
       let b = booked-holds s _ _ _ _ (chunked s t fit lengths memory z) in

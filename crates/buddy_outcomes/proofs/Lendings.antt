@@ -1,4 +1,4 @@
--- An ask answered by a block: which level served it, which block it is, and that the stretch is fit for it. Assumes nothing.
+-- An ask answered by a block: which level served it, which block it is, and that the stretch is fit for it.
 use mathlib.Core.Path.{_≡_, refl, sym, ap, ap₂, subst, _∙_}
 use mathlib.Core.Bool.{true, cond, _&&_, not}
 use mathlib.Core.List.{List, [], _∷_, _++_, List·Memᴰ}
@@ -11,7 +11,7 @@ use Rattle.words.specs.Words.{cellOf}
 use Rattle.words.proofs.Records.{cell-row}
 use Rattle.rounding_rules.proofs.Raising.{whole}
 use Rattle.counter.specs.Account.{heapAt}
-use Rattle.counter.specs.Gate.{Verdict, pass, refuse}
+use Rattle.counter.specs.Gate.{Verdict, pass, refuse, gated}
 use Rattle.counter.specs.InTable.{BuddyIn}
 use Rattle.counter.specs.Paper as Paper
 use Rattle.counter.specs.Table.{alignmentOk}
@@ -72,7 +72,7 @@ booked-chunks s c o size cut t =
     ap (chunksOf u) p ∙ chunks-of t u p refl (chunkPlacesIn t)
 
 -- an ask that lends changes none
-pub taken-chunks : (s : BuddySettings) (size mask : ℕ) (t : Tables) (i : ℕ) → chunksIn (takenTables s size mask t i) ≡ chunksIn t
+pub taken-chunks : (s : BuddySettings) (size mask : ℕ) (t : Tables) (i : ℕ) → chunksIn (takenTables s (sizeFor s size mask) (levelFor s size mask) t i) ≡ chunksIn t
 unfolding takenTables
 taken-chunks s size mask t i = booked-chunks s _ _ _ _ t
 
@@ -105,15 +105,15 @@ pub record Served (s : BuddySettings) (a : Account) (size mask : ℕ) (t : Table
   pub chunk-is : chunk ≡ headEnt s t level .chunk
   pub offset-is : offset ≡ baseOf (s .minimal) (headEnt s t level) level
   pub len-is : len ≡ sizeFor s size mask
-  pub left : askOf s a size mask t ≡ out (blockSaid (loanFrom s size mask t level)) a (takenTables s size mask t level)
+  pub left : askOf s a size mask t ≡ out (blockSaid (loanFrom s (sizeFor s size mask) t level)) a (takenTables s (sizeFor s size mask) (levelFor s size mask) t level)
 
 module _ (s : BuddySettings) (a : Account) (size mask : ℕ) (t : Tables) where
   abbrev decided : Plan ℕ
   decided = decideAsk s (heapAt a (s .store .heap)) (a .objects) size mask t
 
-  ask-comes : (v : Verdict) (p : Plan ℕ) → gateOf s a t true ≡ v → decided ≡ p → askOf s a size mask t ≡ carryAsk s a size mask t (Ask.gated v p)
+  ask-comes : (v : Verdict) (p : Plan ℕ) → gateOf s a t true ≡ v → decided ≡ p → askOf s a size mask t ≡ carryAsk s a size mask t (gated Ask.deny v p)
   unfolding askOf planAsk
-  ask-comes v p e g = ap₂ (λ (x : Verdict) (y : Plan ℕ). carryAsk s a size mask t (Ask.gated x y)) e g
+  ask-comes v p e g = ap₂ (λ (x : Verdict) (y : Plan ℕ). carryAsk s a size mask t (gated Ask.deny x y)) e g
 
   module _ (serial chunk offset len : ℕ) (q : askOf s a size mask t .said ≡ Paper.block serial chunk offset len) where
     says : (r : Out Tables) → askOf s a size mask t ≡ r → r .said ≡ Paper.block serial chunk offset len
@@ -129,7 +129,7 @@ module _ (s : BuddySettings) (a : Account) (size mask : ℕ) (t : Tables) where
         by pass (deny n) e g = refusal-block n [] serial chunk offset len (says _ (ask-comes pass (deny n) e g))
         by pass (buy z) e g = order-block (orderFrom (s .store) z) serial chunk offset len (says _ (ask-comes pass (buy z) e g))
         by pass (take i) e g =
-            let l : Loan = loanFrom s size mask t i in
+            let l : Loan = loanFrom s (sizeFor s size mask) t i in
             let b = same-block (l .serial) (l .chunk) (l .offset) (l .size) serial chunk offset len (says _ (ask-comes pass (take i) e g)) in
             record {
               level = i;

@@ -1,4 +1,4 @@
--- What a passed gate says of the store and the account. Assumes nothing.
+-- What a passed gate says of the store and the account.
 use mathlib.Core.Path.{_≡_, sym}
 use mathlib.Core.Bool.{Bool, true, _&&_}
 use borrow.Author.Tests.{eqb-true, eq-eqb}
@@ -15,7 +15,7 @@ use Rattle.buddy_rules.specs.Tables.{Tables, Lengths, lengthsRow, lengthsOk}
 use Rattle.buddy_rules.specs.Test.{soundOk}
 use Rattle.buddy_rules.specs.Sound.{Sound}
 use Rattle.buddy_rules.proofs.Decides.{tables-yes}
-use Rattle.buddy_outcomes.specs.Gate.{lentOk, accountOk, gateOf}
+use Rattle.buddy_outcomes.specs.Gate.{inTableOk, accountOk, gateOf}
 
 pub lengths-are : (s : BuddySettings) (t : Tables) → lengthsOk s t ≡ true → Lengths s t
 unfolding lengthsOk
@@ -40,8 +40,8 @@ pub record Lent (s : BuddySettings) (a : Account) (t : Tables) : Type 0 where
   pub heaps : heapsOk (a .heaps) ≡ true
   pub lengths : Lengths s t
 
-pub lent-in : (s : BuddySettings) (a : Account) (t : Tables) → lentOk s a t ≡ true → Lent s a t
-unfolding lentOk
+pub lent-in : (s : BuddySettings) (a : Account) (t : Tables) → inTableOk s a t ≡ true → Lent s a t
+unfolding inTableOk
 lent-in s a t e =
     let r = and-right (buddyOk s) (heapsOk (a .heaps) && lengthsOk s t) e in
     record {
@@ -59,11 +59,11 @@ pub record Passed (s : BuddySettings) (a : Account) (t : Tables) (list : Bool) :
 pub gate-passed : (s : BuddySettings) (a : Account) (t : Tables) (list : Bool) → pass ≡ gateOf s a t list → Passed s a t list
 unfolding gateOf
 gate-passed s a t list e =
-    let held = passed (gateRow (lentOk s a t && list) (noOrder (a .order)) (soundOk s t) (accountOk s a t)) (sym e) in
-    let lent = lent-in s a t (and-left (lentOk s a t) list (held .0)) in
+    let held = passed (gateRow (inTableOk s a t && list) (noOrder (a .order)) (soundOk s t) (accountOk s a t)) (sym e) in
+    let lent = lent-in s a t (and-left (inTableOk s a t) list (held .0)) in
     record {
       lent = lent;
-      listed = and-right (lentOk s a t) list (held .0);
+      listed = and-right (inTableOk s a t) list (held .0);
       sound = tables-yes s t (lent .settings) (held .1 .1 .0);
       covered = held .1 .1 .1 .0;
     }

@@ -1,5 +1,5 @@
 -- Loans and free pieces fill each held chunk of a sound store, and no two free pieces are twins. 01, "Sound": "no
--- joinable pieces". Assumes nothing.
+-- joinable pieces".
 use mathlib.Core.Path.{_≡_, sym, ap, subst, _∙_}
 use mathlib.Core.Bool.{true}
 use mathlib.Core.Logic.{_⊎_, inl, inr, ⊎-elim}

@@ -1,5 +1,5 @@
 -- The place that a block is taken from: the first level upward that has a pair with one free side, and there the head pair's
--- ready side, whose left end is lent. 01, "buddy.rs". Assumes nothing.
+-- ready side, whose left end is lent. 01, "buddy.rs".
 use mathlib.Core.Path.{_≡_, sym, ap, _∙_}
 use Prim.Native.Nat.{ℕ, _≤_, _<_}
 use native.Mathlib.Omega.{arith}

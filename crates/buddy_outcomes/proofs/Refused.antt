@@ -1,15 +1,15 @@
--- What a refusal of a buddy store leaves, and exactly when each number of 01's table is given. Assumes nothing.
+-- What a refusal of a buddy store leaves, and exactly when each number of 01's table is given.
 use mathlib.Core.Path.{_≡_, refl, sym, ap, subst, _∙_}
 use mathlib.Core.Bool.{Bool, true, false, cond, _&&_}
 use mathlib.Core.Logic.{⊎-elim, _↔_, Iff·trans}
-use mathlib.Core.List.{List, [], _∷_, _++_, List·Memᴰ}
+use mathlib.Core.List.{List, [], _∷_, _++_}
 use Prim.Native.Nat.{ℕ}
 use lib.ListN.{getD}
 use lib.Seq.{sets}
 use borrow.Author.Tests.{ne-eqb}
 use Rattle.lists.proofs.Bools.{and-left, and-right, and-both}
 use Rattle.counter.specs.Account.{heapAt}
-use Rattle.counter.specs.Gate.{Verdict, pass, refuse, Row, first}
+use Rattle.counter.specs.Gate.{Verdict, pass, refuse, Row, first, gated}
 use Rattle.counter.specs.InTable.{BuddyIn}
 use Rattle.counter.specs.Paper as Paper
 use Rattle.counter.specs.Reasons.{none, reason, Given, Decides}
@@ -27,18 +27,17 @@ use Rattle.store_rules.specs.Delivery.{Fate, kept, lost, buddy, fateOf, deliver
 use Rattle.store_rules.specs.Orders.{Plan, deny, take, buy}
 use Rattle.store_rules.specs.Outcomes.{out, listed, listOk, releasedAccount}
 use Rattle.store_rules.specs.Tests.{noOrder, gateRow}
-use Rattle.store_rules.specs.declared.Loan.{Loan}
 use Rattle.store_rules.proofs.Refused.{fails}
 use Rattle.store_rules.proofs.Said.{refuses, not-refused, said-number, Says, says-refused, says-passed}
 use Rattle.store_rules.proofs.Fates.{left}
 use Rattle.buddy_rules.specs.Sound.{Sound}
 use Rattle.buddy_rules.specs.Tables.{Tables, Lengths, lengthsOk, chunkPlacesIn, memories, memoryIn, chunkSizeIn}
 use Rattle.buddy_rules.specs.Test.{soundOk}
-use Rattle.buddy_outcomes.specs.Gate.{lentOk, accountOk, gateOf}
-use Rattle.buddy_outcomes.specs.Ask.{Found, nowhere, at, foundFor, orderFor, askRow, planned, decideAsk, grownFor, grownTables, deniedTables, carryAsk, planAsk, askOf}
+use Rattle.buddy_outcomes.specs.Gate.{inTableOk, accountOk, gateOf}
+use Rattle.buddy_outcomes.specs.Ask.{Found, nowhere, at, foundFrom, orderBytes, askRow, planned, decideAsk, grownTo, grownTables, deniedTables, carryAsk, planAsk, askOf, levelFor}
 use Rattle.buddy_outcomes.specs.Ask as A
-use Rattle.buddy_outcomes.specs.Deliver.{Arrival, arrivalOf, gated, deliverGateOf, carryFate, planDeliver, carryDeliver, deliverOf}
 use Rattle.buddy_outcomes.specs.Deliver as D
+use Rattle.buddy_outcomes.specs.Deliver.{Arrival, arrivalOf, deliverGateOf, carryFate, planDeliver, carryDeliver, deliverOf}
 use Rattle.buddy_outcomes.specs.Return.{wordFor, onLoanOk, releasedBy, climbFor, givenTables, decideReturn, planReturn, carryReturn, returnOf}
 use Rattle.buddy_outcomes.specs.Return as R
 use Rattle.buddy_outcomes.specs.SetUp.{setUp, fitOk, setUpOf, freshTables}
@@ -46,11 +45,11 @@ use Rattle.buddy_outcomes.specs.Refusals.{buddyWords}
 use Rattle.store_rules.specs.Rows.{Stale, askRows, askTests, gateRows, listRows, returnRows, setUpRows}
 use Rattle.buddy_outcomes.proofs.Gated.{gate-decided, list-decided}
 use Rattle.buddy_outcomes.proofs.Asked.{ask-decided}
-use Rattle.buddy_outcomes.proofs.Loaned.{on-loan-is, is-on-loan}
+use Rattle.buddy_outcomes.proofs.Loaned.{lent-live, on-loan-is, is-on-loan}
 use Rattle.buddy_outcomes.proofs.Passing.{Passed, lengths-are, are-lengths, gate-passed}
 use Rattle.buddy_rules.specs.Views.{loansIn}
-use Rattle.store_rules.specs.Views.{loanOf}
-use Rattle.buddy_rules.proofs.Viewed.{live-loan, loan-live}
+use Rattle.store_rules.specs.Views.{OnLoan}
+use Rattle.buddy_rules.proofs.Viewed.{live-loan}
 
 -- ---- set-up
 
@@ -108,15 +107,15 @@ return-leaves s a b t list n back = by (planReturn s a b t (listOk (s .store) li
 stale-is : (s : BuddySettings) (b : Block) (t : Tables) → BuddyIn s → Lengths s t → Sound s t → (onLoanOk s b t ≡ false) ↔ Stale buddyWords s b t
 stale-is s b t fit lengths sound = fails (onLoanOk s b t) there back
   where
-    there : onLoanOk s b t ≡ true → List·Memᴰ (loanOf b) (loansIn t)
-    there e = let w = on-loan-is s t fit lengths sound b e in subst (λ (l : Loan). List·Memᴰ l (loansIn t)) (w .1) (live-loan t (getD (t .index) (wordFor s b t) 0) (w .0))
+    there : onLoanOk s b t ≡ true → OnLoan b (loansIn t)
+    there e = let w = on-loan-is s t fit lengths sound b e in (_, live-loan t (getD (t .index) (wordFor s b t) 0) (w .0), w .1)
 
-    back : List·Memᴰ (loanOf b) (loansIn t) → onLoanOk s b t ≡ true
-    back m = let w = loan-live t (loanOf b) m in is-on-loan s t fit lengths sound b (w .0) (w .1) (w .2)
+    back : OnLoan b (loansIn t) → onLoanOk s b t ≡ true
+    back v = let w = lent-live t b v in is-on-loan s t fit lengths sound b (w .0) (w .1) (w .2)
 
 -- the gate
 abbrev gateFor : BuddySettings → Account → Tables → Bool → Row
-gateFor s a t list = gateRow (lentOk s a t && list) (noOrder (a .order)) (soundOk s t) (accountOk s a t)
+gateFor s a t list = gateRow (inTableOk s a t && list) (noOrder (a .order)) (soundOk s t) (accountOk s a t)
 
 gate-went : (s : BuddySettings) (a : Account) (t : Tables) (list : Bool) → first (gateFor s a t list) ≡ pass → Passed s a t list
 unfolding gateOf
@@ -138,7 +137,7 @@ return-refused s a b t list n =
     later : first gate ≡ pass → Decides tests (reason (Stale buddyWords s b t) 7 none)
     later e = let p = gate-went s a t (listOk (s .store) list) e in (refl, stale-is s b t (p .lent .settings) (p .lent .lengths) (p .sound), (λ _. tt))
 
-    by : (v : Verdict) (on : Bool) → Says (carryReturn s a b t list (R.gated v (cond on (R.back (wordFor s b t)) (R.deny 7))) .said) (andThen v (first ((on, 7) ∷ []))) n
+    by : (v : Verdict) (on : Bool) → Says (carryReturn s a b t list (gated R.deny v (cond on (R.back (wordFor s b t)) (R.deny 7))) .said) (andThen v (first ((on, 7) ∷ []))) n
     by (refuse m) on = says-refused m n
     by pass true = says-passed (carryReturn s a b t list (R.back (wordFor s b t)) .said) n (taken-said s a b (wordFor s b t) t list)
     by pass false = says-refused 7 n
@@ -149,14 +148,14 @@ return-refused s a b t list n =
 pub ask-refused : (s : BuddySettings) (a : Account) (size mask : ℕ) (t : Tables) (n : ℕ) → (askOf s a size mask t .said ≡ Paper.refusal n []) ↔ Given (askRows buddyWords s a size mask t) n
 unfolding askOf carryAsk planAsk decideAsk gateOf
 ask-refused s a size mask t n =
-    Iff·trans (subst (λ (v : Verdict). Says (askOf s a size mask t .said) v n) (sym (first-then gate tests)) (by (first gate) (foundFor s size mask t) (first tests)))
+    Iff·trans (subst (λ (v : Verdict). Says (askOf s a size mask t .said) v n) (sym (first-then gate tests)) (by (first gate) (foundFrom s (levelFor s size mask) t) (first tests)))
     (given-first (gate ++ tests) (askRows buddyWords s a size mask t) (decides-then gate (gateRows buddyWords s a t) tests (askTests buddyWords s (heapAt a (s .store .heap)) (a .objects) size mask t) (gate-decided s a t) later) n)
   where
     gate : Row
     gate = gateFor s a t true
 
     tests : Row
-    tests = askRow s (heapAt a (s .store .heap)) (a .objects) size mask t (foundFor s size mask t)
+    tests = askRow s (heapAt a (s .store .heap)) (a .objects) size mask t (foundFrom s (levelFor s size mask) t)
 
     later : first gate ≡ pass → Decides tests (askTests buddyWords s (heapAt a (s .store .heap)) (a .objects) size mask t)
     later e =
@@ -164,22 +163,22 @@ ask-refused s a size mask t n =
         let fit = p .lent .settings in
         ask-decided s t fit (p .lent .lengths) (p .sound) (heapAt a (s .store .heap)) (a .objects) size mask
 
-    by : (v : Verdict) (f : Found) (u : Verdict) → Says (carryAsk s a size mask t (A.gated v (planned s size mask t f u)) .said) (andThen v u) n
+    by : (v : Verdict) (f : Found) (u : Verdict) → Says (carryAsk s a size mask t (gated A.deny v (planned s (levelFor s size mask) t f u)) .said) (andThen v u) n
     by (refuse m) f u = says-refused m n
     by pass f (refuse m) = says-refused m n
     by pass (at i) pass = says-passed (carryAsk s a size mask t (take i) .said) n refl
-    by pass nowhere pass = says-passed (carryAsk s a size mask t (buy (orderFor s size mask t)) .said) n refl
+    by pass nowhere pass = says-passed (carryAsk s a size mask t (buy (orderBytes s (levelFor s size mask) t)) .said) n refl
 
 -- ---- an ask
 
 module _ (s : BuddySettings) (a : Account) (size mask : ℕ) (t : Tables) where
   -- what a refused ask leaves follows from its number
-  ask-denied : (n : ℕ) (back : List ℕ) → askOf s a size mask t .said ≡ Paper.refusal n back → askOf s a size mask t ≡ out (Paper.refusal n []) a (deniedTables s size mask n t)
+  ask-denied : (n : ℕ) (back : List ℕ) → askOf s a size mask t .said ≡ Paper.refusal n back → askOf s a size mask t ≡ out (Paper.refusal n []) a (deniedTables s (levelFor s size mask) n t)
   unfolding askOf carryAsk
   ask-denied n back = by (planAsk s a size mask t)
     where
-      by : (p : Plan ℕ) → carryAsk s a size mask t p .said ≡ Paper.refusal n back → carryAsk s a size mask t p ≡ out (Paper.refusal n []) a (deniedTables s size mask n t)
-      by (deny m) e = ap (λ (k : ℕ). out (Paper.refusal k []) a (deniedTables s size mask k t)) (said-number m n [] back e)
+      by : (p : Plan ℕ) → carryAsk s a size mask t p .said ≡ Paper.refusal n back → carryAsk s a size mask t p ≡ out (Paper.refusal n []) a (deniedTables s (levelFor s size mask) n t)
+      by (deny m) e = ap (λ (k : ℕ). out (Paper.refusal k []) a (deniedTables s (levelFor s size mask) k t)) (said-number m n [] back e)
       by (take i) e = not-refused (carryAsk s a size mask t (take i) .said) n back refl e
       by (buy z) e = not-refused (carryAsk s a size mask t (buy z) .said) n back refl e
 
@@ -187,10 +186,10 @@ module _ (s : BuddySettings) (a : Account) (size mask : ℕ) (t : Tables) where
   pub ask-leaves : (n : ℕ) (back : List ℕ) → askOf s a size mask t .said ≡ Paper.refusal n back → (n ≡ 9 → ⊥) → askOf s a size mask t ≡ out (Paper.refusal n []) a t
   unfolding deniedTables
   ask-leaves n back e other =
-      ask-denied n back e ∙ ap (λ (c : Bool). out (Paper.refusal n []) a (cond c (grownTables s (grownFor s size mask t) t) t)) (ne-eqb n 9 other)
+      ask-denied n back e ∙ ap (λ (c : Bool). out (Paper.refusal n []) a (cond c (grownTables s (grownTo (levelFor s size mask) t) t) t)) (ne-eqb n 9 other)
 
   -- "9 in a buddy store leaves the levels grown as the ask needs", and nothing else changed
-  pub ask-leaves-grown : (back : List ℕ) → askOf s a size mask t .said ≡ Paper.refusal 9 back → askOf s a size mask t ≡ out (Paper.refusal 9 []) a (grownTables s (grownFor s size mask t) t)
+  pub ask-leaves-grown : (back : List ℕ) → askOf s a size mask t .said ≡ Paper.refusal 9 back → askOf s a size mask t ≡ out (Paper.refusal 9 []) a (grownTables s (grownTo (levelFor s size mask) t) t)
   unfolding deniedTables
   ask-leaves-grown back e = ask-denied 9 back e
 
@@ -217,7 +216,7 @@ deliver-leaves s a o t n back e device host = after (deliverGateOf s a t) (a .or
     tested true k = fated k (fateOf buddy o) refl
     tested false k = denied 13
 
-    after : (v : Verdict) (x : OpenOrder) → Leaves (gated v (arrivalOf buddy o (memories t (chunkPlacesIn t)) x))
+    after : (v : Verdict) (x : OpenOrder) → Leaves (gated D.deny v (arrivalOf buddy o (memories t (chunkPlacesIn t)) x))
     after (refuse m) x = denied m
     after pass Nothing = denied 2
     after pass (Kept k) = tested (deliveryOk (k .order .map) (memories t (chunkPlacesIn t)) o) k

@@ -1,5 +1,5 @@
 -- A return on a sound store leaves it sound, refused or not; a refused one leaves everything; and when its earlier tests hold
--- it is refused as 7 exactly when no loan is the block. Assumes nothing.
+-- it is refused as 7 exactly when no loan matches the block.
 use mathlib.Core.Path.{_≡_, refl, sym, ap, _∙_}
 use mathlib.Core.Bool.{true}
 use mathlib.Core.Logic.{⊎-elim}
@@ -7,13 +7,14 @@ use mathlib.Core.List.{List, []}
 use Prim.Native.Nat.{ℕ}
 use Rattle.lists.proofs.Bools.{told}
 use Rattle.words.specs.Rows.{row}
-use Rattle.counter.specs.Gate.{Verdict, refuse, pass}
+use Rattle.counter.specs.Gate.{Verdict, refuse, pass, gated}
 use Rattle.counter.specs.Paper as Paper
 use Rattle.counter.specs.declared.account.Account.{Account}
 use Rattle.counter.specs.declared.answers.Block.{Block}
 use Rattle.counter.specs.declared.settings.BuddySettings.{BuddySettings}
-use Rattle.store_rules.specs.Loans.{loanRow, loan}
+use Rattle.store_rules.specs.Loans.{loanRow}
 use Rattle.store_rules.specs.Outcomes.{Listed, listed, listOk}
+use Rattle.store_rules.specs.Views.{Matches}
 use Rattle.buddy_rules.specs.Tables.{Tables, liveIn}
 use Rattle.buddy_rules.specs.Sound.{Sound}
 use Rattle.buddy_outcomes.specs.Gate.{gateOf}
@@ -29,7 +30,7 @@ pub data ReturnComes (s : BuddySettings) (a : Account) (b : Block) (t : Tables) 
   takes : Passed s a t (listOk (s .store) list) → onLoanOk s b t ≡ true → ReturnComes s a b t list (releasedBy s a b (wordFor s b t) t list)
 
 module _ (s : BuddySettings) (a : Account) (b : Block) (t : Tables) (list : List ℕ) where
-  after-return : (v : Verdict) → gateOf s a t (listOk (s .store) list) ≡ v → ReturnComes s a b t list (carryReturn s a b t list (Return.gated v (decideReturn s b t)))
+  after-return : (v : Verdict) → gateOf s a t (listOk (s .store) list) ≡ v → ReturnComes s a b t list (carryReturn s a b t list (gated Return.deny v (decideReturn s b t)))
   unfolding carryReturn decideReturn
   after-return (refuse n) g = denied n
   after-return pass g =
@@ -58,9 +59,9 @@ module _ (s : BuddySettings) (a : Account) (b : Block) (t : Tables) (list : List
 
     answer : returnOf s a b t list ≡ carryReturn s a b t list (decideReturn s b t)
     unfolding returnOf planReturn
-    answer = ap (λ (v : Verdict). carryReturn s a b t list (Return.gated v (decideReturn s b t))) gate
+    answer = ap (λ (v : Verdict). carryReturn s a b t list (gated Return.deny v (decideReturn s b t))) gate
 
-    pub held-taken : (k : ℕ) → liveIn t k ≡ true → row loanRow k (t .loans) ≡ loan (b .serial) (b .chunk) (b .offset) (b .size) → returnOf s a b t list ≡ releasedBy s a b (wordFor s b t) t list
+    pub held-taken : (k : ℕ) → liveIn t k ≡ true → Matches b (row loanRow k (t .loans)) → returnOf s a b t list ≡ releasedBy s a b (wordFor s b t) t list
     unfolding carryReturn decideReturn
     held-taken k live is =
         let p = went in

@@ -1,4 +1,4 @@
--- The rings of a buddy store's levels over its calls: what an ask that lends and a return that is taken leave of each. Assumes nothing.
+-- The rings of a buddy store's levels over its calls: what an ask that lends and a return that is taken leave of each.
 use mathlib.Core.Path.{_≡_, refl, sym, ap, subst, _∙_}
 use mathlib.Core.Bool.{true}
 use mathlib.Core.Logic.{_⊎_, ⊎-elim}
@@ -25,7 +25,7 @@ use Rattle.book_rules.specs.Book.{takenOf}
 use Rattle.buddy_trees.specs.Trees.{up}
 use Rattle.buddy_rules.specs.Nodes.{other, word}
 use Rattle.buddy_rules.specs.Levels.{baseOf}
-use Rattle.buddy_rules.specs.Level.{spotIn, acquired}
+use Rattle.buddy_rules.specs.Level.{pairTaken, acquired}
 use Rattle.buddy_rules.specs.Ringed.{Ringed, outOf, tailOf}
 use Rattle.buddy_rules.proofs.Ringed.{ringed-one, out-of, part-ringed, ringed-part}
 use Rattle.buddy_rules.specs.Moves.{sideIn, Cut, splitDown, readyNode, climbed}
@@ -34,7 +34,7 @@ use Rattle.buddy_rules.specs.Sound.{Sound}
 use Rattle.buddy_rules.specs.Tables.{Tables, Lengths, givenAt, levelsAt, placesAt, givenIn, levelsIn, placesIn, levelFrom, pairsIn, nodesFrom, chunksFrom, loanIn}
 use Rattle.buddy_rules.proofs.Ringing.{ringsOf, sound-rings, lent-here, lent-new, lent-other, back-joins, back-here, back-below, loan-under, climbed-rings, lent-rings}
 use Rattle.buddy_outcomes.specs.Ask as Ask
-use Rattle.buddy_outcomes.specs.Ask.{Found, at, sizeFor, levelFor, foundFor, bookedTables, headEnt, takenTables, askOf}
+use Rattle.buddy_outcomes.specs.Ask.{Found, at, sizeFor, levelFor, foundFrom, bookedTables, headEnt, takenTables, askOf}
 use Rattle.buddy_outcomes.specs.Return.{wordFor, onLoanOk, climbFor, vacatedTree, givenTables, returnOf}
 use Rattle.buddy_outcomes.proofs.Changed.{few-pairs, part-set}
 use Rattle.buddy_outcomes.proofs.Given as Given
@@ -72,14 +72,14 @@ module _ (s : BuddySettings) (t : Tables) (fit : BuddyIn s) (lengths : Lengths s
 
   -- where the new pairs stand
   abbrev spots : ℕ → ℕ
-  spots j = spotIn (levelFrom s j) (t .tree) .place
+  spots j = pairTaken (levelFrom s j) (t .tree) .place
 
   abbrev tablesAt : ℕ → ℕ → Tables
   tablesAt x n =
       bookedTables s (headEnt s t x .chunk) (baseOf (s .minimal) (headEnt s t x) x) (sizeFor s size mask)
       (splitDown (s .pairs) lev (headEnt s t x .chunk) (baseOf (s .minimal) (headEnt s t x) x) (takenOf (placesIn t) (t .index) .place) (readyNode (s .pairs) x (t .tree)) n (acquired (levelFrom s x) 0 (t .tree))) t
 
-  pub taken-rings : Rings s (takenTables s size mask t i) (ringsLent (λ (j : ℕ). spotIn (levelFrom s j) (t .tree) .place) (levelFor s size mask) i W)
+  pub taken-rings : Rings s (takenTables s (sizeFor s size mask) (levelFor s size mask) t i) (ringsLent (λ (j : ℕ). pairTaken (levelFrom s j) (t .tree) .place) (levelFor s size mask) i W)
   unfolding takenTables
   taken-rings =
       let f = Taken.first s t fit lengths sound size mask i (w .found) (w .aligned) (w .sized) (w .room) in
@@ -94,10 +94,10 @@ module _ (s : BuddySettings) (t : Tables) (fit : BuddyIn s) (lengths : Lengths s
 -- alone, and the other rings are as they were
 pub ask-rings : (s : BuddySettings) (a : Account) (size mask : ℕ) (t : Tables) (serial chunk offset len : ℕ) → askOf s a size mask t .said ≡ Paper.block serial chunk offset len
     → (W : ℕ → List ℕ) → Rings s t W
-    → (i : ℕ) × (foundFor s size mask t ≡ at i) × Rings s (askOf s a size mask t .tables) (ringsLent (λ (j : ℕ). spotIn (levelFrom s j) (t .tree) .place) (levelFor s size mask) i W)
+    → (i : ℕ) × (foundFrom s (levelFor s size mask) t ≡ at i) × Rings s (askOf s a size mask t .tables) (ringsLent (λ (j : ℕ). pairTaken (levelFrom s j) (t .tree) .place) (levelFor s size mask) i W)
 ask-rings s a size mask t serial chunk offset len q W rings =
     let v = ask-served s a size mask t serial chunk offset len q in
-    let Q : ℕ → List ℕ = ringsLent (λ (j : ℕ). spotIn (levelFrom s j) (t .tree) .place) (levelFor s size mask) (v .level) W in (
+    let Q : ℕ → List ℕ = ringsLent (λ (j : ℕ). pairTaken (levelFrom s j) (t .tree) .place) (levelFor s size mask) (v .level) W in (
       v .level,
       v .taken .found,
       subst (λ (u : Tables). Rings s u Q) (sym (ap (λ (r : Out Tables). r .tables) (v .left)))
@@ -117,10 +117,10 @@ module _ (s : BuddySettings) (a : Account) (size mask : ℕ) (t : Tables) (seria
       ap (λ (r : Out Tables). levelsIn (r .tables)) (v .left) ∙ booked-levels s t _ _ _ _
 
   -- i is the level that the search found
-  module _ (i : ℕ) (found : foundFor s size mask t ≡ at i) where
+  module _ (i : ℕ) (found : foundFrom s (levelFor s size mask) t ≡ at i) where
     -- level l had the ring R, and has what becomes of it
     now : (l : ℕ) → l < levelsIn t → (R Q : List ℕ) → Ringed (levelFrom s l) (s .pairs) (t .tree) R
-        → ((W : ℕ → List ℕ) → W l ≡ R → ringsLent (λ (j : ℕ). spotIn (levelFrom s j) (t .tree) .place) (levelFor s size mask) i W l ≡ Q)
+        → ((W : ℕ → List ℕ) → W l ≡ R → ringsLent (λ (j : ℕ). pairTaken (levelFrom s j) (t .tree) .place) (levelFor s size mask) i W l ≡ Q)
         → Ringed (levelFrom s l) (s .pairs) (askOf s a size mask t .tables .tree) Q
     now l low R Q r f =
         let v = ask-served s a size mask t serial chunk offset len q in
@@ -130,8 +130,8 @@ module _ (s : BuddySettings) (a : Account) (size mask : ℕ) (t : Tables) (seria
         let y = ask-rings s a size mask t serial chunk offset len q W W-rings in
         let z : y .0 ≡ i = ap foundLevel (sym (y .1) ∙ found) in
         let e : W l ≡ R = ringed-one (levelFrom s l) (s .pairs) (t .tree) (W l) R (few-pairs s (v .passed .lent .settings)) (W-rings l low) r in
-        let g : ringsLent (λ (j : ℕ). spotIn (levelFrom s j) (t .tree) .place) (levelFor s size mask) (y .0) W l ≡ Q =
-        ap (λ (k : ℕ). ringsLent (λ (j : ℕ). spotIn (levelFrom s j) (t .tree) .place) (levelFor s size mask) k W l) z ∙ f W e in
+        let g : ringsLent (λ (j : ℕ). pairTaken (levelFrom s j) (t .tree) .place) (levelFor s size mask) (y .0) W l ≡ Q =
+        ap (λ (k : ℕ). ringsLent (λ (j : ℕ). pairTaken (levelFrom s j) (t .tree) .place) (levelFor s size mask) k W l) z ∙ f W e in
         subst (Ringed (levelFrom s l) (s .pairs) (askOf s a size mask t .tables .tree)) g (y .2 l (omega (arith, low, ask-levels)))
 
     between : (levelFor s size mask ≤ i) × (i < levelsIn t)
@@ -148,11 +148,11 @@ module _ (s : BuddySettings) (a : Account) (size mask : ℕ) (t : Tables) (seria
     ask-head p R r = now i (between .1) (p ∷ R) R r (λ W e. lent-here _ (levelFor s size mask) i W ∙ ap tailOf e)
 
     -- "The taken node is split down to the level, always keeping the left": on each level between a new pair, ready at its right, is the ring
-    pub ask-split : (l : ℕ) → levelFor s size mask ≤ l → l < i → Ringed (levelFrom s l) (s .pairs) (askOf s a size mask t .tables .tree) (spotIn (levelFrom s l) (t .tree) .place ∷ [])
+    pub ask-split : (l : ℕ) → levelFor s size mask ≤ l → l < i → Ringed (levelFrom s l) (s .pairs) (askOf s a size mask t .tables .tree) (pairTaken (levelFrom s l) (t .tree) .place ∷ [])
     ask-split l h k =
         let S = ask-served s a size mask t serial chunk offset len q .passed .sound in
         let low : l < levelsIn t = omega (arith, between .1) in
-        now l low (ringsOf s t S l) (spotIn (levelFrom s l) (t .tree) .place ∷ []) (sound-rings s t S l low) (λ W e. lent-new _ (levelFor s size mask) i W l h k)
+        now l low (ringsOf s t S l) (pairTaken (levelFrom s l) (t .tree) .place ∷ []) (sound-rings s t S l low) (λ W e. lent-new _ (levelFor s size mask) i W l h k)
 
     -- every other ring stays
     pub ask-others : (l : ℕ) → l < levelsIn t → (l < levelFor s size mask) ⊎ (i < l) → (R : List ℕ) → Ringed (levelFrom s l) (s .pairs) (t .tree) R → Ringed (levelFrom s l) (s .pairs) (askOf s a size mask t .tables .tree) R

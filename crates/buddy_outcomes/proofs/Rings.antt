@@ -1,5 +1,5 @@
 -- The rings and the vacant chains of a sound buddy store, in its words: each level's ring has exactly the pairs with one free side,
--- none of them twice, and each place that was used is either in use or in its chain. Assumes nothing.
+-- none of them twice, and each place that was used is either in use or in its chain.
 use mathlib.Core.Path.{_≡_, refl, ap, _∙_}
 use mathlib.Core.Bool.{Bool, true, false, not, _&&_}
 use mathlib.Core.Logic.{_⊎_, inl, inr, ⊎-elim, _↔_}

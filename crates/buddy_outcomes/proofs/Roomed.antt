@@ -1,4 +1,4 @@
--- Test 8 of an ask says by counts in use what 01 says of a full store. Assumes nothing.
+-- Test 8 of an ask says by counts in use what 01 says of a full store.
 use mathlib.Core.Path.{_≡_, refl, sym, ap, _∙_, subst}
 use mathlib.Core.Bool.{Bool, true, false, cond, _&&_, _||_, not}
 use mathlib.Core.Logic.{_⊎_, inl, inr, ⊎-elim, _↔_, Iff·trans}
@@ -21,11 +21,11 @@ use Rattle.slab.proofs.Places.{insert-last}
 use Rattle.store_rules.proofs.Tested.{off-and, off-where, off-room}
 use Rattle.book_rules.specs.Book.{entryWords, vacantAfterAt, takenOf}
 use Rattle.buddy_rules.specs.Nodes.{Ent}
-use Rattle.buddy_rules.specs.Level.{usedAt, offAt, pairWords, fieldAt, entOf, ringHead, slabIn, spotIn, vacantIn, noPair}
+use Rattle.buddy_rules.specs.Level.{usedAt, offAt, pairWords, fieldAt, entOf, ringHead, slabIn, pairTaken, vacantIn, noPair}
 use Rattle.buddy_rules.specs.Sound.{Sound}
 use Rattle.buddy_rules.specs.Tables.{Tables, Lengths, levelsIn, placesIn, chunkPlacesIn, levelFrom, pairsIn, liveIn, heldIn, placeAt, afterAt, placeWords, vacantChunk, chunkSlab, vacantLoan, loanSlab}
 use Rattle.buddy_outcomes.specs.Ask as Ask
-use Rattle.buddy_outcomes.specs.Ask.{Found, at, needs, levelFor, foundFor, fromFor, sizeOk, pairRoom, pairsRoom, chunkSpot, roomOk}
+use Rattle.buddy_outcomes.specs.Ask.{Found, at, needs, levelFor, foundFrom, splitFrom, sizeOk, pairRoom, pairsRoom, chunkTaken, roomOk}
 use Rattle.buddy_outcomes.specs.Gate.{heldCount}
 use Rattle.buddy_outcomes.specs.Refusals.{liveCount, pairCount, Splits, buddyWords}
 use Rattle.store_rules.specs.Rows.{Full}
@@ -82,7 +82,7 @@ module _ (s : BuddySettings) (t : Tables) (fit : BuddyIn s) (sound : Sound s t) 
       slab-room (vacantLoan t) (t .index) vacantAfterAt entryWords (loanSlab t) (s .store .loans) (liveCount t (placesIn t)) (sound .loans-parted) (omega (arith, fit .store .loans-most))
       (used-and-vacant (liveCount t) (liveIn t) (vacantLoan t) refl (λ n. refl) (placesIn t) live-used)
 
-  pub chunk-left : (chunkSpot s t .place < s .store .chunks) ↔ (heldCount t (chunkPlacesIn t) < s .store .chunks)
+  pub chunk-left : (chunkTaken s t .place < s .store .chunks) ↔ (heldCount t (chunkPlacesIn t) < s .store .chunks)
   unfolding heldCount
   chunk-left =
       slab-room (vacantChunk t) (t .tree) (placeAt s afterAt) placeWords (chunkSlab s t) (s .store .chunks) (heldCount t (chunkPlacesIn t)) (sound .chunks-parted) (omega (arith, fit .store .chunks-most))
@@ -110,7 +110,7 @@ module _ (s : BuddySettings) (t : Tables) (fit : BuddyIn s) (sound : Sound s t) 
             let a : _≡_ {A = ℕ} (cond (ltb 0 (pairsIn s t l n .tag)) 1 0) 0 = ap (λ (x : Ent). cond (ltb 0 (x .tag)) 1 0) e in
             omega (arith, a, ih)
 
-    pub pair-left : (spotIn (levelFrom s l) (t .tree) .place < s .pairs) ↔ (pairCount s t l (s .pairs) < s .pairs)
+    pub pair-left : (pairTaken (levelFrom s l) (t .tree) .place < s .pairs) ↔ (pairCount s t l (s .pairs) < s .pairs)
     unfolding pairCount
     pair-left =
         let P = sound .good l below .parted in
@@ -150,7 +150,7 @@ module _ (s : BuddySettings) (t : Tables) (fit : BuddyIn s) (sound : Sound s t) 
   pair-off l = (there, λ w. or-off (leb (levelsIn t) l) (ltb spot (s .pairs)) (lt-leb (levelsIn t) l (w .0)) (full (w .0) .1 (w .1)))
     where
       spot : ℕ
-      spot = spotIn (levelFrom s l) (t .tree) .place
+      spot = pairTaken (levelFrom s l) (t .tree) .place
 
       full : l < levelsIn t → (ltb spot (s .pairs) ≡ false) ↔ (s .pairs ≤ pairCount s t l (s .pairs))
       full h = off-room spot (pairCount s t l (s .pairs)) (s .pairs) (pair-left s t fit sound l h)
@@ -203,8 +203,8 @@ module _ (s : BuddySettings) (t : Tables) (fit : BuddyIn s) (sound : Sound s t) 
     lev = levelFor s size mask
 
     -- a level needs a new pair exactly when it lies between the asked one and where the search ended
-    splits-when : (f : Found) → foundFor s size mask t ≡ f → (l : ℕ) → Splits s size mask t l ↔ ((lev ≤ l) × (l < levelsIn t) × (l < fromFor s size mask t f))
-    unfolding foundFor
+    splits-when : (f : Found) → foundFrom s (levelFor s size mask) t ≡ f → (l : ℕ) → Splits s size mask t l ↔ ((lev ≤ l) × (l < levelsIn t) × (l < splitFrom (levelFor s size mask) t f))
+    unfolding foundFrom
     splits-when Ask.nowhere e l = (
       (λ w. (w .from, w .there, omega (arith, w .there))),
       (λ w. record {
@@ -222,16 +222,16 @@ module _ (s : BuddySettings) (t : Tables) (fit : BuddyIn s) (sound : Sound s t) 
         )
 
     -- the test of the pairs fails exactly when a level that needs a new pair has none
-    pairs-off : (f : Found) → foundFor s size mask t ≡ f
-        → (pairsRoom s t lev (fromFor s size mask t f - lev) ≡ false) ↔ ((l : ℕ) × Splits s size mask t l × (s .pairs ≤ pairCount s t l (s .pairs)))
+    pairs-off : (f : Found) → foundFrom s (levelFor s size mask) t ≡ f
+        → (pairsRoom s t lev (splitFrom (levelFor s size mask) t f - lev) ≡ false) ↔ ((l : ℕ) × Splits s size mask t l × (s .pairs ≤ pairCount s t l (s .pairs)))
     pairs-off f e = (
       (λ z.
-          let r = rooms-off s t lev (fromFor s size mask t f - lev) z in
+          let r = rooms-off s t lev (splitFrom (levelFor s size mask) t f - lev) z in
           let o = pair-off (r .0) .0 (r .3) in
           (r .0, splits-when f e (r .0) .1 (r .1, o .0, omega (arith, r .1, r .2)), o .1)),
       (λ w.
           let r = splits-when f e (w .0) .0 (w .1) in
-          off-rooms s t lev (fromFor s size mask t f - lev) (w .0) (r .0) (omega (arith, r .0, r .2)) (pair-off (w .0) .1 (r .1, w .2))),
+          off-rooms s t lev (splitFrom (levelFor s size mask) t f - lev) (w .0) (r .0) (omega (arith, r .0, r .2)) (pair-off (w .0) .1 (r .1, w .2))),
     )
 
 -- a chunk is needed where the search found no level
@@ -241,13 +241,13 @@ needs-none (at i) = ((λ e. absurd (true-false false e refl)), (λ e. ap needs e
 
 -- 8 fails exactly when the store is full
 pub full-when : (s : BuddySettings) (t : Tables) → BuddyIn s → Lengths s t → Sound s t → (size mask : ℕ) → alignmentOk mask ≡ true → sizeOk s size mask ≡ true
-    → (roomOk s size mask t (foundFor s size mask t) ≡ false) ↔ Full buddyWords s size mask t
+    → (roomOk s (levelFor s size mask) t (foundFrom s (levelFor s size mask) t) ≡ false) ↔ Full buddyWords s size mask t
 unfolding roomOk
 full-when s t fit lengths sound size mask aligned sized =
-    let f = foundFor s size mask t in
+    let f = foundFrom s (levelFor s size mask) t in
     let place = ltb (takenOf (placesIn t) (t .index) .place) (s .store .loans) in
-    let chunk = ltb (chunkSpot s t .place) (s .store .chunks) in
-    let pairs = pairsRoom s t (levelFor s size mask) (fromFor s size mask t f - levelFor s size mask) in
+    let chunk = ltb (chunkTaken s t .place) (s .store .chunks) in
+    let pairs = pairsRoom s t (levelFor s size mask) (splitFrom (levelFor s size mask) t f - levelFor s size mask) in
     let loans : (s .store .loans ≤ liveCount t (placesIn t)) ↔ (s .store .loans ≤ length (loansIn t)) = (subst (λ (n : ℕ). s .store .loans ≤ n) (sym (loans-is t)), subst (λ (n : ℕ). s .store .loans ≤ n) (loans-is t)) in
     let chunks : (s .store .chunks ≤ heldCount t (chunkPlacesIn t)) ↔ (s .store .chunks ≤ length (chunksIn t)) = (subst (λ (n : ℕ). s .store .chunks ≤ n) (sym (count-is t)), subst (λ (n : ℕ). s .store .chunks ≤ n) (count-is t)) in
     Iff·trans
@@ -255,6 +255,6 @@ full-when s t fit lengths sound size mask aligned sized =
     (off-room (takenOf (placesIn t) (t .index) .place) (liveCount t (placesIn t)) (s .store .loans) (place-left s t fit sound))
     (off-and (not (needs f) || chunk) pairs
     (off-where (needs f) chunk (Iff·trans (needs-none f) (needs-when s t fit lengths sound size mask aligned sized))
-    (off-room (chunkSpot s t .place) (heldCount t (chunkPlacesIn t)) (s .store .chunks) (chunk-left s t fit sound)))
+    (off-room (chunkTaken s t .place) (heldCount t (chunkPlacesIn t)) (s .store .chunks) (chunk-left s t fit sound)))
     (pairs-off s t fit sound size mask f refl)))
     (⊎-elim (λ x. inl (loans .0 x)) (⊎-elim (λ x. inr (inl (x .0, chunks .0 (x .1)))) (λ x. inr (inr x))), ⊎-elim (λ x. inl (loans .1 x)) (⊎-elim (λ x. inr (inl (x .0, chunks .1 (x .1)))) (λ x. inr (inr x))))

@@ -1,5 +1,5 @@
 -- What is looked for: its size is that of its level, which is below 32, is no less than was asked for, and is of whole units of
--- the atom mask and of the ask's; and the initial levels are at most 32. Assumes nothing.
+-- the atom mask and of the ask's; and the initial levels are at most 32.
 use mathlib.Core.Path.{_≡_, refl, sym, ap, _∙_}
 use mathlib.Core.Bool.{true}
 use mathlib.Core.Logic.{⊎-elim}

@@ -1,4 +1,4 @@
--- Stores that say the same are sound together, and levels that are made fresh, one after the other. Assumes nothing.
+-- Stores that say the same are sound together, and levels that are made fresh, one after the other.
 use mathlib.Core.Path.{_≡_, refl, sym, ap, _∙_, subst}
 use mathlib.Core.Logic.{⊎-elim}
 use mathlib.Core.List.{List}

@@ -1,4 +1,4 @@
--- What the search upward says of the levels, and what the test for room says of the places. Assumes nothing.
+-- What the search upward says of the levels, and what the test for room says of the places.
 use mathlib.Core.Path.{_≡_, refl, sym, ap, _∙_}
 use mathlib.Core.Bool.{Bool, true, false, _&&_, _||_, not}
 use mathlib.Core.Logic.{_⊎_, inl, inr, ⊎-elim}
@@ -11,9 +11,9 @@ use Rattle.lists.proofs.Bools.{told, true-false, and-left, and-right, or-cases,
 use Rattle.counter.specs.declared.settings.BuddySettings.{BuddySettings}
 use Rattle.slab.specs.Slab.{nowhere}
 use Rattle.book_rules.specs.Book.{takenOf}
-use Rattle.buddy_rules.specs.Level.{ringHead, spotIn}
+use Rattle.buddy_rules.specs.Level.{ringHead, pairTaken}
 use Rattle.buddy_rules.specs.Tables.{Tables, levelsIn, placesIn, levelFrom}
-use Rattle.buddy_outcomes.specs.Ask.{Found, at, needs, searchFrom, levelFor, fromFor, pairRoom, pairsRoom, chunkSpot, roomOk}
+use Rattle.buddy_outcomes.specs.Ask.{Found, at, needs, searchFrom, levelFor, splitFrom, pairRoom, pairsRoom, chunkTaken, roomOk}
 use Rattle.buddy_outcomes.specs.Ask as Ask
 
 abbrev levelIn : Found → ℕ
@@ -62,33 +62,33 @@ module _ (s : BuddySettings) (t : Tables) where
       (λ q. room-each (suc l) n (and-right (pairRoom s t l) (pairsRoom s t (suc l) n) e) j (omega arith) (omega arith))
       (same? j l)
 
-  module _ (size mask : ℕ) (f : Found) (room : roomOk s size mask t f ≡ true) where
+  module _ (size mask : ℕ) (f : Found) (room : roomOk s (levelFor s size mask) t f ≡ true) where
     abbrev place : Bool
     place = ltb (takenOf (placesIn t) (t .index) .place) (s .store .loans)
 
     abbrev chunk : Bool
-    chunk = not (needs f) || ltb (chunkSpot s t .place) (s .store .chunks)
+    chunk = not (needs f) || ltb (chunkTaken s t .place) (s .store .chunks)
 
     abbrev pairs : Bool
-    pairs = pairsRoom s t (levelFor s size mask) (fromFor s size mask t f - levelFor s size mask)
+    pairs = pairsRoom s t (levelFor s size mask) (splitFrom (levelFor s size mask) t f - levelFor s size mask)
 
     pub room-place : takenOf (placesIn t) (t .index) .place < s .store .loans
     unfolding roomOk
     room-place = ltb-true (takenOf (placesIn t) (t .index) .place) (s .store .loans) (and-left place (chunk && pairs) room)
 
-    pub room-chunk : needs f ≡ true → chunkSpot s t .place < s .store .chunks
+    pub room-chunk : needs f ≡ true → chunkTaken s t .place < s .store .chunks
     unfolding roomOk
     room-chunk e =
         let r : chunk ≡ true = and-left chunk pairs (and-right place (chunk && pairs) room) in
-        ltb-true (chunkSpot s t .place) (s .store .chunks) (rw e at r)
+        ltb-true (chunkTaken s t .place) (s .store .chunks) (rw e at r)
 
     -- a level that is there has a vacant pair place
-    pub room-pair : (j : ℕ) → levelFor s size mask ≤ j → j < fromFor s size mask t f → j < levelsIn t → spotIn (levelFrom s j) (t .tree) .place < s .pairs
+    pub room-pair : (j : ℕ) → levelFor s size mask ≤ j → j < splitFrom (levelFor s size mask) t f → j < levelsIn t → pairTaken (levelFrom s j) (t .tree) .place < s .pairs
     unfolding roomOk
     room-pair j h k l =
         let r : pairs ≡ true = and-right chunk pairs (and-right place (chunk && pairs) room) in
-        let e = room-each (levelFor s size mask) (fromFor s size mask t f - levelFor s size mask) r j h (omega arith) in
+        let e = room-each (levelFor s size mask) (splitFrom (levelFor s size mask) t f - levelFor s size mask) r j h (omega arith) in
         ⊎-elim
         (λ z. absurd (omega (arith, leb-true (levelsIn t) j z)))
-        (λ z. ltb-true (spotIn (levelFrom s j) (t .tree) .place) (s .pairs) z)
-        (or-cases (leb (levelsIn t) j) (ltb (spotIn (levelFrom s j) (t .tree) .place) (s .pairs)) e)
+        (λ z. ltb-true (pairTaken (levelFrom s j) (t .tree) .place) (s .pairs) z)
+        (or-cases (leb (levelsIn t) j) (ltb (pairTaken (levelFrom s j) (t .tree) .place) (s .pairs)) e)

@@ -1,4 +1,4 @@
--- What the tables hold when a chunk was delivered and its left end lent: they are sound. Assumes nothing.
+-- What the tables hold when a chunk was delivered and its left end lent: they are sound.
 use mathlib.Core.Path.{_≡_, refl, ap, _∙_, subst}
 use mathlib.Core.Bool.{Bool, true, false, cond}
 use mathlib.Core.List.{List}
@@ -22,16 +22,16 @@ use Rattle.buddy_rules.specs.Stores.{with, newLoan, delivered}
 use Rattle.buddy_rules.specs.Stores as Stores
 use Rattle.buddy_rules.proofs.Fitting.{up-add}
 use Rattle.buddy_rules.proofs.Made.{delivered-sound}
-use Rattle.buddy_rules.specs.Level.{ringHead, spotIn, part}
+use Rattle.buddy_rules.specs.Level.{ringHead, pairTaken, part}
 use Rattle.buddy_rules.proofs.Ops.{levelOps}
 use Rattle.buddy_rules.proofs.Parts.{part-good, part-spot}
 use Rattle.buddy_rules.specs.Tables.{Tables, Lengths, levelsIn, placesIn, memoryIn, levelFrom, chunksFrom, loanIn, liveIn, heldIn, highIn, topIn}
-use Rattle.buddy_rules.specs.Moves.{Cut, splitDown}
+use Rattle.buddy_rules.specs.Moves.{Cut, splitChunk}
 use Rattle.buddy_rules.specs.Sound.{Sound}
 use Rattle.buddy_rules.proofs.Abstract.{storeOf, sound-store}
 use Rattle.buddy_rules.proofs.Splitting.{grown-in}
 use Rattle.buddy_rules.proofs.Walks.{minimal-pos}
-use Rattle.buddy_outcomes.specs.Ask.{sizeFor, levelFor, sizeOk, chunkSpot, bookedTables}
+use Rattle.buddy_outcomes.specs.Ask.{sizeFor, levelFor, sizeOk, chunkTaken, bookedTables}
 use Rattle.buddy_outcomes.specs.Deliver.{chunkTables, servedTables}
 use Rattle.buddy_outcomes.proofs.Same.{sound-as}
 use Rattle.buddy_outcomes.proofs.Changed.{few-pairs}
@@ -42,11 +42,11 @@ use Rattle.buddy_outcomes.proofs.Chunked.{chunked, chunked-lengths, chu
 
 module _ (s : BuddySettings) (t : Tables) (fit : BuddyIn s) (lengths : Lengths s t) (sound : Sound s t) (size lev d memory z : ℕ)
     (top : levelsIn t ≡ up (suc d) lev) (is-chunk : z ≡ bytes (s .minimal) (levelsIn t))
-    (spot : chunkSpot s t .place < s .store .chunks)
+    (spot : chunkTaken s t .place < s .store .chunks)
     (none : (j : ℕ) → lev ≤ j → j ≤ up d lev → ringHead (levelFrom s j) (t .tree) ≡ nowhere)
-    (room : (j : ℕ) → lev ≤ j → j ≤ up d lev → spotIn (levelFrom s j) (t .tree) .place < s .pairs) where
+    (room : (j : ℕ) → lev ≤ j → j ≤ up d lev → pairTaken (levelFrom s j) (t .tree) .place < s .pairs) where
   abbrev c : ℕ
-  c = chunkSpot s t .place
+  c = chunkTaken s t .place
 
   abbrev k : ℕ
   k = takenOf (placesIn t) (t .index) .place
@@ -55,7 +55,7 @@ module _ (s : BuddySettings) (t : Tables) (fit : BuddyIn s) (lengths : Lengths s
   u = chunked s t fit lengths memory z
 
   abbrev cut : Cut
-  cut = splitDown (s .pairs) lev c 0 k nowhere (suc d) (u .tree)
+  cut = splitChunk (s .pairs) lev c k d (u .tree)
 
   abbrev W : ℕ → List ℕ
   W i = part (s .pairs) i (t .tree)
@@ -70,7 +70,7 @@ module _ (s : BuddySettings) (t : Tables) (fit : BuddyIn s) (lengths : Lengths s
   room-in j h g = level-room s t fit sound j (omega (arith, top)) (room j h g)
 
   -- what is cut
-  is-cut : (cut .node ≡ nodeOf (spotIn 0 (part (s .pairs) lev (t .tree)) .place) L) × ((i : ℕ) → i < levelsMost → part (s .pairs) i (cut .tree) ≡ W′ i)
+  is-cut : (cut .node ≡ nodeOf (pairTaken 0 (part (s .pairs) lev (t .tree)) .place) L) × ((i : ℕ) → i < levelsMost → part (s .pairs) i (cut .tree) ≡ W′ i)
       × ((i : ℕ) → chunksFrom s ≤ i → getD (cut .tree) i 0 ≡ getD (u .tree) i 0) × (length (cut .tree) ≡ length (u .tree))
   is-cut =
       grown-in s (few-pairs s fit) (u .tree) W fit (chunked-lengths s t fit lengths memory z .tree) (chunked-level s t fit lengths memory z) lev d c k (omega (arith, top, sound .levels-most))
@@ -117,13 +117,13 @@ module _ (s : BuddySettings) (t : Tables) (fit : BuddyIn s) (lengths : Lengths s
   high-as b = chunked-high s t fit lengths memory z spot sound tall is-chunk b ∙ ap (λ (x : ℕ). with (highIn s t) c x b) top
 
   abbrev topWord : ℕ
-  topWord = 2 * spotIn (levelFrom s (levelsIn t - 1)) (t .tree) .place + 2
+  topWord = 2 * pairTaken (levelFrom s (levelsIn t - 1)) (t .tree) .place + 2
 
   word-as : topWord ≡ grow (s .minimal) (levelOps (s .pairs) (few-pairs s fit)) W lev c 0 k nowhere (suc d) .top
   unfolding grow
   word-as =
       let e : levelsIn t - 1 ≡ up d lev = omega (arith, top) in
-      ap (λ (l : ℕ). 2 * spotIn (levelFrom s l) (t .tree) .place + 2) e
+      ap (λ (l : ℕ). 2 * pairTaken (levelFrom s l) (t .tree) .place + 2) e
       ∙ ap (λ (x : Taken). 2 * x .place + 2) (part-spot (s .pairs) (up d lev) (t .tree) (sound .good (up d lev) (omega (arith, top))))
 
   top-as : (b : ℕ) → topIn s u b ≡ with (topIn s t) c (grow (s .minimal) (levelOps (s .pairs) (few-pairs s fit)) W lev c 0 k nowhere (suc d) .top) b
@@ -154,36 +154,24 @@ module _ (s : BuddySettings) (t : Tables) (fit : BuddyIn s) (lengths : Lengths s
 module _ (s : BuddySettings) (t : Tables) (fit : BuddyIn s) (lengths : Lengths s t) (sound : Sound s t)
     (size mask memory : ℕ) (sized : sizeOk s size mask ≡ true) (tall : levelFor s size mask < levelsIn t) (new : (c : ℕ) → heldIn t c ≡ true → memoryIn t c ≡ memory → ⊥)
     (empty : (j : ℕ) → levelFor s size mask ≤ j → j < levelsIn t → ringHead (levelFrom s j) (t .tree) ≡ nowhere)
-    (pair : (j : ℕ) → levelFor s size mask ≤ j → j < levelsIn t → spotIn (levelFrom s j) (t .tree) .place < s .pairs)
-    (place : takenOf (placesIn t) (t .index) .place < s .store .loans) (spot : chunkSpot s t .place < s .store .chunks) where
+    (pair : (j : ℕ) → levelFor s size mask ≤ j → j < levelsIn t → pairTaken (levelFrom s j) (t .tree) .place < s .pairs)
+    (place : takenOf (placesIn t) (t .index) .place < s .store .loans) (spot : chunkTaken s t .place < s .store .chunks) where
   abbrev lev : ℕ
   lev = levelFor s size mask
 
   abbrev below : ℕ
   below = levelsIn t - lev - 1
 
-  steps : suc below ≡ levelsIn t - lev
-  steps = omega arith
-
   height : levelsIn t ≡ up (suc below) lev
   height = omega (arith, up-add below lev)
 
-  -- the tables, of any number of steps down
-  abbrev tablesAt : ℕ → Tables
-  tablesAt n =
-      bookedTables s (chunkSpot s t .place) 0 (sizeFor s size mask)
-      (splitDown (s .pairs) lev (chunkSpot s t .place) 0 (takenOf (placesIn t) (t .index) .place) nowhere n (chunked s t fit lengths memory (bytes (s .minimal) (levelsIn t)) .tree))
-      (chunked s t fit lengths memory (bytes (s .minimal) (levelsIn t)))
-
-  pub served-lengths : Lengths s (servedTables s size mask memory (bytes (s .minimal) (levelsIn t)) t)
+  pub served-lengths : Lengths s (servedTables s (sizeFor s size mask) (levelFor s size mask) memory (bytes (s .minimal) (levelsIn t)) t)
   unfolding servedTables chunkTables
   served-lengths =
-      subst (λ (n : ℕ). Lengths s (tablesAt n)) steps
-      (served-long s t fit lengths sound (sizeFor s size mask) lev below memory (bytes (s .minimal) (levelsIn t)) height refl spot (λ j h g. empty j h (omega (arith, height))) (λ j h g. pair j h (omega (arith, height))))
+      served-long s t fit lengths sound (sizeFor s size mask) lev below memory (bytes (s .minimal) (levelsIn t)) height refl spot (λ j h g. empty j h (omega (arith, height))) (λ j h g. pair j h (omega (arith, height)))
 
-  pub served-sound : Sound s (servedTables s size mask memory (bytes (s .minimal) (levelsIn t)) t)
+  pub served-sound : Sound s (servedTables s (sizeFor s size mask) (levelFor s size mask) memory (bytes (s .minimal) (levelsIn t)) t)
   unfolding servedTables chunkTables levelFor
   served-sound =
-      subst (λ (n : ℕ). Sound s (tablesAt n)) steps
-      (served-tables-sound s t fit lengths sound (sizeFor s size mask) lev below memory (bytes (s .minimal) (levelsIn t)) height refl spot (λ j h g. empty j h (omega (arith, height))) (λ j h g. pair j h (omega (arith, height)))
-      place refl (size-level s fit size mask sized) (size-units s fit size mask sized) new)
+      served-tables-sound s t fit lengths sound (sizeFor s size mask) lev below memory (bytes (s .minimal) (levelsIn t)) height refl spot (λ j h g. empty j h (omega (arith, height))) (λ j h g. pair j h (omega (arith, height)))
+      place refl (size-level s fit size mask sized) (size-units s fit size mask sized) new

@@ -1,5 +1,5 @@
 -- The size that an ask comes to, held against 01's own words: its mask is the OR of the three, and it is the least power of two that
--- holds both what is asked for and a unit of that mask. Assumes nothing.
+-- holds both what is asked for and a unit of that mask.
 use mathlib.Core.Path.{_≡_, sym, ap, subst, _∙_}
 use mathlib.Core.Bool.{true}
 use mathlib.Core.Logic.{_⊎_, inl, inr, ⊎-elim, _↔_}

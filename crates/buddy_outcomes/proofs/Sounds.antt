@@ -1,5 +1,5 @@
 -- Set-up gives a sound store, and an ask on a sound store leaves it sound, whatever its numbers: lent from, ordered for, refused,
--- also where the refusal leaves the levels grown. Assumes nothing.
+-- also where the refusal leaves the levels grown.
 use mathlib.Core.Path.{_≡_, refl, sym}
 use mathlib.Core.Bool.{Bool, true, false, _&&_}
 use mathlib.Core.Logic.{_⊎_, inl, inr, ⊎-elim}
@@ -10,7 +10,7 @@ use lib.Dec.{eqb}
 use borrow.Author.Tests.{ne-eqb}
 use Rattle.lists.proofs.Bools.{told, and-left, and-right}
 use Rattle.counter.specs.Account.{heapAt}
-use Rattle.counter.specs.Gate.{Verdict, refuse, pass, first}
+use Rattle.counter.specs.Gate.{Verdict, refuse, pass, first, gated}
 use Rattle.counter.specs.InTable.{BuddyIn}
 use Rattle.counter.specs.Table.{buddyOk, alignmentOk}
 use Rattle.counter.specs.declared.account.Account.{Account}
@@ -22,8 +22,8 @@ use Rattle.store_rules.proofs.Tested.{gate-low}
 use Rattle.buddy_rules.specs.Tables.{Tables, Lengths, lengthsOk}
 use Rattle.buddy_rules.specs.Sound.{Sound}
 use Rattle.buddy_rules.specs.Test.{soundOk}
-use Rattle.buddy_outcomes.specs.Gate.{lentOk, accountOk, gateOf}
-use Rattle.buddy_outcomes.specs.Ask.{Found, nowhere, at, grownFor, foundFor, sizeOk, roomOk, countOk, objectsOk, askRow, planned, decideAsk, grownTables, deniedTables, carryAsk, gated, planAsk, askOf}
+use Rattle.buddy_outcomes.specs.Gate.{inTableOk, accountOk, gateOf}
+use Rattle.buddy_outcomes.specs.Ask.{Found, nowhere, at, grownTo, foundFrom, sizeOk, roomOk, countOk, objectsOk, askRow, planned, decideAsk, grownTables, deniedTables, carryAsk, deny, planAsk, askOf, levelFor}
 use Rattle.buddy_outcomes.specs.SetUp.{fitOk, setUpOf}
 use Rattle.buddy_outcomes.proofs.Passing.{gate-passed, lengths-are}
 use Rattle.buddy_outcomes.proofs.Rounds.{initial-few, level-low}
@@ -51,27 +51,27 @@ ask-number false false c d e n h = inl (ne-eqb n 9 (λ z. omega (arith, same-num
 ask-number true false c d e n h = inl (ne-eqb n 9 (λ z. omega (arith, same-number 6 n h)))
 
 module _ (s : BuddySettings) (a : Account) (size mask : ℕ) (t : Tables) (sound : Sound s t) where
-  untouched : (n : ℕ) → eqb n 9 ≡ false → Sound s (deniedTables s size mask n t)
+  untouched : (n : ℕ) → eqb n 9 ≡ false → Sound s (deniedTables s (levelFor s size mask) n t)
   unfolding deniedTables
   untouched n e = rw e sound
 
   module _ (fit : BuddyIn s) (lengths : Lengths s t) where
-    grown : sizeOk s size mask ≡ true → Sound s (grownTables s (grownFor s size mask t) t)
+    grown : sizeOk s size mask ≡ true → Sound s (grownTables s (grownTo (levelFor s size mask) t) t)
     grown z =
-        grown-tables-sound s t fit lengths sound (grownFor s size mask t) (omega arith) (omega (arith, level-low s fit size mask z, sound .levels-most))
+        grown-tables-sound s t fit lengths sound (grownTo (levelFor s size mask) t) (omega arith) (omega (arith, level-low s fit size mask z, sound .levels-most))
 
-    denied-sound : (n : ℕ) → (eqb n 9 ≡ false) ⊎ (sizeOk s size mask ≡ true) → Sound s (deniedTables s size mask n t)
+    denied-sound : (n : ℕ) → (eqb n 9 ≡ false) ⊎ (sizeOk s size mask ≡ true) → Sound s (deniedTables s (levelFor s size mask) n t)
     unfolding deniedTables
     denied-sound n (inl e) = untouched n e
     denied-sound n (inr z) = ⊎-elim (λ e. rw e (grown z)) (λ e. rw e sound) (told (eqb n 9))
 
-    decided : (f : Found) → foundFor s size mask t ≡ f
+    decided : (f : Found) → foundFrom s (levelFor s size mask) t ≡ f
         → (v : Verdict) → first (askRow s (heapAt a (s .store .heap)) (a .objects) size mask t f) ≡ v
-        → Sound s (carryAsk s a size mask t (planned s size mask t f v) .tables)
+        → Sound s (carryAsk s a size mask t (planned s (levelFor s size mask) t f v) .tables)
     unfolding carryAsk
     decided f e (refuse n) w =
         let h = heapAt a (s .store .heap) in
-        denied-sound n (ask-number (alignmentOk mask) (sizeOk s size mask) (roomOk s size mask t f) (countOk s h size mask t f) (objectsOk (a .objects) f) n w)
+        denied-sound n (ask-number (alignmentOk mask) (sizeOk s size mask) (roomOk s (levelFor s size mask) t f) (countOk s h (levelFor s size mask) t f) (objectsOk (a .objects) f) n w)
     decided (at i) e pass w =
         let h = passed (askRow s (heapAt a (s .store .heap)) (a .objects) size mask t (at i)) w in
         taken-sound s t fit lengths sound size mask i e (h .0) (h .1 .0) (h .1 .1 .0)
@@ -79,12 +79,12 @@ module _ (s : BuddySettings) (a : Account) (size mask : ℕ) (t : Tables) (sound
         let h = passed (askRow s (heapAt a (s .store .heap)) (a .objects) size mask t nowhere) w in
         grown (h .1 .0)
 
-  after-ask : (v : Verdict) → gateOf s a t true ≡ v → Sound s (carryAsk s a size mask t (gated v (decideAsk s (heapAt a (s .store .heap)) (a .objects) size mask t)) .tables)
+  after-ask : (v : Verdict) → gateOf s a t true ≡ v → Sound s (carryAsk s a size mask t (gated deny v (decideAsk s (heapAt a (s .store .heap)) (a .objects) size mask t)) .tables)
   unfolding carryAsk decideAsk gateOf
-  after-ask (refuse n) g = untouched n (gate-number (lentOk s a t && true) (noOrder (a .order)) (soundOk s t) (accountOk s a t) n g)
+  after-ask (refuse n) g = untouched n (gate-number (inTableOk s a t && true) (noOrder (a .order)) (soundOk s t) (accountOk s a t) n g)
   after-ask pass g =
       let p = gate-passed s a t true (sym g) in
-      decided (p .lent .settings) (p .lent .lengths) (foundFor s size mask t) refl _ refl
+      decided (p .lent .settings) (p .lent .lengths) (foundFrom s (levelFor s size mask) t) refl _ refl
 
   pub ask-sound : Sound s (askOf s a size mask t .tables)
   unfolding askOf planAsk

@@ -1,4 +1,4 @@
--- What the tables hold when a block has been lent out of a chunk that the store holds: they are sound. Assumes nothing.
+-- What the tables hold when a block has been lent out of a chunk that the store holds: they are sound.
 use mathlib.Core.Path.{_≡_, refl, sym, ap, _∙_, subst}
 use mathlib.Core.Bool.{true, false, cond, not}
 use mathlib.Core.Logic.{_⊎_, inl, inr, ⊎-elim}
@@ -28,7 +28,7 @@ use Rattle.buddy_rules.specs.Stores.{with, cutLoan, lent}
 use Rattle.buddy_rules.specs.Stores as Stores
 use Rattle.buddy_rules.proofs.Fitting.{up-add, lent-aligned}
 use Rattle.buddy_rules.proofs.Made.{lent-sound}
-use Rattle.buddy_rules.specs.Level.{ringHead, spotIn, acquired, part}
+use Rattle.buddy_rules.specs.Level.{ringHead, pairTaken, acquired, part}
 use Rattle.buddy_rules.proofs.Ops.{levelOps}
 use Rattle.buddy_rules.proofs.Parts.{part-head, part-spot}
 use Rattle.buddy_rules.specs.Tables.{Tables, Lengths, levelsIn, placesIn, levelFrom, loanCell, loanIn, liveIn, heldIn, highIn, topIn}
@@ -37,7 +37,7 @@ use Rattle.buddy_rules.specs.Sound.{Sound}
 use Rattle.buddy_rules.proofs.Abstract.{storeOf, sound-store}
 use Rattle.buddy_rules.proofs.Splitting.{head-is, lent-is}
 use Rattle.buddy_rules.proofs.Walks.{minimal-pos}
-use Rattle.buddy_outcomes.specs.Ask.{at, sizeFor, levelFor, foundFor, sizeOk, roomOk, bookedTables, headEnt, takenTables}
+use Rattle.buddy_outcomes.specs.Ask.{at, sizeFor, levelFor, foundFrom, sizeOk, roomOk, bookedTables, headEnt, takenTables}
 use Rattle.buddy_outcomes.proofs.Same.{sound-as}
 use Rattle.buddy_outcomes.proofs.Changed.{few-pairs}
 use Rattle.buddy_outcomes.proofs.Rounds.{size-level, size-units}
@@ -85,13 +85,13 @@ module _ (s : BuddySettings) (t : Tables) (fit : BuddyIn s) (sound : Sound s t) 
   pub level-empty : ringHead (levelFrom s j) (t .tree) ≡ nowhere → levelOps (s .pairs) (few-pairs s fit) .Some (part (s .pairs) j (t .tree)) → ⊥
   level-empty e f = f (sym (part-head (s .pairs) j (t .tree)) ∙ e)
 
-  pub level-room : j < levelsIn t → spotIn (levelFrom s j) (t .tree) .place < s .pairs → spotIn 0 (part (s .pairs) j (t .tree)) .place < s .pairs
+  pub level-room : j < levelsIn t → pairTaken (levelFrom s j) (t .tree) .place < s .pairs → pairTaken 0 (part (s .pairs) j (t .tree)) .place < s .pairs
   level-room h k = let e = part-spot (s .pairs) j (t .tree) (sound .good j h) in rw (← e) k
 
 module _ (s : BuddySettings) (t : Tables) (fit : BuddyIn s) (lengths : Lengths s t) (sound : Sound s t) (size lev d : ℕ)
     (below : up d lev < levelsIn t) (some : ringHead (levelFrom s (up d lev)) (t .tree) ≡ nowhere → ⊥)
     (none : (j : ℕ) → lev ≤ j → j < up d lev → ringHead (levelFrom s j) (t .tree) ≡ nowhere)
-    (room : (j : ℕ) → lev ≤ j → j < up d lev → spotIn (levelFrom s j) (t .tree) .place < s .pairs) where
+    (room : (j : ℕ) → lev ≤ j → j < up d lev → pairTaken (levelFrom s j) (t .tree) .place < s .pairs) where
   abbrev k : ℕ
   k = takenOf (placesIn t) (t .index) .place
 
@@ -169,12 +169,12 @@ module _ (s : BuddySettings) (t : Tables) (fit : BuddyIn s) (lengths : Lengths s
 -- ---- of the first level with a ready side
 
 module _ (s : BuddySettings) (t : Tables) (fit : BuddyIn s) (lengths : Lengths s t) (sound : Sound s t)
-    (size mask i : ℕ) (found : foundFor s size mask t ≡ at i) (aligned : alignmentOk mask ≡ true) (sized : sizeOk s size mask ≡ true) (room : roomOk s size mask t (at i) ≡ true) where
+    (size mask i : ℕ) (found : foundFrom s (levelFor s size mask) t ≡ at i) (aligned : alignmentOk mask ≡ true) (sized : sizeOk s size mask ≡ true) (room : roomOk s (levelFor s size mask) t (at i) ≡ true) where
   abbrev lev : ℕ
   lev = levelFor s size mask
 
   pub first : (lev ≤ i) × (i < levelsIn t) × (ringHead (levelFrom s i) (t .tree) ≡ nowhere → ⊥) × ((j : ℕ) → lev ≤ j → j < i → ringHead (levelFrom s j) (t .tree) ≡ nowhere)
-  unfolding foundFor
+  unfolding foundFrom
   first = let r = search-at s (t .tree) lev (levelsIn t - lev) i found in (r .0, omega (arith, r .0, r .1), r .2, r .3)
 
   pub height : up (i - lev) lev ≡ i
@@ -195,16 +195,16 @@ module _ (s : BuddySettings) (t : Tables) (fit : BuddyIn s) (lengths : Lengths s
   none : (j : ℕ) → lev ≤ j → j < up (i - lev) lev → ringHead (levelFrom s j) (t .tree) ≡ nowhere
   none j h g = first .3 j h (omega (arith, height))
 
-  pub pair : (j : ℕ) → lev ≤ j → j < up (i - lev) lev → spotIn (levelFrom s j) (t .tree) .place < s .pairs
+  pub pair : (j : ℕ) → lev ≤ j → j < up (i - lev) lev → pairTaken (levelFrom s j) (t .tree) .place < s .pairs
   pair j h g = room-pair s t size mask (at i) room j h (omega (arith, height)) (omega (arith, below))
 
-  pub taken-sound : Sound s (takenTables s size mask t i)
+  pub taken-sound : Sound s (takenTables s (sizeFor s size mask) (levelFor s size mask) t i)
   unfolding takenTables levelFor
   taken-sound =
       subst (λ (x : ℕ). Sound s (tablesAt x (i - lev))) height
       (lent-tables-sound s t fit lengths sound (sizeFor s size mask) lev (i - lev) below some none pair (room-place s t size mask (at i) room) refl
       (size-level s fit size mask sized) (size-units s fit size mask sized))
 
-  pub taken-lengths : Lengths s (takenTables s size mask t i)
+  pub taken-lengths : Lengths s (takenTables s (sizeFor s size mask) (levelFor s size mask) t i)
   unfolding takenTables
   taken-lengths = subst (λ (x : ℕ). Lengths s (tablesAt x (i - lev))) height (lent-lengths s t fit lengths sound (sizeFor s size mask) lev (i - lev) below some none pair)

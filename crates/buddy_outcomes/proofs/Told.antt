@@ -1,5 +1,5 @@
 -- What a buddy store says where its gate passes: the block, the order, or the number of the first test that fails; and of a
--- return that is taken, how many chunks went and which. Assumes nothing.
+-- return that is taken, how many chunks went and which.
 use mathlib.Core.Path.{_≡_, refl, sym, ap, subst, _∙_}
 use mathlib.Core.Bool.{Bool, true, false, _&&_, not, and-false}
 use mathlib.Core.Logic.{⊎-elim}
@@ -13,7 +13,7 @@ use borrow.Author.Tests.{leb-true}
 use Rattle.lists.proofs.Bools.{told}
 use Rattle.words.specs.Words.{cellOf}
 use Rattle.counter.specs.Account.{heapAt}
-use Rattle.counter.specs.Gate.{Verdict, pass, refuse, first}
+use Rattle.counter.specs.Gate.{Verdict, pass, refuse, first, gated}
 use Rattle.counter.specs.Paper as Paper
 use Rattle.counter.specs.Table.{alignmentOk}
 use Rattle.counter.specs.declared.account.Account.{Account}
@@ -25,7 +25,7 @@ use Rattle.store_rules.specs.Outcomes.{Listed, out, listOk, withOrder, blockSai
 use Rattle.buddy_rules.specs.Tables.{Tables, chunkWords, chunkSizeAt, chunkPlacesIn, memoryIn, heldIn}
 use Rattle.buddy_outcomes.specs.Gate.{gateOf}
 use Rattle.buddy_outcomes.specs.Ask as Ask
-use Rattle.buddy_outcomes.specs.Ask.{Found, nowhere, at, foundFor, grownFor, orderFor, sizeOk, roomOk, countOk, objectsOk, askRow, planned, decideAsk, loanFrom, takenTables, grownTables, deniedTables, carryAsk, planAsk, askOf}
+use Rattle.buddy_outcomes.specs.Ask.{Found, nowhere, at, foundFrom, grownTo, orderBytes, sizeOk, roomOk, countOk, objectsOk, askRow, planned, decideAsk, loanFrom, takenTables, grownTables, deniedTables, carryAsk, planAsk, askOf, sizeFor, levelFor}
 use Rattle.buddy_outcomes.specs.Return.{wordFor, onLoanOk, climbFor, givenTables, releasedBy, returnOf}
 use Rattle.buddy_outcomes.proofs.Passing.{gate-passed}
 use Rattle.buddy_outcomes.proofs.Loaned.{on-loan-is}
@@ -36,37 +36,37 @@ use Rattle.buddy_outcomes.proofs.Returned.{held-taken}
 
 module _ (s : BuddySettings) (a : Account) (size mask : ℕ) (t : Tables) (gate : gateOf s a t true ≡ pass) (five : alignmentOk mask ≡ true) (six : sizeOk s size mask ≡ true) where
   abbrev found : Found
-  found = foundFor s size mask t
+  found = foundFrom s (levelFor s size mask) t
 
-  answer : (v : Verdict) → first (askRow s (heapAt a (s .store .heap)) (a .objects) size mask t found) ≡ v → askOf s a size mask t ≡ carryAsk s a size mask t (planned s size mask t found v)
+  answer : (v : Verdict) → first (askRow s (heapAt a (s .store .heap)) (a .objects) size mask t found) ≡ v → askOf s a size mask t ≡ carryAsk s a size mask t (planned s (levelFor s size mask) t found v)
   unfolding askOf planAsk decideAsk
   answer v e =
-      ap (λ (g : Verdict). carryAsk s a size mask t (Ask.gated g (decideAsk s (heapAt a (s .store .heap)) (a .objects) size mask t))) gate
-      ∙ ap (λ (w : Verdict). carryAsk s a size mask t (planned s size mask t found w)) e
+      ap (λ (g : Verdict). carryAsk s a size mask t (gated Ask.deny g (decideAsk s (heapAt a (s .store .heap)) (a .objects) size mask t))) gate
+      ∙ ap (λ (w : Verdict). carryAsk s a size mask t (planned s (levelFor s size mask) t found w)) e
 
   -- an ask with no loan place, chunk place or pair place is refused as 8 and leaves everything, whatever else fails after it
-  pub full-first : roomOk s size mask t found ≡ false → askOf s a size mask t ≡ out (Paper.refusal 8 []) a t
+  pub full-first : roomOk s (levelFor s size mask) t found ≡ false → askOf s a size mask t ≡ out (Paper.refusal 8 []) a t
   unfolding carryAsk deniedTables
   full-first eight = answer (refuse 8) (rw (five, six, eight) refl)
 
-  module _ (eight : roomOk s size mask t found ≡ true) (ten : countOk s (heapAt a (s .store .heap)) size mask t found ≡ true) where
+  module _ (eight : roomOk s (levelFor s size mask) t found ≡ true) (ten : countOk s (heapAt a (s .store .heap)) (levelFor s size mask) t found ≡ true) where
     module _ (nine : objectsOk (a .objects) found ≡ true) where
       passing : first (askRow s (heapAt a (s .store .heap)) (a .objects) size mask t found) ≡ pass
       passing = rw (five, six, eight, ten, nine) refl
 
       -- an ask whose tests all hold is served with a block where the search found a level with a ready side
-      pub ask-served : (i : ℕ) → found ≡ at i → askOf s a size mask t ≡ out (blockSaid (loanFrom s size mask t i)) a (takenTables s size mask t i)
+      pub ask-served : (i : ℕ) → found ≡ at i → askOf s a size mask t ≡ out (blockSaid (loanFrom s (sizeFor s size mask) t i)) a (takenTables s (sizeFor s size mask) (levelFor s size mask) t i)
       unfolding carryAsk
-      ask-served i e = answer pass passing ∙ ap (λ (f : Found). carryAsk s a size mask t (planned s size mask t f pass)) e
+      ask-served i e = answer pass passing ∙ ap (λ (f : Found). carryAsk s a size mask t (planned s (levelFor s size mask) t f pass)) e
 
       -- and with an order where it found none: the order is open in the account, and the levels have grown as it needs
       pub ask-ordered : found ≡ nowhere
           → askOf s a size mask t
-          ≡ out (Paper.orderOf (orderFrom (s .store) (orderFor s size mask t)))
-          (withOrder a (Kept (keptFrom (s .store) size mask (orderFor s size mask t))))
-          (grownTables s (grownFor s size mask t) t)
+          ≡ out (Paper.orderOf (orderFrom (s .store) (orderBytes s (levelFor s size mask) t)))
+          (withOrder a (Kept (keptFrom (s .store) size mask (orderBytes s (levelFor s size mask) t))))
+          (grownTables s (grownTo (levelFor s size mask) t) t)
       unfolding carryAsk
-      ask-ordered e = answer pass passing ∙ ap (λ (f : Found). carryAsk s a size mask t (planned s size mask t f pass)) e
+      ask-ordered e = answer pass passing ∙ ap (λ (f : Found). carryAsk s a size mask t (planned s (levelFor s size mask) t f pass)) e
 
 -- ---- a return that is taken
 

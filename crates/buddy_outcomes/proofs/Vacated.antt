@@ -1,4 +1,4 @@
--- What the words of chunks and tree say when a chunk's place has been vacated, or has not. Assumes nothing.
+-- What the words of chunks and tree say when a chunk's place has been vacated, or has not.
 use mathlib.Core.Path.{_≡_, refl, sym, ap, subst, _∙_}
 use mathlib.Core.Bool.{Bool, true, false, cond, not, _&&_, and-false}
 use mathlib.Core.Logic.{_⊎_, inl, inr, ⊎-elim}

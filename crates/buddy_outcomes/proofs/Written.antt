@@ -1,4 +1,4 @@
--- The words of a loan that was written at a place of the book, and those of the others. Assumes nothing.
+-- The words of a loan that was written at a place of the book, and those of the others.
 use mathlib.Core.Path.{_≡_, ap, _∙_}
 use mathlib.Core.List.{List}
 use Prim.Native.Nat.{ℕ, _*_, _<_}

@@ -1,4 +1,4 @@
--- The gate of a buddy store: 01's tests 1 to 4. Assumes nothing: these are definitions.
+-- The gate of a buddy store: 01's tests 1 to 4.
 use mathlib.Core.Bool.{Bool, cond, _&&_}
 use Prim.Native.Nat.{ℕ, zero, suc, _+_}
 use Rattle.counter.specs.Account.{heapAt}
@@ -11,8 +11,8 @@ use Rattle.buddy_rules.specs.Tables.{Tables, lengthsOk, chunkPlacesIn, chunkSiz
 use Rattle.buddy_rules.specs.Test.{soundOk}
 
 -- 1: every value, and every table's length
-unfoldable pub lentOk : BuddySettings → Account → Tables → Bool
-lentOk s a t = buddyOk s && (heapsOk (a .heaps) && lengthsOk s t)
+unfoldable pub inTableOk : BuddySettings → Account → Tables → Bool
+inTableOk s a t = buddyOk s && (heapsOk (a .heaps) && lengthsOk s t)
 
 -- how many chunks stand at the first n places, and how many bytes they have
 unfoldable pub heldCount : Tables → ℕ → ℕ
@@ -29,4 +29,4 @@ accountOk s a t = coversOk (heapAt a (s .store .heap)) (a .objects) (heldCount t
 
 -- of an ask and a return: no order may be open; `list` says whether the release list is long enough
 unfoldable pub gateOf : BuddySettings → Account → Tables → Bool → Verdict
-gateOf s a t list = first (gateRow (lentOk s a t && list) (noOrder (a .order)) (soundOk s t) (accountOk s a t))
+gateOf s a t list = first (gateRow (inTableOk s a t && list) (noOrder (a .order)) (soundOk s t) (accountOk s a t))

@@ -1,15 +1,11 @@
 -- 01's table, "When the counter says no", for each call of a buddy store, in the paper's words and in the order of its tests.
--- Assumes nothing: these are definitions.
 use mathlib.Core.Path.{_≡_}
 use mathlib.Core.Bool.{cond}
 use mathlib.Core.Logic.{_⊎_}
 use Prim.Native.Nat.{ℕ, zero, suc, _+_, _≤_, _<_}
 use lib.Dec.{ltb}
-use lib.ListN.{getD}
-use Rattle.counter.specs.Account.{noHeap}
 use Rattle.counter.specs.InTable.{BuddyIn}
-use Rattle.counter.specs.Limits.{heapsMost, heapBytesMost, levelsMost}
-use Rattle.counter.specs.declared.account.Account.{Account}
+use Rattle.counter.specs.Limits.{levelsMost}
 use Rattle.counter.specs.declared.settings.BuddySettings.{BuddySettings}
 use Rattle.store_rules.specs.Words.{Words}
 use Rattle.buddy_trees.specs.Trees.{bytes}
@@ -17,15 +13,7 @@ use Rattle.buddy_trees.specs.Chunks.{Fitting}
 use Rattle.buddy_rules.specs.Sound.{Sound}
 use Rattle.buddy_rules.specs.Views.{viewOf}
 use Rattle.buddy_rules.specs.Tables.{Tables, Lengths, givenIn, levelsIn, liveIn, pairsIn}
-use Rattle.buddy_outcomes.specs.Ask.{sizeFor, levelFor, orderFor}
-
--- ---- 1
-
--- every value is in 01's table, and every lent table is as long as it has to be
-pub record InTable (s : BuddySettings) (a : Account) (t : Tables) : Type 0 where
-  pub settings : BuddyIn s
-  pub heaps : (i : ℕ) → i < heapsMost → (getD (a .heaps) i noHeap .size ≤ heapBytesMost) × (getD (a .heaps) i noHeap .used ≤ heapBytesMost)
-  pub lengths : Lengths s t
+use Rattle.buddy_outcomes.specs.Ask.{sizeFor, levelFor, orderBytes}
 
 -- ---- 6
 
@@ -72,9 +60,9 @@ buddyWords =
       view = viewOf;
       Sound = Sound;
       Needed = Needed;
-      orderSize = orderFor;
+      orderSize = λ s size mask t. orderBytes s (levelFor s size mask) t;
       Fits = λ s t. BuddyIn s × Lengths s t;
-      InTable = InTable;
+      MaskHigh = λ s mask. ⊥;
       SizeOff = SizeOff;
       Roomless = PairsOut;
       Numberless = λ s t. ⊥;

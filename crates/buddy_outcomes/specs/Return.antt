@@ -1,4 +1,4 @@
--- What a return to a buddy store says and leaves. 01, "buddy.rs", and test 7. Assumes nothing: these are definitions.
+-- What a return to a buddy store says and leaves. 01, "buddy.rs", and test 7.
 use mathlib.Core.Bool.{Bool, cond}
 use mathlib.Core.List.{List, [], _∷_}
 use Prim.Native.Nat.{ℕ, _+_, _-_}
@@ -6,6 +6,7 @@ use lib.ListN.{getD, set}
 use lib.Seq.{sets}
 use Rattle.words.specs.Words.{cellOf}
 use Rattle.rounding_rules.specs.Raising.{levelOf}
+use Rattle.counter.specs.Gate.{gated}
 use Rattle.counter.specs.Paper as Paper
 use Rattle.counter.specs.declared.account.Account.{Account}
 use Rattle.counter.specs.declared.answers.Block.{Block}
@@ -13,8 +14,8 @@ use Rattle.counter.specs.declared.settings.BuddySettings.{BuddySettings}
 use Rattle.store_rules.specs.Outcomes.{Listed, listed, listOk, releasedAccount}
 use Rattle.book_rules.specs.Book.{struck, struckIndex}
 use Rattle.book_rules.specs.Returns as Returns
-pub use Rattle.book_rules.specs.Returns.{Plan, deny, back, decided, gated}
-use Rattle.buddy_rules.specs.Tables.{Tables, tables, givenIn, chunkWords, chunkSizeAt, levelsIn, placesIn, memoryIn, chunkSizeIn, chunksFrom, placeAt, afterAt, placeWords, nodesFrom}
+pub use Rattle.book_rules.specs.Returns.{Plan, deny, back, decided}
+use Rattle.buddy_rules.specs.Tables.{Tables, tables, givenIn, chunkWords, chunkSizeAt, levelsIn, placesIn, memoryIn, chunkSizeIn, chunksFrom, placeAt, afterAt, placeWords, nodeOfLoan}
 use Rattle.buddy_rules.specs.Moves.{Climbed, climbed}
 use Rattle.buddy_outcomes.specs.Gate.{gateOf}
 
@@ -26,10 +27,13 @@ wordFor s b t = Returns.wordFor (t .loans) (t .index) (s .store .loans) (placesI
 unfoldable pub onLoanOk : BuddySettings → Block → Tables → Bool
 onLoanOk s b t = Returns.onLoanOk (t .loans) (t .index) (s .store .loans) (placesIn t) (givenIn t) b
 
--- the climb from the node of the loan that the word w leads to
+-- the climb from node n of level l
+abbrev pub climbFrom : BuddySettings → ℕ → ℕ → Tables → Climbed
+climbFrom s l n t = climbed (s .pairs) (levelsIn t - l) l n (t .tree)
+
+-- and that from the node of the block's loan, to which the word w leads
 abbrev pub climbFor : BuddySettings → Block → ℕ → Tables → Climbed
-climbFor s b w t =
-    climbed (s .pairs) (levelsIn t - levelOf (b .size) (s .minimal)) (levelOf (b .size) (s .minimal)) (getD (t .tree) (nodesFrom s + getD (t .index) w 0) 0) (t .tree)
+climbFor s b w t = climbFrom s (levelOf (b .size) (s .minimal)) (nodeOfLoan s t (getD (t .index) w 0)) t
 
 -- "above the top the chunk is released": its place is vacant, and the next to be taken
 unfoldable pub vacatedTree : BuddySettings → ℕ → List ℕ → List ℕ
@@ -50,7 +54,7 @@ unfoldable pub decideReturn : BuddySettings → Block → Tables → Plan
 decideReturn s b t = decided (onLoanOk s b t) (wordFor s b t)
 
 unfoldable pub planReturn : BuddySettings → Account → Block → Tables → Bool → Plan
-planReturn s a b t list = gated (gateOf s a t list) (decideReturn s b t)
+planReturn s a b t list = gated deny (gateOf s a t list) (decideReturn s b t)
 
 -- how many chunks go, and what they have: the block's or none
 unfoldable pub releasedBy : BuddySettings → Account → Block → ℕ → Tables → List ℕ → Listed Tables

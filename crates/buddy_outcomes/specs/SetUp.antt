@@ -1,4 +1,4 @@
--- What set-up of a buddy store says and leaves. Assumes nothing: these are definitions.
+-- What set-up of a buddy store says and leaves.
 use mathlib.Core.Bool.{Bool, cond, _&&_}
 use mathlib.Core.List.{List, [], _∷_}
 use Prim.Native.Nat.{ℕ}

@@ -1,5 +1,4 @@
 -- The abstract store that the tables hold: a sound store's is sound, and tables whose abstract store is sound have trees.
--- Assumes nothing.
 use mathlib.Core.Path.{_≡_, refl, sym}
 use mathlib.Core.Bool.{true, false, cond}
 use mathlib.Core.Logic.{_⊎_, inl, inr, ⊎-elim}

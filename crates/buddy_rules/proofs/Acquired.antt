@@ -1,5 +1,5 @@
 -- "Acquire takes the head pair's ready side": the head leaves the ring exhausted. The level stays good, and no other pair says
--- anything else. Assumes nothing.
+-- anything else.
 use mathlib.Core.Path.{_≡_, refl, ap, _∙_}
 use mathlib.Core.Logic.{inl}
 use mathlib.Core.List.{List}

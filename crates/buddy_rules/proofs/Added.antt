@@ -1,5 +1,4 @@
 -- A new pair is the whole ring of a level that had none: the level stays good, and no other pair says anything else.
--- Assumes nothing.
 use mathlib.Core.Path.{_≡_, refl, sym, ap, _∙_, subst}
 use mathlib.Core.Bool.{Bool, true, false, cond}
 use mathlib.Core.Logic.{_⊎_, inl, inr, ⊎-elim}
@@ -14,7 +13,7 @@ use Rattle.slab.specs.Slab.{nowhere, changed, Parted}
 use Rattle.slab.specs.declared.Slab.{Slab}
 use Rattle.slab.proofs.Places.{chain-same, changed-here, changed-other, still-free, insert-last, inserted-parted}
 use Rattle.ring_rules.specs.Ring.{RingOf}
-use Rattle.buddy_rules.specs.Level.{ringAt, usedAt, pairWords, tagAt, chunkAt, offAt, leftAt, rightAt, nextAt, prevAt, upAt, levelWords, fieldAt, pairCell, entOf, pairIn, ringHead, slabIn, spotIn, added, vacantIn, vacantAfter, Good}
+use Rattle.buddy_rules.specs.Level.{ringAt, usedAt, pairWords, tagAt, chunkAt, offAt, leftAt, rightAt, nextAt, prevAt, upAt, levelWords, fieldAt, pairCell, entOf, pairIn, ringHead, slabIn, pairTaken, added, vacantIn, vacantAfter, Good}
 use Rattle.buddy_rules.proofs.Stores.{puts, length-puts, kept, latest, reads}
 use Rattle.buddy_rules.proofs.Rows.{addedRow, added-puts}
 use Rattle.buddy_rules.proofs.Cells.{plain-in, ent-same, pair-used, pair-unused}
@@ -35,7 +34,7 @@ parted-vacant free free′ next next′ s most f g P = record {
 
 module _ (b c o n w : ℕ) (t : List ℕ) where
   abbrev p : ℕ
-  p = spotIn b t .place
+  p = pairTaken b t .place
 
   abbrev row : List (ℕ × ℕ)
   row = addedRow b c o n w t
@@ -63,8 +62,8 @@ module _ (b c o n w : ℕ) (t : List ℕ) where
 
   abbrev numbered : List (ℕ × ℕ)
   numbered =
-      (1, spotIn b t .slab .places)
-      ∷ (2, spotIn b t .slab .vacant)
+      (1, pairTaken b t .slab .places)
+      ∷ (2, pairTaken b t .slab .vacant)
       ∷ (8, 3)
       ∷ (9, c)
       ∷ (10, o)
@@ -97,7 +96,7 @@ module _ (b c o n w : ℕ) (t : List ℕ) where
     now : (k : ℕ) → k < 16 → getD t′ (at k) 0 ≡ latest numbered k (getD t (at k) 0)
     now = reads at 16 at-one t numbered at-fits (omega arith, (omega arith, (omega arith, (omega arith, (omega arith, (omega arith, (omega arith, (omega arith, (omega arith, (omega arith, (omega arith, tt)))))))))))
 
-    used : getD t′ (b + usedAt) 0 ≡ spotIn b t .slab .places
+    used : getD t′ (b + usedAt) 0 ≡ pairTaken b t .slab .places
     used = now 1 (omega arith)
 
     here : entOf b t′ p ≡ record { tag = 3; chunk = c; off = o; left = w; right = 0; up = n }
@@ -110,7 +109,7 @@ module _ (b c o n w : ℕ) (t : List ℕ) where
       up = now 15 (omega arith) j;
     }
 
-    slab : spotIn b t .slab ≡ slabIn b t′
+    slab : pairTaken b t .slab ≡ slabIn b t′
     slab = λ j. record { places = sym (now 1 (omega arith)) j; vacant = sym (now 2 (omega arith)) j }
 
   module _ (pairs : ℕ) (few : pairs ≤ 2 ^ 32) (fits : b + levelWords pairs ≤ length t) (G : Good b pairs t) (room : p < pairs) where
@@ -131,7 +130,7 @@ module _ (b c o n w : ℕ) (t : List ℕ) where
         let e = insert-last (vacantIn b t) t (fieldAt b offAt) pairWords (slabIn b t) pairs (G .parted) most in
         let P = inserted-parted (vacantIn b t) t (fieldAt b offAt) pairWords (slabIn b t) pairs (G .parted) most (rw e at room) in
         subst (λ (s : Slab). Parted (vacantIn b t′) (vacantAfter b t′) s pairs) (slab inside)
-        (parted-vacant _ (vacantIn b t′) _ (vacantAfter b t′) (spotIn b t .slab) pairs vacant
+        (parted-vacant _ (vacantIn b t′) _ (vacantAfter b t′) (pairTaken b t .slab) pairs vacant
         (λ x f. other x (still-free (vacantIn b t) p x f .0) offAt (omega arith)) P)
 
     none : ringHead b t ≡ nowhere → (x : ℕ) → (x ≡ p → ⊥) → x < getD t′ (b + usedAt) 0 → entOf b t′ x .tag ≤ 1

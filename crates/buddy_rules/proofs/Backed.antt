@@ -1,5 +1,5 @@
 -- "A returned side of an exhausted pair joins the ring before the head": the pair is ready there. The level stays good, and no
--- other pair says anything else. Assumes nothing.
+-- other pair says anything else.
 use mathlib.Core.Path.{_≡_, refl, ap, _∙_}
 use mathlib.Core.Logic.{inl}
 use mathlib.Core.List.{List}

@@ -1,5 +1,5 @@
 -- The words of a level that are no links of its ring, nor its head: what the ring's stores leave. And what the pairs show in
--- two tables that have the same words. Assumes nothing.
+-- two tables that have the same words.
 use mathlib.Core.Path.{_≡_, refl, ap}
 use mathlib.Core.Bool.{Bool, true, false, cond}
 use mathlib.Core.Logic.{_⊎_, inl, inr}

@@ -1,5 +1,4 @@
 -- The return in words is the abstract one: the climb from a loan's node does to the tree's words what it does to their levels.
--- Assumes nothing.
 use mathlib.Core.Path.{_≡_, refl, sym, ap, _∙_}
 use mathlib.Core.Bool.{true, false, cond}
 use mathlib.Core.Logic.{_⊎_, inl, inr, ⊎-elim}

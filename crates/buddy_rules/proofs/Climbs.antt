@@ -1,4 +1,4 @@
--- Climbing from a loan's node by parents is the recursion from its chunk's top. Assumes nothing.
+-- Climbing from a loan's node by parents is the recursion from its chunk's top.
 use mathlib.Core.Path.{_≡_, refl, ap, _∙_}
 use mathlib.Core.Bool.{Bool, true, false, cond}
 use mathlib.Core.Logic.{_⊎_, inl, inr}

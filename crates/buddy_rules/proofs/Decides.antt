@@ -1,4 +1,4 @@
--- One row of tests decides whether a buddy store's tables are sound, both ways. Assumes nothing.
+-- One row of tests decides whether a buddy store's tables are sound, both ways.
 use mathlib.Core.Path.{_≡_, refl, sym, ap}
 use mathlib.Core.Bool.{Bool, true, false, _&&_, _||_, not}
 use mathlib.Core.Logic.{_⊎_, ⊎-elim}

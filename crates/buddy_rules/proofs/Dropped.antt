@@ -1,5 +1,5 @@
 -- "The pair goes": a ready pair leaves the ring and its place is vacant. The level stays good, and no other pair says
--- anything else. Assumes nothing.
+-- anything else.
 use mathlib.Core.Path.{_≡_, sym, ap, _∙_, subst}
 use mathlib.Core.Bool.{true, false}
 use mathlib.Core.Logic.{inl, ⊎-elim}

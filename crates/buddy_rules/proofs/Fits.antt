@@ -1,5 +1,5 @@
 -- When a chunk has room: a quiet stretch at a multiple of its size is there exactly when a pair is ready at that level or a
--- higher one. Assumes nothing.
+-- higher one.
 use mathlib.Core.Path.{_≡_, sym, ap, subst}
 use mathlib.Core.Logic.{⊎-elim}
 use Prim.Native.Nat.{ℕ, _+_, _*_, _^_, _≤_, _<_}

@@ -1,5 +1,5 @@
 -- Where a sound store has room: a level has a ready side exactly where some chunk has a fitting free place, and what is lent
--- lies in a held chunk, at a multiple of its size, and meets no loan. Assumes nothing.
+-- lies in a held chunk, at a multiple of its size, and meets no loan.
 use mathlib.Core.Path.{_≡_, refl, sym, ap, _∙_, subst}
 use mathlib.Core.Bool.{true}
 use mathlib.Core.Logic.{_⊎_, inl, inr, ⊎-elim}

@@ -1,4 +1,4 @@
--- The words of a node: what they say of its tree, and which changes of entries keep them. Assumes nothing.
+-- The words of a node: what they say of its tree, and which changes of entries keep them.
 use mathlib.Core.Path.{_≡_, refl, sym, ap, _∙_}
 use mathlib.Core.Bool.{Bool, true, false}
 use mathlib.Core.Logic.{_⊎_, inl, inr, ⊎-elim}

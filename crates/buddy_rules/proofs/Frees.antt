@@ -1,4 +1,4 @@
--- The free pieces that a buddy store's user sees are the ready sides which the words of its tree tell, each of them once. Assumes nothing.
+-- The free pieces that a buddy store's user sees are the ready sides which the words of its tree tell, each of them once.
 use mathlib.Core.Path.{_≡_, refl, sym, ap, ap₂, subst, _∙_}
 use mathlib.Core.Bool.{Bool, true, false}
 use mathlib.Core.Logic.{_⊎_, inl, inr, ⊎-elim, _↔_}

@@ -1,4 +1,4 @@
--- A fresh level is good: it has no ring, and none of its pairs was ever used. Assumes nothing.
+-- A fresh level is good: it has no ring, and none of its pairs was ever used.
 use mathlib.Core.Path.{_≡_, ap, sym, _∙_, subst}
 use mathlib.Core.Bool.{false}
 use mathlib.Core.List.{List, [], _∷_}
@@ -10,7 +10,7 @@ use borrow.Author.Tests.{le-ltb}
 use Rattle.slab.specs.Slab.{nowhere, inserted, Parted}
 use Rattle.slab.specs.declared.Slab.{Slab}
 use Rattle.slab.proofs.Places.{parted-fresh}
-use Rattle.buddy_rules.specs.Level.{headerWords, ringAt, usedAt, vacatedAt, noPair, pairIn, ringHead, spotIn, freshLevel, vacantIn, vacantAfter, Good}
+use Rattle.buddy_rules.specs.Level.{headerWords, ringAt, usedAt, vacatedAt, noPair, pairIn, ringHead, pairTaken, freshLevel, vacantIn, vacantAfter, Good}
 use Rattle.buddy_rules.proofs.Stores.{length-puts, found}
 use Rattle.buddy_rules.proofs.Rows.{freshRow, fresh-puts}
 use Rattle.buddy_rules.proofs.Cells.{pair-unused}
@@ -31,7 +31,7 @@ module _ (b : ℕ) (t : List ℕ) where
     vacated = ap (λ u. getD u (b + vacatedAt) 0) (fresh-puts b t) ∙ found t ((b + ringAt, nowhere) ∷ (b + usedAt, 0) ∷ []) (b + vacatedAt) nowhere [] (omega arith) tt
 
     -- its first place is the next one taken
-    pub fresh-spot : spotIn b (freshLevel b t) .place ≡ 0
+    pub fresh-spot : pairTaken b (freshLevel b t) .place ≡ 0
     unfolding inserted
     fresh-spot =
         let u = freshLevel b t in

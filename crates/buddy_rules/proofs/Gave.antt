@@ -1,4 +1,4 @@
--- A block given back by recursion from the top: the levels stand for the tree without that loan. Assumes nothing.
+-- A block given back by recursion from the top: the levels stand for the tree without that loan.
 use mathlib.Core.Path.{_≡_, refl, sym, ap, _∙_}
 use mathlib.Core.Bool.{Bool, true, false, cond}
 use mathlib.Core.Logic.{_⊎_, inl, inr, ⊎-elim}

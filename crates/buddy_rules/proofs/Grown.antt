@@ -1,4 +1,4 @@
--- A free node split down to a loan, and a new chunk: the chain of new pairs stands for the spine. Assumes nothing.
+-- A free node split down to a loan, and a new chunk: the chain of new pairs stands for the spine.
 use mathlib.Core.Path.{_≡_, refl, sym, ap, _∙_}
 use mathlib.Core.Bool.{false}
 use mathlib.Core.Logic.{inl, inr, ⊎-elim}
@@ -32,11 +32,11 @@ module _ (u : ℕ) (O : Ops) (K : ℕ → Loan) where
   unfolding grow
   grow-above W lev c o k n zero j h = refl
   grow-above W lev c o k n (suc d) j h =
-      let m = nodeOf (O .spot (W (up d lev))) L in
+      let m = nodeOf (O .newPlace (W (up d lev))) L in
       put-other O (grow u O W lev c o k m d .levels) (up d lev) j _ (λ e. omega arith) ∙ grow-above W lev c o k m d j (omega arith)
 
   -- a new pair q of node n at level m, over its left node, whose word is w
-  new-pair : 0 < u → (W W₁ : ℕ → O .Lv) (c m o n w q : ℕ) (x : Tree) → O .Good (W m) → None u (entries O W) c (suc m) o → isFree x ≡ false → O .spot (W₁ m) ≡ q
+  new-pair : 0 < u → (W W₁ : ℕ → O .Lv) (c m o n w q : ℕ) (x : Tree) → O .Good (W m) → None u (entries O W) c (suc m) o → isFree x ≡ false → O .newPlace (W₁ m) ≡ q
       → Done u O K W W₁ c m o (nodeOf q L) w x → O .Room (W₁ m) → (O .Some (W₁ m) → ⊥)
       → Done u O K W (put O W₁ m (O .add (W₁ m) c o n w)) c (suc m) o n (2 * q + 2) (split x free)
   new-pair pu W W₁ c m o n w q x gm empty f e d rm sm =
@@ -69,13 +69,13 @@ module _ (u : ℕ) (O : Ops) (K : ℕ → Loan) where
           );
         };
         local = local-trans u E E₁ E₂ c o (suc m) (local-up u L E E₁ c o m (d .local))
-            (put-local u O W₁ m v q c o g (inl (ap (λ z. O .ent (W₁ m) z .tag) (sym e) ∙ O .spot-vacant (W₁ m) gd rm))
+            (put-local u O W₁ m v q c o g (inl (ap (λ z. O .ent (W₁ m) z .tag) (sym e) ∙ O .newPlace-vacant (W₁ m) gd rm))
             (inr (rw h (inside-own u (record { tag = 3; chunk = c; off = o; left = w; right = 0; up = n }) c o (suc m) pu refl refl))));
         good = put-good O W W₁ m v (d .good) (O .add-good (W₁ m) c o n w gd rm sm);
       }
 
   -- the loan's node is the same seen from the left node one level down
-  loan-left : (W : ℕ → O .Lv) (lev d : ℕ) → loanNode u O W lev (nodeOf (O .spot (W (up d lev))) L) d ≡ nodeOf (O .spot (W lev)) L
+  loan-left : (W : ℕ → O .Lv) (lev d : ℕ) → loanNode u O W lev (nodeOf (O .newPlace (W (up d lev))) L) d ≡ nodeOf (O .newPlace (W lev)) L
   loan-left W lev zero = refl
   loan-left W lev (suc d) = refl
 
@@ -87,16 +87,16 @@ module _ (u : ℕ) (O : Ops) (K : ℕ → Loan) where
   grown pu W lev c o k n zero g e empty rm sm = record { rep = (refl, e, empty); local = λ i p. inl refl; good = λ i h. h }
   grown pu W lev c o k n (suc d) g e empty rm sm =
       let m = up d lev in
-      let q = O .spot (W m) in
+      let q = O .newPlace (W m) in
       let b = grow-above W lev c o k (nodeOf q L) d m (omega arith) in
       let f = e ∙ (λ j. record { chunk = c; at = o; lev = lev; node = sym (loan-left W lev d) j }) in
-      new-pair pu W (grow u O W lev c o k (nodeOf q L) d .levels) c m o n (grow u O W lev c o k (nodeOf q L) d .top) q (spine d k) (g m (omega arith)) empty (taken-not (spine d k) (spine-taken d k)) (ap (O .spot) b)
+      new-pair pu W (grow u O W lev c o k (nodeOf q L) d .levels) c m o n (grow u O W lev c o k (nodeOf q L) d .top) q (spine d k) (g m (omega arith)) empty (taken-not (spine d k) (spine-taken d k)) (ap (O .newPlace) b)
       (grown pu W lev c o k (nodeOf q L) d (λ i h. g i (omega arith)) f (none-left u (entries O W) c m o empty) (λ i h j. rm i (omega arith) j) (λ i h j. sm i (omega arith) j))
       (rw b (rm m (omega arith) (up-le d lev))) (rw b (sm m (omega arith) (up-le d lev)))
 
   -- a new chunk, of which no pair was in use: its top node is split down to the loan
   pub new-chunk : 0 < u → (W : ℕ → O .Lv) (lev c k d : ℕ) → ((i : ℕ) → i < up (suc d) lev → O .Good (W i))
-      → K k ≡ record { chunk = c; at = 0; lev = lev; node = nodeOf (O .spot (W lev)) L }
+      → K k ≡ record { chunk = c; at = 0; lev = lev; node = nodeOf (O .newPlace (W lev)) L }
       → ((i p : ℕ) → i < up (suc d) lev → 0 < entries O W i p .tag → entries O W i p .chunk ≡ c → ⊥)
       → ((i : ℕ) → lev ≤ i → i ≤ up d lev → O .Room (W i)) → ((i : ℕ) → lev ≤ i → i ≤ up d lev → O .Some (W i) → ⊥)
       → Done u O K W (grow u O W lev c 0 k nowhere (suc d) .levels) c (up (suc d) lev) 0 nowhere (grow u O W lev c 0 k nowhere (suc d) .top) (spine (suc d) k)

@@ -1,5 +1,5 @@
 -- From any pair in use and from any loan, what leads to it leads up to a chunk's top: so it is one of that chunk's tree, and
--- says where. Assumes nothing.
+-- says where.
 use mathlib.Core.Path.{_≡_, refl, sym, ap, _∙_}
 use mathlib.Core.Bool.{Bool, true}
 use mathlib.Core.Logic.{_⊎_, inl, inr}

@@ -1,4 +1,4 @@
--- A block lent: the levels stand for the tree with that loan planted. Assumes nothing.
+-- A block lent: the levels stand for the tree with that loan planted.
 use mathlib.Core.Path.{_≡_, refl, sym, ap, _∙_, subst}
 use mathlib.Core.Bool.{true, false}
 use mathlib.Core.Logic.{_⊎_, inl, inr, ⊎-elim}

@@ -1,4 +1,4 @@
--- The test of a level decides what it stands for: it passes where the level is good, and there only. Assumes nothing.
+-- The test of a level decides what it stands for: it passes where the level is good, and there only.
 use mathlib.Core.Path.{_≡_, refl, sym, ap, _∙_}
 use mathlib.Core.Bool.{Bool, true, false, cond}
 use mathlib.Core.Logic.{inl, inr, ⊎-elim}

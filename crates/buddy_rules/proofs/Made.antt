@@ -1,5 +1,5 @@
 -- A loan made in a sound store, in a chunk that it holds or in a new one, leaves it sound, and so do more levels; the store
--- as it is set up is sound. Assumes nothing.
+-- as it is set up is sound.
 use mathlib.Core.Path.{_≡_, refl, sym, ap, _∙_}
 use mathlib.Core.Bool.{Bool, true, false, cond}
 use mathlib.Core.Logic.{_⊎_, inl, inr, ⊎-elim, _↔_}
@@ -155,7 +155,7 @@ module _ (u : ℕ) (O : Ops) (some : 0 < u) where
   -- the head of the first level that has one is split down, and its left end lent as k
   pub lent-sound : (s : Store u O) (T : ℕ → Tree) → Sound u O s T → (lev d k : ℕ) → s .live k ≡ false → up d lev < s .count → O .Some (s .levels (up d lev))
       → ((i : ℕ) → lev ≤ i → i < up d lev → O .Room (s .levels i)) → ((i : ℕ) → lev ≤ i → i < up d lev → O .Some (s .levels i) → ⊥)
-      → ((i : ℕ) → lev ≤ i → i < up d lev → 2 * O .spot (s .levels i) + 1 < nowhere)
+      → ((i : ℕ) → lev ≤ i → i < up d lev → 2 * O .newPlace (s .levels i) + 1 < nowhere)
       → Sound u O (lent u O s lev d k)
       (with T (headEnt u O s (up d lev) .chunk)
       (plant u (s .high (headEnt u O s (up d lev) .chunk)) 0 (baseOf u (headEnt u O s (up d lev)) (up d lev)) (spine d k) (T (headEnt u O s (up d lev) .chunk))))
@@ -193,7 +193,7 @@ module _ (u : ℕ) (O : Ops) (some : 0 < u) where
   -- a new chunk, twice as long as the top level's nodes, at a vacant place
   pub delivered-sound : (s : Store u O) (T : ℕ → Tree) → Sound u O s T → (lev d k c : ℕ) → s .live k ≡ false → s .high c ≡ 0 → s .count ≡ up (suc d) lev
       → ((i : ℕ) → lev ≤ i → i ≤ up d lev → O .Room (s .levels i)) → ((i : ℕ) → lev ≤ i → i ≤ up d lev → O .Some (s .levels i) → ⊥)
-      → ((i : ℕ) → lev ≤ i → i ≤ up d lev → 2 * O .spot (s .levels i) + 1 < nowhere)
+      → ((i : ℕ) → lev ≤ i → i ≤ up d lev → 2 * O .newPlace (s .levels i) + 1 < nowhere)
       → Sound u O (delivered u O s lev d k c) (with T c (spine (suc d) k))
   unfolding delivered
   delivered-sound s T S lev d k c dead eh ec rm em sp =

@@ -1,5 +1,5 @@
 -- The trees of a sound buddy store are those that the loans which its user sees make, named by serial instead of place; so what
--- soundness says of trees holds of the chunks and loans that are seen. Assumes nothing.
+-- soundness says of trees holds of the chunks and loans that are seen.
 use mathlib.Core.Path.{_≡_, refl, sym, ap, subst, _∙_}
 use mathlib.Core.Bool.{Bool, true, false, cond, not}
 use mathlib.Core.Logic.{inl, inr, _↔_}

@@ -1,4 +1,4 @@
--- No loan and no chunk that a buddy store's user sees stands twice. Assumes nothing.
+-- No loan and no chunk that a buddy store's user sees stands twice.
 use mathlib.Core.Path.{_≡_, refl, sym, ap, _∙_}
 use mathlib.Core.Bool.{Bool, true, false, cond}
 use mathlib.Core.Logic.{⊎-elim}

@@ -1,4 +1,4 @@
--- A level of words is a level as the theory of trees has it: all of its laws hold. Assumes nothing.
+-- A level of words is a level as the theory of trees has it: all of its laws hold.
 use mathlib.Core.Path.{_≡_, _∙_}
 use mathlib.Core.List.{List}
 use mathlib.Core.Logic.{⊎-elim}
@@ -8,7 +8,7 @@ use lib.ListN.{length}
 use Rattle.lists.proofs.Bools.{same?}
 use Rattle.slab.specs.Slab.{nowhere}
 use Rattle.buddy_rules.specs.Levels.{Ops}
-use Rattle.buddy_rules.specs.Level.{levelWords, pairIn, ringHead, spotIn, dropped, backed, acquired, added, Good}
+use Rattle.buddy_rules.specs.Level.{levelWords, pairIn, ringHead, pairTaken, dropped, backed, acquired, added, Good}
 use Rattle.buddy_rules.proofs.Rings.{ready-mem, mem-head}
 use Rattle.buddy_rules.proofs.Spots.{spot-vacant}
 use Rattle.buddy_rules.proofs.Dropped.{dropped-length, dropped-good, dropped-here, dropped-other}
@@ -41,9 +41,9 @@ levelOps pairs few = record {
   take-good = λ v w G some. (acquired-length 0 w v ∙ G .0, acquired-good 0 w v pairs (omega (arith, G .0)) (G .1) some few);
   take-here = λ v w G some. acquired-here 0 w v pairs (omega (arith, G .0)) (G .1) some;
   take-other = λ v w x G some ne. acquired-other 0 w v pairs (omega (arith, G .0)) (G .1) some x ne;
-  Room = λ v. spotIn 0 v .place < pairs;
-  spot = λ v. spotIn 0 v .place;
-  spot-vacant = λ v G room. spot-vacant 0 pairs v few (G .1);
+  Room = λ v. pairTaken 0 v .place < pairs;
+  newPlace = λ v. pairTaken 0 v .place;
+  newPlace-vacant = λ v G room. spot-vacant 0 pairs v few (G .1);
   add = λ v c o n w. added 0 c o n w v;
   add-good = λ v c o n w G room none. (
     added-length 0 c o n w v ∙ G .0,

@@ -1,5 +1,5 @@
 -- A level in a longer table and its words alone: its pairs say the same, it is good in both or in neither, and what is done to
--- it in the table is done to its words, and to no others. Assumes nothing.
+-- it in the table is done to its words, and to no others.
 use mathlib.Core.Path.{_≡_, refl, sym, ap, _∙_, subst}
 use mathlib.Core.Bool.{false}
 use mathlib.Core.Logic.{_⊎_, inl, inr, _↔_}
@@ -19,7 +19,7 @@ use Rattle.slab.proofs.Places.{parted-same, insert-first, insert-next}
 use Rattle.ring_rules.proofs.Rings.{ring-same, ring-near}
 use Rattle.buddy_rules.specs.Nodes.{Side}
 use Rattle.buddy_rules.specs.Levels.{sideOf}
-use Rattle.buddy_rules.specs.Level.{headerWords, ringAt, usedAt, vacatedAt, pairWords, tagAt, chunkAt, offAt, leftAt, rightAt, upAt, readyTag, nextAt, prevAt, sideAt, levelWords, fieldAt, pairCell, entOf, pairIn, ringHead, slabIn, spotIn, dropped, backed, acquired, added, freshLevel, vacantIn, vacantAfter, Good, part}
+use Rattle.buddy_rules.specs.Level.{headerWords, ringAt, usedAt, vacatedAt, pairWords, tagAt, chunkAt, offAt, leftAt, rightAt, upAt, readyTag, nextAt, prevAt, sideAt, levelWords, fieldAt, pairCell, entOf, pairIn, ringHead, slabIn, pairTaken, dropped, backed, acquired, added, freshLevel, vacantIn, vacantAfter, Good, part}
 use Rattle.buddy_rules.proofs.Cells.{plain-in, ent-same, pair-same, tagged-used}
 use Rattle.buddy_rules.proofs.Rings.{used-below, ready-mem, head-mem}
 use Rattle.buddy_rules.proofs.Rows.{
@@ -110,10 +110,10 @@ module _ (pairs l : ℕ) (t : List ℕ) where
   pub part-head : ringHead (levelWords pairs * l) t ≡ ringHead 0 (part pairs l t)
   part-head = sym (word-out ringAt (omega arith))
 
-  pub part-spot : Good (levelWords pairs * l) pairs t → spotIn (levelWords pairs * l) t ≡ spotIn 0 (part pairs l t)
+  pub part-spot : Good (levelWords pairs * l) pairs t → pairTaken (levelWords pairs * l) t ≡ pairTaken 0 (part pairs l t)
   part-spot G = by (lt-or-le (slabIn b t .vacant) (slabIn b t .places))
     where
-      by : (slabIn b t .vacant < slabIn b t .places) ⊎ (slabIn b t .places ≤ slabIn b t .vacant) → spotIn b t ≡ spotIn 0 v
+      by : (slabIn b t .vacant < slabIn b t .places) ⊎ (slabIn b t .places ≤ slabIn b t .vacant) → pairTaken b t ≡ pairTaken 0 v
       by (inl h) =
           let e : vacantAfter 0 v (slabIn b t .vacant) ≡ vacantAfter b t (slabIn b t .vacant) = cell-as b 0 pairs t v word-out offAt (slabIn b t .vacant) (omega arith) (used-below b pairs t G (slabIn b t .vacant) h) in
           rw (← slab-as b 0 pairs t v word-out) (insert-first (slabIn b t) t (fieldAt b offAt) pairWords h ∙ rw (← e) (sym (insert-first (slabIn b t) v (fieldAt 0 offAt) pairWords h)))
@@ -196,10 +196,10 @@ module _ (pairs l : ℕ) (t : List ℕ) where
         (within pairs l t (leavesRow b p t ++ tagRow b p 1 s w) (leavesRow 0 p v ++ tagRow 0 p 1 s w)
         (moved-append b (levelWords pairs) (leavesRow b p t) (leavesRow 0 p v) (tagRow b p 1 s w) (tagRow 0 p 1 s w) (member-moved p m) (tag-moved p 1 s w (mem-in p m))))
 
-    pub part-added : (c o n w : ℕ) → spotIn (levelWords pairs * l) t .place < pairs → Within pairs l t (added (levelWords pairs * l) c o n w t) (added 0 c o n w (part pairs l t))
+    pub part-added : (c o n w : ℕ) → pairTaken (levelWords pairs * l) t .place < pairs → Within pairs l t (added (levelWords pairs * l) c o n w t) (added 0 c o n w (part pairs l t))
     part-added c o n w h =
         rw (added-puts b c o n w t, added-puts 0 c o n w v, ← part-spot G)
-        (within pairs l t (addedRow b c o n w t) ((0 + usedAt, spotIn b t .slab .places) ∷ (0 + vacatedAt, spotIn b t .slab .vacant) ∷ enteredRow 0 p c o n w) (
+        (within pairs l t (addedRow b c o n w t) ((0 + usedAt, pairTaken b t .slab .places) ∷ (0 + vacatedAt, pairTaken b t .slab .vacant) ∷ enteredRow 0 p c o n w) (
           (refl, omega arith, refl),
           (
             (refl, omega arith, refl),
@@ -211,7 +211,7 @@ module _ (pairs l : ℕ) (t : List ℕ) where
         ))
       where
         p : ℕ
-        p = spotIn b t .place
+        p = pairTaken b t .place
 
         cell : (f x : ℕ) → f < pairWords → (pairCell b f p ≡ b + pairCell 0 f p) × (pairCell 0 f p < levelWords pairs) × (x ≡ x)
         cell f x k = cell-moved f p x x k h refl

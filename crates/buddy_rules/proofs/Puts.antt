@@ -1,4 +1,4 @@
--- One level changed: what the entries of the others are, and where a change of one entry shows. Assumes nothing.
+-- One level changed: what the entries of the others are, and where a change of one entry shows.
 use mathlib.Core.Path.{_≡_, refl, sym, ap, _∙_}
 use mathlib.Core.Bool.{Bool, true, false, cond}
 use mathlib.Core.Logic.{_⊎_, inl, inr, ⊎-elim}

@@ -1,4 +1,4 @@
--- A chunk's free nodes below its top are the ready sides of its pairs. Assumes nothing.
+-- A chunk's free nodes below its top are the ready sides of its pairs.
 use mathlib.Core.Path.{_≡_, refl, sym, ap, ap₂, _∙_, subst}
 use mathlib.Core.Logic.{_⊎_, inl, inr, ⊎-elim}
 use mathlib.Core.Bool.{false}

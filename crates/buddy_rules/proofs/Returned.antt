@@ -1,4 +1,4 @@
--- A return in a sound store leaves it sound, without that loan. Assumes nothing.
+-- A return in a sound store leaves it sound, without that loan.
 use mathlib.Core.Path.{_≡_, refl, sym, ap, _∙_}
 use mathlib.Core.Bool.{true, false, cond}
 use mathlib.Core.Logic.{_⊎_, inl, inr, ⊎-elim}

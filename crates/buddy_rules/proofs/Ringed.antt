@@ -1,5 +1,5 @@
 -- What is done to a level, by the order of its ring: the head taken leaves the tail, a pair that joins stands last, one that goes
--- leaves the rest from the one after it on, a new one stands alone. Assumes nothing.
+-- leaves the rest from the one after it on, a new one stands alone.
 use mathlib.Core.Path.{_≡_, refl, sym, ap, ap₂, _∙_, subst}
 use mathlib.Core.Logic.{_⊎_, ⊎-elim}
 use mathlib.Core.List.{List, [], _∷_, _++_}
@@ -16,7 +16,7 @@ use Rattle.ring_rules.proofs.Keeps.{ring-frame}
 use Rattle.ring_rules.proofs.Linking.{unlinked-first, unlinked-ring, linked-ring}
 use Rattle.buddy_rules.specs.Nodes.{Side}
 use Rattle.buddy_rules.specs.Levels.{sideOf}
-use Rattle.buddy_rules.specs.Level.{ringAt, usedAt, nextAt, prevAt, pairWords, headerWords, levelWords, readyTag, fieldAt, pairCell, entOf, pairIn, ringHead, spotIn, leaves, joins, dropped, backed, acquired, added, Good, part}
+use Rattle.buddy_rules.specs.Level.{ringAt, usedAt, nextAt, prevAt, pairWords, headerWords, levelWords, readyTag, fieldAt, pairCell, entOf, pairIn, ringHead, pairTaken, leaves, joins, dropped, backed, acquired, added, Good, part}
 use Rattle.buddy_rules.specs.Ringed.{Ringed, beforeIn, pastIn, outOf, tailOf}
 use Rattle.buddy_rules.proofs.Stores.{puts}
 use Rattle.buddy_rules.proofs.Rows.{tagRow, acquired-puts, backed-puts}
@@ -130,7 +130,7 @@ module _ (b pairs : ℕ) (t : List ℕ) (few : pairs ≤ 2 ^ 32) (fits : b + lev
       }
 
   -- a new pair is the whole ring
-  pub added-ringed : (c o n w : ℕ) → spotIn b t .place < pairs → Ringed b pairs (added b c o n w t) (spotIn b t .place ∷ [])
+  pub added-ringed : (c o n w : ℕ) → pairTaken b t .place < pairs → Ringed b pairs (added b c o n w t) (pairTaken b t .place ∷ [])
   added-ringed c o n w room = record { rings = added-alone b c o n w t pairs few fits G room; below = (room, tt) }
 
 -- ---- a level in a longer table and its words alone

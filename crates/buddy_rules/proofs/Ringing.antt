@@ -1,5 +1,4 @@
--- What becomes of a buddy store's rings as a block is lent and as one comes back: in its words it is what specs/Rings says. Assumes
--- nothing.
+-- What becomes of a buddy store's rings as a block is lent and as one comes back: in its words it is what specs/Rings says.
 use mathlib.Core.Path.{_≡_, refl, sym, ap, subst, _∙_}
 use mathlib.Core.Bool.{true, false, cond, _&&_}
 use mathlib.Core.Logic.{_⊎_, inl, inr, ⊎-elim}
@@ -25,14 +24,14 @@ use Rattle.buddy_trees.proofs.Fills.{has-in}
 use Rattle.buddy_rules.proofs.Frames.{rep-loan}
 use Rattle.buddy_rules.proofs.Grown.{grow-above}
 use Rattle.buddy_rules.proofs.Puts.{put-other}
-use Rattle.buddy_rules.specs.Level.{entOf, pairIn, ringHead, spotIn, dropped, backed, acquired, Good, part}
+use Rattle.buddy_rules.specs.Level.{entOf, pairIn, ringHead, pairTaken, dropped, backed, acquired, Good, part}
 use Rattle.buddy_rules.specs.Ringed.{Ringed, outOf, tailOf}
 use Rattle.buddy_rules.proofs.Ops.{levelOps}
 use Rattle.buddy_rules.proofs.Parts.{part-pair, part-head, part-spot}
 use Rattle.buddy_rules.proofs.Ringed.{ringed-one, good-ringed, dropped-out, acquired-tail, backed-ringed, added-ringed, part-ringed, ringed-part}
 use Rattle.buddy_rules.specs.Tables.{Tables, Lengths, levelsIn, levelFrom, pairsIn, loanIn, liveIn, highIn, topIn, treeWords}
 use Rattle.buddy_rules.specs.Sound.{Sound}
-use Rattle.buddy_rules.specs.Moves.{sideIn, climbed, splitDown, readyNode}
+use Rattle.buddy_rules.specs.Moves.{sideIn, climbed, splitDown, splitChunk, readyNode}
 use Rattle.buddy_rules.specs.Rings.{Rings, ringsLent, ringsBack}
 use Rattle.buddy_rules.proofs.Abstract.{storeOf, sound-store}
 use Rattle.buddy_rules.proofs.Splitting.{grown-in, lent-is}
@@ -196,33 +195,33 @@ module _ (pairs : ℕ) (few : pairs ≤ 2 ^ 32) where
     unfolding grow
     grow-low n zero j h = refl
     grow-low n (suc d) j h =
-        let q = nodeOf (spotIn 0 (W (up d lev)) .place) L in
+        let q = nodeOf (pairTaken 0 (W (up d lev)) .place) L in
         put-other (levelOps pairs few) (grow u (levelOps pairs few) W lev c o k q d .levels) (up d lev) j _ (λ e. omega (arith, up-le d lev)) ∙ grow-low q d j h
 
     -- each level that is split into has its new pair alone
-    grow-rings : (n d : ℕ) → ((i : ℕ) → lev ≤ i → i < up d lev → levelOps pairs few .Good (W i)) → ((i : ℕ) → lev ≤ i → i < up d lev → spotIn 0 (W i) .place < pairs)
-        → (j : ℕ) → lev ≤ j → j < up d lev → Ringed 0 pairs (grow u (levelOps pairs few) W lev c o k n d .levels j) (spotIn 0 (W j) .place ∷ [])
+    grow-rings : (n d : ℕ) → ((i : ℕ) → lev ≤ i → i < up d lev → levelOps pairs few .Good (W i)) → ((i : ℕ) → lev ≤ i → i < up d lev → pairTaken 0 (W i) .place < pairs)
+        → (j : ℕ) → lev ≤ j → j < up d lev → Ringed 0 pairs (grow u (levelOps pairs few) W lev c o k n d .levels j) (pairTaken 0 (W j) .place ∷ [])
     unfolding grow
     grow-rings n zero g room j h b = absurd (omega arith)
     grow-rings n (suc d) g room j h b = go (same? j (up d lev)) (grow-rings q d (λ i x y. g i x (omega arith)) (λ i x y. room i x (omega arith)) j h)
       where
         q : ℕ
-        q = nodeOf (spotIn 0 (W (up d lev)) .place) L
+        q = nodeOf (pairTaken 0 (W (up d lev)) .place) L
 
-        go : (j ≡ up d lev) ⊎ (j ≡ up d lev → ⊥) → (j < up d lev → Ringed 0 pairs (grow u (levelOps pairs few) W lev c o k (nodeOf (spotIn 0 (W (up d lev)) .place) L) d .levels j) (spotIn 0 (W j) .place ∷ []))
-            → Ringed 0 pairs (grow u (levelOps pairs few) W lev c o k n (suc d) .levels j) (spotIn 0 (W j) .place ∷ [])
+        go : (j ≡ up d lev) ⊎ (j ≡ up d lev → ⊥) → (j < up d lev → Ringed 0 pairs (grow u (levelOps pairs few) W lev c o k (nodeOf (pairTaken 0 (W (up d lev)) .place) L) d .levels j) (pairTaken 0 (W j) .place ∷ []))
+            → Ringed 0 pairs (grow u (levelOps pairs few) W lev c o k n (suc d) .levels j) (pairTaken 0 (W j) .place ∷ [])
         go (inl e) ih =
             let m = up d lev in
             let G = g m (up-le d lev) (omega arith) in
-            let top = grow u (levelOps pairs few) W lev c o k (nodeOf (spotIn 0 (W m) .place) L) d .top in
-            let f : grow u (levelOps pairs few) W lev c o k (nodeOf (spotIn 0 (W m) .place) L) d .levels m ≡ W m = grow-above u (levelOps pairs few) (λ (i : ℕ). record { chunk = 0; at = 0; lev = 0; node = 0 }) W lev c o k (nodeOf (spotIn 0 (W m) .place) L) d m (omega arith) in
+            let top = grow u (levelOps pairs few) W lev c o k (nodeOf (pairTaken 0 (W m) .place) L) d .top in
+            let f : grow u (levelOps pairs few) W lev c o k (nodeOf (pairTaken 0 (W m) .place) L) d .levels m ≡ W m = grow-above u (levelOps pairs few) (λ (i : ℕ). record { chunk = 0; at = 0; lev = 0; node = 0 }) W lev c o k (nodeOf (pairTaken 0 (W m) .place) L) d m (omega arith) in
             rw (eq-eqb j m e, e, f) (added-ringed 0 pairs (W m) few (omega (arith, G .0)) (G .1) c o n top (room m (up-le d lev) (omega arith)))
         go (inr e) ih = rw (ne-eqb j (up d lev) e) (ih (omega arith))
 
   -- the whole loan: i is d levels above lev
   lend-rings : (u lev d k : ℕ) (W Q : ℕ → List ℕ) (N : ℕ) → up d lev < N → ((i : ℕ) → i < N → levelOps pairs few .Good (W i)) → (ringHead 0 (W (up d lev)) ≡ nowhere → ⊥)
-      → ((i : ℕ) → lev ≤ i → i < up d lev → spotIn 0 (W i) .place < pairs) → Holds W Q N
-      → Holds (lend u (levelOps pairs few) W lev d k) (ringsLent (λ (j : ℕ). spotIn 0 (W j) .place) lev (up d lev) Q) N
+      → ((i : ℕ) → lev ≤ i → i < up d lev → pairTaken 0 (W i) .place < pairs) → Holds W Q N
+      → Holds (lend u (levelOps pairs few) W lev d k) (ringsLent (λ (j : ℕ). pairTaken 0 (W j) .place) lev (up d lev) Q) N
   unfolding lend ringsLent
   lend-rings u lev d k W Q N below g some room r j h = by (same? j (up d lev)) (lt-or-le j lev) (lt-or-le j (up d lev))
     where
@@ -239,7 +238,7 @@ module _ (pairs : ℕ) (few : pairs ≤ 2 ^ 32) where
       own i b = grow-above u (levelOps pairs few) (λ (i : ℕ). record { chunk = 0; at = 0; lev = 0; node = 0 }) W lev (e .chunk) (baseOf u e (up d lev)) k n d i b
 
       by : (j ≡ up d lev) ⊎ (j ≡ up d lev → ⊥) → (j < lev) ⊎ (lev ≤ j) → (j < up d lev) ⊎ (up d lev ≤ j)
-          → Ringed 0 pairs (lend u (levelOps pairs few) W lev d k j) (ringsLent (λ (i : ℕ). spotIn 0 (W i) .place) lev (up d lev) Q j)
+          → Ringed 0 pairs (lend u (levelOps pairs few) W lev d k j) (ringsLent (λ (i : ℕ). pairTaken 0 (W i) .place) lev (up d lev) Q j)
       by (inl z) x y = rw (eq-eqb j (up d lev) z, z, own (up d lev) (omega arith)) (acquired-tail 0 pairs (W (up d lev)) few (omega (arith, G .0)) (G .1) _ (Q (up d lev)) some (r (up d lev) below))
       by (inr z) (inl x) y = rw (ne-eqb j (up d lev) z, lt-leb lev j x, grow-low u lev (e .chunk) (baseOf u e (up d lev)) k W n d j x) (r j h)
       by (inr z) (inr x) (inl y) =
@@ -248,8 +247,8 @@ module _ (pairs : ℕ) (few : pairs ≤ 2 ^ 32) where
       by (inr z) (inr x) (inr y) = rw (ne-eqb j (up d lev) z, le-leb lev j x, le-ltb j (up d lev) y, own j y) (r j h)
 
   -- a new chunk's top node split down through all levels from lev on
-  grow-all : (u lev c o k n d : ℕ) (W Q : ℕ → List ℕ) (N : ℕ) → N ≡ up d lev → ((i : ℕ) → i < N → levelOps pairs few .Good (W i)) → ((i : ℕ) → lev ≤ i → i < N → spotIn 0 (W i) .place < pairs) → Holds W Q N
-      → Holds (grow u (levelOps pairs few) W lev c o k n d .levels) (ringsLent (λ (j : ℕ). spotIn 0 (W j) .place) lev N Q) N
+  grow-all : (u lev c o k n d : ℕ) (W Q : ℕ → List ℕ) (N : ℕ) → N ≡ up d lev → ((i : ℕ) → i < N → levelOps pairs few .Good (W i)) → ((i : ℕ) → lev ≤ i → i < N → pairTaken 0 (W i) .place < pairs) → Holds W Q N
+      → Holds (grow u (levelOps pairs few) W lev c o k n d .levels) (ringsLent (λ (j : ℕ). pairTaken 0 (W j) .place) lev N Q) N
   unfolding ringsLent
   grow-all u lev c o k n d W Q N e g room r j h = ⊎-elim
       (λ x. rw (ne-eqb j N (λ z. omega arith), lt-leb lev j x, grow-low u lev c o k W n d j x) (r j h))
@@ -277,39 +276,39 @@ module _ (s : BuddySettings) (small : s .pairs ≤ 2 ^ 32) (t : Tables) (fit : B
 
   -- a ready side of level i split down, d levels, to level lev
   pub lent-rings : (lev d k : ℕ) → up d lev < levelsIn t → (ringHead (levelFrom s (up d lev)) (t .tree) ≡ nowhere → ⊥)
-      → ((i : ℕ) → lev ≤ i → i < up d lev → spotIn (levelFrom s i) (t .tree) .place < s .pairs)
+      → ((i : ℕ) → lev ≤ i → i < up d lev → pairTaken (levelFrom s i) (t .tree) .place < s .pairs)
       → let e = entOf (levelFrom s (up d lev)) (t .tree) (ringHead (levelFrom s (up d lev)) (t .tree)) in
       let r = splitDown (s .pairs) lev (e .chunk) (baseOf (s .minimal) e (up d lev)) k (readyNode (s .pairs) (up d lev) (t .tree)) d (acquired (levelFrom s (up d lev)) 0 (t .tree)) in
-      (l : ℕ) → l < levelsIn t → Ringed (levelFrom s l) (s .pairs) (r .tree) (ringsLent (λ (j : ℕ). spotIn (levelFrom s j) (t .tree) .place) lev (up d lev) W l)
+      (l : ℕ) → l < levelsIn t → Ringed (levelFrom s l) (s .pairs) (r .tree) (ringsLent (λ (j : ℕ). pairTaken (levelFrom s j) (t .tree) .place) lev (up d lev) W l)
   unfolding ringsLent
   lent-rings lev d k below some room l h =
       let A = sound-store s small t fit len S in
       let U = storeOf s small t .levels in
-      let spot : (i : ℕ) → i < levelsIn t → spotIn (levelFrom s i) (t .tree) .place ≡ spotIn 0 (U i) .place = λ i b. ap (λ z. z .place) (part-spot (s .pairs) i (t .tree) (S .good i b)) in
+      let spot : (i : ℕ) → i < levelsIn t → pairTaken (levelFrom s i) (t .tree) .place ≡ pairTaken 0 (U i) .place = λ i b. ap (λ z. z .place) (part-spot (s .pairs) i (t .tree) (S .good i b)) in
       let some-in : ringHead 0 (U (up d lev)) ≡ nowhere → ⊥ = λ e. some (part-head (s .pairs) (up d lev) (t .tree) ∙ e) in
-      let room-in : (i : ℕ) → lev ≤ i → i < up d lev → spotIn 0 (U i) .place < s .pairs = λ i a b. let e = spot i (omega arith) in rw (← e) (room i a b) in
+      let room-in : (i : ℕ) → lev ≤ i → i < up d lev → pairTaken 0 (U i) .place < s .pairs = λ i a b. let e = spot i (omega arith) in rw (← e) (room i a b) in
       let r = lend-rings (s .pairs) small (s .minimal) lev d k U W (levelsIn t) below (λ i b. A .good i b) some-in room-in (λ j b. part-ringed (s .pairs) j (t .tree) (W j) (rings j b)) l h in
       let i = up d lev in
       ringed-part (s .pairs) l _ _
-      (subst (λ (v : List ℕ). Ringed 0 (s .pairs) v (cond (eqb l i) (tailOf (W l)) (cond (leb lev l && ltb l i) (spotIn (levelFrom s l) (t .tree) .place ∷ []) (W l))))
+      (subst (λ (v : List ℕ). Ringed 0 (s .pairs) v (cond (eqb l i) (tailOf (W l)) (cond (leb lev l && ltb l i) (pairTaken (levelFrom s l) (t .tree) .place ∷ []) (W l))))
       (sym (lent-is s small t fit len S lev d k below some-in room-in .1 l (omega (arith, S .levels-most))))
       (subst (λ (q : ℕ). Ringed 0 (s .pairs) (lend (s .minimal) (levelOps (s .pairs) small) U lev d k l) (cond (eqb l i) (tailOf (W l)) (cond (leb lev l && ltb l i) (q ∷ []) (W l)))) (sym (spot l h)) r))
 
   -- a new chunk's left end lent: x is the tree with the chunk entered
   pub served-rings : (x : List ℕ) → length x ≡ treeWords s → ((i : ℕ) → i < levelsMost → part (s .pairs) i x ≡ part (s .pairs) i (t .tree)) → (lev d c k : ℕ) → levelsIn t ≡ up (suc d) lev
-      → ((i : ℕ) → lev ≤ i → i < levelsIn t → spotIn (levelFrom s i) (t .tree) .place < s .pairs)
-      → (l : ℕ) → l < levelsIn t → Ringed (levelFrom s l) (s .pairs) (splitDown (s .pairs) lev c 0 k nowhere (suc d) x .tree) (ringsLent (λ (j : ℕ). spotIn (levelFrom s j) (t .tree) .place) lev (levelsIn t) W l)
+      → ((i : ℕ) → lev ≤ i → i < levelsIn t → pairTaken (levelFrom s i) (t .tree) .place < s .pairs)
+      → (l : ℕ) → l < levelsIn t → Ringed (levelFrom s l) (s .pairs) (splitChunk (s .pairs) lev c k d x .tree) (ringsLent (λ (j : ℕ). pairTaken (levelFrom s j) (t .tree) .place) lev (levelsIn t) W l)
   unfolding ringsLent
   served-rings x long same lev d c k top room l h =
       let A = sound-store s small t fit len S in
       let U = storeOf s small t .levels in
       let i = levelsIn t in
-      let spot : (j : ℕ) → j < levelsIn t → spotIn (levelFrom s j) (t .tree) .place ≡ spotIn 0 (U j) .place = λ j b. ap (λ z. z .place) (part-spot (s .pairs) j (t .tree) (S .good j b)) in
-      let room-in : (j : ℕ) → lev ≤ j → j < levelsIn t → spotIn 0 (U j) .place < s .pairs = λ j a b. let e = spot j b in rw (← e) (room j a b) in
+      let spot : (j : ℕ) → j < levelsIn t → pairTaken (levelFrom s j) (t .tree) .place ≡ pairTaken 0 (U j) .place = λ j b. ap (λ z. z .place) (part-spot (s .pairs) j (t .tree) (S .good j b)) in
+      let room-in : (j : ℕ) → lev ≤ j → j < levelsIn t → pairTaken 0 (U j) .place < s .pairs = λ j a b. let e = spot j b in rw (← e) (room j a b) in
       let r = grow-all (s .pairs) small (s .minimal) lev c 0 k nowhere (suc d) U W (levelsIn t) top (λ j b. A .good j b) room-in (λ j b. part-ringed (s .pairs) j (t .tree) (W j) (rings j b)) l h in
       let cut = grown-in s small x U fit long same lev d c k (omega (arith, top, S .levels-most)) (λ j a b. A .good j (omega (arith, top)) .1) (λ j a b. room-in j a (omega (arith, top))) in
       ringed-part (s .pairs) l _ _
-      (subst (λ (v : List ℕ). Ringed 0 (s .pairs) v (cond (eqb l i) (tailOf (W l)) (cond (leb lev l && ltb l i) (spotIn (levelFrom s l) (t .tree) .place ∷ []) (W l))))
+      (subst (λ (v : List ℕ). Ringed 0 (s .pairs) v (cond (eqb l i) (tailOf (W l)) (cond (leb lev l && ltb l i) (pairTaken (levelFrom s l) (t .tree) .place ∷ []) (W l))))
       (sym (cut .1 l (omega (arith, S .levels-most))))
       (subst (λ (q : ℕ). Ringed 0 (s .pairs) (grow (s .minimal) (levelOps (s .pairs) small) U lev c 0 k nowhere (suc d) .levels l) (cond (eqb l i) (tailOf (W l)) (cond (leb lev l && ltb l i) (q ∷ []) (W l)))) (sym (spot l h)) r))
 

@@ -1,5 +1,5 @@
 -- A level's ring when one pair leaves it or joins it and has its tag changed: the ring still has the ready pairs, and no
--- others. Assumes nothing.
+-- others.
 use mathlib.Core.Path.{_≡_, refl, ap}
 use mathlib.Core.Logic.{_⊎_, inl, inr, ⊎-elim}
 use mathlib.Core.List.{List, [], _∷_, _++_}

@@ -1,4 +1,4 @@
--- What is done to a level is a row of stores: which they are. Assumes nothing.
+-- What is done to a level is a row of stores: which they are.
 use mathlib.Core.Path.{_≡_, refl, sym, ap, _∙_}
 use mathlib.Core.Bool.{Bool, true, false, cond}
 use mathlib.Core.List.{List, [], _∷_, _++_}
@@ -9,7 +9,7 @@ use Rattle.slab.specs.Slab.{nowhere}
 use Rattle.ring_rules.specs.Ring.{unlinked, linked}
 use Rattle.buddy_rules.specs.Nodes.{Side}
 use Rattle.buddy_rules.specs.Levels.{sideOf}
-use Rattle.buddy_rules.specs.Level.{ringAt, usedAt, vacatedAt, tagAt, chunkAt, offAt, leftAt, rightAt, nextAt, prevAt, upAt, sideAt, readyTag, pairCell, entOf, ringHead, spotIn, leaves, joins, dropped, backed, acquired, entered, added, freshLevel}
+use Rattle.buddy_rules.specs.Level.{ringAt, usedAt, vacatedAt, tagAt, chunkAt, offAt, leftAt, rightAt, nextAt, prevAt, upAt, sideAt, readyTag, pairCell, entOf, ringHead, pairTaken, leaves, joins, dropped, backed, acquired, entered, added, freshLevel}
 use Rattle.buddy_rules.proofs.Stores.{puts, puts-append}
 
 either : (c : Bool) (t x y : List ℕ) (l m : List (ℕ × ℕ)) → x ≡ puts t l → y ≡ puts t m → cond c x y ≡ puts t (cond c l m)
@@ -94,7 +94,7 @@ module _ (b : ℕ) where
 
   abbrev pub addedRow : ℕ → ℕ → ℕ → ℕ → List ℕ → List (ℕ × ℕ)
   addedRow c o n w t =
-      (b + usedAt, spotIn b t .slab .places) ∷ (b + vacatedAt, spotIn b t .slab .vacant) ∷ enteredRow (spotIn b t .place) c o n w
+      (b + usedAt, pairTaken b t .slab .places) ∷ (b + vacatedAt, pairTaken b t .slab .vacant) ∷ enteredRow (pairTaken b t .place) c o n w
 
   pub added-puts : (c o n w : ℕ) (t : List ℕ) → added b c o n w t ≡ puts t (addedRow c o n w t)
   unfolding added entered

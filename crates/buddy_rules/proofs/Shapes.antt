@@ -1,5 +1,4 @@
 -- What a walk down a node sees: the words of a tree, whatever other pairs may lie there; and which nodes it meets.
--- Assumes nothing.
 use mathlib.Core.Path.{_≡_, refl, ap}
 use mathlib.Core.Bool.{Bool, true}
 use mathlib.Core.Logic.{_⊎_, inl, inr}

@@ -1,4 +1,4 @@
--- A pair seen from either of its sides, so that left and right are proved at once. Assumes nothing.
+-- A pair seen from either of its sides, so that left and right are proved at once.
 use mathlib.Core.Path.{_≡_, refl, ap}
 use mathlib.Core.Bool.{Bool, true, false}
 use mathlib.Core.Logic.{⊎-elim}

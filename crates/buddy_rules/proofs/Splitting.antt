@@ -1,4 +1,4 @@
--- The loan in words is the abstract one: a node split down in the tree's words is split down in their levels. Assumes nothing.
+-- The loan in words is the abstract one: a node split down in the tree's words is split down in their levels.
 use mathlib.Core.Path.{_≡_, refl, sym, ap, ap₂, _∙_, subst}
 use mathlib.Core.Bool.{cond}
 use mathlib.Core.Logic.{_⊎_, inl, inr, ⊎-elim}
@@ -19,9 +19,10 @@ use Rattle.buddy_rules.specs.Nodes.{Ent, Side, L, nodeOf}
 use Rattle.buddy_rules.specs.Levels.{sideOf, baseOf}
 use Rattle.buddy_rules.specs.Lends.{Grown, grow, loanNode, headNode, lend}
 use Rattle.buddy_rules.specs.Stores.{headEnt}
+use Rattle.buddy_rules.proofs.Added.{added-length}
 use Rattle.buddy_rules.proofs.Grown.{grow-above}
 use Rattle.buddy_rules.proofs.Climbs.{node-pair, node-side}
-use Rattle.buddy_rules.specs.Level.{usedAt, leftAt, sideAt, pairCell, entOf, pairIn, ringHead, spotIn, acquired, added, Good, part}
+use Rattle.buddy_rules.specs.Level.{usedAt, leftAt, sideAt, pairCell, entOf, pairIn, ringHead, pairTaken, acquired, added, Good, part}
 use Rattle.buddy_rules.proofs.Ops.{levelOps}
 use Rattle.buddy_rules.proofs.Cells.{pair-used}
 use Rattle.buddy_rules.proofs.Rings.{used-below, head-mem}
@@ -29,7 +30,7 @@ use Rattle.buddy_rules.proofs.Parts.{part-ent, part-pair, part-good, pa
 use Rattle.buddy_rules.proofs.Within.{Within}
 use Rattle.buddy_rules.specs.Tables.{Tables, Lengths, levelsIn, levelFrom, chunksFrom, treeWords}
 use Rattle.buddy_rules.specs.Sound.{Sound}
-use Rattle.buddy_rules.specs.Moves.{sideIn, Cut, worded, splitDown, readyNode}
+use Rattle.buddy_rules.specs.Moves.{sideIn, Cut, worded, leftNext, splitInto, splitDown, splitChunk, readyNode}
 use Rattle.buddy_rules.proofs.Abstract.{storeOf}
 use Rattle.buddy_rules.proofs.Worded.{added-again, acquired-again, Short, Fits, worded-in, worded-top, Left, within-left, worded-left, worded-same}
 
@@ -52,7 +53,7 @@ module _ (s : BuddySettings) (small : s .pairs ≤ 2 ^ 32) (lev c o k : ℕ) whe
 
   -- the loan's node is the same seen from the left node one level down
   node-left : (W : ℕ → List ℕ) (d : ℕ)
-      → loanNode (s .minimal) (levelOps (s .pairs) small) W lev (nodeOf (spotIn 0 (W (up d lev)) .place) L) d ≡ nodeOf (spotIn 0 (W lev) .place) L
+      → loanNode (s .minimal) (levelOps (s .pairs) small) W lev (nodeOf (pairTaken 0 (W (up d lev)) .place) L) d ≡ nodeOf (pairTaken 0 (W lev) .place) L
   node-left W zero = refl
   node-left W (suc d) = refl
 
@@ -60,17 +61,17 @@ module _ (s : BuddySettings) (small : s .pairs ≤ 2 ^ 32) (lev c o k : ℕ) whe
     good-in : Good (levelFrom s m) (s .pairs) t
     good-in = part-good (s .pairs) m t .1 (rw a g)
 
-    spot-in : spotIn (levelFrom s m) t .place ≡ spotIn 0 (W m) .place
-    spot-in = ap (λ z. z .place) (part-spot (s .pairs) m t good-in) ∙ ap (λ (v : List ℕ). spotIn 0 v .place) a
+    spot-in : pairTaken (levelFrom s m) t .place ≡ pairTaken 0 (W m) .place
+    spot-in = ap (λ z. z .place) (part-spot (s .pairs) m t good-in) ∙ ap (λ (v : List ℕ). pairTaken 0 v .place) a
 
-    add-in : spotIn 0 (W m) .place < s .pairs → Within (s .pairs) m t (added (levelFrom s m) c o n 0 t) (added 0 c o n 0 (part (s .pairs) m t))
+    add-in : pairTaken 0 (W m) .place < s .pairs → Within (s .pairs) m t (added (levelFrom s m) c o n 0 t) (added 0 c o n 0 (part (s .pairs) m t))
     add-in h = part-added (s .pairs) m t good-in c o n 0 (rw spot-in h)
 
     -- the new pair's left node gets its word: t′ is the table with it
-    filled-in : (w : ℕ) (t′ : List ℕ) → spotIn 0 (W m) .place < s .pairs → part (s .pairs) m t′ ≡ part (s .pairs) m (added (levelFrom s m) c o n 0 t)
-        → part (s .pairs) m (worded (s .pairs) m (nodeOf (spotIn 0 (W m) .place) L) w t′) ≡ added 0 c o n w (W m)
+    filled-in : (w : ℕ) (t′ : List ℕ) → pairTaken 0 (W m) .place < s .pairs → part (s .pairs) m t′ ≡ part (s .pairs) m (added (levelFrom s m) c o n 0 t)
+        → part (s .pairs) m (worded (s .pairs) m (nodeOf (pairTaken 0 (W m) .place) L) w t′) ≡ added 0 c o n w (W m)
     filled-in w t′ h e =
-        let q = spotIn 0 (W m) .place in
+        let q = pairTaken 0 (W m) .place in
         let i : nodeOf q L / 2 ≡ q = node-pair q L in
         let j : sideIn (nodeOf q L) ≡ L = node-side q L in
         let x : part (s .pairs) m t′ ≡ added 0 c o n 0 (W m) = e ∙ add-in h .here ∙ ap (added 0 c o n 0) a in
@@ -79,15 +80,15 @@ module _ (s : BuddySettings) (small : s .pairs ≤ 2 ^ 32) (lev c o k : ℕ) whe
 
   -- one step: node n of level up (suc d) is split, the rest of the way down being r
   split-step : (d n : ℕ) (t : List ℕ) (W : ℕ → List ℕ) (r : Cut) → up (suc d) lev ≤ levelsMost → Fits s (up (suc d) lev) n → Short s t → part (s .pairs) (up d lev) t ≡ W (up d lev)
-      → Good 0 (s .pairs) (W (up d lev)) → spotIn 0 (W (up d lev)) .place < s .pairs
-      → Chain W (nodeOf (spotIn (levelFrom s (up d lev)) t .place) L) d
-      (worded (s .pairs) (up (suc d) lev) n (2 * spotIn (levelFrom s (up d lev)) t .place + 2) (added (levelFrom s (up d lev)) c o n 0 t)) r
+      → Good 0 (s .pairs) (W (up d lev)) → pairTaken 0 (W (up d lev)) .place < s .pairs
+      → Chain W (nodeOf (pairTaken (levelFrom s (up d lev)) t .place) L) d
+      (worded (s .pairs) (up (suc d) lev) n (2 * pairTaken (levelFrom s (up d lev)) t .place + 2) (added (levelFrom s (up d lev)) c o n 0 t)) r
       → Chain W n (suc d) t r
   unfolding grow
   split-step d n t W r high f h a g room x =
-      let q = spotIn 0 (W (up d lev)) .place in
+      let q = pairTaken 0 (W (up d lev)) .place in
       let m = up d lev in
-      let e : spotIn (levelFrom s m) t .place ≡ q = spot-in W m n t low a g in
+      let e : pairTaken (levelFrom s m) t .place ≡ q = spot-in W m n t low a g in
       let t₁ : List ℕ = added (levelFrom s m) c o n 0 t in
       let t₂ : List ℕ = worded (s .pairs) (suc m) n (2 * q + 2) t₁ in
       let D = within-left s m t t₁ _ low (add-in W m n t low a g room) in
@@ -112,7 +113,7 @@ module _ (s : BuddySettings) (small : s .pairs ≤ 2 ^ 32) (lev c o k : ℕ) whe
       low = omega arith
 
   split-is : (d n : ℕ) (t : List ℕ) (W : ℕ → List ℕ) → up d lev ≤ levelsMost → Fits s (up d lev) n → Short s t → ((i : ℕ) → i < up d lev → part (s .pairs) i t ≡ W i)
-      → ((i : ℕ) → lev ≤ i → i < up d lev → Good 0 (s .pairs) (W i)) → ((i : ℕ) → lev ≤ i → i < up d lev → spotIn 0 (W i) .place < s .pairs)
+      → ((i : ℕ) → lev ≤ i → i < up d lev → Good 0 (s .pairs) (W i)) → ((i : ℕ) → lev ≤ i → i < up d lev → pairTaken 0 (W i) .place < s .pairs)
       → Chain W n d t (splitDown (s .pairs) lev c o k n d t)
   unfolding splitDown grow
   split-is zero n t W high f h a g room =
@@ -128,11 +129,11 @@ module _ (s : BuddySettings) (small : s .pairs ≤ 2 ^ 32) (lev c o k : ℕ) whe
   split-is (suc d) n t W high f h a g room =
       let m = up d lev in
       let low : m < levelsMost = omega arith in
-      let q = spotIn (levelFrom s m) t .place in
+      let q = pairTaken (levelFrom s m) t .place in
       let am = a m (omega arith) in
       let gm = g m (up-le d lev) (omega arith) in
       let rm = room m (up-le d lev) (omega arith) in
-      let e : q ≡ spotIn 0 (W m) .place = spot-in W m n t low am gm in
+      let e : q ≡ pairTaken 0 (W m) .place = spot-in W m n t low am gm in
       let t₁ : List ℕ = added (levelFrom s m) c o n 0 t in
       let D = within-left s m t t₁ _ low (add-in W m n t low am gm rm) in
       let short : Short s t₁ = omega (arith, D .long) in
@@ -149,14 +150,24 @@ module _ (s : BuddySettings) (small : s .pairs ≤ 2 ^ 32) where
 
   -- ---- a new chunk
 
+  -- its top node is no node of a level: split as if it were, no word is written but the pair's
+  pub first-into : (t : List ℕ) → Short s t → (l c : ℕ) → splitInto (s .pairs) l c 0 nowhere t ≡ added (levelFrom s l) c 0 nowhere 0 t
+  first-into t short l c =
+      worded-top s (suc l) nowhere (2 * pairTaken (levelFrom s l) t .place + 2) (added (levelFrom s l) c 0 nowhere 0 t) refl
+      (omega (arith, added-length (levelFrom s l) c 0 nowhere 0 t, short))
+
+  first-split : (t : List ℕ) → Short s t → (lev d c k : ℕ) → splitDown (s .pairs) lev c 0 k nowhere (suc d) t ≡ splitChunk (s .pairs) lev c k d t
+  unfolding splitDown splitChunk
+  first-split t short lev d c k = ap (λ (y : List ℕ). splitDown (s .pairs) lev c 0 k (leftNext (s .pairs) (up d lev) t) d y) (first-into t short (up d lev) c)
+
   -- for any tree that has the levels W
-  pub grown-in : (t : List ℕ) (W : ℕ → List ℕ) → BuddyIn s → length t ≡ treeWords s → ((i : ℕ) → i < levelsMost → part (s .pairs) i t ≡ W i) → (lev d c k : ℕ) → up d lev < levelsMost
+  grown-as : (t : List ℕ) (W : ℕ → List ℕ) → BuddyIn s → length t ≡ treeWords s → ((i : ℕ) → i < levelsMost → part (s .pairs) i t ≡ W i) → (lev d c k : ℕ) → up d lev < levelsMost
       → ((i : ℕ) → lev ≤ i → i ≤ up d lev → Good 0 (s .pairs) (W i)) → ((i : ℕ) → lev ≤ i → i ≤ up d lev → levelOps (s .pairs) small .Room (W i))
       → let r = splitDown (s .pairs) lev c 0 k nowhere (suc d) t in
-      (r .node ≡ nodeOf (levelOps (s .pairs) small .spot (W lev)) L)
+      (r .node ≡ nodeOf (levelOps (s .pairs) small .newPlace (W lev)) L)
       × ((i : ℕ) → i < levelsMost → part (s .pairs) i (r .tree) ≡ grow (s .minimal) (levelOps (s .pairs) small) W lev c 0 k nowhere (suc d) .levels i)
       × ((i : ℕ) → chunksFrom s ≤ i → getD (r .tree) i 0 ≡ getD t i 0) × (length (r .tree) ≡ length t)
-  grown-in t W fit len a lev d c k h g room = (X .node, levels, X .past, X .long)
+  grown-as t W fit len a lev d c k h g room = (X .node, levels, X .past, X .long)
     where
       X : Chain s small lev c 0 k W nowhere (suc d) t (splitDown (s .pairs) lev c 0 k nowhere (suc d) t)
       X = split-is s small lev c 0 k (suc d) nowhere t W (omega arith) (inr refl) (tree-short t fit len) (λ i j. a i (omega arith)) (λ i j b. g i j (omega arith)) (λ i j b. room i j (omega arith))
@@ -169,6 +180,19 @@ module _ (s : BuddySettings) (small : s .pairs ≤ 2 ^ 32) where
 
       levels : (i : ℕ) → i < levelsMost → part (s .pairs) i (splitDown (s .pairs) lev c 0 k nowhere (suc d) t .tree) ≡ chain s small lev c 0 k W nowhere (suc d) .levels i
       levels i l = ⊎-elim (X .below i) (λ j. same i l j ∙ a i l ∙ sym (chain-above s small lev c 0 k W nowhere (suc d) i j)) (lt-or-le i (up (suc d) lev))
+
+  pub grown-in : (t : List ℕ) (W : ℕ → List ℕ) → BuddyIn s → length t ≡ treeWords s → ((i : ℕ) → i < levelsMost → part (s .pairs) i t ≡ W i) → (lev d c k : ℕ) → up d lev < levelsMost
+      → ((i : ℕ) → lev ≤ i → i ≤ up d lev → Good 0 (s .pairs) (W i)) → ((i : ℕ) → lev ≤ i → i ≤ up d lev → levelOps (s .pairs) small .Room (W i))
+      → let r = splitChunk (s .pairs) lev c k d t in
+      (r .node ≡ nodeOf (levelOps (s .pairs) small .newPlace (W lev)) L)
+      × ((i : ℕ) → i < levelsMost → part (s .pairs) i (r .tree) ≡ grow (s .minimal) (levelOps (s .pairs) small) W lev c 0 k nowhere (suc d) .levels i)
+      × ((i : ℕ) → chunksFrom s ≤ i → getD (r .tree) i 0 ≡ getD t i 0) × (length (r .tree) ≡ length t)
+  grown-in t W fit len a lev d c k h g room =
+      subst (λ (r : Cut).
+      (r .node ≡ nodeOf (levelOps (s .pairs) small .newPlace (W lev)) L)
+      × ((i : ℕ) → i < levelsMost → part (s .pairs) i (r .tree) ≡ grow (s .minimal) (levelOps (s .pairs) small) W lev c 0 k nowhere (suc d) .levels i)
+      × ((i : ℕ) → chunksFrom s ≤ i → getD (r .tree) i 0 ≡ getD t i 0) × (length (r .tree) ≡ length t))
+      (first-split t (tree-short t fit len) lev d c k) (grown-as t W fit len a lev d c k h g room)
 
   -- ---- the head's ready side at level i
 

@@ -1,5 +1,4 @@
 -- The place that a new pair of a level takes: it says nothing until then, and is the only one that was not in use and is.
--- Assumes nothing.
 use mathlib.Core.Path.{_≡_, ap, _∙_}
 use mathlib.Core.Bool.{true}
 use mathlib.Core.Logic.{_⊎_, inl, inr, ⊎-elim}
@@ -14,7 +13,7 @@ use Rattle.lists.proofs.Bools.{lt-or-le}
 use Rattle.slab.specs.Slab.{Chain}
 use Rattle.slab.specs.declared.Taken.{Taken}
 use Rattle.slab.proofs.Places.{insert-first, insert-next}
-use Rattle.buddy_rules.specs.Level.{usedAt, vacatedAt, pairWords, offAt, fieldAt, entOf, pairIn, slabIn, spotIn, vacantIn, vacantAfter, Good}
+use Rattle.buddy_rules.specs.Level.{usedAt, vacatedAt, pairWords, offAt, fieldAt, entOf, pairIn, slabIn, pairTaken, vacantIn, vacantAfter, Good}
 use Rattle.buddy_rules.proofs.Cells.{pair-used, pair-unused}
 
 module _ (b pairs : ℕ) (t : List ℕ) (few : pairs ≤ 2 ^ 32) (G : Good b pairs t) where
@@ -26,10 +25,10 @@ module _ (b pairs : ℕ) (t : List ℕ) (few : pairs ≤ 2 ^ 32) (G : Good b pai
 
   -- the one vacated last, or the next new one
   abbrev Again : Type 0
-  Again = (last < used) × (spotIn b t ≡ record { place = last; slab = record { places = used; vacant = vacantAfter b t last } })
+  Again = (last < used) × (pairTaken b t ≡ record { place = last; slab = record { places = used; vacant = vacantAfter b t last } })
 
   abbrev New : Type 0
-  New = spotIn b t ≡ record { place = used; slab = record { places = used + 1; vacant = last } }
+  New = pairTaken b t ≡ record { place = used; slab = record { places = used + 1; vacant = last } }
 
   cases : Again ⊎ New
   cases = by (lt-or-le last used)
@@ -41,21 +40,21 @@ module _ (b pairs : ℕ) (t : List ℕ) (few : pairs ≤ 2 ^ 32) (G : Good b pai
           inr (insert-next (slabIn b t) t (fieldAt b offAt) pairWords h ∙ rw m)
 
   -- the place is then one ever used, and no other place is that was not
-  pub spot-used : spotIn b t .place < spotIn b t .slab .places
+  pub spot-used : pairTaken b t .place < pairTaken b t .slab .places
   spot-used = by cases
     where
-      by : Again ⊎ New → spotIn b t .place < spotIn b t .slab .places
+      by : Again ⊎ New → pairTaken b t .place < pairTaken b t .slab .places
       by (inl c) = rw (c .1) (c .0)
       by (inr c) = rw c (omega arith)
 
-  pub spot-more : (x : ℕ) → x < used → x < spotIn b t .slab .places
+  pub spot-more : (x : ℕ) → x < used → x < pairTaken b t .slab .places
   spot-more x h = by cases
     where
-      by : Again ⊎ New → x < spotIn b t .slab .places
+      by : Again ⊎ New → x < pairTaken b t .slab .places
       by (inl c) = rw (c .1) h
       by (inr c) = rw c (omega arith)
 
-  pub spot-only : (x : ℕ) → (x ≡ spotIn b t .place → ⊥) → x < spotIn b t .slab .places → x < used
+  pub spot-only : (x : ℕ) → (x ≡ pairTaken b t .place → ⊥) → x < pairTaken b t .slab .places → x < used
   spot-only x ne h = by cases
     where
       by : Again ⊎ New → x < used
@@ -70,9 +69,9 @@ module _ (b pairs : ℕ) (t : List ℕ) (few : pairs ≤ 2 ^ 32) (G : Good b pai
       by [] e = absurd (omega (arith, G .parted .limit))
       by (x ∷ l) c = inl (c .0)
 
-  pub spot-vacant : pairIn b t (spotIn b t .place) .tag ≡ 0
+  pub spot-vacant : pairIn b t (pairTaken b t .place) .tag ≡ 0
   spot-vacant = by cases
     where
-      by : Again ⊎ New → pairIn b t (spotIn b t .place) .tag ≡ 0
+      by : Again ⊎ New → pairIn b t (pairTaken b t .place) .tag ≡ 0
       by (inl c) = rw (c .1, pair-used b t last (c .0)) (eqb-true (entOf b t last .tag) 0 (first-vacant (c .0)))
       by (inr c) = rw (c, pair-unused b t used (omega arith))

@@ -1,4 +1,4 @@
--- The test of a buddy store's trees decides Trees. Assumes nothing.
+-- The test of a buddy store's trees decides Trees.
 use mathlib.Core.Path.{_≡_, refl, sym, _∙_}
 use mathlib.Core.Bool.{true}
 use mathlib.Core.Logic.{_⊎_, inl, inr}

@@ -1,5 +1,5 @@
 -- A node stands for the tree that a walk down it sees, where the walk meets every pair that lies there; and the other way
--- round. Assumes nothing.
+-- round.
 use mathlib.Core.Path.{_≡_, refl, sym, ap, _∙_}
 use mathlib.Core.Bool.{Bool, true}
 use mathlib.Core.Logic.{_⊎_, inl, inr, ⊎-elim}

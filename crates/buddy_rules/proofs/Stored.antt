@@ -1,5 +1,4 @@
 -- A pair's tag and the word of one of its sides are stored, as it leaves the ring or joins it: what the level shows then.
--- Assumes nothing.
 use mathlib.Core.Path.{_≡_, refl, sym, ap, _∙_, subst}
 use mathlib.Core.Logic.{inl, inr, ⊎-elim}
 use mathlib.Core.List.{List, [], _∷_}

@@ -1,4 +1,4 @@
--- A row of stores to a table, one after the other: which words it leaves, and what it leaves in the others. Assumes nothing.
+-- A row of stores to a table, one after the other: which words it leaves, and what it leaves in the others.
 use mathlib.Core.Path.{_≡_, refl, ap, _∙_}
 use mathlib.Core.Bool.{cond}
 use mathlib.Core.Logic.{_⊎_, inl, inr}

@@ -1,4 +1,4 @@
--- What each part of the test of a buddy store's trees says, and that where it is so the part holds. Assumes nothing.
+-- What each part of the test of a buddy store's trees says, and that where it is so the part holds.
 use mathlib.Core.Path.{_≡_, refl, sym, ap, _∙_}
 use mathlib.Core.Bool.{Bool, true, false, _&&_, not}
 use mathlib.Core.Logic.{_⊎_, inl, inr, ⊎-elim}

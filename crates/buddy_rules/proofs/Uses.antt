@@ -1,4 +1,4 @@
--- Which pairs are in use afterwards: a return puts none in use, and a loan only those new pairs that it needs. Assumes nothing.
+-- Which pairs are in use afterwards: a return puts none in use, and a loan only those new pairs that it needs.
 use mathlib.Core.Path.{_≡_, sym, ap, _∙_}
 use mathlib.Core.Bool.{Bool, true, false}
 use mathlib.Core.Logic.{_⊎_, inl, inr, ⊎-elim}
@@ -101,7 +101,7 @@ module _ (u : ℕ) (O : Ops) (K : ℕ → Loan) where
 
   -- a pair in use was so before, or is the new one of its level
   abbrev pub Added : (ℕ → O .Lv) → ℕ → ℕ → ℕ → ℕ → Type 0
-  Added W lev d i p = (0 < O .ent (W i) p .tag) ⊎ ((lev ≤ i) × (i < up d lev) × (p ≡ O .spot (W i)))
+  Added W lev d i p = (0 < O .ent (W i) p .tag) ⊎ ((lev ≤ i) × (i < up d lev) × (p ≡ O .newPlace (W i)))
 
   pub grow-new : (W : ℕ → O .Lv) (lev c o k n d : ℕ) → ((i : ℕ) → i < up d lev → O .Good (W i))
       → ((i : ℕ) → i < up d lev → lev ≤ i → O .Room (W i)) → ((i : ℕ) → i < up d lev → lev ≤ i → O .Some (W i) → ⊥)
@@ -109,27 +109,27 @@ module _ (u : ℕ) (O : Ops) (K : ℕ → Loan) where
   unfolding grow
   grow-new W lev c o k n zero g rm sm i p t = inl t
   grow-new W lev c o k n (suc d) g rm sm i p t =
-      go (same? i (up d lev)) (λ z. grow-new W lev c o k (nodeOf (O .spot (W (up d lev))) L) d (λ i h. g i (omega arith)) (λ i h j. rm i (omega arith) j) (λ i h j. sm i (omega arith) j) i p z)
+      go (same? i (up d lev)) (λ z. grow-new W lev c o k (nodeOf (O .newPlace (W (up d lev))) L) d (λ i h. g i (omega arith)) (λ i h j. rm i (omega arith) j) (λ i h j. sm i (omega arith) j) i p z)
     where
       F : ℕ → O .Lv
-      F = grow u O W lev c o k (nodeOf (O .spot (W (up d lev))) L) d .levels
+      F = grow u O W lev c o k (nodeOf (O .newPlace (W (up d lev))) L) d .levels
 
       w : ℕ
-      w = grow u O W lev c o k (nodeOf (O .spot (W (up d lev))) L) d .top
+      w = grow u O W lev c o k (nodeOf (O .newPlace (W (up d lev))) L) d .top
 
       same : F (up d lev) ≡ W (up d lev)
-      same = grow-above u O K W lev c o k (nodeOf (O .spot (W (up d lev))) L) d (up d lev) (omega arith)
+      same = grow-above u O K W lev c o k (nodeOf (O .newPlace (W (up d lev))) L) d (up d lev) (omega arith)
 
-      rest : (p ≡ O .spot (W (up d lev)) → ⊥) → O .ent (O .add (F (up d lev)) c o n w) p ≡ O .ent (W (up d lev)) p
+      rest : (p ≡ O .newPlace (W (up d lev)) → ⊥) → O .ent (O .add (F (up d lev)) c o n w) p ≡ O .ent (W (up d lev)) p
       rest a = rw same (O .add-other (W (up d lev)) c o n w p (g (up d lev) (omega arith)) (rm (up d lev) (omega arith) (up-le d lev)) (sm (up d lev) (omega arith) (up-le d lev)) a)
 
-      go : (i ≡ up d lev) ⊎ (i ≡ up d lev → ⊥) → (0 < O .ent (grow u O W lev c o k (nodeOf (O .spot (W (up d lev))) L) d .levels i) p .tag → Added W lev d i p) → Added W lev (suc d) i p
+      go : (i ≡ up d lev) ⊎ (i ≡ up d lev → ⊥) → (0 < O .ent (grow u O W lev c o k (nodeOf (O .newPlace (W (up d lev))) L) d .levels i) p .tag → Added W lev d i p) → Added W lev (suc d) i p
       go (inl e) f = ⊎-elim
           (λ a. inr (omega (arith, up-le d lev), omega arith, rw e a))
           (λ a.
           let z : O .ent (put O F (up d lev) (O .add (F (up d lev)) c o n w) i) p ≡ O .ent (W i) p = ap (λ j. O .ent (put O F (up d lev) (O .add (F (up d lev)) c o n w) j) p) e ∙ put-at O F (up d lev) (O .add (F (up d lev)) c o n w) p ∙ rest a ∙ ap (λ j. O .ent (W j) p) (sym e) in
           inl (rw z at t))
-          (same? p (O .spot (W (up d lev))))
+          (same? p (O .newPlace (W (up d lev))))
       go (inr a) f =
           let z : O .ent (put O F (up d lev) (O .add (F (up d lev)) c o n w) i) p ≡ O .ent (F i) p = ap (λ x. O .ent x p) (put-other O F (up d lev) i _ a) in
           ⊎-elim (λ y. inl y) (λ y. inr (y .0, omega (arith, y .1), y .2)) (f (rw z at t))

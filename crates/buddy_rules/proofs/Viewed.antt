@@ -1,4 +1,4 @@
--- The loans and the chunks that a buddy store's user sees are those that its tables show. Assumes nothing.
+-- The loans and the chunks that a buddy store's user sees are those that its tables show.
 use mathlib.Core.Path.{_≡_, refl, sym, ap, subst, _∙_}
 use mathlib.Core.Bool.{Bool, true, false, cond, not}
 use mathlib.Core.Logic.{_⊎_, inl, inr, ⊎-elim}

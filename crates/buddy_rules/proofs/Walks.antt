@@ -1,4 +1,4 @@
--- The walk down a node passes exactly where it sees the words of a tree. Assumes nothing.
+-- The walk down a node passes exactly where it sees the words of a tree.
 use mathlib.Core.Path.{_≡_, refl, sym, ap, ap₂, _∙_}
 use mathlib.Core.Bool.{Bool, true, false, cond, _&&_, not}
 use mathlib.Core.Logic.{_⊎_, inl, inr, ⊎-elim}
@@ -74,8 +74,8 @@ apart-all (loan k) b h = refl
 apart-all (split c d) b h = refl
 
 -- a word is that of a free node, a loan's or a pair's
-kind : (w : ℕ) → (w ≡ 0) ⊎ ((w % 2 ≡ 1) ⊎ ((w ≡ 0 → ⊥) × (w % 2 ≡ 1 → ⊥)))
-kind w = ⊎-elim (λ e. inl e) (λ n. ⊎-elim (λ e. inr (inl e)) (λ m. inr (inr (n, m))) (same? (w % 2) 1)) (same? w 0)
+wordCase : (w : ℕ) → (w ≡ 0) ⊎ ((w % 2 ≡ 1) ⊎ ((w ≡ 0 → ⊥) × (w % 2 ≡ 1 → ⊥)))
+wordCase w = ⊎-elim (λ e. inl e) (λ n. ⊎-elim (λ e. inr (inl e)) (λ m. inr (inr (n, m))) (same? (w % 2) 1)) (same? w 0)
 
 even : (w : ℕ) → (w ≡ 0 → ⊥) → (w % 2 ≡ 1 → ⊥) → w ≡ 2 * place w + 2
 even w n m = omega arith
@@ -218,9 +218,9 @@ module _ (s : BuddySettings) (t : Tables) where
 
   pub walk-yes : (l c o n w : ℕ) → BuddyIn s → l ≤ levelsMost → nodeOk s t l c o n w ≡ true → Sees c l o n w (treeOf (pairsIn s t) l w)
   walk-yes zero c o n w fit h b =
-      ⊎-elim (pass-free zero c o n w) (⊎-elim (λ e. pass-loan zero c o n w fit h e b) (λ z. absurd (true-false _ b (node-low c o n w (z .0) (z .1))))) (kind w)
+      ⊎-elim (pass-free zero c o n w) (⊎-elim (λ e. pass-loan zero c o n w fit h e b) (λ z. absurd (true-false _ b (node-low c o n w (z .0) (z .1))))) (wordCase w)
   walk-yes (suc l) c o n w fit h b =
-      go (kind w)
+      go (wordCase w)
       (walk-yes l c o (nodeOf (place w) L) (pairsIn s t l (place w) .left) fit (omega arith))
       (walk-yes l c (o + bytes (s .minimal) l) (nodeOf (place w) R) (pairsIn s t l (place w) .right) fit (omega arith))
     where

@@ -1,4 +1,4 @@
--- A row of stores to words of a longer table is the same row done to those words alone, and leaves all others. Assumes nothing.
+-- A row of stores to words of a longer table is the same row done to those words alone, and leaves all others.
 use mathlib.Core.Path.{_≡_, refl, ap, _∙_}
 use mathlib.Core.Bool.{Bool, true, false, cond}
 use mathlib.Core.Logic.{_⊎_, inl, inr, ⊎-elim}

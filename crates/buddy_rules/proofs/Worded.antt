@@ -1,5 +1,5 @@
 -- A node's word stored again: a level whose pair was entered or taken with the word 0 is then the one with that word; and
--- nothing else changes. Assumes nothing.
+-- nothing else changes.
 use mathlib.Core.Path.{_≡_, refl, sym, ap, _∙_}
 use mathlib.Core.Logic.{_⊎_, inl, inr}
 use mathlib.Core.List.{List, [], _∷_, _++_}
@@ -12,7 +12,7 @@ use Rattle.counter.specs.Limits.{levelsMost}
 use Rattle.counter.specs.declared.settings.BuddySettings.{BuddySettings}
 use Rattle.slab.specs.Slab.{nowhere}
 use Rattle.buddy_rules.specs.Levels.{sideOf}
-use Rattle.buddy_rules.specs.Level.{ringAt, usedAt, vacatedAt, tagAt, chunkAt, offAt, leftAt, rightAt, nextAt, prevAt, upAt, sideAt, pairCell, entOf, ringHead, spotIn, leaves, acquired, added, part}
+use Rattle.buddy_rules.specs.Level.{ringAt, usedAt, vacatedAt, tagAt, chunkAt, offAt, leftAt, rightAt, nextAt, prevAt, upAt, sideAt, pairCell, entOf, ringHead, pairTaken, leaves, acquired, added, part}
 use Rattle.buddy_rules.proofs.Stores.{puts, stored}
 use Rattle.buddy_rules.proofs.Rows.{added-puts}
 use Rattle.buddy_rules.proofs.Stored.{side-in}
@@ -32,12 +32,12 @@ again t [] i v w c h = sym (last (set t i v) c i w h) ∙ ap (λ (z : List ℕ).
 again t (x ∷ a) i v w c h = again (set t (x .0) (x .1)) a i v w c h
 
 module _ (b : ℕ) (w : ℕ) (t : List ℕ) where
-  pub added-again : (c o n : ℕ) → set (added b c o n 0 t) (pairCell b leftAt (spotIn b t .place)) w ≡ added b c o n w t
+  pub added-again : (c o n : ℕ) → set (added b c o n 0 t) (pairCell b leftAt (pairTaken b t .place)) w ≡ added b c o n w t
   added-again c o n =
-      let p = spotIn b t .place in
+      let p = pairTaken b t .place in
       rw (added-puts b c o n 0 t, added-puts b c o n w t)
       (again t
-      ((b + usedAt, spotIn b t .slab .places) ∷ (b + vacatedAt, spotIn b t .slab .vacant) ∷ (pairCell b tagAt p, 3) ∷ (pairCell b chunkAt p, c) ∷ (pairCell b offAt p, o) ∷ [])
+      ((b + usedAt, pairTaken b t .slab .places) ∷ (b + vacatedAt, pairTaken b t .slab .vacant) ∷ (pairCell b tagAt p, 3) ∷ (pairCell b chunkAt p, c) ∷ (pairCell b offAt p, o) ∷ [])
       (pairCell b leftAt p) 0 w
       ((pairCell b rightAt p, 0) ∷ (pairCell b upAt p, n) ∷ (pairCell b nextAt p, p) ∷ (pairCell b prevAt p, p) ∷ (b + ringAt, p) ∷ [])
       ((λ e. omega arith), ((λ e. omega arith), ((λ e. omega arith), ((λ e. omega arith), ((λ e. omega arith), tt))))))

@@ -1,8 +1,7 @@
--- A node lent: the head's ready side at some level is split down, always keeping the left. 01, "buddy.rs". Assumes nothing:
--- these are definitions.
-use Prim.Native.Nat.{ℕ, zero, suc, _+_, _*_}
+-- A node lent: the head's ready side at some level is split down, always keeping the left. 01, "buddy.rs".
+use Prim.Native.Nat.{ℕ, zero, suc}
 use Rattle.buddy_trees.specs.Trees.{up}
-use Rattle.buddy_rules.specs.Nodes.{L, nodeOf}
+use Rattle.buddy_rules.specs.Nodes.{loanWord, splitWord, L, nodeOf}
 use Rattle.buddy_rules.specs.Levels.{Ops, sideOf, baseOf}
 use Rattle.buddy_rules.specs.Returns.{put}
 
@@ -15,11 +14,11 @@ module _ (u : ℕ) (O : Ops) where
   -- node n, d levels above lev, at o of chunk c, becomes a chain of new pairs down to loan k: each pair's place is that of its
   -- level alone, so the chain can be told from its foot
   unfoldable pub grow : (ℕ → O .Lv) → ℕ → ℕ → ℕ → ℕ → ℕ → ℕ → Grown
-  grow W lev c o k n zero = record { top = 2 * k + 1; levels = W }
+  grow W lev c o k n zero = record { top = loanWord k; levels = W }
   grow W lev c o k n (suc d) =
       let m = up d lev in
-      let g = grow W lev c o k (nodeOf (O .spot (W m)) L) d in
-      record { top = 2 * O .spot (W m) + 2; levels = put O (g .levels) m (O .add (g .levels m) c o n (g .top)) }
+      let g = grow W lev c o k (nodeOf (O .newPlace (W m)) L) d in
+      record { top = splitWord (O .newPlace (W m)); levels = put O (g .levels) m (O .add (g .levels m) c o n (g .top)) }
 
   -- the head's ready side at d levels above lev is split down to lev, and lent as k
   abbrev pub fill : Grown → ℕ → ℕ → O .Lv
@@ -28,7 +27,7 @@ module _ (u : ℕ) (O : Ops) where
   -- the loan's node, where node n, d levels above lev, is split down to it
   abbrev pub loanNode : (ℕ → O .Lv) → ℕ → ℕ → ℕ → ℕ
   loanNode W lev n zero = n
-  loanNode W lev n (suc d) = nodeOf (O .spot (W lev)) L
+  loanNode W lev n (suc d) = nodeOf (O .newPlace (W lev)) L
 
   abbrev pub headNode : (ℕ → O .Lv) → ℕ → ℕ
   headNode W i = nodeOf (O .head (W i)) (sideOf (O .ent (W i) (O .head (W i)) .tag))

@@ -1,6 +1,5 @@
 -- One level of a buddy store's pairs in words: eight words of its own, then eight for each pair. 01, "buddy.rs". What is
 -- done to it is defined for all words; Good says when its ring and its vacant places are those that the pairs show.
--- Assumes nothing: these are definitions.
 use mathlib.Core.Bool.{Bool, cond}
 use mathlib.Core.List.{List}
 use Prim.Native.Nat.{ℕ, _+_, _*_, _^_, _<_}
@@ -12,7 +11,7 @@ use Rattle.slab.specs.Slab.{nowhere, vacantAt, linkAt, inserted, Parted}
 use Rattle.slab.specs.declared.Slab.{Slab}
 use Rattle.slab.specs.declared.Taken.{Taken}
 use Rattle.ring_rules.specs.Ring.{unlinked, linked, alone, RingOf}
-use Rattle.buddy_rules.specs.Nodes.{Ent, Side, L, R}
+use Rattle.buddy_rules.specs.Nodes.{freeWord, vacant, exhausted, leftReady, rightReady, Ent, Side, L, R}
 use Rattle.buddy_rules.specs.Levels.{sideOf}
 
 -- ---- where the words stand
@@ -65,8 +64,8 @@ sideAt R = rightAt
 
 -- the tag of a pair that is ready at that side
 abbrev pub readyTag : Side → ℕ
-readyTag L = 2
-readyTag R = 3
+readyTag L = leftReady
+readyTag R = rightReady
 
 -- how many words a level of so many pairs takes
 abbrev pub levelWords : ℕ → ℕ
@@ -77,7 +76,7 @@ abbrev pub baseMost : ℕ
 baseMost = 2 ^ 60
 
 abbrev pub noPair : Ent
-noPair = record { tag = 0; chunk = 0; off = 0; left = 0; right = 0; up = 0 }
+noPair = record { tag = vacant; chunk = 0; off = 0; left = freeWord; right = freeWord; up = 0 }
 
 -- ---- a level whose words begin at b
 
@@ -113,8 +112,8 @@ module _ (b : ℕ) where
   slabIn t = record { places = getD t (b + usedAt) 0; vacant = getD t (b + vacatedAt) 0 }
 
   -- the place that a new pair takes, and the slab from then on
-  abbrev pub spotIn : List ℕ → Taken
-  spotIn t = inserted (slabIn t) t (fieldAt offAt) pairWords
+  abbrev pub pairTaken : List ℕ → Taken
+  pairTaken t = inserted (slabIn t) t (fieldAt offAt) pairWords
 
   -- pair p leaves the ring, or joins it
   abbrev pub leaves : ℕ → List ℕ → List ℕ
@@ -126,26 +125,26 @@ module _ (b : ℕ) where
   -- "the pair goes": p leaves the ring, and its place is the one vacated last
   unfoldable pub dropped : ℕ → List ℕ → List ℕ
   dropped p t =
-      set (set (set (leaves p t) (pairCell tagAt p) 0) (pairCell offAt p) (getD t (b + vacatedAt) 0)) (b + vacatedAt) p
+      set (set (set (leaves p t) (pairCell tagAt p) vacant) (pairCell offAt p) (getD t (b + vacatedAt) 0)) (b + vacatedAt) p
 
   -- "A returned side of an exhausted pair joins the ring before the head, or as head if the ring is empty"
   unfoldable pub backed : ℕ → Side → List ℕ → List ℕ
-  backed p s t = set (set (joins p t) (pairCell tagAt p) (readyTag s)) (pairCell (sideAt s) p) 0
+  backed p s t = set (set (joins p t) (pairCell tagAt p) (readyTag s)) (pairCell (sideAt s) p) freeWord
 
   -- "Acquire takes the head pair's ready side; the head becomes its next": the side's node has the word w
   unfoldable pub acquired : ℕ → List ℕ → List ℕ
   acquired w t =
-      set (set (leaves (ringHead t) t) (pairCell tagAt (ringHead t)) 1) (pairCell (sideAt (sideOf (entOf t (ringHead t) .tag))) (ringHead t)) w
+      set (set (leaves (ringHead t) t) (pairCell tagAt (ringHead t)) exhausted) (pairCell (sideAt (sideOf (entOf t (ringHead t) .tag))) (ringHead t)) w
 
   -- a new pair of node n, at o of chunk c, whose left node has the word w: it is ready at its right, and alone in the ring
   unfoldable pub entered : ℕ → ℕ → ℕ → ℕ → ℕ → List ℕ → List ℕ
   entered p c o n w t =
       alone (b + ringAt) (fieldAt nextAt) (fieldAt prevAt) pairWords p
-      (set (set (set (set (set (set t (pairCell tagAt p) 3) (pairCell chunkAt p) c) (pairCell offAt p) o) (pairCell leftAt p) w) (pairCell rightAt p) 0) (pairCell upAt p) n)
+      (set (set (set (set (set (set t (pairCell tagAt p) rightReady) (pairCell chunkAt p) c) (pairCell offAt p) o) (pairCell leftAt p) w) (pairCell rightAt p) freeWord) (pairCell upAt p) n)
 
   unfoldable pub added : ℕ → ℕ → ℕ → ℕ → List ℕ → List ℕ
   added c o n w t =
-      entered (spotIn t .place) c o n w (set (set t (b + usedAt) (spotIn t .slab .places)) (b + vacatedAt) (spotIn t .slab .vacant))
+      entered (pairTaken t .place) c o n w (set (set t (b + usedAt) (pairTaken t .slab .places)) (b + vacatedAt) (pairTaken t .slab .vacant))
 
   -- a level with no pair
   unfoldable pub freshLevel : List ℕ → List ℕ

@@ -1,5 +1,5 @@
 -- The test of a level, linear in the pair places ever used. The ring has distinct places, so where it has as many as there are
--- ready pairs, and each of its places is one, it has them all. Assumes nothing: these are definitions.
+-- ready pairs, and each of its places is one, it has them all.
 use mathlib.Core.Bool.{Bool, true, _&&_}
 use mathlib.Core.List.{List}
 use Prim.Native.Nat.{ℕ, zero, suc, _+_}

@@ -1,20 +1,19 @@
 -- A level of pairs as what is done to it shows it: its ring and its vacant chain never appear here. 01, "buddy.rs".
--- Assumes nothing: these are definitions.
 use mathlib.Core.Path.{_≡_}
 use mathlib.Core.Bool.{Bool, true, false}
 use Prim.Native.Nat.{ℕ, _<_}
 use lib.Dec.{eqb}
-use Rattle.buddy_rules.specs.Nodes.{Ent, Side, L, R, base}
+use Rattle.buddy_rules.specs.Nodes.{freeWord, exhausted, leftReady, rightReady, Ent, Side, L, R, isLeft, base}
 
 -- the entry with side s free, and ready there
 abbrev pub readied : Side → Ent → Ent
-readied L e = record { tag = 2; chunk = e .chunk; off = e .off; left = 0; right = e .right; up = e .up }
-readied R e = record { tag = 3; chunk = e .chunk; off = e .off; left = e .left; right = 0; up = e .up }
+readied L e = record { tag = leftReady; chunk = e .chunk; off = e .off; left = freeWord; right = e .right; up = e .up }
+readied R e = record { tag = rightReady; chunk = e .chunk; off = e .off; left = e .left; right = freeWord; up = e .up }
 
 -- the entry with its side s taken by w, and exhausted
 abbrev pub filled : Side → ℕ → Ent → Ent
-filled L w e = record { tag = 1; chunk = e .chunk; off = e .off; left = w; right = e .right; up = e .up }
-filled R w e = record { tag = 1; chunk = e .chunk; off = e .off; left = e .left; right = w; up = e .up }
+filled L w e = record { tag = exhausted; chunk = e .chunk; off = e .off; left = w; right = e .right; up = e .up }
+filled R w e = record { tag = exhausted; chunk = e .chunk; off = e .off; left = e .left; right = w; up = e .up }
 
 -- the side that the tag says is ready
 abbrev pub sideBy : Bool → Side
@@ -22,7 +21,11 @@ sideBy true = L
 sideBy false = R
 
 abbrev pub sideOf : ℕ → Side
-sideOf t = sideBy (eqb t 2)
+sideOf t = sideBy (eqb t leftReady)
+
+-- the side of node n
+abbrev pub sideIn : ℕ → Side
+sideIn n = sideBy (isLeft n)
 
 -- where that side begins
 abbrev pub baseOf : ℕ → Ent → ℕ → ℕ
@@ -54,10 +57,10 @@ pub record Ops : Type 1 where
   pub take-other : (v : Lv) (w x : ℕ) → Good v → Some v → (x ≡ head v → ⊥) → ent (take v w) x ≡ ent v x
   -- a new pair of node n, whose left side is taken by w, is the whole ring
   pub Room : Lv → Type 0
-  pub spot : Lv → ℕ
-  pub spot-vacant : (v : Lv) → Good v → Room v → ent v (spot v) .tag ≡ 0
+  pub newPlace : Lv → ℕ
+  pub newPlace-vacant : (v : Lv) → Good v → Room v → ent v (newPlace v) .tag ≡ 0
   pub add : Lv → ℕ → ℕ → ℕ → ℕ → Lv
   pub add-good : (v : Lv) (c o n w : ℕ) → Good v → Room v → (Some v → ⊥) → Good (add v c o n w)
   pub add-here : (v : Lv) (c o n w : ℕ) → Good v → Room v → (Some v → ⊥)
-      → ent (add v c o n w) (spot v) ≡ record { tag = 3; chunk = c; off = o; left = w; right = 0; up = n }
-  pub add-other : (v : Lv) (c o n w x : ℕ) → Good v → Room v → (Some v → ⊥) → (x ≡ spot v → ⊥) → ent (add v c o n w) x ≡ ent v x
+      → ent (add v c o n w) (newPlace v) ≡ record { tag = rightReady; chunk = c; off = o; left = w; right = freeWord; up = n }
+  pub add-other : (v : Lv) (c o n w x : ℕ) → Good v → Room v → (Some v → ⊥) → (x ≡ newPlace v → ⊥) → ent (add v c o n w) x ≡ ent v x

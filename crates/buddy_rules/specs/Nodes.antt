@@ -1,14 +1,51 @@
 -- What the words of a buddy store say of its nodes, as a table of pair entries level by level, and the trees that they
--- stand for. 01, "buddy.rs" and "Sound": "rings, parents and vacant chains agree with it". Assumes nothing: these are definitions.
+-- stand for. 01, "buddy.rs" and "Sound": "rings, parents and vacant chains agree with it".
 use mathlib.Core.Path.{_≡_}
 use mathlib.Core.Bool.{Bool, true, false}
 use mathlib.Core.Logic.{_⊎_}
-use Prim.Native.Nat.{ℕ, zero, suc, _+_, _*_, _-_, _/_, _≤_, _<_}
+use Prim.Native.Nat.{ℕ, zero, suc, _+_, _*_, _-_, _/_, _%_, _≤_, _<_}
+use lib.Dec.{eqb}
 use Rattle.buddy_trees.specs.Trees.{Tree, free, loan, split, bytes}
 
--- a pair's entry. Tag: 0 vacant, 1 exhausted, 2 left ready, 3 right ready. The words of its two nodes: 0 free, 2 k + 1 on
--- loan k, 2 q + 2 split into pair q of the level below. up: which node it is the pair of, as nodeOf has it, or `nowhere` for
--- a chunk's top node
+-- ---- the word of a node: "A node is free, on loan, or split into a pair"
+
+abbrev pub freeWord : ℕ
+freeWord = 0
+
+-- on loan k
+abbrev pub loanWord : ℕ → ℕ
+loanWord k = 2 * k + 1
+
+-- split into pair q of the level below
+abbrev pub splitWord : ℕ → ℕ
+splitWord q = 2 * q + 2
+
+-- whether a word says that the node is on loan, and which loan; which pair a split node's says
+abbrev pub saysLoan : ℕ → Bool
+saysLoan w = eqb (w % 2) 1
+
+abbrev pub loanSaid : ℕ → ℕ
+loanSaid w = w / 2
+
+abbrev pub place : ℕ → ℕ
+place w = w / 2 - 1
+
+-- ---- the tag of a pair: its place is vacant, both its nodes are taken, or which of them is ready
+
+abbrev pub vacant : ℕ
+vacant = 0
+
+abbrev pub exhausted : ℕ
+exhausted = 1
+
+abbrev pub leftReady : ℕ
+leftReady = 2
+
+abbrev pub rightReady : ℕ
+rightReady = 3
+
+-- a pair's entry: its tag, the chunk and offset of its stretch, the words of its two nodes; up: which node it is the pair of, as
+-- nodeOf has it, or `nowhere` for a chunk's top node
 pub record Ent : Type 0 where
   pub tag : ℕ
   pub chunk : ℕ
@@ -36,13 +73,16 @@ abbrev pub nodeOf : ℕ → Side → ℕ
 nodeOf p L = 2 * p
 nodeOf p R = 2 * p + 1
 
+-- the pair of node n, and its side
+abbrev pub pairOf : ℕ → ℕ
+pairOf n = n / 2
+
+abbrev pub isLeft : ℕ → Bool
+isLeft n = eqb (n % 2) 0
+
 abbrev pub word : Side → Ent → ℕ
 word L e = e .left
 word R e = e .right
-
--- the pair that a node's word leads to
-abbrev pub place : ℕ → ℕ
-place w = w / 2 - 1
 
 abbrev pub isFree : Tree → Bool
 isFree free = true
@@ -51,9 +91,9 @@ isFree (split a b) = false
 
 -- the tag of a pair whose left and right nodes are free or not
 abbrev pub tagOf : Bool → Bool → ℕ
-tagOf true b = 2
-tagOf false true = 3
-tagOf false false = 1
+tagOf true b = leftReady
+tagOf false true = rightReady
+tagOf false false = exhausted
 
 abbrev pub splitBy : Side → Tree → Tree → Tree
 splitBy L x y = split x y
@@ -75,7 +115,7 @@ module _ (u : ℕ) where
 
   -- a split node n: its pair, which alone of its level lies there, and its two halves
   pub record Node (E : ℕ → ℕ → Ent) (c l o n w t : ℕ) (A B : Type 0) : Type 0 where
-    pub is : w ≡ 2 * place w + 2
+    pub is : w ≡ splitWord (place w)
     pub tag : E l (place w) .tag ≡ t
     pub chunk : E l (place w) .chunk ≡ c
     pub off : E l (place w) .off ≡ o
@@ -86,8 +126,8 @@ module _ (u : ℕ) where
 
   -- the node n of level l at o of chunk c, whose word is w, stands for the tree; K tells the loans
   abbrev pub Rep : (ℕ → ℕ → Ent) → (ℕ → Loan) → ℕ → ℕ → ℕ → ℕ → ℕ → Tree → Type 0
-  Rep E K c l o n w free = (w ≡ 0) × None E c l o
-  Rep E K c l o n w (loan k) = (w ≡ 2 * k + 1) × (K k ≡ record { chunk = c; at = o; lev = l; node = n }) × None E c l o
+  Rep E K c l o n w free = (w ≡ freeWord) × None E c l o
+  Rep E K c l o n w (loan k) = (w ≡ loanWord k) × (K k ≡ record { chunk = c; at = o; lev = l; node = n }) × None E c l o
   Rep E K c zero o n w (split a b) = ⊥
   Rep E K c (suc l) o n w (split a b) =
       Node E c l o n w (tagOf (isFree a) (isFree b))

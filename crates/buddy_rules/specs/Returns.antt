@@ -1,12 +1,12 @@
 -- A block given back: by recursion from the chunk's top, which the theory speaks of, and by climbing from its node, which
--- 01 describes and the code does. Assumes nothing: these are definitions.
+-- 01 describes and the code does.
 use mathlib.Core.Bool.{Bool, true, false, cond}
-use Prim.Native.Nat.{ℕ, zero, suc, _+_, _/_, _%_}
+use Prim.Native.Nat.{ℕ, zero, suc, _+_}
 use lib.Dec.{eqb, ltb}
 use Rattle.slab.specs.Slab.{nowhere}
 use Rattle.buddy_trees.specs.Trees.{bytes}
-use Rattle.buddy_rules.specs.Nodes.{Ent, Side, L, R, other, word, place}
-use Rattle.buddy_rules.specs.Levels.{Ops, sideBy}
+use Rattle.buddy_rules.specs.Nodes.{freeWord, saysLoan, place, Ent, Side, L, R, other, pairOf, word}
+use Rattle.buddy_rules.specs.Levels.{Ops, sideIn}
 
 module _ (O : Ops) where
   abbrev pub entries : (ℕ → O .Lv) → ℕ → ℕ → Ent
@@ -37,16 +37,16 @@ module _ (O : Ops) where
   climb W zero l n = out true W
   climb W (suc f) l n =
       cond (eqb n nowhere) (out true W)
-      (cond (eqb (word (other (sideBy (eqb (n % 2) 0))) (O .ent (W l) (n / 2))) 0)
-      (climb (put W l (O .drop (W l) (n / 2))) f (suc l) (O .ent (W l) (n / 2) .up))
-      (out false (put W l (O .back (W l) (n / 2) (sideBy (eqb (n % 2) 0))))))
+      (cond (eqb (word (other (sideIn n)) (O .ent (W l) (pairOf n))) freeWord)
+      (climb (put W l (O .drop (W l) (pairOf n))) f (suc l) (O .ent (W l) (pairOf n) .up))
+      (out false (put W l (O .back (W l) (pairOf n) (sideIn n)))))
 
 module _ (u : ℕ) (O : Ops) where
   -- the block at x, below the node of level l at o, whose word is w
   unfoldable pub give : (ℕ → O .Lv) → ℕ → ℕ → ℕ → ℕ → Out O
   give W zero w o x = out O true W
   give W (suc l) w o x =
-      cond (eqb (w % 2) 1) (out O true W)
+      cond (saysLoan w) (out O true W)
       (cond (ltb x (o + bytes u l))
       (settled O l (place w) L (give W l (O .ent (W l) (place w) .left) o x))
       (settled O l (place w) R (give W l (O .ent (W l) (place w) .right) (o + bytes u l) x)))

@@ -1,4 +1,4 @@
--- The order of a level's ring: which pairs stand in it, the head first. Assumes nothing: these are definitions.
+-- The order of a level's ring: which pairs stand in it, the head first.
 use mathlib.Core.Bool.{cond}
 use mathlib.Core.List.{List, [], _∷_, _++_}
 use Prim.Native.Nat.{ℕ, _+_}

@@ -1,4 +1,4 @@
--- When a buddy store's tables are sound, as 01 defines it. Assumes nothing: these are definitions.
+-- When a buddy store's tables are sound, as 01 defines it.
 use mathlib.Core.Path.{_≡_}
 use mathlib.Core.Bool.{true}
 use Prim.Native.Nat.{ℕ, _+_, _%_, _≤_, _<_}

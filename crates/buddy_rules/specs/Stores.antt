@@ -1,5 +1,5 @@
 -- A whole buddy store by what its words say: levels, loans and chunks, the trees that they stand for, and what its calls do
--- to it. 01, "buddy.rs" and "Sound". Assumes nothing: these are definitions.
+-- to it. 01, "buddy.rs" and "Sound".
 use mathlib.Core.Path.{_≡_}
 use mathlib.Core.Bool.{Bool, true, false, cond}
 use Prim.Native.Nat.{ℕ, suc, _+_, _-_, _*_, _≤_, _<_}
@@ -105,7 +105,7 @@ module _ (u : ℕ) (O : Ops) where
   -- a new chunk at the vacant place c, twice as long as the top level's nodes: its left end is lent as k. The top level is d
   -- levels above lev
   abbrev pub newLoan : Store → ℕ → ℕ → Loan
-  newLoan s lev c = record { chunk = c; at = 0; lev = lev; node = nodeOf (O .spot (s .levels lev)) L }
+  newLoan s lev c = record { chunk = c; at = 0; lev = lev; node = nodeOf (O .newPlace (s .levels lev)) L }
 
   unfoldable pub delivered : Store → ℕ → ℕ → ℕ → ℕ → Store
   delivered s lev d k c =

@@ -1,5 +1,5 @@
 -- A buddy store in its five lent tables. head, loans and chunks are the truth; index and tree are what can be made again
--- from them. Assumes nothing: these are definitions.
+-- from them.
 use mathlib.Core.Path.{_≡_}
 use mathlib.Core.Bool.{Bool, cond, _&&_, not}
 use mathlib.Core.List.{List, [], _∷_, _++_}
@@ -84,11 +84,11 @@ chunkSizeIn t c = getD (t .chunks) (cellOf chunkSizeAt chunkWords c) 0
 -- ---- tree: the levels one after the other; the chunk place vacated last; for each chunk place its top node's word and the
 -- vacant place after it; for each loan place its node
 
-abbrev pub levelAfter : ℕ → ℕ → ℕ
-levelAfter pairs l = levelWords pairs * l
+abbrev pub levelStart : ℕ → ℕ → ℕ
+levelStart pairs l = levelWords pairs * l
 
 abbrev pub levelFrom : BuddySettings → ℕ → ℕ
-levelFrom s l = levelAfter (s .pairs) l
+levelFrom s l = levelStart (s .pairs) l
 
 abbrev pub chunksFrom : BuddySettings → ℕ
 chunksFrom s = levelWords (s .pairs) * levelsMost
@@ -142,13 +142,17 @@ pairsIn s t l p = pairIn (levelFrom s l) (t .tree) p
 abbrev pub loanCell : Tables → ℕ → ℕ → ℕ
 loanCell t f k = getD (t .loans) (cellOf f loanWords k) 0
 
+-- the node of the loan at a place
+abbrev pub nodeOfLoan : BuddySettings → Tables → ℕ → ℕ
+nodeOfLoan s t k = getD (t .tree) (nodesFrom s + k) 0
+
 abbrev pub loanIn : BuddySettings → Tables → ℕ → Loan
 loanIn s t k =
     record {
       chunk = loanCell t 1 k;
       at = loanCell t 2 k;
       lev = levelOf (loanCell t sizeAt k) (s .minimal);
-      node = getD (t .tree) (nodesFrom s + k) 0;
+      node = nodeOfLoan s t k;
     }
 
 abbrev pub liveIn : Tables → ℕ → Bool

@@ -1,15 +1,15 @@
 -- The test of a buddy store, and of its trees first, linear in the places ever used: a walk down each chunk, as 01 has it, and at each pair
--- and each loan a look at what leads to it. Assumes nothing: these are definitions.
+-- and each loan a look at what leads to it.
 use mathlib.Core.Bool.{Bool, true, false, cond, _&&_, _||_, not}
 use mathlib.Core.List.{List, [], _∷_}
-use Prim.Native.Nat.{ℕ, zero, suc, _+_, _*_, _/_, _%_}
+use Prim.Native.Nat.{ℕ, zero, suc, _+_, _%_}
 use lib.Dec.{eqb, leb, ltb}
 use Rattle.counter.specs.declared.settings.BuddySettings.{BuddySettings}
 use Rattle.slab.specs.Slab.{nowhere}
 use Rattle.store_rules.specs.Loans.{sizeAt}
 use Rattle.buddy_trees.specs.Trees.{bytes}
-use Rattle.buddy_rules.specs.Nodes.{Ent, L, R, nodeOf, word, place, tagOf}
-use Rattle.buddy_rules.specs.Levels.{sideBy}
+use Rattle.buddy_rules.specs.Nodes.{freeWord, loanWord, splitWord, saysLoan, loanSaid, place, vacant, Ent, L, R, nodeOf, pairOf, word, tagOf}
+use Rattle.buddy_rules.specs.Levels.{sideIn}
 use Rattle.buddy_rules.specs.Level.{usedAt}
 use Rattle.buddy_rules.specs.Tables.{Tables, mark, markAt, givenIn, memoryIn, vacantLoan, loanAfter, loanSlab, chainStart, chainNext, vacantChunk, chunkAfter, chunkSlab, levelsIn, placesIn, chunkPlacesIn, chunkSizeIn, levelFrom, pairsIn, loanCell, loanIn, liveIn, heldIn, highIn, topIn, initialLevels}
 use lib.ListN.{getD}
@@ -38,15 +38,15 @@ module _ (s : BuddySettings) (t : Tables) where
   -- the entry of the pair of node n, at o of chunk c: "no joinable pieces", and its tag says which side is ready
   unfoldable pub entryOk : Ent → ℕ → ℕ → ℕ → Bool
   entryOk e c o n =
-      not (eqb (e .left) 0 && eqb (e .right) 0)
-      && (eqb (e .tag) (tagOf (eqb (e .left) 0) (eqb (e .right) 0)) && (eqb (e .chunk) c && (eqb (e .off) o && eqb (e .up) n)))
+      not (eqb (e .left) freeWord && eqb (e .right) freeWord)
+      && (eqb (e .tag) (tagOf (eqb (e .left) freeWord) (eqb (e .right) freeWord)) && (eqb (e .chunk) c && (eqb (e .off) o && eqb (e .up) n)))
 
   -- node n of level l at o of chunk c, whose word is w
   unfoldable pub nodeOk : ℕ → ℕ → ℕ → ℕ → ℕ → Bool
-  nodeOk zero c o n w = cond (eqb w 0) true (cond (eqb (w % 2) 1) (leafOk (w / 2) c zero o n) false)
+  nodeOk zero c o n w = cond (eqb w freeWord) true (cond (saysLoan w) (leafOk (loanSaid w) c zero o n) false)
   nodeOk (suc l) c o n w =
-      cond (eqb w 0) true
-      (cond (eqb (w % 2) 1) (leafOk (w / 2) c (suc l) o n)
+      cond (eqb w freeWord) true
+      (cond (saysLoan w) (leafOk (loanSaid w) c (suc l) o n)
       (entryOk (pairsIn s t l (place w)) c o n
       && (nodeOk l c o (nodeOf (place w) L) (pairsIn s t l (place w) .left)
       && nodeOk l c (o + bytes (s .minimal) l) (nodeOf (place w) R) (pairsIn s t l (place w) .right))))
@@ -65,15 +65,15 @@ module _ (s : BuddySettings) (t : Tables) where
   unfoldable pub leadsOk : ℕ → ℕ → ℕ → ℕ → Bool
   leadsOk l c n w =
       cond (eqb n nowhere) (heldIn t c && (eqb (highIn s t c) l && eqb (topIn s t c) w))
-      (ltb l (levelsIn t) && (ltb 0 (pairsIn s t l (n / 2) .tag) && eqb (word (sideBy (eqb (n % 2) 0)) (pairsIn s t l (n / 2))) w))
+      (ltb l (levelsIn t) && (ltb vacant (pairsIn s t l (pairOf n) .tag) && eqb (word (sideIn n) (pairsIn s t l (pairOf n))) w))
 
   -- a pair of level l is what its node is split into
   unfoldable pub pairOk : ℕ → ℕ → Bool
-  pairOk l p = eqb (pairsIn s t l p .tag) 0 || leadsOk (suc l) (pairsIn s t l p .chunk) (pairsIn s t l p .up) (2 * p + 2)
+  pairOk l p = eqb (pairsIn s t l p .tag) vacant || leadsOk (suc l) (pairsIn s t l p .chunk) (pairsIn s t l p .up) (splitWord p)
 
   -- a loan is its node's
   unfoldable pub loanOk : ℕ → Bool
-  loanOk k = not (liveIn t k) || leadsOk (loanIn s t k .lev) (loanIn s t k .chunk) (loanIn s t k .node) (2 * k + 1)
+  loanOk k = not (liveIn t k) || leadsOk (loanIn s t k .lev) (loanIn s t k .chunk) (loanIn s t k .node) (loanWord k)
 
   -- ---- the whole
 

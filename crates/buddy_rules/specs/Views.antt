@@ -1,4 +1,4 @@
--- A buddy store's tables as its user sees them: blocks on loan, held chunks, free pieces. Assumes nothing: these are definitions.
+-- A buddy store's tables as its user sees them: blocks on loan, held chunks, free pieces.
 use mathlib.Core.Bool.{cond}
 use mathlib.Core.List.{List, [], _∷_, _++_}
 use mathlib.Core.Path.{_≡_}

@@ -1,4 +1,4 @@
--- The memory numbers gathered: they are distinct exactly where no two held chunks have one. Assumes nothing.
+-- The memory numbers gathered: they are distinct exactly where no two held chunks have one.
 use mathlib.Core.Path.{_≡_, refl, sym, ap, _∙_}
 use mathlib.Core.Bool.{Bool, true, false, cond}
 use mathlib.Core.Logic.{inl, ⊎-elim}
@@ -15,7 +15,7 @@ use Rattle.lists.proofs.Members.{mem-left, mem-right, mem-cases, distinct-appen
 use Rattle.lists.proofs.Bools.{told, same?, same-test, lt-or-le, and-left}
 use Rattle.distinct.specs.Column.{column, columnFrom}
 use Rattle.distinct.proofs.Counts.{count-append, distinct-once, once-distinct}
-use Rattle.buddy_levels.specs.Seen.{read, looked}
+use Rattle.buddy_levels.specs.Seen.{partSettings, levelPart}
 use Rattle.buddy_rules.specs.Tables.{Tables, heldIn, memoryIn, chunkSizeIn, memories}
 use Rattle.buddy_rules.specs.Test.{memoriesOk}
 use Rattle.buddy_rules.proofs.Decides.{Differ, memories-yes, memories-all}
@@ -32,9 +32,9 @@ module _ (t : Tables) (m : ℕ) where
   memories-none h = ap (λ (b : Bool). memories t m ++ cond b (memoryIn t m ∷ []) []) h ∙ append-nil (memories t m)
 
 -- a loop that gathers them: k of the first c places have been put
-module _ (n c k : ℕ) (chunks found : List ℕ) (size : ℕ) (low : c < n) (is : size ≡ chunkSizeIn (looked 0 n chunks []) c) (so : take k found ≡ memories (looked 0 n chunks []) c) where
+module _ (n c k : ℕ) (chunks found : List ℕ) (size : ℕ) (low : c < n) (is : size ≡ chunkSizeIn (levelPart 0 n chunks []) c) (so : take k found ≡ memories (levelPart 0 n chunks []) c) where
   abbrev t : Tables
-  t = looked 0 n chunks []
+  t = levelPart 0 n chunks []
 
   pub gather-put : (v : ℕ) → (size ≡ 0 → ⊥) → v ≡ memoryIn t c → k < length found → take (k + 1) (set found k v) ≡ memories t (c + 1)
   gather-put v z e h =
@@ -46,7 +46,7 @@ module _ (n c k : ℕ) (chunks found : List ℕ) (size : ℕ) (low : c < n) (is 
       let none : heldIn t c ≡ false = rw (lt-ltb c n low, sym is, eq-eqb size 0 z) refl in
       rw (add-one c) (so ∙ sym (memories-none t c none))
 
-pub gather-none : (n : ℕ) (chunks found : List ℕ) → take 0 found ≡ memories (looked 0 n chunks []) 0
+pub gather-none : (n : ℕ) (chunks found : List ℕ) → take 0 found ≡ memories (levelPart 0 n chunks []) 0
 unfolding memories
 gather-none n chunks found = refl
 
@@ -101,7 +101,7 @@ module _ (t : Tables) where
       (λ q. ⊎-elim on (λ z. z) (mem-cases x (memories t m) [] (rw q at i)))
       (told (heldIn t m))
 
-  apart-distinct : Differ (read 0 0 0) t → (m : ℕ) → Distinct (memories t m)
+  apart-distinct : Differ (partSettings 0 0 0) t → (m : ℕ) → Distinct (memories t m)
   unfolding memories
   apart-distinct f zero = tt
   apart-distinct f (suc m) =
@@ -114,9 +114,9 @@ module _ (t : Tables) where
       (told (heldIn t m))
 
 -- the test of the tables by the distinct numbers of their places
-module _ (n k : ℕ) (chunks found : List ℕ) (so : take k found ≡ memories (looked 0 n chunks []) n) (fits : k ≤ length found) where
+module _ (n k : ℕ) (chunks found : List ℕ) (so : take k found ≡ memories (levelPart 0 n chunks []) n) (fits : k ≤ length found) where
   abbrev at : Tables
-  at = looked 0 n chunks []
+  at = levelPart 0 n chunks []
 
   columned : (i m : ℕ) → i + m ≤ length found → columnFrom found 0 1 i m ≡ take m (drop i found)
   columned i zero h = refl
@@ -127,13 +127,13 @@ module _ (n k : ℕ) (chunks found : List ℕ) (so : take k found ≡ memories (
   column-is : column found 0 1 k ≡ memories at n
   column-is = columned 0 k (omega arith) ∙ so
 
-  pub memories-told : (r : Bool) → (r ≡ true → Distinct (column found 0 1 k)) → (Distinct (column found 0 1 k) → r ≡ true) → r ≡ memoriesOk (read 0 0 0) at
+  pub memories-told : (r : Bool) → (r ≡ true → Distinct (column found 0 1 k)) → (Distinct (column found 0 1 k) → r ≡ true) → r ≡ memoriesOk (partSettings 0 0 0) at
   memories-told r f g =
-      same-test r (memoriesOk (read 0 0 0) at)
-      (λ e. memories-all (read 0 0 0) at (differ (rw column-is at (f e))))
-      (λ e. g (rw column-is (apart-distinct at (memories-yes (read 0 0 0) at e) n)))
+      same-test r (memoriesOk (partSettings 0 0 0) at)
+      (λ e. memories-all (partSettings 0 0 0) at (differ (rw column-is at (f e))))
+      (λ e. g (rw column-is (apart-distinct at (memories-yes (partSettings 0 0 0) at e) n)))
     where
-      differ : Distinct (memories at n) → Differ (read 0 0 0) at
+      differ : Distinct (memories at n) → Differ (partSettings 0 0 0) at
       differ u c d h q m =
           let low : (a : ℕ) → heldIn at a ≡ true → a < n = λ a e. ltb-true a n (and-left (ltb a n) _ e) in
           ⊎-elim (λ z. absurd (distinct-apart at n d c u z (low d q) q h (sym m)))

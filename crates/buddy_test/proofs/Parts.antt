@@ -1,4 +1,4 @@
--- Head, chunk places, levels and units: what the code has read of them is what the tests are of. Assumes nothing.
+-- Head, chunk places, levels and units: what the code has read of them is what the tests are of.
 use mathlib.Core.Path.{_≡_, refl, sym, ap, _∙_}
 use mathlib.Core.Bool.{Bool, true, false, _&&_, _||_, not}
 use mathlib.Core.List.{List, []}
@@ -20,8 +20,8 @@ use Rattle.store_rules.specs.Loans.{loanWords, sizeAt, loanRow}
 use Rattle.store_rules.specs.declared.Loan.{Loan}
 use Rattle.buddy_rules.specs.Level.{levelWords}
 use Rattle.buddy_rules.specs.LevelTest.{goodOk}
-use Rattle.buddy_levels.specs.Seen.{seen, looked}
-use Rattle.buddy_rules.specs.Tables.{mark, markAt, levelsAt, initialLevels, levelAfter, chunkWords, chunkSizeAt, placeWords, afterAt, vacantChunk, chunkAfter, chunkSlab}
+use Rattle.buddy_levels.specs.Seen.{partTables, levelPart}
+use Rattle.buddy_rules.specs.Tables.{mark, markAt, levelsAt, initialLevels, levelStart, chunkWords, chunkSizeAt, placeWords, afterAt, vacantChunk, chunkAfter, chunkSlab}
 use Rattle.buddy_rules.specs.Test.{unitsOk}
 
 module _ (s : BuddySettings) where
@@ -31,13 +31,13 @@ module _ (s : BuddySettings) where
 
   pub places-told : (n at v : ℕ) (chunks tree : List ℕ) (r : Bool) → at ≡ levelWords (s .pairs) * levelsMost → v ≡ getD tree at 0
       → r ≡ partedOk (vacantAt chunks chunkSizeAt chunkWords) (linkAt tree (at + (1 + afterAt)) placeWords) (record { places = n; vacant = v }) (s .store .chunks)
-      → r ≡ partedOk (vacantChunk (looked 0 n chunks tree)) (chunkAfter s (looked 0 n chunks tree)) (chunkSlab s (looked 0 n chunks tree)) (s .store .chunks)
+      → r ≡ partedOk (vacantChunk (levelPart 0 n chunks tree)) (chunkAfter s (levelPart 0 n chunks tree)) (chunkSlab s (levelPart 0 n chunks tree)) (s .store .chunks)
   places-told n at v chunks tree r e f g =
       g
       ∙ (λ j. partedOk (vacantAt chunks chunkSizeAt chunkWords) (linkAt tree (at + (1 + afterAt)) placeWords) (record { places = n; vacant = f j }) (s .store .chunks))
       ∙ (λ j. partedOk (vacantAt chunks chunkSizeAt chunkWords) (linkAt tree (e j + (1 + afterAt)) placeWords) (record { places = n; vacant = getD tree (e j) 0 }) (s .store .chunks))
 
-pub good-told : (pairs l base : ℕ) (tree : List ℕ) (r : Bool) → base ≡ levelAfter pairs l → r ≡ goodOk base pairs tree → r ≡ goodOk (levelAfter pairs l) pairs tree
+pub good-told : (pairs l base : ℕ) (tree : List ℕ) (r : Bool) → base ≡ levelStart pairs l → r ≡ goodOk base pairs tree → r ≡ goodOk (levelStart pairs l) pairs tree
 good-told pairs l base tree r e f = f ∙ ap (λ (b : ℕ). goodOk b pairs tree) e
 
 -- ---- a loan's units
@@ -62,6 +62,6 @@ module _ (s : BuddySettings) (n k : ℕ) (loans : List ℕ) (l : Loan) (is : l �
   offset-is : l .offset ≡ getD loans (cellOf 2 loanWords k) 0
   offset-is = ap (λ (x : Loan). x .offset) is ∙ sym (cell-row loans 2 loanWords k)
 
-  pub units-told : (r : Bool) → r ≡ (eqb (l .size) 0 || units s l) → r ≡ unitsOk s (seen 0 n 0 loans [] []) k
+  pub units-told : (r : Bool) → r ≡ (eqb (l .size) 0 || units s l) → r ≡ unitsOk s (partTables 0 n 0 loans [] []) k
   unfolding unitsOk
   units-told r e = e ∙ rw (lt-ltb k n used, sym size-is, sym offset-is) (twice (eqb (l .size) 0) (units s l))

@@ -1,4 +1,4 @@
--- The test of the trees is that of the chunks, of the pairs and of the loans, each of what its code is given. Assumes nothing.
+-- The test of the trees is that of the chunks, of the pairs and of the loans, each of what its code is given.
 use mathlib.Core.Path.{_≡_, sym, _∙_}
 use mathlib.Core.Bool.{Bool, true, false, _&&_, not}
 use mathlib.Core.List.{List}
@@ -7,22 +7,22 @@ use lib.ListN.{getD}
 use Rattle.lists.proofs.Bools.{not-yes, not-no}
 use Rattle.counter.specs.declared.settings.BuddySettings.{BuddySettings}
 use Rattle.buddy_rules.specs.Level.{usedAt}
-use Rattle.buddy_levels.specs.Seen.{read, seen, looked}
-use Rattle.buddy_rules.specs.Tables.{Tables, levelsIn, placesIn, chunkPlacesIn, levelAfter}
+use Rattle.buddy_levels.specs.Seen.{partSettings, partTables, levelPart}
+use Rattle.buddy_rules.specs.Tables.{Tables, levelsIn, placesIn, chunkPlacesIn, levelStart}
 use Rattle.buddy_rules.specs.Test.{every, chunkOk, pairOk, loanOk, treesOk}
 use Rattle.buddy_rules.proofs.Tests.{every-same}
 use Rattle.buddy_walk.proofs.Shows.{chunk-shows}
-use Rattle.buddy_looks.proofs.Shows.{pairs-shown, loans-shown}
+use Rattle.buddy_leads.proofs.Shows.{pairs-shown, loans-shown}
 
 module _ (s : BuddySettings) (levels places held : ℕ) (loans chunks tree : List ℕ) where
   abbrev chunksPart : Bool
-  chunksPart = every (chunkOk s (seen levels places held loans chunks tree)) held
+  chunksPart = every (chunkOk s (partTables levels places held loans chunks tree)) held
 
   abbrev pairsPart : Bool
-  pairsPart = every (λ (l : ℕ). every (pairOk (read (s .minimal) (s .pairs) 0) (looked levels held chunks tree) l) (getD tree (levelAfter (s .pairs) l + usedAt) 0)) levels
+  pairsPart = every (λ (l : ℕ). every (pairOk (partSettings (s .minimal) (s .pairs) 0) (levelPart levels held chunks tree) l) (getD tree (levelStart (s .pairs) l + usedAt) 0)) levels
 
   abbrev loansPart : Bool
-  loansPart = every (loanOk (read (s .minimal) (s .pairs) (s .store .chunks)) (seen levels places held loans chunks tree)) places
+  loansPart = every (loanOk (partSettings (s .minimal) (s .pairs) (s .store .chunks)) (partTables levels places held loans chunks tree)) places
 
 parts : (s : BuddySettings) (t : Tables)
     → treesOk s t ≡ (chunksPart s (levelsIn t) (placesIn t) (chunkPlacesIn t) (t .loans) (t .chunks) (t .tree)
@@ -30,17 +30,17 @@ parts : (s : BuddySettings) (t : Tables)
 unfolding treesOk
 parts s t =
     let chunked : every (chunkOk s t) (chunkPlacesIn t) ≡ chunksPart s (levelsIn t) (placesIn t) (chunkPlacesIn t) (t .loans) (t .chunks) (t .tree) =
-    every-same (chunkOk s t) (chunkOk s (seen (levelsIn t) (placesIn t) (chunkPlacesIn t) (t .loans) (t .chunks) (t .tree))) (chunkPlacesIn t) (λ c h. chunk-shows s t (chunkPlacesIn t) c h h) in
+    every-same (chunkOk s t) (chunkOk s (partTables (levelsIn t) (placesIn t) (chunkPlacesIn t) (t .loans) (t .chunks) (t .tree))) (chunkPlacesIn t) (λ c h. chunk-shows s t (chunkPlacesIn t) c h h) in
     λ j. chunked j && (pairs-shown s t j && loans-shown s t j)
 
 -- so it reads no more than these
-pub trees-shown : (s : BuddySettings) (t : Tables) → treesOk s t ≡ treesOk s (seen (levelsIn t) (placesIn t) (chunkPlacesIn t) (t .loans) (t .chunks) (t .tree))
-trees-shown s t = parts s t ∙ sym (parts s (seen (levelsIn t) (placesIn t) (chunkPlacesIn t) (t .loans) (t .chunks) (t .tree)))
+pub trees-shown : (s : BuddySettings) (t : Tables) → treesOk s t ≡ treesOk s (partTables (levelsIn t) (placesIn t) (chunkPlacesIn t) (t .loans) (t .chunks) (t .tree))
+trees-shown s t = parts s t ∙ sym (parts s (partTables (levelsIn t) (placesIn t) (chunkPlacesIn t) (t .loans) (t .chunks) (t .tree)))
 
 -- in turn, with what the code was told
 module _ (s : BuddySettings) (levels places held : ℕ) (loans chunks tree : List ℕ) where
   abbrev whole : Bool
-  whole = treesOk s (seen levels places held loans chunks tree)
+  whole = treesOk s (partTables levels places held loans chunks tree)
 
   abbrev one : Bool
   one = chunksPart s levels places held loans chunks tree
@@ -52,7 +52,7 @@ module _ (s : BuddySettings) (levels places held : ℕ) (loans chunks tree : Lis
   three = loansPart s levels places held loans chunks tree
 
   is : whole ≡ (one && (two && three))
-  is = parts s (seen levels places held loans chunks tree)
+  is = parts s (partTables levels places held loans chunks tree)
 
   module _ (c : Bool) (cs : c ≡ one) where
     pub chunks-fail : not c ≡ true → false ≡ whole

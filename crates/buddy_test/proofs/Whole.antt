@@ -1,5 +1,5 @@
 -- The parts come to the whole row: the first that fails decides it, and where none does the units are left; and what those
--- that hold say of the numbers in the head. Assumes nothing.
+-- that hold say of the numbers in the head.
 use mathlib.Core.Path.{_≡_, refl, sym, _∙_}
 use mathlib.Core.Bool.{Bool, true, false, _&&_, not, and-assoc}
 use mathlib.Core.List.{List, [], _∷_}
@@ -20,8 +20,8 @@ use Rattle.book_rules.specs.Kept.{keptOk}
 use Rattle.book_rules.proofs.Keeping.{kept-most}
 use Rattle.buddy_rules.specs.Level.{usedAt}
 use Rattle.buddy_rules.specs.LevelTest.{goodOk}
-use Rattle.buddy_levels.specs.Seen.{read, seen, looked}
-use Rattle.buddy_rules.specs.Tables.{Tables, tables, mark, markAt, givenIn, levelsIn, placesIn, chunkPlacesIn, levelAfter, vacantLoan, loanAfter, loanSlab, chainStart, chainNext, vacantChunk, chunkAfter, chunkSlab, initialLevels}
+use Rattle.buddy_levels.specs.Seen.{partSettings, partTables, levelPart}
+use Rattle.buddy_rules.specs.Tables.{Tables, tables, mark, markAt, givenIn, levelsIn, placesIn, chunkPlacesIn, levelStart, vacantLoan, loanAfter, loanSlab, chainStart, chainNext, vacantChunk, chunkAfter, chunkSlab, initialLevels}
 use Rattle.buddy_rules.specs.Test.{every, memoriesOk, treesOk, unitsOk, soundOk}
 use Rattle.buddy_rules.proofs.Tests.{every-yes}
 use Rattle.buddy_test.proofs.Trees.{trees-shown}
@@ -30,11 +30,11 @@ use Rattle.buddy_test.proofs.Trees.{trees-shown}
 regroup : (a b c d e f g h i j : Bool) → all (a ∷ b ∷ c ∷ d ∷ e ∷ f ∷ g ∷ h ∷ i ∷ j ∷ []) ≡ ((a && (b && c)) && ((d && e) && (f && (g && (h && (i && j))))))
 regroup a b c d e f g h i j = simp and-assoc
 
-memories-shown : (s : BuddySettings) (t : Tables) → memoriesOk s t ≡ memoriesOk (read 0 0 0) (looked 0 (chunkPlacesIn t) (t .chunks) [])
+memories-shown : (s : BuddySettings) (t : Tables) → memoriesOk s t ≡ memoriesOk (partSettings 0 0 0) (levelPart 0 (chunkPlacesIn t) (t .chunks) [])
 unfolding memoriesOk
 memories-shown s t = refl
 
-units-shown : (s : BuddySettings) (t : Tables) → every (unitsOk s t) (placesIn t) ≡ every (unitsOk s (seen 0 (placesIn t) 0 (t .loans) [] [])) (placesIn t)
+units-shown : (s : BuddySettings) (t : Tables) → every (unitsOk s t) (placesIn t) ≡ every (unitsOk s (partTables 0 (placesIn t) 0 (t .loans) [] [])) (placesIn t)
 unfolding unitsOk
 units-shown s t = refl
 
@@ -53,19 +53,19 @@ module _ (s : BuddySettings) (head loans chunks index tree : List ℕ) where
   keptPart places given = keptOk loans index (s .store .loans) places given
 
   abbrev placesPart : ℕ → Bool
-  placesPart n = partedOk (vacantChunk (looked 0 n chunks tree)) (chunkAfter s (looked 0 n chunks tree)) (chunkSlab s (looked 0 n chunks tree)) (s .store .chunks)
+  placesPart n = partedOk (vacantChunk (levelPart 0 n chunks tree)) (chunkAfter s (levelPart 0 n chunks tree)) (chunkSlab s (levelPart 0 n chunks tree)) (s .store .chunks)
 
   abbrev memoriesPart : ℕ → Bool
-  memoriesPart n = memoriesOk (read 0 0 0) (looked 0 n chunks [])
+  memoriesPart n = memoriesOk (partSettings 0 0 0) (levelPart 0 n chunks [])
 
   abbrev goodPart : ℕ → Bool
-  goodPart levels = every (λ (l : ℕ). goodOk (levelAfter (s .pairs) l) (s .pairs) tree) levels
+  goodPart levels = every (λ (l : ℕ). goodOk (levelStart (s .pairs) l) (s .pairs) tree) levels
 
   abbrev treesPart : ℕ → ℕ → ℕ → Bool
-  treesPart levels places held = treesOk s (seen levels places held loans chunks tree)
+  treesPart levels places held = treesOk s (partTables levels places held loans chunks tree)
 
   abbrev unitsPart : ℕ → Bool
-  unitsPart places = every (unitsOk s (seen 0 places 0 loans [] [])) places
+  unitsPart places = every (unitsOk s (partTables 0 places 0 loans [] [])) places
 
   -- the row is its parts
   parts : whole ≡ (headPart && (keptPart (placesIn t) (givenIn t) && (placesPart (chunkPlacesIn t) && (memoriesPart (chunkPlacesIn t)
@@ -135,11 +135,11 @@ module _ (s : BuddySettings) (head loans chunks index tree : List ℕ) where
                   good-fail f = sym (after ∙ (λ j. (sym ms ∙ not-no mm mt) j && ((sym gds ∙ not-yes gd f) j && (treesPart levels places held && unitsPart places))))
 
                   module _ (gt : not gd ≡ false) where
-                    pub used-few : (l : ℕ) → l < levels → getD tree (levelAfter (s .pairs) l + usedAt) 0 ≤ s .pairs
+                    pub used-few : (l : ℕ) → l < levels → getD tree (levelStart (s .pairs) l + usedAt) 0 ≤ s .pairs
                     unfolding goodOk partedOk
                     used-few l h =
-                        let e = every-yes (λ (i : ℕ). goodOk (levelAfter (s .pairs) i) (s .pairs) tree) levels l (sym gds ∙ not-no gd gt) h in
-                        leb-true _ _ (and-left (leb (getD tree (levelAfter (s .pairs) l + usedAt) 0) (s .pairs)) _ (and-left _ _ e))
+                        let e = every-yes (λ (i : ℕ). goodOk (levelStart (s .pairs) i) (s .pairs) tree) levels l (sym gds ∙ not-no gd gt) h in
+                        leb-true _ _ (and-left (leb (getD tree (levelStart (s .pairs) l + usedAt) 0) (s .pairs)) _ (and-left _ _ e))
 
                     module _ (tr : Bool) (trs : tr ≡ treesPart levels places held) where
                       pub trees-fail : not tr ≡ true → false ≡ whole

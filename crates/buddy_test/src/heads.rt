@@ -9,9 +9,9 @@ ghost use Rattle.counter.specs.InTable.{BuddyIn};
 ghost use Rattle.counter.specs.Limits.{levelsMost, pairsMost, loansMost};
 ghost use Rattle.slab.specs.Test.{partedOk};
 ghost use Rattle.buddy_rules.specs.LevelTest.{goodOk};
-ghost use Rattle.buddy_rules.specs.Tables.{mark, markAt, levelsAt, initialLevels, levelAfter, vacantChunk, chunkAfter, chunkSlab};
+ghost use Rattle.buddy_rules.specs.Tables.{mark, markAt, levelsAt, initialLevels, levelStart, vacantChunk, chunkAfter, chunkSlab};
 ghost use Rattle.buddy_rules.specs.Test.{every, unitsOk};
-ghost use Rattle.buddy_levels.specs.Seen.{seen, looked};
+ghost use Rattle.buddy_levels.specs.Seen.{partTables, levelPart};
 use buddy_rules::AFTER_AT;
 use buddy_rules::CHUNK_SIZE_AT;
 use buddy_rules::CHUNK_WORDS;
@@ -37,7 +37,7 @@ pub fn is_head(s: BuddySettings, head: &[u64]) -> bool
 // Whether the first n chunk places are parted into used and vacant ones.
 pub fn are_places(s: BuddySettings, n: u64, chunks: &[u64], tree: &[u64]) -> bool
     requires { ⌜ BuddyIn s ⌝ }
-    ensures { λ r. ⌜ r ≡ partedOk (vacantChunk (looked 0 n (now (chunks .entry)) (now (tree .entry)))) (chunkAfter s (looked 0 n (now (chunks .entry)) (now (tree .entry)))) (chunkSlab s (looked 0 n (now (chunks .entry)) (now (tree .entry)))) (s .store .chunks) ⌝ }
+    ensures { λ r. ⌜ r ≡ partedOk (vacantChunk (levelPart 0 n (now (chunks .entry)) (now (tree .entry)))) (chunkAfter s (levelPart 0 n (now (chunks .entry)) (now (tree .entry)))) (chunkSlab s (levelPart 0 n (now (chunks .entry)) (now (tree .entry)))) (s .store .chunks) ⌝ }
 {
     let own = s.store;
     let at = buddy_levels::chunks_from(s.pairs);
@@ -61,7 +61,7 @@ pub fn are_places(s: BuddySettings, n: u64, chunks: &[u64], tree: &[u64]) -> boo
 // Whether the ring and the vacant places of each level are right.
 pub fn are_good(pairs: usize, levels: u64, tree: &[u64]) -> bool
     requires { ⌜ (pairs ≤ pairsMost) × (levels ≤ levelsMost) ⌝ }
-    ensures { λ r. ⌜ r ≡ every (λ l. goodOk (levelAfter pairs l) pairs (now (tree .entry))) levels ⌝ }
+    ensures { λ r. ⌜ r ≡ every (λ l. goodOk (levelStart pairs l) pairs (now (tree .entry))) levels ⌝ }
 {
     let mut l = 0;
     while l < levels {
@@ -90,7 +90,7 @@ fn is_units(s: BuddySettings, l: Loan) -> bool
 // Whether each loan in the first n places is.
 pub fn are_units(s: BuddySettings, n: u64, loans: &[u64]) -> bool
     requires { ⌜ BuddyIn s × (n ≤ loansMost) ⌝ }
-    ensures { λ r. ⌜ r ≡ every (unitsOk s (seen 0 n 0 (now (loans .entry)) [] [])) n ⌝ }
+    ensures { λ r. ⌜ r ≡ every (unitsOk s (partTables 0 n 0 (now (loans .entry)) [] [])) n ⌝ }
 {
     let mut k = 0;
     while k < n {

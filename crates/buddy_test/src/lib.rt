@@ -8,9 +8,9 @@ ghost use Rattle.counter.specs.Limits.{levelsMost, loansMost, chunksMost};
 ghost use Prim.Native.Nat.{_+_, _≤_, _<_};
 ghost use lib.ListN.{getD};
 ghost use Rattle.buddy_rules.specs.Level.{usedAt};
-ghost use Rattle.buddy_rules.specs.Tables.{tables, levelAfter};
+ghost use Rattle.buddy_rules.specs.Tables.{tables, levelStart};
 ghost use Rattle.buddy_rules.specs.Test.{treesOk, soundOk};
-ghost use Rattle.buddy_levels.specs.Seen.{seen};
+ghost use Rattle.buddy_levels.specs.Seen.{partTables};
 use buddy_rules::CHUNK_PLACES_AT;
 use buddy_rules::GIVEN_AT;
 use buddy_rules::LEVELS_AT;
@@ -27,17 +27,17 @@ fn are_trees(
     chunks: &[u64],
     tree: &[u64],
 ) -> bool
-    requires { ⌜ BuddyIn s × (levels ≤ levelsMost) × (places ≤ loansMost) × (held ≤ chunksMost) × ((l : _) → l < levels → getD (now tree) (levelAfter (s .pairs) l + usedAt) 0 ≤ s .pairs) ⌝ }
-    ensures { λ r. ⌜ r ≡ treesOk s (seen levels places held (now (loans .entry)) (now (chunks .entry)) (now (tree .entry))) ⌝ }
+    requires { ⌜ BuddyIn s × (levels ≤ levelsMost) × (places ≤ loansMost) × (held ≤ chunksMost) × ((l : _) → l < levels → getD (now tree) (levelStart (s .pairs) l + usedAt) 0 ≤ s .pairs) ⌝ }
+    ensures { λ r. ⌜ r ≡ treesOk s (partTables levels places held (now (loans .entry)) (now (chunks .entry)) (now (tree .entry))) ⌝ }
 {
     let own = s.store;
     if !buddy_walk::are_chunks(s, levels, places, held, loans, chunks, tree) {
         return false;
     }
-    if !buddy_looks::are_pairs(s.minimal, s.pairs, levels, held, chunks, tree) {
+    if !buddy_leads::are_pairs(s.minimal, s.pairs, levels, held, chunks, tree) {
         return false;
     }
-    buddy_looks::are_lent(
+    buddy_leads::are_lent(
         s.minimal,
         s.pairs,
         own.chunks,

@@ -1,4 +1,4 @@
--- How long nodes are: one is twice as long as one of the level below. Assumes nothing.
+-- How long nodes are: one is twice as long as one of the level below.
 use mathlib.Core.Path.{_≡_, ap, sym, _∙_}
 use mathlib.Core.Logic.{⊎-elim}
 use Prim.Native.Nat.{ℕ, zero, suc, _+_, _-_, _*_, _%_, _^_, _≤_, _<_}

@@ -1,4 +1,4 @@
--- A node that is not free has a loan, and the loans decide the tree. Assumes nothing.
+-- A node that is not free has a loan, and the loans decide the tree.
 use mathlib.Core.Path.{_≡_, refl, ap, ap₂, subst}
 use mathlib.Core.Logic.{_⊎_, inl, inr}
 use Prim.Native.Nat.{ℕ, zero, suc, _+_, _<_}

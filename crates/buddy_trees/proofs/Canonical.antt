@@ -1,4 +1,4 @@
--- The loans of a node decide its tree: what treeOf makes of them is the tree that has them. Assumes nothing.
+-- The loans of a node decide its tree: what treeOf makes of them is the tree that has them.
 use mathlib.Core.Path.{_≡_, refl, sym, _∙_, ap, ap₂, subst}
 use mathlib.Core.Bool.{Bool, true, false, cond, not}
 use mathlib.Core.Logic.{inl, inr, _↔_}

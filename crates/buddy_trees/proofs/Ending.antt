@@ -1,4 +1,4 @@
--- What returns leave, in closed form: which loans, which chunks, one block after the other or all at once. Assumes nothing.
+-- What returns leave, in closed form: which loans, which chunks, one block after the other or all at once.
 use mathlib.Core.Path.{_≡_, refl, sym, _∙_, ap, ap₂, subst}
 use mathlib.Core.Bool.{Bool, true, false, cond, _&&_, _||_}
 use mathlib.Core.Logic.{_↔_}

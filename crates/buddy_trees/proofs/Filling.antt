@@ -1,4 +1,4 @@
--- Loans and free pieces fill a chunk: at every byte they are as many as the chunks that have it. Assumes nothing.
+-- Loans and free pieces fill a chunk: at every byte they are as many as the chunks that have it.
 use mathlib.Core.Path.{_≡_, refl, sym, _∙_, ap, subst}
 use mathlib.Core.Bool.{true, false}
 use mathlib.Core.Logic.{_⊎_, inl, inr, ⊎-elim, _↔_}

@@ -1,5 +1,5 @@
 -- What a tree fills: its pieces fill its node, end to end; its loans and free nodes lie in it and don't meet, and a free
--- node stands at a multiple of its size. Assumes nothing.
+-- node stands at a multiple of its size.
 use mathlib.Core.Path.{_≡_, refl, sym, ap, _∙_}
 use mathlib.Core.Logic.{_⊎_, inl, inr}
 use mathlib.Core.List.{List, [], _∷_, _++_}

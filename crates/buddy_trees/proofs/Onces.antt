@@ -1,4 +1,4 @@
--- Lists with no element twice, and sums parted by a test. Assumes nothing.
+-- Lists with no element twice, and sums parted by a test.
 use mathlib.Core.Path.{_≡_, refl, sym, subst}
 use mathlib.Core.Bool.{Bool, true, false, cond, not}
 use mathlib.Core.List.{List, [], _∷_, map, List·Memᴰ, List·Memᴰ·head, List·Memᴰ·tail}

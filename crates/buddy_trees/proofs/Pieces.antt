@@ -1,4 +1,4 @@
--- The loans of a chunk as pieces: which they are, each once, and what they hold. Assumes nothing.
+-- The loans of a chunk as pieces: which they are, each once, and what they hold.
 use mathlib.Core.Path.{_≡_, refl, sym, _∙_, ap}
 use mathlib.Core.Bool.{Bool, true, false, cond}
 use mathlib.Core.Logic.{_⊎_, inl, inr, ⊎-elim, _↔_}

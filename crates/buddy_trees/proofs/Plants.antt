@@ -1,4 +1,4 @@
--- A loan is placed: a free node is split down to it, and the rest of the tree stays. Assumes nothing.
+-- A loan is placed: a free node is split down to it, and the rest of the tree stays.
 use mathlib.Core.Path.{_≡_}
 use mathlib.Core.Bool.{Bool, true, false, cond}
 use mathlib.Core.Logic.{inl, inr, ⊎-elim, _↔_}

@@ -1,4 +1,4 @@
--- Loans given back: the form is kept, and the other loans stay. Assumes nothing.
+-- Loans given back: the form is kept, and the other loans stay.
 use mathlib.Core.Path.{_≡_, refl, ap, _∙_}
 use mathlib.Core.Bool.{Bool, true, false, cond}
 use mathlib.Core.Logic.{_⊎_, inl, inr, ⊎-elim, _↔_}

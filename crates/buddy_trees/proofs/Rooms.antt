@@ -1,5 +1,4 @@
--- Where a loan fits: a stretch at a multiple of its size is wholly free exactly when one free node holds it. Assumes
--- nothing.
+-- Where a loan fits: a stretch at a multiple of its size is wholly free exactly when one free node holds it.
 use mathlib.Core.Path.{_≡_, refl, ap, _∙_}
 use mathlib.Core.Logic.{_⊎_, inl, inr, ⊎-elim, _↔_}
 use Prim.Native.Nat.{ℕ, zero, suc, _+_, _*_, _-_, _^_, _<_, _≤_}

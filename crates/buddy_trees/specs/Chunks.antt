@@ -1,6 +1,5 @@
 -- A buddy store by its chunks and loans alone: the tree that a chunk's loans make, what of it is free, and what returns leave. It
 -- knows no pairs and no rings, so that any engine whose blocks are nodes can be held against it. 01, "buddy.rs" and "Sound".
--- Assumes nothing: these are definitions.
 use mathlib.Core.Path.{_≡_}
 use mathlib.Core.Bool.{Bool, false, cond, _||_}
 use mathlib.Core.Logic.{_⊎_, _↔_}

@@ -1,5 +1,5 @@
 -- A buddy store's chunk as a tree of nodes, a node of level l being minimal x 2^l bytes long. 01, "buddy.rs": "A node is
--- free, on loan, or split into a pair, and a pair is its two nodes". Assumes nothing: these are definitions.
+-- free, on loan, or split into a pair, and a pair is its two nodes".
 use mathlib.Core.Path.{_≡_}
 use mathlib.Core.Bool.{Bool, false, cond}
 use mathlib.Core.Logic.{_⊎_, _↔_}

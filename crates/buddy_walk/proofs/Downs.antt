@@ -1,4 +1,4 @@
--- What the walk down a chunk answers at each turn. Assumes nothing.
+-- What the walk down a chunk answers at each turn.
 use mathlib.Core.Path.{_≡_, refl, sym, ap, _∙_}
 use mathlib.Core.List.{[]}
 use mathlib.Core.Bool.{Bool, true, false, _&&_, not, and-assoc}
@@ -16,7 +16,7 @@ use Rattle.buddy_trees.specs.Trees.{bytes}
 use Rattle.buddy_trees.proofs.Bytes.{bytes-suc}
 use Rattle.buddy_rules.specs.Nodes.{Ent, L, R, nodeOf, tagOf, place}
 use Rattle.buddy_rules.specs.Level.{pairIn}
-use Rattle.buddy_levels.specs.Seen.{read, walked}
+use Rattle.buddy_levels.specs.Seen.{partSettings, loanPart}
 use Rattle.buddy_rules.specs.Tables.{Tables, placesIn, levelFrom, nodesFrom, loanCell}
 use Rattle.buddy_rules.specs.Test.{leafOk, entryOk, nodeOk}
 use Rattle.buddy_walk.specs.Walks.{halvesOk}
@@ -92,7 +92,7 @@ module _ (s : BuddySettings) (t : Tables) where
 
   -- ---- a pair, whose level begins at b and whose entry is e; r is what the entry's test says, which reads only the entry
 
-  module _ (l c o n p b : ℕ) (e : Ent) (r : Bool) (from : b ≡ levelFrom s l) (is : e ≡ pairIn b (t .tree) p) (tested : r ≡ entryOk (read 0 0 0) (walked 0 [] []) e c o n) where
+  module _ (l c o n p b : ℕ) (e : Ent) (r : Bool) (from : b ≡ levelFrom s l) (is : e ≡ pairIn b (t .tree) p) (tested : r ≡ entryOk (partSettings 0 0 0) (loanPart 0 [] []) e c o n) where
     abbrev leftOk : Bool
     leftOk = nodeOk s t l c o (nodeOf p L) (e .left)
 
@@ -101,7 +101,7 @@ module _ (s : BuddySettings) (t : Tables) where
 
     halves-of : (r && (leftOk && rightOk)) ≡ halvesOk s t l c o n p
     halves-of =
-        ap (λ (z : Bool). z && (leftOk && rightOk)) (tested ∙ entry-shows (read 0 0 0) (walked 0 [] []) s t e c o n)
+        ap (λ (z : Bool). z && (leftOk && rightOk)) (tested ∙ entry-shows (partSettings 0 0 0) (loanPart 0 [] []) s t e c o n)
         ∙ ap (λ (z : Ent). entryOk s t z c o n && (nodeOk s t l c o (nodeOf p L) (z .left) && nodeOk s t l c (o + bytes (s .minimal) l) (nodeOf p R) (z .right)))
         (is ∙ ap (λ (z : ℕ). pairIn z (t .tree) p) from)
 

@@ -1,4 +1,4 @@
--- What the walk down a chunk, and the test of a chunk, read: no more than their numbers and lists. Assumes nothing.
+-- What the walk down a chunk, and the test of a chunk, read: no more than their numbers and lists.
 use mathlib.Core.Path.{_≡_, refl, sym, _∙_}
 use mathlib.Core.Bool.{Bool, true, false, cond, _&&_}
 use Prim.Native.Nat.{ℕ, zero, suc, _+_, _/_, _%_, _<_}
@@ -7,16 +7,16 @@ use borrow.Author.Tests.{lt-ltb}
 use Rattle.counter.specs.declared.settings.BuddySettings.{BuddySettings}
 use Rattle.buddy_trees.specs.Trees.{bytes}
 use Rattle.buddy_rules.specs.Nodes.{Ent, L, R, nodeOf, place}
-use Rattle.buddy_levels.specs.Seen.{read, seen, walked}
+use Rattle.buddy_levels.specs.Seen.{partSettings, partTables, loanPart}
 use Rattle.buddy_rules.specs.Tables.{Tables, levelsIn, placesIn, chunkPlacesIn, pairsIn}
 use Rattle.buddy_rules.specs.Test.{leafOk, entryOk, nodeOk, chunkOk}
 
 module _ (s : BuddySettings) (t : Tables) where
   abbrev numbers : BuddySettings
-  numbers = read (s .minimal) (s .pairs) (s .store .chunks)
+  numbers = partSettings (s .minimal) (s .pairs) (s .store .chunks)
 
   abbrev shown : Tables
-  shown = walked (placesIn t) (t .loans) (t .tree)
+  shown = loanPart (placesIn t) (t .loans) (t .tree)
 
   -- an entry by itself says all that is asked of it
   pub entry-shows : (z : BuddySettings) (v : Tables) (e : Ent) (c o n : ℕ) → entryOk s t e c o n ≡ entryOk z v e c o n
@@ -40,7 +40,7 @@ module _ (s : BuddySettings) (t : Tables) where
 -- how many chunk places there are matters to a chunk no more than that its own is one of them
 module _ (s : BuddySettings) (t : Tables) (n c : ℕ) (used : c < chunkPlacesIn t) (within : c < n) where
   abbrev others : Tables
-  others = seen (levelsIn t) (placesIn t) n (t .loans) (t .chunks) (t .tree)
+  others = partTables (levelsIn t) (placesIn t) n (t .loans) (t .chunks) (t .tree)
 
   pub chunk-shows : chunkOk s t c ≡ chunkOk s others c
   unfolding chunkOk

@@ -1,4 +1,4 @@
--- What the test of a chunk answers at each turn. Assumes nothing.
+-- What the test of a chunk answers at each turn.
 use mathlib.Core.Path.{_≡_, refl, sym, ap, _∙_}
 use mathlib.Core.Bool.{Bool, true, false, _&&_, _||_, not}
 use Prim.Native.Nat.{ℕ, _+_, _≤_, _<_}
@@ -16,7 +16,7 @@ use Rattle.counter.specs.Limits.{levelsMost, loansMost}
 use Rattle.counter.specs.declared.settings.BuddySettings.{BuddySettings}
 use Rattle.slab.specs.Slab.{nowhere}
 use Rattle.buddy_trees.specs.Trees.{bytes}
-use Rattle.buddy_levels.specs.Seen.{read, walked}
+use Rattle.buddy_levels.specs.Seen.{partSettings, loanPart}
 use Rattle.buddy_rules.specs.Tables.{Tables, placeWords, chunksFrom, placesIn, levelsIn, chunkPlacesIn, chunkSizeIn, heldIn, highIn, topIn, initialLevels}
 use Rattle.buddy_rules.specs.Test.{nodeOk, chunkOk}
 use Rattle.buddy_walk.specs.Walks.{Small}
@@ -91,7 +91,7 @@ module _ (s : BuddySettings) (t : Tables) (c z : ℕ) (used : c < chunkPlacesIn 
       chunk-off e = ends-no (eqb z y) (ltb 0 h) (leb f h) (leb h (levelsIn t)) (eqb w 0) _ e ∙ row
 
       pub chunk-walk : (r : Bool) → levelOk ≡ true → wrong ≡ false
-          → r ≡ nodeOk (read (s .minimal) (s .pairs) (s .store .chunks)) (walked (placesIn t) (t .loans) (t .tree)) h c 0 nowhere w → r ≡ chunkOk s t c
+          → r ≡ nodeOk (partSettings (s .minimal) (s .pairs) (s .store .chunks)) (loanPart (placesIn t) (t .loans) (t .tree)) h c 0 nowhere w → r ≡ chunkOk s t c
       chunk-walk r e g k = k ∙ sym (node-shows s t h c 0 nowhere w) ∙ last-is (eqb z y) (ltb 0 h) (leb f h) (leb h (levelsIn t)) (eqb w 0) _ e g ∙ row
 
 -- ---- what the calls ask for

@@ -1,4 +1,4 @@
--- What the walk down a chunk asks for, and what it says of a pair. Assumes nothing: these are definitions.
+-- What the walk down a chunk asks for, and what it says of a pair.
 use mathlib.Core.Bool.{Bool, _&&_}
 use Prim.Native.Nat.{ℕ, _+_, _^_, _≤_}
 use Rattle.counter.specs.Limits.{pairsMost, loansMost, chunksMost, minimalBits}

@@ -5,7 +5,7 @@ ghost use mathlib.Core.Path.{_≡_};
 ghost use Prim.Native.Nat.{_+_, _≤_, _<_};
 ghost use Rattle.counter.specs.InTable.{BuddyIn};
 ghost use Rattle.counter.specs.Limits.{levelsMost, loansMost, chunksMost};
-ghost use Rattle.buddy_levels.specs.Seen.{seen};
+ghost use Rattle.buddy_levels.specs.Seen.{partTables};
 ghost use Rattle.buddy_rules.specs.Test.{every, chunkOk};
 use buddy_rules::CHUNK_SIZE_AT;
 use buddy_rules::CHUNK_WORDS;
@@ -25,7 +25,7 @@ fn is_chunk(
     tree: &[u64],
 ) -> bool
     requires { ⌜ BuddyIn s × (levels ≤ levelsMost) × (places ≤ loansMost) × (c < chunksMost) ⌝ }
-    ensures { λ r. ⌜ r ≡ chunkOk s (seen levels places (c + 1) (now (loans .entry)) (now (chunks .entry)) (now (tree .entry))) c ⌝ }
+    ensures { λ r. ⌜ r ≡ chunkOk s (partTables levels places (c + 1) (now (loans .entry)) (now (chunks .entry)) (now (tree .entry))) c ⌝ }
 {
     let size = words::cell(chunks, CHUNK_SIZE_AT, CHUNK_WORDS, c as usize);
     if size == 0 {
@@ -72,7 +72,7 @@ pub fn are_chunks(
     tree: &[u64],
 ) -> bool
     requires { ⌜ BuddyIn s × (levels ≤ levelsMost) × (places ≤ loansMost) × (n ≤ chunksMost) ⌝ }
-    ensures { λ r. ⌜ r ≡ every (chunkOk s (seen levels places n (now (loans .entry)) (now (chunks .entry)) (now (tree .entry)))) n ⌝ }
+    ensures { λ r. ⌜ r ≡ every (chunkOk s (partTables levels places n (now (loans .entry)) (now (chunks .entry)) (now (tree .entry)))) n ⌝ }
 {
     let mut c = 0;
     while c < n {

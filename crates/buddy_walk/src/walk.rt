@@ -8,7 +8,7 @@ ghost use Rattle.buddy_trees.specs.Trees.{bytes};
 ghost use Rattle.buddy_rules.specs.Nodes.{tagOf};
 ghost use Rattle.buddy_levels.specs.Pairs.{entFrom};
 ghost use Rattle.buddy_rules.specs.Test.{leafOk, entryOk, nodeOk};
-ghost use Rattle.buddy_levels.specs.Seen.{read, walked};
+ghost use Rattle.buddy_levels.specs.Seen.{partSettings, loanPart};
 ghost use Rattle.buddy_walk.specs.Walks.{Small, halvesOk};
 use buddy_levels::Pair;
 
@@ -27,7 +27,7 @@ fn is_leaf(
     tree: &[u64],
 ) -> bool
     requires { ⌜ Small minimal pairs chunks places × (level ≤ levelsMost) ⌝ }
-    ensures { λ r. ⌜ r ≡ leafOk (read minimal pairs chunks) (walked places (now (loans .entry)) (now (tree .entry))) place chunk level offset node ⌝ }
+    ensures { λ r. ⌜ r ≡ leafOk (partSettings minimal pairs chunks) (loanPart places (now (loans .entry)) (now (tree .entry))) place chunk level offset node ⌝ }
 {
     if places <= place {
         return false;
@@ -51,7 +51,7 @@ fn tag_of(left: u64, right: u64) -> u64
 
 // Whether a pair is that of this node, and ready where one of its nodes is free; not both, since they would be joined.
 fn is_entry(e: Pair, chunk: u64, offset: u64, node: u64) -> bool
-    ensures { λ r. ⌜ r ≡ entryOk (read 0 0 0) (walked 0 [] []) (entFrom e) chunk offset node ⌝ }
+    ensures { λ r. ⌜ r ≡ entryOk (partSettings 0 0 0) (loanPart 0 [] []) (entFrom e) chunk offset node ⌝ }
 {
     let free = (e.left == 0) & (e.right == 0);
     let stands = (e.chunk == chunk) & ((e.off == offset) & (e.up == node));
@@ -73,7 +73,7 @@ pub fn is_node(
     tree: &[u64],
 ) -> bool
     requires { ⌜ Small minimal pairs chunks places × (level ≤ levelsMost) × (offset + bytes minimal level ≤ bytes minimal levelsMost) ⌝ }
-    ensures { λ r. ⌜ r ≡ nodeOk (read minimal pairs chunks) (walked places (now (loans .entry)) (now (tree .entry))) level chunk offset node word ⌝ }
+    ensures { λ r. ⌜ r ≡ nodeOk (partSettings minimal pairs chunks) (loanPart places (now (loans .entry)) (now (tree .entry))) level chunk offset node word ⌝ }
 {
     if word == 0 {
         return true;
@@ -127,7 +127,7 @@ fn is_pair(
     tree: &[u64],
 ) -> bool
     requires { ⌜ Small minimal pairs chunks places × (level < levelsMost) × (offset + 2 * bytes minimal level ≤ bytes minimal levelsMost) × (p < 2 ^ 63) ⌝ }
-    ensures { λ r. ⌜ r ≡ halvesOk (read minimal pairs chunks) (walked places (now (loans .entry)) (now (tree .entry))) level chunk offset node p ⌝ }
+    ensures { λ r. ⌜ r ≡ halvesOk (partSettings minimal pairs chunks) (loanPart places (now (loans .entry)) (now (tree .entry))) level chunk offset node p ⌝ }
 {
     let base = buddy_levels::level_from(pairs, level as usize);
     let e = buddy_levels::pair_in(tree, base, p);

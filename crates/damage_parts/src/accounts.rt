@@ -27,7 +27,7 @@ fn is_same_kept(x: KeptOrder, y: KeptOrder) -> bool {
         & (p.mask == q.mask)
         & (o.store == r.store)
         & (o.size == r.size)
-        & (o.kind == r.kind)
+        & (o.memtype == r.memtype)
         & (o.map == r.map)
 }
 

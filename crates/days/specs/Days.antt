@@ -1,5 +1,4 @@
 -- The worked days of 01 that are marked * : what the definitions give beside what the paper says, as one checked table.
--- Assumes nothing.
 use mathlib.Core.Path.{_≡_, refl, sym, ap, _∙_}
 use mathlib.Core.Bool.{false}
 use mathlib.Core.List.{List, [], _∷_, _++_, map}
@@ -26,7 +25,7 @@ use Rattle.freelist_rules.specs.Place.{fitsIn, findFrom, cutOff}
 use Rattle.freelist_rules.specs.Join.{insert}
 use Rattle.freelist_rules.specs.Release.{staying, leaving, remaining}
 use Rattle.freelist_rules.specs.Tables.{Tables, tables, mark, lengthsOk, ordered, storeOf, soundOk, laidRegions}
-use Rattle.freelist_outcomes.specs.Gate.{lentOk, accountOk, gateOf}
+use Rattle.freelist_outcomes.specs.Gate.{inTableOk, accountOk, gateOf}
 use Rattle.freelist_outcomes.specs.Ask.{sizeOk, roomOk, countOk, objectsOk, decideAsk, takenTables, orderedTables, carryAsk, planAsk, askOf}
 use Rattle.freelist_outcomes.specs.Deliver.{deliverGateOf, deliveredTables, carryFate, planDeliver, carryDeliver, deliverOf}
 use Rattle.freelist_outcomes.specs.Return.{onLoanOk, givenTables, releasedTables, releaseOf, decideReturn, planReturn, carryReturn, returnOf}
@@ -65,7 +64,7 @@ ranking =
 
 -- "Free list, atom mask 63, start 4,096, final 16,384."
 abbrev pub list : FreeListSettings
-list = record { store = record { number = 7; kind = 0; properties = 1; heap = 0; atom = 63; loans = 3; chunks = 2 }; start = 4096; last = 16384 }
+list = record { store = record { number = 7; memtype = 0; properties = 1; heap = 0; atom = 63; loans = 3; chunks = 2 }; start = 4096; last = 16384 }
 
 -- ---- the store's tables, word by word, as the day goes on
 
@@ -162,7 +161,14 @@ days = (ranking ++ lending) ++ splitting
 
 -- on each of these days the definitions give what the paper says
 first-worked : map (λ (d : Day). d .gives) (ranking ++ lending) ≡ map (λ (d : Day). d .says) (ranking ++ lending)
-unfolding ranking lending servesOk patternOf wantedOf keyOf before placed order rowAs alignmentOk storeOk freeListOk heapsUpto onesOk powerOk upTo downTo bits powerUp ceilDiv grown doubled plusOf chargedOf releasedOf bearsOk agreesOk inserted vacancies leads partedOk deliveryOk loansOf chargedAccount releasedAccount coversOk firstIn freshIndex entered firstBefore enteredIndex seekIn wordTo struck struckIndex linkOk leftAfter leftOf chainsOk fillsOk sizedOk chunkOk loanOk fitsIn findFrom cutOff insert staying leaving remaining lengthsOk ordered storeOf soundOk laidRegions lentOk accountOk gateOf sizeOk roomOk countOk objectsOk decideAsk takenTables orderedTables carryAsk planAsk askOf deliverGateOf deliveredTables carryFate planDeliver carryDeliver deliverOf onLoanOk givenTables releasedTables releaseOf decideReturn planReturn carryReturn returnOf freshTables fitOk setUpOf
+unfolding ranking lending servesOk patternOf wantedOf keyOf before placed order rowAs alignmentOk storeOk freeListOk
+    heapsUpto onesOk powerOk upTo downTo bits powerUp ceilDiv grown doubled plusOf chargedOf releasedOf bearsOk
+    agreesOk inserted vacancies leads partedOk deliveryOk loansOf chargedAccount releasedAccount coversOk firstIn
+    freshIndex entered firstBefore enteredIndex seekIn wordTo struck struckIndex linkOk leftAfter leftOf chainsOk
+    fillsOk sizedOk chunkOk loanOk fitsIn findFrom cutOff insert staying leaving remaining lengthsOk ordered storeOf
+    soundOk laidRegions inTableOk accountOk gateOf sizeOk roomOk countOk objectsOk decideAsk takenTables orderedTables
+    carryAsk planAsk askOf deliverGateOf deliveredTables carryFate planDeliver carryDeliver deliverOf onLoanOk
+    givenTables releasedTables releaseOf decideReturn planReturn carryReturn returnOf freshTables fitOk setUpOf
 first-worked = refl
 
 map-append : (f : Day → Fact) (xs ys : List Day) → map f (xs ++ ys) ≡ map f xs ++ map f ys

@@ -1,4 +1,4 @@
--- A fact of a worked day: what a definition gives, and what the paper says. Assumes nothing: these are definitions.
+-- A fact of a worked day: what a definition gives, and what the paper says.
 use mathlib.Core.Bool.{false}
 use mathlib.Core.List.{List, _∷_}
 use Prim.Native.Nat.{ℕ}
@@ -44,7 +44,7 @@ account used allocated deallocated objects order =
 
 abbrev pub openFor : ℕ → ℕ → OpenOrder
 openFor size z =
-    Kept (record { ask = record { size = size; mask = 0 }; order = record { store = 7; size = z; kind = 0; map = false } })
+    Kept (record { ask = record { size = size; mask = 0 }; order = record { store = 7; size = z; memtype = 0; map = false } })
 
 -- the memory is made, and a map was not wanted
 abbrev pub made : ℕ → Outcome

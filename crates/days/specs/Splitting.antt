@@ -1,4 +1,4 @@
--- 01's worked days of a buddy store. Assumes nothing.
+-- 01's worked days of a buddy store.
 use mathlib.Core.Path.{_≡_, refl}
 use mathlib.Core.Bool.{false}
 use mathlib.Core.List.{List, [], _∷_, map}
@@ -28,9 +28,9 @@ use Rattle.buddy_rules.specs.Level as Level
 use Rattle.buddy_rules.specs.LevelTest.{along, goodOk}
 use Rattle.buddy_rules.specs.Tables.{Tables, tables, lengthsOk, treeWords, memories}
 use Rattle.buddy_rules.specs.Test.{leafOk, entryOk, nodeOk, chunkOk, leadsOk, pairOk, loanOk, treesOk, memoriesOk, unitsOk, soundOk}
-use Rattle.buddy_rules.specs.Moves.{climbed, worded, splitDown}
-use Rattle.buddy_outcomes.specs.Gate.{lentOk, heldCount, heldBytes, accountOk, gateOf}
-use Rattle.buddy_outcomes.specs.Ask.{sizeFor, levelFor, searchFrom, foundFor, sizeOk, pairsRoom, roomOk, countOk, objectsOk, decideAsk, freshLevels, grownTables, bookedTables, takenTables, deniedTables, carryAsk, planAsk, askOf}
+use Rattle.buddy_rules.specs.Moves.{climbed, worded, splitDown, splitChunk}
+use Rattle.buddy_outcomes.specs.Gate.{inTableOk, heldCount, heldBytes, accountOk, gateOf}
+use Rattle.buddy_outcomes.specs.Ask.{sizeFor, levelFor, searchFrom, foundFrom, sizeOk, pairsRoom, roomOk, countOk, objectsOk, decideAsk, freshLevels, grownTables, bookedTables, takenTables, deniedTables, carryAsk, planAsk, askOf}
 use Rattle.buddy_outcomes.specs.Deliver.{deliverGateOf, chunkTables, servedTables, carryFate, planDeliver, carryDeliver, deliverOf}
 use Rattle.buddy_outcomes.specs.Return.{onLoanOk, vacatedTree, givenTables, decideReturn, planReturn, releasedBy, carryReturn, returnOf}
 use Rattle.buddy_outcomes.specs.SetUp.{freshTables, fitOk, setUpOf}
@@ -39,7 +39,7 @@ use Rattle.days.specs.Facts.{row, heard, Day, day, account, openFor, mad
 -- ---- "All masks 0 unless given. Buddy, minimal 256, initial 4,096."
 
 abbrev pub halves : BuddySettings
-halves = record { store = record { number = 7; kind = 0; properties = 1; heap = 0; atom = 0; loans = 4; chunks = 2 }; minimal = 256; initial = 4096; pairs = 2 }
+halves = record { store = record { number = 7; memtype = 0; properties = 1; heap = 0; atom = 0; loans = 4; chunks = 2 }; minimal = 256; initial = 4096; pairs = 2 }
 
 -- a store as it is set up, whatever stood in its tables
 abbrev pub empty : Tables
@@ -90,46 +90,45 @@ splitting =
     ∷ []
 
 -- each of them, computed
-order-300 : heard (asked .said) (asked .account) ≡ heard (Paper.order 7 4096 0 false) (account 0 0 0 10 (openFor 300 4096))
-unfolding trailingZeros onesOk powerOk upTo bits powerUp levelOf alignmentOk storeOk buddyOk heapsUpto plusOf chargedOf releasedOf bearsOk agreesOk inserted partedOk leads vacancies unlinked linked metAfter ringLength deliveryOk chargedAccount releasedAccount coversOk firstIn freshIndex entered firstBefore enteredIndex seekIn wordTo struck struckIndex chainsOk leftOf leftAfter linkOk bytes dropped backed acquired Level.entered added freshLevel along goodOk lengthsOk leafOk entryOk nodeOk chunkOk leadsOk pairOk loanOk treesOk memoriesOk unitsOk soundOk climbed worded splitDown lentOk heldCount heldBytes accountOk gateOf sizeFor levelFor searchFrom foundFor sizeOk pairsRoom roomOk countOk objectsOk decideAsk freshLevels grownTables bookedTables takenTables deniedTables carryAsk planAsk askOf deliverGateOf memories chunkTables servedTables carryFate planDeliver carryDeliver deliverOf onLoanOk vacatedTree givenTables decideReturn planReturn releasedBy carryReturn returnOf freshTables fitOk setUpOf
-order-300 = refl
-
-block-300 : heard (first .said) (first .account) ≡ heard (Paper.block 1 0 0 512) (account 4096 4096 0 9 Nothing)
-unfolding trailingZeros onesOk powerOk upTo bits powerUp levelOf alignmentOk storeOk buddyOk heapsUpto plusOf chargedOf releasedOf bearsOk agreesOk inserted partedOk leads vacancies unlinked linked metAfter ringLength deliveryOk chargedAccount releasedAccount coversOk firstIn freshIndex entered firstBefore enteredIndex seekIn wordTo struck struckIndex chainsOk leftOf leftAfter linkOk bytes dropped backed acquired Level.entered added freshLevel along goodOk lengthsOk leafOk entryOk nodeOk chunkOk leadsOk pairOk loanOk treesOk memoriesOk unitsOk soundOk climbed worded splitDown lentOk heldCount heldBytes accountOk gateOf sizeFor levelFor searchFrom foundFor sizeOk pairsRoom roomOk countOk objectsOk decideAsk freshLevels grownTables bookedTables takenTables deniedTables carryAsk planAsk askOf deliverGateOf memories chunkTables servedTables carryFate planDeliver carryDeliver deliverOf onLoanOk vacatedTree givenTables decideReturn planReturn releasedBy carryReturn returnOf freshTables fitOk setUpOf
-block-300 = refl
-
-block-512 : heard (second .said) (second .account) ≡ heard (Paper.block 2 0 512 512) (account 4096 4096 0 9 Nothing)
-unfolding trailingZeros onesOk powerOk upTo bits powerUp levelOf alignmentOk storeOk buddyOk heapsUpto plusOf chargedOf releasedOf bearsOk agreesOk inserted partedOk leads vacancies unlinked linked metAfter ringLength deliveryOk chargedAccount releasedAccount coversOk firstIn freshIndex entered firstBefore enteredIndex seekIn wordTo struck struckIndex chainsOk leftOf leftAfter linkOk bytes dropped backed acquired Level.entered added freshLevel along goodOk lengthsOk leafOk entryOk nodeOk chunkOk leadsOk pairOk loanOk treesOk memoriesOk unitsOk soundOk climbed worded splitDown lentOk heldCount heldBytes accountOk gateOf sizeFor levelFor searchFrom foundFor sizeOk pairsRoom roomOk countOk objectsOk decideAsk freshLevels grownTables bookedTables takenTables deniedTables carryAsk planAsk askOf deliverGateOf memories chunkTables servedTables carryFate planDeliver carryDeliver deliverOf onLoanOk vacatedTree givenTables decideReturn planReturn releasedBy carryReturn returnOf freshTables fitOk setUpOf
-block-512 = refl
-
-next-512 : heard (third .said) (third .account) ≡ heard (Paper.block 3 0 1024 512) (account 4096 4096 0 9 Nothing)
-unfolding trailingZeros onesOk powerOk upTo bits powerUp levelOf alignmentOk storeOk buddyOk heapsUpto plusOf chargedOf releasedOf bearsOk agreesOk inserted partedOk leads vacancies unlinked linked metAfter ringLength deliveryOk chargedAccount releasedAccount coversOk firstIn freshIndex entered firstBefore enteredIndex seekIn wordTo struck struckIndex chainsOk leftOf leftAfter linkOk bytes dropped backed acquired Level.entered added freshLevel along goodOk lengthsOk leafOk entryOk nodeOk chunkOk leadsOk pairOk loanOk treesOk memoriesOk unitsOk soundOk climbed worded splitDown lentOk heldCount heldBytes accountOk gateOf sizeFor levelFor searchFrom foundFor sizeOk pairsRoom roomOk countOk objectsOk decideAsk freshLevels grownTables bookedTables takenTables deniedTables carryAsk planAsk askOf deliverGateOf memories chunkTables servedTables carryFate planDeliver carryDeliver deliverOf onLoanOk vacatedTree givenTables decideReturn planReturn releasedBy carryReturn returnOf freshTables fitOk setUpOf
-next-512 = refl
-
-one-back : heard (backOne .said) (backOne .account) ≡ heard (Paper.released 0) (account 4096 4096 0 9 Nothing)
-unfolding trailingZeros onesOk powerOk upTo bits powerUp levelOf alignmentOk storeOk buddyOk heapsUpto plusOf chargedOf releasedOf bearsOk agreesOk inserted partedOk leads vacancies unlinked linked metAfter ringLength deliveryOk chargedAccount releasedAccount coversOk firstIn freshIndex entered firstBefore enteredIndex seekIn wordTo struck struckIndex chainsOk leftOf leftAfter linkOk bytes dropped backed acquired Level.entered added freshLevel along goodOk lengthsOk leafOk entryOk nodeOk chunkOk leadsOk pairOk loanOk treesOk memoriesOk unitsOk soundOk climbed worded splitDown lentOk heldCount heldBytes accountOk gateOf sizeFor levelFor searchFrom foundFor sizeOk pairsRoom roomOk countOk objectsOk decideAsk freshLevels grownTables bookedTables takenTables deniedTables carryAsk planAsk askOf deliverGateOf memories chunkTables servedTables carryFate planDeliver carryDeliver deliverOf onLoanOk vacatedTree givenTables decideReturn planReturn releasedBy carryReturn returnOf freshTables fitOk setUpOf
-one-back = refl
-
-two-back : heard (backTwo .said) (backTwo .account) ≡ heard (Paper.released 0) (account 4096 4096 0 9 Nothing)
-unfolding trailingZeros onesOk powerOk upTo bits powerUp levelOf alignmentOk storeOk buddyOk heapsUpto plusOf chargedOf releasedOf bearsOk agreesOk inserted partedOk leads vacancies unlinked linked metAfter ringLength deliveryOk chargedAccount releasedAccount coversOk firstIn freshIndex entered firstBefore enteredIndex seekIn wordTo struck struckIndex chainsOk leftOf leftAfter linkOk bytes dropped backed acquired Level.entered added freshLevel along goodOk lengthsOk leafOk entryOk nodeOk chunkOk leadsOk pairOk loanOk treesOk memoriesOk unitsOk soundOk climbed worded splitDown lentOk heldCount heldBytes accountOk gateOf sizeFor levelFor searchFrom foundFor sizeOk pairsRoom roomOk countOk objectsOk decideAsk freshLevels grownTables bookedTables takenTables deniedTables carryAsk planAsk askOf deliverGateOf memories chunkTables servedTables carryFate planDeliver carryDeliver deliverOf onLoanOk vacatedTree givenTables decideReturn planReturn releasedBy carryReturn returnOf freshTables fitOk setUpOf
-two-back = refl
-
-three-back : heard (backThree .said) (backThree .account) ≡ heard (Paper.released 1) (account 0 4096 4096 10 Nothing)
-unfolding trailingZeros onesOk powerOk upTo bits powerUp levelOf alignmentOk storeOk buddyOk heapsUpto plusOf chargedOf releasedOf bearsOk agreesOk inserted partedOk leads vacancies unlinked linked metAfter ringLength deliveryOk chargedAccount releasedAccount coversOk firstIn freshIndex entered firstBefore enteredIndex seekIn wordTo struck struckIndex chainsOk leftOf leftAfter linkOk bytes dropped backed acquired Level.entered added freshLevel along goodOk lengthsOk leafOk entryOk nodeOk chunkOk leadsOk pairOk loanOk treesOk memoriesOk unitsOk soundOk climbed worded splitDown lentOk heldCount heldBytes accountOk gateOf sizeFor levelFor searchFrom foundFor sizeOk pairsRoom roomOk countOk objectsOk decideAsk freshLevels grownTables bookedTables takenTables deniedTables carryAsk planAsk askOf deliverGateOf memories chunkTables servedTables carryFate planDeliver carryDeliver deliverOf onLoanOk vacatedTree givenTables decideReturn planReturn releasedBy carryReturn returnOf freshTables fitOk setUpOf
-three-back = refl
-
-listed-back : row (backThree .list) ≡ row (50 ∷ 0 ∷ [])
-unfolding trailingZeros onesOk powerOk upTo bits powerUp levelOf alignmentOk storeOk buddyOk heapsUpto plusOf chargedOf releasedOf bearsOk agreesOk inserted partedOk leads vacancies unlinked linked metAfter ringLength deliveryOk chargedAccount releasedAccount coversOk firstIn freshIndex entered firstBefore enteredIndex seekIn wordTo struck struckIndex chainsOk leftOf leftAfter linkOk bytes dropped backed acquired Level.entered added freshLevel along goodOk lengthsOk leafOk entryOk nodeOk chunkOk leadsOk pairOk loanOk treesOk memoriesOk unitsOk soundOk climbed worded splitDown lentOk heldCount heldBytes accountOk gateOf sizeFor levelFor searchFrom foundFor sizeOk pairsRoom roomOk countOk objectsOk decideAsk freshLevels grownTables bookedTables takenTables deniedTables carryAsk planAsk askOf deliverGateOf memories chunkTables servedTables carryFate planDeliver carryDeliver deliverOf onLoanOk vacatedTree givenTables decideReturn planReturn releasedBy carryReturn returnOf freshTables fitOk setUpOf
-listed-back = refl
-
-level-31 : row (levelFor halves (2 ^ 39) 0 ∷ []) ≡ row (31 ∷ [])
-unfolding trailingZeros onesOk powerOk upTo bits powerUp levelOf alignmentOk storeOk buddyOk heapsUpto plusOf chargedOf releasedOf bearsOk agreesOk inserted partedOk leads vacancies unlinked linked metAfter ringLength deliveryOk chargedAccount releasedAccount coversOk firstIn freshIndex entered firstBefore enteredIndex seekIn wordTo struck struckIndex chainsOk leftOf leftAfter linkOk bytes dropped backed acquired Level.entered added freshLevel along goodOk lengthsOk leafOk entryOk nodeOk chunkOk leadsOk pairOk loanOk treesOk memoriesOk unitsOk soundOk climbed worded splitDown lentOk heldCount heldBytes accountOk gateOf sizeFor levelFor searchFrom foundFor sizeOk pairsRoom roomOk countOk objectsOk decideAsk freshLevels grownTables bookedTables takenTables deniedTables carryAsk planAsk askOf deliverGateOf memories chunkTables servedTables carryFate planDeliver carryDeliver deliverOf onLoanOk vacatedTree givenTables decideReturn planReturn releasedBy carryReturn returnOf freshTables fitOk setUpOf
-level-31 = refl
-
-past-31 : heard (askOf halves (account 0 0 0 10 Nothing) (2 ^ 39 + 1) 0 empty .said) (account 0 0 0 10 Nothing) ≡ heard (Paper.refusal 6 []) (account 0 0 0 10 Nothing)
-unfolding trailingZeros onesOk powerOk upTo bits powerUp levelOf alignmentOk storeOk buddyOk heapsUpto plusOf chargedOf releasedOf bearsOk agreesOk inserted partedOk leads vacancies unlinked linked metAfter ringLength deliveryOk chargedAccount releasedAccount coversOk firstIn freshIndex entered firstBefore enteredIndex seekIn wordTo struck struckIndex chainsOk leftOf leftAfter linkOk bytes dropped backed acquired Level.entered added freshLevel along goodOk lengthsOk leafOk entryOk nodeOk chunkOk leadsOk pairOk loanOk treesOk memoriesOk unitsOk soundOk climbed worded splitDown lentOk heldCount heldBytes accountOk gateOf sizeFor levelFor searchFrom foundFor sizeOk pairsRoom roomOk countOk objectsOk decideAsk freshLevels grownTables bookedTables takenTables deniedTables carryAsk planAsk askOf deliverGateOf memories chunkTables servedTables carryFate planDeliver carryDeliver deliverOf onLoanOk vacatedTree givenTables decideReturn planReturn releasedBy carryReturn returnOf freshTables fitOk setUpOf
-past-31 = refl
-
 pub split-worked : map (λ (d : Day). d .gives) splitting ≡ map (λ (d : Day). d .says) splitting
-unfolding splitting
+unfolding splitting trailingZeros onesOk powerOk upTo bits powerUp levelOf alignmentOk storeOk buddyOk heapsUpto
+    plusOf chargedOf releasedOf bearsOk agreesOk inserted partedOk leads vacancies unlinked linked metAfter ringLength
+    deliveryOk chargedAccount releasedAccount coversOk firstIn freshIndex entered firstBefore enteredIndex seekIn
+    wordTo struck struckIndex chainsOk leftOf leftAfter linkOk bytes dropped backed acquired Level.entered added
+    freshLevel along goodOk lengthsOk leafOk entryOk nodeOk chunkOk leadsOk pairOk loanOk treesOk memoriesOk unitsOk
+    soundOk climbed worded splitDown splitChunk inTableOk heldCount heldBytes accountOk gateOf sizeFor levelFor searchFrom
+    foundFrom sizeOk pairsRoom roomOk countOk objectsOk decideAsk freshLevels grownTables bookedTables takenTables
+    deniedTables carryAsk planAsk askOf deliverGateOf memories chunkTables servedTables carryFate planDeliver
+    carryDeliver deliverOf onLoanOk vacatedTree givenTables decideReturn planReturn releasedBy carryReturn returnOf
+    freshTables fitOk setUpOf
 split-worked = λ j. order-300 j ∷ block-300 j ∷ block-512 j ∷ next-512 j ∷ one-back j ∷ two-back j ∷ three-back j ∷ listed-back j ∷ level-31 j ∷ past-31 j ∷ []
+  where
+    order-300 : heard (asked .said) (asked .account) ≡ heard (Paper.order 7 4096 0 false) (account 0 0 0 10 (openFor 300 4096))
+    order-300 = refl
+
+    block-300 : heard (first .said) (first .account) ≡ heard (Paper.block 1 0 0 512) (account 4096 4096 0 9 Nothing)
+    block-300 = refl
+
+    block-512 : heard (second .said) (second .account) ≡ heard (Paper.block 2 0 512 512) (account 4096 4096 0 9 Nothing)
+    block-512 = refl
+
+    next-512 : heard (third .said) (third .account) ≡ heard (Paper.block 3 0 1024 512) (account 4096 4096 0 9 Nothing)
+    next-512 = refl
+
+    one-back : heard (backOne .said) (backOne .account) ≡ heard (Paper.released 0) (account 4096 4096 0 9 Nothing)
+    one-back = refl
+
+    two-back : heard (backTwo .said) (backTwo .account) ≡ heard (Paper.released 0) (account 4096 4096 0 9 Nothing)
+    two-back = refl
+
+    three-back : heard (backThree .said) (backThree .account) ≡ heard (Paper.released 1) (account 0 4096 4096 10 Nothing)
+    three-back = refl
+
+    listed-back : row (backThree .list) ≡ row (50 ∷ 0 ∷ [])
+    listed-back = refl
+
+    level-31 : row (levelFor halves (2 ^ 39) 0 ∷ []) ≡ row (31 ∷ [])
+    level-31 = refl
+
+    past-31 : heard (askOf halves (account 0 0 0 10 Nothing) (2 ^ 39 + 1) 0 empty .said) (account 0 0 0 10 Nothing) ≡ heard (Paper.refusal 6 []) (account 0 0 0 10 Nothing)
+    past-31 = refl

@@ -1,4 +1,4 @@
--- What a loop has filled of a table, one store a turn: the words it has put are the front of what is to stand there. Assumes nothing.
+-- What a loop has filled of a table, one store a turn: the words it has put are the front of what is to stand there.
 use mathlib.Core.Path.{_≡_, sym, _∙_}
 use mathlib.Core.List.{List, [], _∷_, _++_, append-assoc, append-nil}
 use Prim.Native.Nat.{ℕ, suc, _+_, _-_, _≤_, _<_}

@@ -1,4 +1,4 @@
--- One word of each record of a lent table. Assumes nothing: these are definitions.
+-- One word of each record of a lent table.
 use mathlib.Core.List.{List, [], _∷_}
 use Prim.Native.Nat.{ℕ, zero, suc}
 use lib.ListN.{getD}

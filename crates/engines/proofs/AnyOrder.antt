@@ -1,5 +1,5 @@
 -- Different blocks on loan are returned one after the other, in any order: none is refused, and the end is the one that the
--- set of blocks decides. Assumes nothing.
+-- set of blocks decides.
 use mathlib.Core.Path.{_≡_, refl, sym, ap, subst, _∙_}
 use mathlib.Core.Logic.{_↔_, Iff·symm, Iff·trans}
 use mathlib.Core.List.{List, [], _∷_, List·Memᴰ, List·Permᴰ}

@@ -1,5 +1,5 @@
 -- What is booked where a call of an engine leaves the heaps as they were, charges its own, gives back what it charged, or
--- releases. Assumes nothing.
+-- releases.
 use mathlib.Core.Path.{_≡_, refl, sym, ap, subst, _∙_}
 use mathlib.Core.Bool.{true, false, cond}
 use mathlib.Core.List.{List, [], _∷_}

@@ -1,4 +1,4 @@
--- Serials count up from 1 in a store, and none is given twice, whatever calls of whichever engines are made. Assumes nothing.
+-- Serials count up from 1 in a store, and none is given twice, whatever calls of whichever engines are made.
 use mathlib.Core.Path.{_≡_, refl, sym, ap, subst, _∙_}
 use mathlib.Core.Logic.{⊎-elim}
 use mathlib.Core.List.{List, [], _∷_, _++_}

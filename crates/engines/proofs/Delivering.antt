@@ -1,4 +1,4 @@
--- An ask gave an order, and it is delivered as ordered: a block is lent. Assumes nothing.
+-- An ask gave an order, and it is delivered as ordered: a block is lent.
 use mathlib.Core.Path.{_≡_, refl, sym, ap, subst, _∙_}
 use mathlib.Core.Bool.{Bool, true, false}
 use mathlib.Core.Logic.{inl, inr, ⊎-elim}
@@ -90,10 +90,10 @@ module _ (wanted : Bool) (m : Memory) (fit : m .mapping ≡ asOrdered wanted) wh
 
 -- ---- the delivery
 
-module _ (E : Engine) (s : E .shape .Settings) (a : Account) (size mask : ℕ) (t : Lent) (store z kind : ℕ) (wanted : Bool)
-    (told : E .shape .ask s a size mask t .said ≡ Paper.order store z kind wanted) where
+module _ (E : Engine) (s : E .shape .Settings) (a : Account) (size mask : ℕ) (t : Lent) (store z memtype : ℕ) (wanted : Bool)
+    (told : E .shape .ask s a size mask t .said ≡ Paper.order store z memtype wanted) where
   its : Ordered (E .shape .ask s a size mask t .said)
-  its = (store, z, kind, wanted, told)
+  its = (store, z, memtype, wanted, told)
 
   -- an order was told: the delivery's tests 1 to 4 pass on what the ask left
   pub order-delivers : E .shape .deliverGate s (E .shape .ask s a size mask t .account) (E .shape .ask s a size mask t .tables) ≡ pass

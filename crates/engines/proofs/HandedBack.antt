@@ -1,4 +1,4 @@
--- Different blocks on loan are handed back one after the other: what all the returns say, leave and tell. Assumes nothing.
+-- Different blocks on loan are handed back one after the other: what all the returns say, leave and tell.
 use mathlib.Core.Path.{_≡_, refl, sym, ap, subst, _∙_}
 use mathlib.Core.Logic.{⊎-elim, _↔_}
 use mathlib.Core.List.{List, [], _∷_, List·Memᴰ, List·Memᴰ·head, List·Memᴰ·tail, List·Memᴰ·cases-cons, List·Memᴰ·not-nil}
@@ -14,9 +14,8 @@ use Rattle.counter.specs.declared.account.Account.{Account}
 use Rattle.counter.specs.declared.answers.Block.{Block}
 use Rattle.heap.proofs.Bounds.{agrees-yes}
 use Rattle.store_rules.specs.Outcomes.{Listed, toFree, releasedAccount}
-use Rattle.store_rules.specs.Views.{View, loanOf, All, sizes, Go}
+use Rattle.store_rules.specs.Views.{View, All, sizes, Go}
 use Rattle.store_rules.specs.declared.Chunk.{Chunk}
-use Rattle.store_rules.specs.declared.Loan.{Loan}
 use Rattle.store_rules.proofs.Going.{none-go, both-go}
 use Rattle.store_rules.proofs.Permuted.{other-not}
 use Rattle.store_rules.proofs.Releasing.{released-twice, released-none}
@@ -31,7 +30,9 @@ use Rattle.engines.proofs.Visits.{stores-stay, store-here}
 pub lot-left : (E : Shape) (s : E .Settings) (a : Account) (b : Block) (bs : List Block) (t : Lent) (r : Listed Lent) → Lot E (b ∷ bs) t → Taken E s a b t r → Lot E bs (r .tables)
 lot-left E s a b bs t r lot one =
     record {
-      lent = λ c m. one .loans (loanOf c) .1 (lot .lent c (List·Memᴰ·tail m), λ q. other-not (b .serial) bs c (lot .apart .0) m (ap (λ (l : Loan). l .serial) q));
+      lent = λ c m.
+          let w = lot .lent c (List·Memᴰ·tail m) in
+          (w .0, one .loans (w .0) .1 (w .1, λ q. other-not (b .serial) bs c (lot .apart .0) m (sym (w .2 .serial) ∙ q .serial)), w .2);
       apart = lot .apart .1;
     }
 

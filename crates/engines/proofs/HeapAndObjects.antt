@@ -1,5 +1,5 @@
 -- Any history of calls of several engines, of any number of stores over one account: each heap holds what was charged less
--- what was released and given back, and the device objects fall and rise with the memory numbers. Assumes nothing.
+-- what was released and given back, and the device objects fall and rise with the memory numbers.
 use mathlib.Core.Path.{_≡_, refl, sym, ap, subst, _∙_}
 use mathlib.Core.Bool.{Bool, true, false, cond}
 use mathlib.Core.Logic.{⊎-elim}

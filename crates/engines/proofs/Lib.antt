@@ -4,6 +4,7 @@ pub mod Booking
 pub mod Visits
 pub mod Taking
 pub mod Joins
+pub mod Exact
 pub mod Noting
 pub mod NeverAgain
 pub mod CountUp

@@ -1,5 +1,5 @@
 -- A block that was returned is never taken again with the loans table that it was returned to, whatever calls of whichever
--- engines come between, their tables mixed in any way, but an accepted set-up of that loans table. Assumes nothing.
+-- engines come between, their tables mixed in any way, but an accepted set-up of that loans table.
 use mathlib.Core.Path.{_≡_, refl, sym, ap, subst, _∙_}
 use mathlib.Core.Logic.{_⊎_, inl, inr, ⊎-elim}
 use mathlib.Core.List.{List, [], _∷_, List·Memᴰ, List·Memᴰ·head, List·Memᴰ·tail, List·Memᴰ·cases-cons, List·Memᴰ·not-nil}

@@ -1,5 +1,4 @@
 -- A block that was returned is never taken again, whatever calls of whichever engines come between, but an accepted set-up of its tables.
--- Assumes nothing.
 use mathlib.Core.Path.{_≡_, sym, ap, subst, _∙_}
 use mathlib.Core.Logic.{_⊎_, ⊎-elim}
 use mathlib.Core.List.{List, [], _∷_}

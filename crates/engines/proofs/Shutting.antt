@@ -1,4 +1,4 @@
--- A gate whose third test fails, as it does on another engine's tables, refuses by 1, 2 or 3. Assumes nothing.
+-- A gate whose third test fails, as it does on another engine's tables, refuses by 1, 2 or 3.
 use mathlib.Core.Path.{_≡_, refl}
 use mathlib.Core.Bool.{Bool, true, false}
 use Prim.Native.Nat.{ℕ, _≤_, _<_}

@@ -1,21 +1,21 @@
 -- What follows where a return is taken: tests 1 to 4 passed, the block was on loan, and the loans left are the others. And
--- what follows where an ask gives an order: tests 1 to 4 passed. Assumes nothing.
-use mathlib.Core.Path.{_≡_, refl, sym, ap, _∙_}
-use mathlib.Core.Bool.{true, false}
-use mathlib.Core.Logic.{_⊎_, inl, inr, ⊎-elim, _↔_}
-use mathlib.Core.List.{List, [], _∷_, List·Memᴰ, List·Memᴰ·head, List·Memᴰ·tail, List·Memᴰ·cases-cons, List·Memᴰ·not-nil}
+-- what follows where an ask gives an order: tests 1 to 4 passed.
+use mathlib.Core.Path.{_≡_, refl, ap}
+use mathlib.Core.Bool.{false}
+use mathlib.Core.Logic.{inl, inr, ⊎-elim, _↔_}
+use mathlib.Core.List.{List, [], List·Memᴰ}
 use Prim.Native.Nat.{ℕ, _≤_}
 use native.Mathlib.Omega.{arith}
 use lib.ListN.{length}
-use Rattle.lists.proofs.Bools.{told, true-false, lt-or-le}
+use Rattle.lists.proofs.Bools.{lt-or-le}
 use Rattle.counter.specs.Gate.{pass}
 use Rattle.counter.specs.Paper as Paper
 use Rattle.counter.specs.Reasons.{Reasons, none, reason, Given, Clear}
 use Rattle.counter.specs.declared.account.Account.{Account}
 use Rattle.counter.specs.declared.answers.Block.{Block}
-use Rattle.store_rules.specs.Views.{loanOf, sameLoan}
+use Rattle.store_rules.specs.Views.{Matches, OnLoan}
 use Rattle.store_rules.specs.declared.Loan.{Loan}
-use Rattle.store_rules.proofs.Loaned.{loan-is, same-self}
+use Rattle.store_rules.proofs.Loaned.{loan-or-not}
 use Rattle.store_rules.proofs.Said.{refuses, not-refused}
 use Rattle.engines.specs.Ends.{Taken}
 use Rattle.engines.specs.Engines.{Engine}
@@ -28,16 +28,6 @@ none-given none f = tt
 none-given (reason words number rest) f =
     let not : words → ⊥ = λ w. f number (inl (w, refl)) in
     (not, none-given rest (λ n g. f n (inr (not, g))))
-
--- a block is one of the loans or none
-pub loan-or-not : (b : Block) (ls : List Loan) → List·Memᴰ (loanOf b) ls ⊎ (List·Memᴰ (loanOf b) ls → ⊥)
-loan-or-not b [] = inr (λ m. List·Memᴰ·not-nil m)
-loan-or-not b (l ∷ ls) = go (told (sameLoan b l)) (loan-or-not b ls)
-  where
-    go : (sameLoan b l ≡ true) ⊎ (sameLoan b l ≡ false) → List·Memᴰ (loanOf b) ls ⊎ (List·Memᴰ (loanOf b) ls → ⊥) → List·Memᴰ (loanOf b) (l ∷ ls) ⊎ (List·Memᴰ (loanOf b) (l ∷ ls) → ⊥)
-    go (inl e) w = inl (List·Memᴰ·head (sym (loan-is b l e)))
-    go (inr e) (inl m) = inl (List·Memᴰ·tail m)
-    go (inr e) (inr n) = inr (λ m. ⊎-elim (λ q. true-false (sameLoan b l) (ap (sameLoan b) (sym q) ∙ same-self b) e) n (List·Memᴰ·cases-cons m))
 
 module _ (E : Engine) (s : E .shape .Settings) (a : Account) (t : Lent) where
   -- ---- a return that is not refused
@@ -56,9 +46,9 @@ module _ (E : Engine) (s : E .shape .Settings) (a : Account) (t : Lent) where
     pub return-listed : E .shape .store s .chunks ≤ length list
     return-listed = ⊎-elim (λ x. absurd (clear .0 (λ w. let h = w .1 in omega arith))) (λ x. x) (lt-or-le (length list) (E .shape .store s .chunks))
 
-    pub return-lent : List·Memᴰ (loanOf b) (E .shape .loans t)
+    pub return-lent : OnLoan b (E .shape .loans t)
     return-lent =
-        ⊎-elim (λ m. E .keeps .loans-seen s t (loanOf b) .0 m) (λ n. absurd (clear .1 .1 .1 .1 .0 n))
+        ⊎-elim (λ w. (w .0, E .keeps .loans-seen s t (w .0) .0 (w .1), w .2)) (λ n. absurd (clear .1 .1 .1 .1 .0 n))
         (loan-or-not b (E .shape .view s t .loans))
 
     pub return-taken : Taken (E .shape) s a b t (E .shape .return s a b t list)
@@ -70,8 +60,8 @@ module _ (E : Engine) (s : E .shape .Settings) (a : Account) (t : Lent) where
 
   -- the block was on loan, and the loans left are the others
   pub released-loans : (b : Block) (list : List ℕ) (n : ℕ) → E .shape .return s a b t list .said ≡ Paper.released n
-      → List·Memᴰ (loanOf b) (E .shape .loans t)
-      × ((l : Loan) → List·Memᴰ l (E .shape .loans (E .shape .return s a b t list .tables)) ↔ (List·Memᴰ l (E .shape .loans t) × (l ≡ loanOf b → ⊥)))
+      → OnLoan b (E .shape .loans t)
+      × ((l : Loan) → List·Memᴰ l (E .shape .loans (E .shape .return s a b t list .tables)) ↔ (List·Memᴰ l (E .shape .loans t) × (Matches b l → ⊥)))
   released-loans b list n e = (return-lent b list (ap refuses e), released-taken b list n e .loans)
 
   -- ---- an ask that is not refused

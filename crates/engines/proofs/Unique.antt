@@ -1,5 +1,5 @@
 -- Each call's promise names one outcome: two that meet it have the same answer, the same account and the same words in
--- every table and list. 01, "How tightly the promises bind". Assumes nothing.
+-- every table and list. 01, "How tightly the promises bind".
 use mathlib.Core.Path.{_≡_, sym, ap, _∙_}
 use mathlib.Core.List.{List}
 use Prim.Native.Nat.{ℕ}

@@ -1,4 +1,4 @@
--- What a call at one store does to the tables of each, and that a set-up that is not accepted does nothing. Assumes nothing.
+-- What a call at one store does to the tables of each, and that a set-up that is not accepted does nothing.
 use mathlib.Core.Path.{_≡_, refl, sym, ap}
 use mathlib.Core.Logic.{_⊎_, inl, inr, ⊎-elim}
 use mathlib.Core.List.{List, []}

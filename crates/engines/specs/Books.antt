@@ -1,6 +1,6 @@
 -- What a call books, told from what was asked and answered. 01, "heap.rs": "used always equals the charges less the releases
 -- and give-backs in the history"; a memory number that is accepted takes one device object, a failed map's too, and each
--- that is released or given back gives one. Assumes nothing: these are definitions.
+-- that is released or given back gives one.
 use mathlib.Core.Path.{_≡_}
 use mathlib.Core.Bool.{Bool, true, false, cond, _||_}
 use mathlib.Core.List.{List, [], _∷_, _++_}
@@ -30,7 +30,7 @@ orderSize (Kept k) = k .order .size
 abbrev pub accepted : Said → Bool
 accepted Paper.ready = false
 accepted (Paper.block serial chunk offset size) = true
-accepted (Paper.order store size kind map) = false
+accepted (Paper.order store size memtype map) = false
 accepted (Paper.released n) = false
 accepted Paper.ranked = false
 accepted (Paper.refusal n back) = eqb n 11 || eqb n 12
@@ -45,7 +45,7 @@ deliveryBooks O.OutOfHost z said = []
 abbrev pub releaseBooks : ℕ → Said → List Entry
 releaseBooks bytes Paper.ready = []
 releaseBooks bytes (Paper.block serial chunk offset size) = []
-releaseBooks bytes (Paper.order store size kind map) = []
+releaseBooks bytes (Paper.order store size memtype map) = []
 releaseBooks bytes (Paper.released n) = release bytes ∷ []
 releaseBooks bytes Paper.ranked = []
 releaseBooks bytes (Paper.refusal n back) = []

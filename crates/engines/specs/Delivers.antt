@@ -1,5 +1,4 @@
 -- An order that an ask gave can be delivered: what it keeps, and that the delivery's tests 1 to 4 pass on what it left.
--- Assumes nothing: these are definitions.
 use mathlib.Core.Path.{_≡_}
 use Prim.Native.Nat.{ℕ}
 use Rattle.counter.specs.Gate.{pass}

@@ -1,6 +1,5 @@
 -- Demand 3 of an engine: "return any set of different blocks on loan, nothing else between: none is refused, and every order
--- ends with the same loans, free pieces, held and released chunks, heap totals and object count". Assumes nothing: these are
--- definitions.
+-- ends with the same loans, free pieces, held and released chunks, heap totals and object count".
 use mathlib.Core.Path.{_≡_}
 use mathlib.Core.Bool.{true}
 use mathlib.Core.Logic.{_↔_}
@@ -16,29 +15,29 @@ use Rattle.counter.specs.declared.account.Account.{Account}
 use Rattle.counter.specs.declared.answers.Block.{Block}
 use Rattle.heap.specs.Heap.{agreesOk}
 use Rattle.store_rules.specs.Outcomes.{Listed, toFree, releasedAccount}
-use Rattle.store_rules.specs.Views.{loanOf, All, sizes, Go}
+use Rattle.store_rules.specs.Views.{Matches, OnLoan, All, sizes, Go}
 use Rattle.store_rules.specs.declared.Loan.{Loan}
 use Rattle.engines.specs.Shapes.{Lent, Shape}
 
 -- different blocks, each on loan
 pub record Lot (E : Shape) (bs : List Block) (t : Lent) : Type 0 where
-  pub lent : All (λ (b : Block). List·Memᴰ (loanOf b) (E .loans t)) bs
+  pub lent : All (λ (b : Block). OnLoan b (E .loans t)) bs
   pub apart : Distinct (map (λ (b : Block). b .serial) bs)
 
 -- what a return of a block on loan comes to: it is taken; the loans are the others; the account gives back the chunks that
 -- went, and the list tells their memory numbers
 pub record Taken (E : Shape) (s : E .Settings) (a : Account) (b : Block) (t : Lent) (r : Listed Lent) : Type 0 where
   pub said : (n : ℕ) × (r .said ≡ Paper.released n)
-  pub loans : (l : Loan) → List·Memᴰ l (E .loans (r .tables)) ↔ (List·Memᴰ l (E .loans t) × (l ≡ loanOf b → ⊥))
+  pub loans : (l : Loan) → List·Memᴰ l (E .loans (r .tables)) ↔ (List·Memᴰ l (E .loans t) × (Matches b l → ⊥))
   pub account : r .account
       ≡ releasedAccount (E .store s) a (length (E .view s t .chunks) - length (E .view s (r .tables) .chunks)) (sizes (E .view s t .chunks) - sizes (E .view s (r .tables) .chunks))
   pub goes : Go (E .view s t .chunks) (E .view s (r .tables) .chunks) (take (toFree (r .said)) (r .list))
 
 pub record Ends (E : Shape) : Type 0 where
-  pub taken : (s : E .Settings) (a : Account) (b : Block) (t : Lent) (list : List ℕ) → E .gate s a t ≡ pass → List·Memᴰ (loanOf b) (E .loans t)
+  pub taken : (s : E .Settings) (a : Account) (b : Block) (t : Lent) (list : List ℕ) → E .gate s a t ≡ pass → OnLoan b (E .loans t)
       → E .store s .chunks ≤ length list → Taken E s a b t (E .return s a b t list)
   -- the counts stay
-  pub rest-stays : (s : E .Settings) (a : Account) (b : Block) (t : Lent) (list : List ℕ) → E .gate s a t ≡ pass → List·Memᴰ (loanOf b) (E .loans t)
+  pub rest-stays : (s : E .Settings) (a : Account) (b : Block) (t : Lent) (list : List ℕ) → E .gate s a t ≡ pass → OnLoan b (E .loans t)
       → E .store s .chunks ≤ length list → E .rest s (E .return s a b t list .tables) ≡ E .rest s t
   -- the end that is named: where nothing comes back nothing changes; and it may be reached block by block
   pub none : (s : E .Settings) (a : Account) (t : Lent) → E .gate s a t ≡ pass → E .atOnce s [] t ≡ E .view s t

@@ -1,5 +1,4 @@
--- An engine: what it is, and the laws that make it one that may stand beside the others over one account. Assumes nothing:
--- these are definitions.
+-- An engine: what it is, and the laws that make it one that may stand beside the others over one account.
 use Rattle.engines.specs.Books.{Books}
 use Rattle.engines.specs.Delivers.{Delivers}
 use Rattle.engines.specs.Ends.{Ends}

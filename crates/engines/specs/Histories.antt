@@ -1,5 +1,5 @@
 -- Calls of stores of several engines, one after the other. 01, "What one store holds": "Several stores share one account,
--- carried from call to call." Assumes nothing: these are definitions.
+-- carried from call to call."
 use mathlib.Core.Path.{_≡_}
 use mathlib.Core.Bool.{cond}
 use mathlib.Core.List.{List, [], _∷_, _++_}

@@ -1,5 +1,5 @@
 -- Demand 3 of an engine: set-up gives a sound store, every call leaves it sound, and what is sound is filled; what a new block
--- is; and demand 2: when a chunk is ordered. Assumes nothing: these are definitions.
+-- is; and demand 2: when a chunk is ordered.
 use mathlib.Core.Path.{_≡_}
 use mathlib.Core.Bool.{true}
 use mathlib.Core.Logic.{_↔_}

@@ -1,7 +1,7 @@
--- A store's loans as its caller may keep them: from its calls and their answers alone. Assumes nothing: these are definitions.
+-- A store's loans as its caller may keep them: from its calls and their answers alone.
 use mathlib.Core.Path.{_≡_}
-use mathlib.Core.Bool.{cond}
-use mathlib.Core.Logic.{_⊎_}
+use mathlib.Core.Bool.{Bool, cond, _&&_}
+use mathlib.Core.Logic.{_⊎_, _↔_}
 use mathlib.Core.List.{List, [], _∷_, _++_, map, List·Memᴰ}
 use Prim.Native.Nat.{ℕ, _+_, _≤_}
 use lib.Dec.{eqb}
@@ -9,31 +9,26 @@ use Rattle.lists.specs.Members.{Distinct}
 use Rattle.counter.specs.Paper.{Said}
 use Rattle.counter.specs.Paper as Paper
 use Rattle.counter.specs.declared.answers.Block.{Block}
-use Rattle.store_rules.specs.Loans.{loan}
-use Rattle.store_rules.specs.Views.{loansLess}
+use Rattle.store_rules.specs.Views.{Matches, OnLoan}
 use Rattle.store_rules.specs.declared.Loan.{Loan}
 use Rattle.engines.specs.Engines.{Engine}
 use Rattle.engines.specs.Histories.{State, Visit, done, step}
 use Rattle.engines.specs.Shapes.{Call, setsUp, asks, delivers, returns, others}
+use Rattle.engines.specs.Tells.{lentBy}
 
 -- a block was lent, or a block was taken back
 pub data Note : Type 0 where
-  lent : Loan → Note
+  lent : Block → Note
   back : Block → Note
 
 -- what the answer to an ask or a delivery says of that, and the answer to a return of block b
 abbrev pub lentNote : Said → List Note
-lentNote Paper.ready = []
-lentNote (Paper.block serial chunk offset size) = lent (loan serial chunk offset size) ∷ []
-lentNote (Paper.order store size kind map) = []
-lentNote (Paper.released n) = []
-lentNote Paper.ranked = []
-lentNote (Paper.refusal n given) = []
+lentNote said = map lent (lentBy said)
 
 abbrev pub backNote : Block → Said → List Note
 backNote b Paper.ready = []
 backNote b (Paper.block serial chunk offset size) = []
-backNote b (Paper.order store size kind map) = []
+backNote b (Paper.order store size memtype map) = []
 backNote b (Paper.released n) = back b ∷ []
 backNote b Paper.ranked = []
 backNote b (Paper.refusal n given) = []
@@ -45,25 +40,43 @@ noteOf (delivers o) said = lentNote said
 noteOf (returns b list) said = backNote b said
 noteOf (others c list) said = []
 
--- the blocks lent and not since taken back, where ls were on loan before
-abbrev pub ledger : List Loan → List Note → List Loan
-ledger ls [] = ls
-ledger ls (lent l ∷ ns) = ledger (l ∷ ls) ns
-ledger ls (back b ∷ ns) = ledger (loansLess (b ∷ []) ls) ns
+-- 7: "this serial, chunk, offset and size", of two blocks
+abbrev pub sameBlock : Block → Block → Bool
+sameBlock b c = eqb (c .serial) (b .serial) && (eqb (c .chunk) (b .chunk) && (eqb (c .offset) (b .offset) && eqb (c .size) (b .size)))
+
+-- the blocks with b struck out
+abbrev pub blocksLess : Block → List Block → List Block
+blocksLess b [] = []
+blocksLess b (c ∷ bs) = cond (sameBlock b c) (blocksLess b bs) (c ∷ blocksLess b bs)
+
+-- the blocks lent and not since taken back, where bs were on loan before
+abbrev pub ledger : List Block → List Note → List Block
+ledger bs [] = bs
+ledger bs (lent b ∷ ns) = ledger (b ∷ bs) ns
+ledger bs (back b ∷ ns) = ledger (blocksLess b bs) ns
+
+-- the loans ls are exactly the blocks bs: "A block carries serial, chunk, offset, size."
+pub record Exactly (ls : List Loan) (bs : List Block) : Type 0 where
+  -- a block is on loan exactly when it is one of them
+  pub each : (b : Block) → OnLoan b ls ↔ List·Memᴰ b bs
+  -- every loan is one of them
+  pub every : (l : Loan) → List·Memᴰ l ls → (b : Block) × List·Memᴰ b bs × Matches b l
+  -- and each of them is one loan, not two
+  pub one : (b : Block) (k l : Loan) → List·Memᴰ k ls → List·Memᴰ l ls → Matches b k → Matches b l → k ≡ l
 
 -- no serial stands twice
-abbrev pub NoSerialTwice : List Loan → Type 0
-NoSerialTwice ls = Distinct (map (λ (l : Loan). l .serial) ls)
+abbrev pub NoSerialTwice : List Block → Type 0
+NoSerialTwice bs = Distinct (map (λ (b : Block). b .serial) bs)
 
--- two loans are one, or lie in different chunks, or one ends before the other starts
-abbrev pub NoByteTwice : List Loan → Type 0
-NoByteTwice ls =
-    (k l : Loan) → List·Memᴰ k ls → List·Memᴰ l ls → (k ≡ l → ⊥) → k .chunk ≡ l .chunk
-    → (k .offset + k .size ≤ l .offset) ⊎ (l .offset + l .size ≤ k .offset)
+-- two blocks are one, or lie in different chunks, or one ends before the other starts
+abbrev pub NoByteTwice : List Block → Type 0
+NoByteTwice bs =
+    (b c : Block) → List·Memᴰ b bs → List·Memᴰ c bs → (b ≡ c → ⊥) → b .chunk ≡ c .chunk
+    → (b .offset + b .size ≤ c .offset) ⊎ (c .offset + c .size ≤ b .offset)
 
 -- each serial once, no byte twice
-abbrev pub Fine : List Loan → Type 0
-Fine ls = NoSerialTwice ls × NoByteTwice ls
+abbrev pub Fine : List Block → Type 0
+Fine bs = NoSerialTwice bs × NoByteTwice bs
 
 -- K names the engines
 module _ (K : Type 0) (E : K → Engine) where

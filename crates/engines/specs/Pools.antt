@@ -1,5 +1,5 @@
 -- Tables lent in any mixture: every call names five tables of a pool, and nothing binds those of one call to those of another.
--- 01, demand 1: "A block returned to its store again .. is never taken". Assumes nothing: these are definitions.
+-- 01, demand 1: "A block returned to its store again .. is never taken".
 use mathlib.Core.Path.{_≡_}
 use mathlib.Core.Bool.{cond}
 use mathlib.Core.List.{List, [], _∷_, _++_}

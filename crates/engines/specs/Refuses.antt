@@ -1,5 +1,4 @@
--- Demand 1 of an engine: each number is given exactly when, and a refusal leaves all as it was but for what 01 lists. Assumes
--- nothing: these are definitions.
+-- Demand 1 of an engine: each number is given exactly when, and a refusal leaves all as it was but for what 01 lists.
 use mathlib.Core.Path.{_≡_}
 use mathlib.Core.Logic.{_⊎_, _↔_}
 use mathlib.Core.List.{List, []}
@@ -14,7 +13,7 @@ use Rattle.counter.specs.declared.answers.Block.{Block}
 use Rattle.counter.specs.declared.answers.Outcome.{Outcome}
 use Rattle.store_rules.specs.Outcomes.{out, listed}
 use Rattle.store_rules.specs.Refusals.{lostFor}
-use Rattle.store_rules.specs.Rows.{gateRows, listRows, keptRows, setUpRows, askRows, deliverRows, returnRows}
+use Rattle.store_rules.specs.Rows.{gateRows, keptRows, setUpRows, askRows, deliverRows, returnRows}
 use Rattle.engines.specs.Shapes.{Lent, Call, setsUp, Shape, does, Marked, lentList, wordsOf}
 
 pub record Refuses (E : Shape) : Type 0 where
@@ -27,7 +26,7 @@ pub record Refuses (E : Shape) : Type 0 where
   pub return-refused : (s : E .Settings) (a : Account) (b : Block) (t : Lent) (list : List ℕ) (n : ℕ)
       → (E .return s a b t list .said ≡ Paper.refusal n []) ↔ Given (returnRows (wordsOf E) s a b t list) n
   pub other-refused : (s : E .Settings) (a : Account) (c : E .Own) (t : Lent) (list : List ℕ) (n : ℕ)
-      → (E .other s a c t list .said ≡ Paper.refusal n []) ↔ Given (listRows (wordsOf E) s a t list) n
+      → (E .other s a c t list .said ≡ Paper.refusal n []) ↔ Given (E .ownRows s a c t list) n
   -- the tests 1 to 4 of an ask and of a delivery pass exactly when none of those rows' words hold
   pub gate-clear : (s : E .Settings) (a : Account) (t : Lent) → (E .gate s a t ≡ pass) ↔ Clear (gateRows (wordsOf E) s a t)
   pub deliver-clear : (s : E .Settings) (a : Account) (t : Lent) → (E .deliverGate s a t ≡ pass) ↔ Clear (keptRows (wordsOf E) s a t)
@@ -47,7 +46,7 @@ pub record Refuses (E : Shape) : Type 0 where
       → (E .ask s a size mask t .account ≡ a) × (E .view s (E .ask s a size mask t .tables) ≡ E .view s t)
   pub lost-leaves : (s : E .Settings) (a : Account) (o : Outcome) (t : Lent) (k : KeptOrder) (n : ℕ) (back : List ℕ) → a .order ≡ Kept k → E .deliver s a o t .said ≡ Paper.refusal n back
       → (n ≡ 11) ⊎ (n ≡ 12)
-      → (E .deliver s a o t .account ≡ lostFor (E .kind) (E .store s) a k o) × (E .view s (E .deliver s a o t .tables) ≡ E .view s t)
+      → (E .deliver s a o t .account ≡ lostFor (E .engine) (E .store s) a k o) × (E .view s (E .deliver s a o t .tables) ≡ E .view s t)
   -- on tables that another engine set up each call but set-up is refused, by 1, 2 or 3, and leaves everything
   pub foreign : (s : E .Settings) (a : Account) (t : Lent) (c : Call (E .Own)) → (c ≡ setsUp → ⊥) → (Marked E t → ⊥)
       → (n : ℕ) × (does E s a t c ≡ listed (Paper.refusal n []) a t (lentList c)) × (0 < n) × (n ≤ 3)

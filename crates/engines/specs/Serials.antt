@@ -1,5 +1,5 @@
 -- Serials of an engine's blocks. 01: "Serials count up from 1 in a store and are never used twice; a store set up anew is
--- another." Demand 1: "A block returned to its store again .. is never taken". Assumes nothing: these are definitions.
+-- another." Demand 1: "A block returned to its store again .. is never taken".
 use mathlib.Core.Path.{_≡_}
 use mathlib.Core.Logic.{_⊎_}
 use mathlib.Core.List.{List, [], _∷_}
@@ -20,7 +20,7 @@ use Rattle.engines.specs.Shapes.{Lent, Call, setsUp, Shape, does, Marked
 abbrev pub serialSaid : Said → List ℕ
 serialSaid Paper.ready = []
 serialSaid (Paper.block serial chunk offset size) = serial ∷ []
-serialSaid (Paper.order store size kind map) = []
+serialSaid (Paper.order store size memtype map) = []
 serialSaid (Paper.released n) = []
 serialSaid Paper.ranked = []
 serialSaid (Paper.refusal n back) = []

@@ -1,11 +1,11 @@
--- What an engine is: its calls as functions, and what its tables say. 01, "What one store holds". Assumes nothing: these are
--- definitions.
+-- What an engine is: its calls as functions, and what its tables say. 01, "What one store holds".
 use mathlib.Core.Path.{_≡_}
 use mathlib.Core.List.{List, []}
 use Prim.Native.Nat.{ℕ}
 use lib.ListN.{getD}
 use Rattle.counter.specs.Gate.{Verdict}
 use Rattle.counter.specs.Paper.{Said}
+use Rattle.counter.specs.Reasons.{Reasons}
 use Rattle.counter.specs.declared.account.Account.{Account}
 use Rattle.counter.specs.declared.answers.Block.{Block}
 use Rattle.counter.specs.declared.answers.Outcome.{Outcome}
@@ -55,7 +55,7 @@ pub record Shape : Type 1 where
   pub return : Settings → Account → Block → Lent → List ℕ → Listed Lent
   pub other : Settings → Account → Own → Lent → List ℕ → Listed Lent
   -- ---- which of 01's engines it is: that decides what becomes of memory that was not mapped
-  pub kind : Engine
+  pub engine : Engine
   -- ---- what its tables say: its mark, how many serials were given, the loans; blocks on loan, held chunks and free pieces
   pub mark : ℕ
   pub given : Lent → ℕ
@@ -70,13 +70,15 @@ pub record Shape : Type 1 where
   pub Sound : Settings → Lent → Type 0
   pub Needed : Settings → ℕ → ℕ → Lent → Type 0
   pub orderSize : Settings → ℕ → ℕ → Lent → ℕ
-  -- ---- the words of 01's rows that are an engine's own; the rest is said once, in Rows. 1: settings and tables at set-up, and
-  -- these and the account at any other call; 6: the size; 8 and 10: what it may run out of besides
+  -- ---- the words of 01's rows that are an engine's own; the rest is said once, in Rows. 1: settings and tables; 5: a mask of the
+  -- allowed form that it does not take; 6: the size; 8 and 10: what it may run out of besides
   pub Fits : Settings → Lent → Type 0
-  pub InTable : Settings → Account → Lent → Type 0
+  pub MaskHigh : Settings → ℕ → Type 0
   pub SizeOff : Settings → ℕ → ℕ → Type 0
   pub Roomless : Settings → ℕ → ℕ → Lent → Type 0
   pub Numberless : Settings → Lent → Type 0
+  -- the rows of a call that only this engine has
+  pub ownRows : Settings → Account → Own → Lent → List ℕ → Reasons
   -- ---- the tests 1 to 4 of an ask, and of a delivery
   pub gate : Settings → Account → Lent → Verdict
   pub deliverGate : Settings → Account → Lent → Verdict
@@ -96,7 +98,7 @@ wordsOf E =
       Needed = E .Needed;
       orderSize = E .orderSize;
       Fits = E .Fits;
-      InTable = E .InTable;
+      MaskHigh = E .MaskHigh;
       SizeOff = E .SizeOff;
       Roomless = E .Roomless;
       Numberless = E .Numberless;

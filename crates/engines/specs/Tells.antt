@@ -1,6 +1,5 @@
 -- What the answers tell of the loans and of the held chunks: every block that is on loan was told, and no call but an ask, a
 -- delivery, a return that is taken and a set-up changes them. 01: "A block carries serial, chunk, offset, size."
--- Assumes nothing: these are definitions.
 use mathlib.Core.Path.{_≡_}
 use mathlib.Core.Bool.{Bool}
 use mathlib.Core.Logic.{_⊎_, _↔_}
@@ -15,17 +14,16 @@ use Rattle.counter.specs.declared.answers.Block.{Block}
 use Rattle.counter.specs.declared.answers.Memory.{Memory}
 use Rattle.counter.specs.declared.answers.Outcome.{Outcome}
 use Rattle.counter.specs.declared.answers.Outcome.the-variants as O
-use Rattle.store_rules.specs.Loans.{loan}
-use Rattle.store_rules.specs.Views.{chunk}
+use Rattle.store_rules.specs.Views.{chunk, block, Matches}
 use Rattle.store_rules.specs.declared.Chunk.{Chunk}
 use Rattle.store_rules.specs.declared.Loan.{Loan}
 use Rattle.engines.specs.Shapes.{Lent, Shape}
 
--- the loan of a block that is told
-abbrev pub lentBy : Said → List Loan
+-- the block that is told
+abbrev pub lentBy : Said → List Block
 lentBy Paper.ready = []
-lentBy (Paper.block serial chunk offset size) = loan serial chunk offset size ∷ []
-lentBy (Paper.order store size kind map) = []
+lentBy (Paper.block serial chunk offset size) = block serial chunk offset size ∷ []
+lentBy (Paper.order store size memtype map) = []
 lentBy (Paper.released n) = []
 lentBy Paper.ranked = []
 lentBy (Paper.refusal n back) = []
@@ -34,9 +32,10 @@ lentBy (Paper.refusal n back) = []
 abbrev pub Same : List Loan → List Loan → Type 0
 Same ks ls = (l : Loan) → List·Memᴰ l ks ↔ List·Memᴰ l ls
 
--- those of ls, and those of ns
-abbrev pub Joined : List Loan → List Loan → List Loan → Type 0
-Joined ks ls ns = (l : Loan) → List·Memᴰ l ks ↔ (List·Memᴰ l ls ⊎ List·Memᴰ l ns)
+-- those of ls, and for each told block one loan more, with its serial, chunk, offset and size
+abbrev pub Joined : List Loan → List Loan → List Block → Type 0
+Joined ks ls [] = Same ks ls
+Joined ks ls (b ∷ bs) = (n : Loan) × Matches b n × Joined ks (n ∷ ls) bs
 
 -- ---- the forms of answers
 
@@ -44,7 +43,7 @@ abbrev pub Blocked : Said → Type 0
 Blocked x = (serial : ℕ) × (number : ℕ) × (offset : ℕ) × (len : ℕ) × (x ≡ Paper.block serial number offset len)
 
 abbrev pub Ordered : Said → Type 0
-Ordered x = (store : ℕ) × (size : ℕ) × (kind : ℕ) × (map : Bool) × (x ≡ Paper.order store size kind map)
+Ordered x = (store : ℕ) × (size : ℕ) × (memtype : ℕ) × (map : Bool) × (x ≡ Paper.order store size memtype map)
 
 abbrev pub Released : Said → Type 0
 Released x = (n : ℕ) × (x ≡ Paper.released n)
@@ -62,7 +61,7 @@ pub record Tells (E : Shape) : Type 0 where
   pub other-says : (s : E .Settings) (a : Account) (c : E .Own) (t : Lent) (list : List ℕ) → Released (E .other s a c t list .said) ⊎ Refused (E .other s a c t list .said)
   -- a store set up has no loan
   pub fresh : (s : E .Settings) (t : Lent) → E .setUp s t .said ≡ Paper.ready → E .loans (E .setUp s t .tables) ≡ []
-  -- an ask and a delivery that lend a block add its loan, and whatever else they say they leave the loans
+  -- an ask and a delivery that lend a block add one loan, which matches it, and whatever else they say they leave the loans
   pub ask-loans : (s : E .Settings) (a : Account) (size mask : ℕ) (t : Lent)
       → Joined (E .loans (E .ask s a size mask t .tables)) (E .loans t) (lentBy (E .ask s a size mask t .said))
   pub deliver-loans : (s : E .Settings) (a : Account) (o : Outcome) (t : Lent)

@@ -1,13 +1,16 @@
 -- Where an ask comes to an order there is room for its chunk, the chunk's region can be lent from, and the loan entered in the
--- book. Assumes nothing.
-use mathlib.Core.Path.{_≡_, _∙_}
+-- book.
+use mathlib.Core.Path.{_≡_, refl, sym, ap, subst, _∙_}
 use mathlib.Core.Bool.{true}
 use mathlib.Core.List.{List, [], _∷_, _++_}
-use Prim.Native.Nat.{ℕ, _+_, _≤_, _<_}
+use Prim.Native.Nat.{ℕ, _+_, _-_, _≤_, _<_}
 use native.Mathlib.Omega.{arith}
 use lib.ListN.{length, getD, set, length-append}
 use lib.Seq.{getD-set-other}
 use Rattle.rounding_rules.specs.Growth.{doubled}
+use Rattle.rounding_rules.proofs.Raising.{down-enough}
+use Rattle.slab.specs.declared.Taken.{Taken}
+use Rattle.counter.specs.declared.account.KeptOrder.{KeptOrder}
 use Rattle.counter.specs.InTable.{FreeListIn}
 use Rattle.counter.specs.declared.account.Heap.{Heap}
 use Rattle.counter.specs.declared.settings.FreeListSettings.{FreeListSettings}
@@ -16,17 +19,29 @@ use Rattle.store_rules.specs.Orders.{buy}
 use Rattle.book_rules.specs.Book.{takenOf}
 use Rattle.book_rules.specs.Ready.{Opens}
 use Rattle.freelist_rules.specs.Records.{region}
-use Rattle.freelist_rules.specs.Place.{nowhere}
-use Rattle.freelist_rules.specs.Tables.{Tables, givenAt, madeAt, chunkSizeAt, placesAt, chunksAt, regionsMost, countAt, lengthsOk, placesIn, chunksIn, regionsIn, storeOf, SoundTables, laidRegions}
+use Rattle.freelist_rules.specs.Place.{nowhere, cut}
+use Rattle.freelist_rules.specs.Steps.{noRegion}
+use Rattle.freelist_rules.specs.Tables.{Tables, givenAt, madeAt, chunkSizeAt, placesAt, chunksAt, regionsMost, regionCountAt, lengthsOk, placesIn, chunksIn, regionsIn, storeOf, SoundTables, laidRegions, regionsOf}
 use Rattle.store_rules.specs.declared.Region.{Region}
-use Rattle.freelist_rules.proofs.Fits.{lengths-are, regions-fit, regions-length, chunks-length, loans-few, laid-fit, laid-count}
+use Rattle.freelist_rules.proofs.Fits.{lengths-are, regions-fit, regions-length, chunks-length, loans-few, laid-fit, laid-count, laid-regions}
 use Rattle.freelist_rules.proofs.Meaning.{room-enough}
 use Rattle.freelist_outcomes.specs.Ask.{decideAsk}
 use Rattle.freelist_outcomes.specs.Deliver.{deliveredTables}
-use Rattle.freelist_outcomes.proofs.Plans.{size-most, not-spent, buy-held, chunk-place, chunk-number}
+use Rattle.freelist_outcomes.proofs.Plans.{not-spent, buy-held, chunk-place, chunk-number}
 use Rattle.freelist_outcomes.proofs.Comes.{buys-bought}
+use Rattle.freelist_outcomes.proofs.Arrives.{order-enough}
+use Rattle.freelist_regions.proofs.Asking.{both-ones}
+use Rattle.freelist_decide.specs.Plans.{Planned}
+use Rattle.freelist_decide.specs.declared.deciding.Buying.{Buying}
+use Rattle.freelist_decide.specs.declared.deciding.Plan.the-variants.{Buy}
 use Rattle.freelist_place.specs.Ready.{Lends, Adds}
+use Rattle.freelist.specs.Carries.{Keeps}
 use Rattle.freelist.proofs.Lending.{opens-below}
+
+-- the last of a list
+last-at : {A : Type 0} (xs : List A) (x d : A) → getD (xs ++ (x ∷ [])) (length xs) d ≡ x
+last-at [] x d = refl
+last-at (y ∷ xs) x d = last-at xs x d
 
 -- a chunk added writes no other words of the head than its own three
 module _ (s : FreeListSettings) (memory z : ℕ) (t : Tables) where
@@ -79,16 +94,47 @@ module _ (s : FreeListSettings) (h : Heap) (objects size mask : ℕ) (t : Tables
     after-room = omega (arith, after-length, regions-length s t, room)
 
     -- the chunk's region is the last
-    pub delivered-ready : Lends s size mask (length (storeOf s t .regions)) (deliveredTables s memory z t .head) (deliveredTables s memory z t .regions)
+    last-region : getD (regionsOf s (deliveredTables s memory z t .regions)) (length (storeOf s t .regions)) noRegion ≡ region (storeOf s t .made + 1) 0 z
     unfolding deliveredTables
-    delivered-ready =
+    last-region =
+        ap (λ (rs : List Region). getD rs (length (storeOf s t .regions)) noRegion) (laid-regions s after (t .regions) (regions-fit s t fit lengths sound) after-room)
+        ∙ last-at (storeOf s t .regions) (region (storeOf s t .made + 1) 0 z) noRegion
+
+    pub delivered-ready : (n m : ℕ) (k : Taken) → k ≡ takenOf (placesIn t) (t .index)
+        → Lends s (length (storeOf s t .regions)) (cut m n (region 0 0 z)) (k .place) (deliveredTables s memory z t .head) (t .loans) (deliveredTables s memory z t .regions) (t .index)
+    unfolding deliveredTables
+    delivered-ready n m k g =
         let w = buy-held s h objects size mask t z order .2 in
         let old = regions-fit s t fit lengths sound in
-        let count : getD (laidRegions s after (t .regions)) (countAt s) 0 ≡ length after = laid-count s after (t .regions) old after-room in
+        let count : getD (laidRegions s after (t .regions)) (regionCountAt s) 0 ≡ length after = laid-count s after (t .regions) old after-room in
         record {
           fit = laid-fit s after (t .regions) old after-room;
-          aligned = alignment-yes mask (w .0);
-          size-most = size-most s size (w .1 .0);
           here = omega (arith, count, after-length);
+          within = omega (arith, down-enough (z - n) m, ap (λ (r : Region). r .end) last-region);
           serial = omega (arith, given-stays s memory z t, not-spent s h size t nowhere (w .1 .1 .1 .0));
+          opens = subst (λ (x : Taken). Opens (s .store .loans) (x .place) (t .loans) (t .index)) (sym g) ordered-opens;
         }
+
+-- the region of a chunk that is added is the last
+pub delivered-last : (s : FreeListSettings) (memory z : ℕ) (t : Tables) → Adds s (t .head) (t .chunks) (t .regions)
+    → getD (regionsOf s (deliveredTables s memory z t .regions)) (length (storeOf s t .regions)) noRegion ≡ region (storeOf s t .made + 1) 0 z
+unfolding deliveredTables
+delivered-last s memory z t adds =
+    let last = region (storeOf s t .made + 1) 0 z in
+    let after = storeOf s t .regions ++ (last ∷ []) in
+    let room : length after ≤ regionsMost s = omega (arith, length-append (storeOf s t .regions) (last ∷ []), regions-length s t, adds .room) in
+    ap (λ (rs : List Region). getD rs (length (storeOf s t .regions)) noRegion) (laid-regions s after (t .regions) (adds .fit) room)
+    ∙ last-at (storeOf s t .regions) last noRegion
+
+-- with the numbers that the plan carries
+module _ (s : FreeListSettings) (t : Tables) (fit : FreeListIn s) (lengths : lengthsOk s t ≡ true) (sound : SoundTables s t) (memory : ℕ) (k : KeptOrder) (b : Buying) where
+  pub keeps-ready : (h : Heap) (objects : ℕ) → decideAsk s h objects (k .ask .size) (k .ask .mask) t ≡ buy (k .order .size) → Planned s (k .ask .size) (k .ask .mask) t (Buy b) → Keeps s k memory b t
+  keeps-ready h objects order p =
+      let w = buys-bought s h objects (k .ask .size) (k .ask .mask) t (k .order .size) order in
+      record {
+        planned = p;
+        aligned = both-ones s fit (k .ask .mask) (b .mask) (alignment-yes (k .ask .mask) (w .1 .aligned)) (p .1);
+        small = omega (arith, p .0, w .0, order-enough s fit t sound (k .ask .size) (w .1 .most));
+        adds = adds-ready s h objects (k .ask .size) (k .ask .mask) t fit lengths sound (k .order .size) order;
+        lends = delivered-ready s h objects (k .ask .size) (k .ask .mask) t fit lengths sound (k .order .size) order memory (b .size) (b .mask) (b .loan) (p .2);
+      }

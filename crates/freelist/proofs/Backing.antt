@@ -1,4 +1,4 @@
--- A block that is on loan may go back among the free regions, and its loan can be struck out of the book. Assumes nothing.
+-- A block that is on loan may go back among the free regions, and its loan can be struck out of the book.
 use mathlib.Core.Path.{_≡_, refl, subst}
 use mathlib.Core.Bool.{true}
 use mathlib.Core.List.{List, [], _∷_}

@@ -1,22 +1,25 @@
--- Where an ask comes to a region that serves, that region can be lent from, and the loan entered in the book. Assumes nothing.
-use mathlib.Core.Path.{_≡_}
+-- Where an ask comes to a region that serves, that region can be lent from, and the loan entered in the book.
+use mathlib.Core.Path.{_≡_, sym, subst}
 use mathlib.Core.Bool.{true}
-use Prim.Native.Nat.{ℕ, _<_}
+use Prim.Native.Nat.{ℕ, _-_, _<_}
 use native.Mathlib.Omega.{arith}
+use lib.ListN.{getD}
+use Rattle.rounding_rules.proofs.Raising.{down-enough}
 use Rattle.counter.specs.InTable.{FreeListIn}
 use Rattle.counter.specs.declared.account.Heap.{Heap}
 use Rattle.counter.specs.declared.settings.FreeListSettings.{FreeListSettings}
-use Rattle.counter.proofs.Tables.{alignment-yes}
+use Rattle.slab.specs.declared.Taken.{Taken}
+use Rattle.store_rules.specs.declared.Region.{Region}
 use Rattle.store_rules.specs.Orders.{take}
 use Rattle.book_rules.specs.Book.{takenOf}
 use Rattle.book_rules.specs.Ready.{Opens}
 use Rattle.freelist_rules.specs.Place.{at, sizeFor, maskFor}
 use Rattle.freelist_rules.specs.Steps.{noRegion}
-use Rattle.freelist_rules.specs.Tables.{Tables, lengthsOk, placesIn, storeOf, SoundTables}
+use Rattle.freelist_rules.specs.Tables.{Tables, lengthsOk, placesIn, storeOf, SoundTables, regionsOf}
 use Rattle.freelist_rules.proofs.Fits.{lengths-are, regions-length, regions-fit}
 use Rattle.freelist_rules.proofs.Search.{find-fits}
-use Rattle.freelist_outcomes.specs.Ask.{decideAsk}
-use Rattle.freelist_outcomes.proofs.Plans.{size-most, not-spent, take-is}
+use Rattle.freelist_outcomes.specs.Ask.{decideAsk, blockAt}
+use Rattle.freelist_outcomes.proofs.Plans.{not-spent, take-is}
 use Rattle.freelist_outcomes.proofs.Comes.{takes-serves}
 use Rattle.freelist_place.specs.Ready.{Lends}
 
@@ -33,17 +36,18 @@ opens-below s t fit lengths p below =
     }
 
 module _ (s : FreeListSettings) (h : Heap) (objects size mask : ℕ) (t : Tables) where
-  pub lends-ready : FreeListIn s → lengthsOk s t ≡ true → SoundTables s t → (i : ℕ) → decideAsk s h objects size mask t ≡ take i → Lends s size mask i (t .head) (t .regions)
-  lends-ready fit lengths sound i e =
+  pub lends-ready : FreeListIn s → lengthsOk s t ≡ true → SoundTables s t → (i start : ℕ) (k : Taken) → decideAsk s h objects size mask t ≡ take i
+      → start ≡ blockAt s size mask t i .start → k ≡ takenOf (placesIn t) (t .index) → Lends s i start (k .place) (t .head) (t .loans) (t .regions) (t .index)
+  unfolding storeOf
+  lends-ready fit lengths sound i start k e f g =
       let w = take-is s h objects size mask t i e in
-      let r = w .1 in
+      let r : Region = getD (regionsOf s (t .regions)) i noRegion in
       record {
         fit = regions-fit s t fit lengths sound;
-        aligned = alignment-yes mask (r .0);
-        size-most = size-most s size (r .1 .0);
         here = omega (arith, find-fits (maskFor s mask) (sizeFor s size) i (storeOf s t .regions) noRegion (w .0) .0, regions-length s t);
-        serial = not-spent s h size t (at i) (r .1 .1 .1 .0);
+        within = omega (arith, f, down-enough (r .end - sizeFor s size) (maskFor s mask));
+        serial = not-spent s h size t (at i) (w .1 .1 .1 .1 .0);
+        opens =
+            subst (λ (x : Taken). Opens (s .store .loans) (x .place) (t .loans) (t .index)) (sym g)
+            (opens-below s t fit lengths (takenOf (placesIn t) (t .index) .place) (takes-serves s h objects size mask t i e .place));
       }
-
-  pub opens-ready : FreeListIn s → lengthsOk s t ≡ true → (i : ℕ) → decideAsk s h objects size mask t ≡ take i → Opens (s .store .loans) (takenOf (placesIn t) (t .index) .place) (t .loans) (t .index)
-  opens-ready fit lengths i e = opens-below s t fit lengths (takenOf (placesIn t) (t .index) .place) (takes-serves s h objects size mask t i e .place)

@@ -1,8 +1,10 @@
 pub mod Adding
-pub mod Arrivals
+pub mod Arriving
+pub mod Asking
 pub mod Backing
 pub mod Fresh
 pub mod Lending
 pub mod Planned
 pub mod Releasing
+pub mod Returning
 pub mod Wholes

@@ -1,25 +1,34 @@
--- An ask's and a return's plan are what follows the gate. Assumes nothing.
+-- A call's plan is what follows its gate.
 use mathlib.Core.Path.{_≡_, refl, sym, ap, _∙_}
 use mathlib.Core.Bool.{Bool, true}
 use mathlib.Core.List.{List, []}
-use Prim.Native.Nat.{ℕ}
-use lib.ListN.{getD}
+use Prim.Native.Nat.{ℕ, _≤_}
+use native.Mathlib.Omega.{arith}
 use Rattle.counter.specs.Account.{heapAt}
-use Rattle.counter.specs.Gate.{Verdict, pass, refuse, first}
+use Rattle.counter.specs.Gate.{Verdict, pass, refuse}
 use Rattle.counter.specs.declared.account.Account.{Account}
 use Rattle.counter.specs.declared.account.Heap.{Heap}
 use Rattle.counter.specs.declared.answers.Block.{Block}
 use Rattle.counter.specs.declared.settings.FreeListSettings.{FreeListSettings}
 use Rattle.store_rules.specs.Orders.{Plan, deny}
-use Rattle.store_rules.specs.Shares.{holding, orderBy, holder}
+use Rattle.store_rules.proofs.Holders.{holding, orderBy, holder}
 use Rattle.store_rules.specs.declared.Share.{Share}
 use Rattle.store_rules.proofs.Shares.{held-heap}
 use Rattle.book_rules.specs.Returns as Returns
-use Rattle.freelist_rules.specs.Place.{Found, nowhere, at}
-use Rattle.freelist_rules.specs.Tables.{Tables, tables, placesIn, storeOf, givenAt}
+use Rattle.freelist_rules.specs.Tables.{Tables, tables, placesIn, chunksIn, storeOf}
 use Rattle.freelist_outcomes.specs.Gate.{gateOf}
-use Rattle.freelist_outcomes.specs.Return.{onLoanOk, decideReturn, planReturn}
-use Rattle.freelist_outcomes.specs.Ask.{roomOk, countOk, objectsOk, foundFor, askRow, planned, decideAsk, planAsk}
+use Rattle.freelist_outcomes.specs.Return.{decideReturn, planReturn}
+use Rattle.freelist_outcomes.specs.Ask.{decideAsk, planAsk}
+use Rattle.freelist_outcomes.specs.Deliver as Deliver
+use Rattle.freelist_outcomes.specs.Deliver.{deliverGateOf, decideDeliver, planDeliver}
+use Rattle.freelist_rules.specs.Records.{chunkRow}
+use Rattle.freelist_rules.specs.Walk.{memories}
+use Rattle.words.specs.Rows.{rows}
+use Rattle.counter.specs.InTable.{FreeListIn}
+use Rattle.counter.specs.Limits.{loansMost}
+use Rattle.counter.specs.declared.account.OpenOrder.{OpenOrder}
+use Rattle.counter.specs.declared.answers.Outcome.{Outcome}
+use Rattle.freelist_decide.proofs.Few.{ask-few, return-few}
 use Rattle.freelist_outcomes.proofs.Passing.{gate-passed}
 
 module _ (s : FreeListSettings) (a : Account) (t : Tables) where
@@ -28,22 +37,6 @@ module _ (s : FreeListSettings) (a : Account) (t : Tables) where
   pub ask-shut : (size mask n : ℕ) → refuse n ≡ gateOf s a t true → deny n ≡ planAsk s a size mask t
   unfolding planAsk
   ask-shut size mask n e = rw (sym e) refl
-
--- ---- an ask is decided by head, regions and index alone
-
-module _ (s : FreeListSettings) (h : Heap) (objects size mask : ℕ) (t : Tables) where
-  abbrev few : Tables
-  few = tables (t .head) [] [] (t .regions) (t .index)
-
-  same : (f : Found) (v : Verdict) → planned s size few f v ≡ planned s size t f v
-  unfolding storeOf
-  same f (refuse n) = refl
-  same (at i) pass = refl
-  same nowhere pass = refl
-
-  pub ask-few : decideAsk s h objects size mask few ≡ decideAsk s h objects size mask t
-  unfolding decideAsk roomOk countOk objectsOk storeOf
-  ask-few = same (foundFor s size mask t) (first (askRow s h objects size mask t (foundFor s size mask t)))
 
 module _ (s : FreeListSettings) (size mask : ℕ) (head loans chunks regions index : List ℕ) where
   abbrev now : Tables
@@ -62,7 +55,7 @@ module _ (s : FreeListSettings) (size mask : ℕ) (head loans chunks regions ind
   unfolding holding
   ask-go h p g e =
       let below = gate-passed s (holder (s .store) h) now true g .settings .store .heap in
-      went (holder (s .store) h) (h .heap) p g (sym (held-heap (s .store) h (orderBy (h .free)) below)) e
+      went (holder (s .store) h) (h .heap) p g (sym (held-heap (s .store) h (orderBy (h .idle)) below)) e
 
 -- ---- a return
 
@@ -71,7 +64,29 @@ module _ (s : FreeListSettings) (a : Account) (b : Block) (t : Tables) (list : B
   unfolding planReturn
   return-shut n e = rw (sym e) refl
 
-  pub return-go : (places given : ℕ) (p : Returns.Plan) → pass ≡ gateOf s a t list → places ≡ placesIn t → given ≡ getD (t .head) givenAt 0
-      → p ≡ Returns.decideReturn (t .loans) (t .index) (s .store .loans) places given b → p ≡ planReturn s a b t list
-  unfolding planReturn decideReturn onLoanOk
-  return-go places given p e f g d = d ∙ (λ j. Returns.decideReturn (t .loans) (t .index) (s .store .loans) (f j) (g j) b) ∙ rw (sym e) refl
+  pub return-go : (p : Returns.Plan) → pass ≡ gateOf s a t list → p ≡ decideReturn s b (tables (t .head) (t .loans) [] [] (t .index)) → p ≡ planReturn s a b t list
+  unfolding planReturn
+  return-go p e d = d ∙ return-few s b t ∙ rw (sym e) refl
+
+  -- a sound book has no more places than it may
+  pub places-few : pass ≡ gateOf s a t list → FreeListIn s × (placesIn t ≤ loansMost)
+  places-few e =
+      let p = gate-passed s a t list e in
+      (p .settings, omega (arith, p .sound .parted .limit, p .settings .store .loans-most))
+
+-- ---- a delivery
+
+module _ (s : FreeListSettings) (a : Account) (o : Outcome) (t : Tables) where
+  pub plan-shut : (v : Verdict) (n : ℕ) → v ≡ refuse n → v ≡ deliverGateOf s a t → Deliver.deny n ≡ planDeliver s a o t
+  unfolding planDeliver
+  plan-shut v n e f = rw (sym f ∙ e) refl
+
+  delivered : (v : Verdict) (p : Deliver.Arrival) → v ≡ pass → v ≡ deliverGateOf s a t → p ≡ decideDeliver o (memories (rows chunkRow (chunksIn t) (t .chunks))) (a .order) → p ≡ planDeliver s a o t
+  unfolding planDeliver storeOf
+  delivered v p e f g = g ∙ rw (sym f ∙ e) refl
+
+pub plan-go : (s : FreeListSettings) (h : Share) (order : OpenOrder) (o : Outcome) (t : Tables) (v : Verdict) (p : Deliver.Arrival) → v ≡ pass
+    → v ≡ deliverGateOf s (holding (s .store) h order) t → p ≡ decideDeliver o (memories (rows chunkRow (chunksIn t) (t .chunks))) order
+    → p ≡ planDeliver s (holding (s .store) h order) o t
+unfolding holding
+plan-go s h order o t v p e f g = delivered s (holding (s .store) h order) o t v p e f g

@@ -1,5 +1,5 @@
 -- A sound store's chunks and regions can be released, also when a block on loan has gone back, and the device objects that
--- are then allowed stay within their limit. Assumes nothing.
+-- are then allowed stay within their limit.
 use mathlib.Core.Path.{_≡_, refl, sym, ap, subst, _∙_}
 use mathlib.Core.Bool.{Bool, true}
 use mathlib.Core.List.{List}

@@ -1,4 +1,4 @@
--- A call told of the store's share of an account does to that account what the call is defined to do. Assumes nothing.
+-- A call told of the store's share of an account does to that account what the call is defined to do.
 use mathlib.Core.Path.{_≡_, refl, sym, subst, _∙_}
 use mathlib.Core.List.{List}
 use Prim.Native.Nat.{ℕ}
@@ -11,7 +11,9 @@ use Rattle.counter.specs.declared.answers.Outcome.{Outcome}
 use Rattle.counter.specs.declared.answers.ReleaseAnswer.{ReleaseAnswer}
 use Rattle.counter.specs.declared.settings.FreeListSettings.{FreeListSettings}
 use Rattle.store_rules.specs.Outcomes.{out, Listed, listed}
-use Rattle.store_rules.specs.Shares.{shareOf, withShare, holding, holder, askLeft, Alike, overListed}
+use Rattle.store_rules.specs.Shares.{shareOf, withShare, askLeft}
+use Rattle.store_rules.specs.Alike.{Alike, overListed}
+use Rattle.store_rules.proofs.Holders.{holding, holder}
 use Rattle.store_rules.specs.declared.DeliveredShare.{DeliveredShare}
 use Rattle.store_rules.specs.declared.ReleasedShare.{ReleasedShare}
 use Rattle.store_rules.specs.declared.Share.{Share}

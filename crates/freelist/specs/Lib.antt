@@ -1,2 +1,1 @@
-pub mod Comings
-pub mod calls
+pub mod Carries

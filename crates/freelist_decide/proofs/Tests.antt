@@ -1,5 +1,5 @@
--- An ask's tests in the code's order come to the plan that is defined. Assumes nothing.
-use mathlib.Core.Path.{_≡_, refl, sym, ap, _∙_}
+-- An ask's tests in the code's order come to the plan that is defined.
+use mathlib.Core.Path.{_≡_, refl, sym, ap, subst, _∙_}
 use mathlib.Core.Bool.{Bool, true, false, _&&_}
 use mathlib.Core.List.{List, [], _∷_}
 use Prim.Native.Nat.{ℕ, _<_}
@@ -13,14 +13,21 @@ use Rattle.counter.specs.Table.{alignmentOk}
 use Rattle.counter.specs.declared.account.Heap.{Heap}
 use Rattle.counter.specs.declared.settings.FreeListSettings.{FreeListSettings}
 use Rattle.heap.specs.Heap.{bearsOk}
+use Rattle.slab.specs.declared.Taken as Next
 use Rattle.store_rules.specs.Orders.{Plan, deny, take, buy}
 use Rattle.book_rules.specs.Book.{takenOf}
 use Rattle.freelist_rules.specs.Records.{regionRow}
-use Rattle.freelist_rules.specs.Place.{Found, nowhere, at, find, sizeFor, maskFor}
-use Rattle.freelist_rules.specs.Tables.{Tables, tables, givenAt, madeAt, chunkSizeAt, placesAt, chunksAt, countAt, storeOf}
-use Rattle.freelist_outcomes.specs.Ask.{sizeOk, roomOk, countOk, objectsOk, lateRow, planned, foundFor, decideAsk}
+use Rattle.freelist_rules.specs.Place.{Found, nowhere, at, find, cut, sizeFor, maskFor}
+use Rattle.freelist_rules.specs.Steps.{noRegion}
+use Rattle.freelist_rules.specs.Tables.{Tables, tables, givenAt, madeAt, chunkSizeAt, placesAt, chunksAt, regionCountAt, storeOf}
+use Rattle.freelist_outcomes.specs.Ask.{sizeOk, roomOk, countOk, objectsOk, lateRow, planned, foundFor, decideAsk, blockAt}
 use Rattle.words.specs.Rows.{rows}
 use Rattle.counter.specs.Limits.{spent}
+use Rattle.freelist_regions.specs.Found.{Starts}
+use Rattle.freelist_regions.specs.declared.search.Found as Regions
+use Rattle.freelist_regions.specs.declared.search.Found.the-variants.{At}
+use Rattle.freelist_decide.specs.Plans.{Carries, Planned}
+use Rattle.freelist_decide.specs.declared.deciding.Plan as Code
 
 module _ (s : FreeListSettings) (head index : List ℕ) where
   abbrev now : Tables
@@ -44,6 +51,14 @@ module _ (s : FreeListSettings) (head index : List ℕ) where
   pub take-go : (i w : ℕ) → left ≡ true → w ≡ getD head givenAt 0 → w < spent → take i ≡ Taken i
   unfolding roomOk
   take-go i w e g h = rw (e, lt-ltb (getD head givenAt 0) spent (omega (arith, g, h))) refl
+
+  -- the place that the code read, and whether it is one of the store's
+  module _ (w : ℕ) (k : Next.Taken) (p : k ≡ takenOf w index) (e : w ≡ getD head placesAt 0) where
+    pub loan-is : k ≡ takenOf (getD head placesAt 0) index
+    loan-is = p ∙ ap (λ (x : ℕ). takenOf x index) e
+
+    pub left-is : (has : Bool) → has ≡ ltb (k .place) (s .store .loans) → has ≡ left
+    left-is has h = h ∙ ap (λ (x : Next.Taken). ltb (x .place) (s .store .loans)) loan-is
 
   -- a chunk place is left
   abbrev pub vacant : Bool
@@ -94,7 +109,7 @@ module _ (s : FreeListSettings) (h : Heap) (objects size mask : ℕ) (head regio
   abbrev all : Tables
   all = tables head [] [] regions index
 
-  pub found-is : (f : Found) (m n k : ℕ) → f ≡ find m n (rows regionRow k regions) → m ≡ maskFor s mask → n ≡ sizeFor s size → k ≡ getD regions (countAt s) 0 → f ≡ foundFor s size mask all
+  pub found-is : (f : Found) (m n k : ℕ) → f ≡ find m n (rows regionRow k regions) → m ≡ maskFor s mask → n ≡ sizeFor s size → k ≡ getD regions (regionCountAt s) 0 → f ≡ foundFor s size mask all
   unfolding storeOf
   found-is f m n k e a b c = e ∙ (λ j. find (a j) (b j) (rows regionRow (c j) regions))
 
@@ -125,3 +140,18 @@ module _ (s : FreeListSettings) (h : Heap) (objects size mask : ℕ) (head regio
   pub decide-nowhere : (p : Plan ℕ) → alignmentOk mask ≡ true → sizeOk s size ≡ true → nowhere ≡ foundFor s size mask all → p ≡ Bought s head index h objects size → p ≡ decideAsk s h objects size mask all
   unfolding decideAsk roomOk countOk objectsOk storeOf
   decide-nowhere p e f g t = t ∙ rw (e, f, sym g) (same (first (lateRow s h objects size all nowhere)))
+
+  -- ---- what the plan carries
+
+  pub start-is : (i x m n k : ℕ) (f : Regions.Found) → f ≡ At i x → Starts m n (rows regionRow k regions) f → m ≡ maskFor s mask → n ≡ sizeFor s size → k ≡ getD regions (regionCountAt s) 0
+      → x ≡ blockAt s size mask all i .start
+  unfolding storeOf
+  start-is i x m n k f e g a b c =
+      let h : x ≡ cut m n (getD (rows regionRow k regions) i noRegion) = subst (λ (y : Regions.Found). Starts m n (rows regionRow k regions) y) e g in
+      h ∙ (λ j. cut (a j) (b j) (getD (rows regionRow (c j) regions) i noRegion))
+
+  pub carried-is : (p : Code.Plan) (m n : ℕ) → m ≡ maskFor s mask → n ≡ sizeFor s size → ((from : ℕ → ℕ) → Carries from n m (takenOf (getD head placesAt 0) index) p) → Planned s size mask all p
+  carried-is p m n a b g =
+      let from : ℕ → ℕ = λ i. blockAt s size mask all i .start in
+      let loan = takenOf (getD head placesAt 0) index in
+      subst (λ (y : ℕ). Carries from (sizeFor s size) y loan p) a (subst (λ (x : ℕ). Carries from x m loan p) b (g from))

@@ -1,17 +1,17 @@
 // What an ask comes to, by the tests 5, 6, 8, 10 and 9, once the gate is passed.
 ghost use mathlib.Core.Path.{_≡_};
 ghost use mathlib.Core.List.{[], _∷_};
-ghost use Prim.Native.Nat.{_≤_, _<_};
+ghost use Prim.Native.Nat.{ℕ};
 ghost use lib.Dec.{ltb};
 ghost use lib.ListN.{getD};
 ghost use Rattle.counter.specs.Limits.{spent};
 ghost use Rattle.counter.specs.Gate.{first};
 ghost use Rattle.counter.specs.InTable.{FreeListIn};
 ghost use Rattle.book_rules.specs.Book.{takenOf};
-ghost use Rattle.freelist_rules.specs.Place.{nowhere, at};
+ghost use Rattle.freelist_rules.specs.Place.{nowhere, at, sizeFor};
 ghost use Rattle.freelist_rules.specs.Tables.{tables, givenAt, placesAt};
 ghost use Rattle.freelist_outcomes.specs.Ask.{sizeOk, roomOk, lateRow, planned, decideAsk};
-ghost use Rattle.freelist_decide.specs.Plans.{planOf};
+ghost use Rattle.freelist_decide.specs.Plans.{planOf, Carries, Planned};
 use counter::FreeListSettings;
 use counter::Heap;
 use counter::Refusal;
@@ -21,13 +21,28 @@ use freelist_rules::CHUNKS_AT;
 use freelist_rules::GIVEN_AT;
 use freelist_rules::MADE_AT;
 use freelist_rules::PLACES_AT;
+use slab::Taken;
 
+// The region that serves, where its block starts, and the place that the loan takes in the book.
+pub struct Taking {
+    pub region: usize,
+    pub start: u64,
+    pub loan: Taken,
+}
+
+// The chunk to order; the rounded size and the joined mask that are looked for, and the place that the loan takes in the book.
+pub struct Buying {
+    pub order: u64,
+    pub size: u64,
+    pub mask: u64,
+    pub loan: Taken,
+}
+
+// What the tests worked out goes on in the plan.
 pub enum Plan {
     Refuse(Refusal),
-    // from this region
-    Take(usize),
-    // a chunk of so many bytes
-    Buy(u64),
+    Take(Taking),
+    Buy(Buying),
 }
 
 fn is_size(s: FreeListSettings, size: u64) -> bool
@@ -36,47 +51,53 @@ fn is_size(s: FreeListSettings, size: u64) -> bool
     (0 < size) & (size <= s.last)
 }
 
-// Whether a loan place is left.
-fn has_place(s: FreeListSettings, head: &[u64], index: &[u64]) -> bool
-    ensures { λ r. ⌜ r ≡ ltb (takenOf (getD (now (head .entry)) placesAt 0) (now (index .entry)) .place) (s .store .loans) ⌝ }
+// Whether that place of the book is one of the store's.
+fn is_place(s: FreeListSettings, loan: Taken) -> bool
+    ensures { λ r. ⌜ r ≡ ltb (loan .place) (s .store .loans) ⌝ }
 {
-    let t = book::next_place(words::word(head, PLACES_AT), index);
     let store = s.store;
-    t.place < store.loans as u64
+    loan.place < store.loans as u64
 }
 
-// Region i serves.
-fn decide_take(s: FreeListSettings, i: usize, head: &[u64], index: &[u64]) -> Plan
+// Region i serves, from `start` on.
+fn decide_take(s: FreeListSettings, i: usize, start: u64, head: &[u64], index: &[u64]) -> Plan
     ensures { λ r. ⌜ planOf r ≡ planned s 0 (tables (now (head .entry)) [] [] [] (now (index .entry))) (at i) (first ((roomOk s (tables (now (head .entry)) [] [] [] (now (index .entry))) (at i), 8) ∷ (ltb (getD (now (head .entry)) givenAt 0) spent, 10) ∷ [])) ⌝ }
+    ensures { λ r. ⌜ ((from : ℕ → ℕ) → (n m : ℕ) → start ≡ from i → Carries from n m (takenOf (getD (now (head .entry)) placesAt 0) (now (index .entry))) r) ⌝ }
 {
-    if !has_place(s, head, index) {
+    let loan = book::next_place(words::word(head, PLACES_AT), index);
+    if !is_place(s, loan) {
         return Plan::Refuse(Refusal::Full);
     }
     if words::word(head, GIVEN_AT) == u64::MAX {
         return Plan::Refuse(Refusal::Count);
     }
-    Plan::Take(i)
+    Plan::Take(Taking {
+        region: i,
+        start: start,
+        loan: loan,
+    })
 }
 
-// None does: a chunk is needed.
+// None does: a chunk is needed. `size` is rounded, and `mask` joined with the atom mask.
 fn decide_buy(
     s: FreeListSettings,
     h: Heap,
     objects: u32,
     size: u64,
+    mask: u64,
     head: &[u64],
     index: &[u64],
 ) -> Plan
-    requires { ⌜ FreeListIn s × (size ≤ s .last) ⌝ }
-    ensures { λ r. ⌜ planOf r ≡ planned s size (tables (now (head .entry)) [] [] [] (now (index .entry))) nowhere (first (lateRow s h objects size (tables (now (head .entry)) [] [] [] (now (index .entry))) nowhere)) ⌝ }
+    ensures { λ r. ⌜ ((asked : ℕ) → size ≡ sizeFor s asked → planOf r ≡ planned s asked (tables (now (head .entry)) [] [] [] (now (index .entry))) nowhere (first (lateRow s h objects asked (tables (now (head .entry)) [] [] [] (now (index .entry))) nowhere))) ⌝ }
+    ensures { λ r. ⌜ ((from : ℕ → ℕ) → Carries from size mask (takenOf (getD (now (head .entry)) placesAt 0) (now (index .entry))) r) ⌝ }
 {
     let store = s.store;
+    let loan = book::next_place(words::word(head, PLACES_AT), index);
     let vacant = words::word(head, CHUNKS_AT) < store.chunks as u64;
-    if !(has_place(s, head, index) & vacant) {
+    if !(is_place(s, loan) & vacant) {
         return Plan::Refuse(Refusal::Full);
     }
-    let n = freelist_place::size_for(s, size);
-    let z = rounding::grow(words::word(head, CHUNK_SIZE_AT), n, s.last);
+    let z = rounding::grow(words::word(head, CHUNK_SIZE_AT), size, s.last);
     let given = words::word(head, GIVEN_AT) < u64::MAX;
     let made = words::word(head, MADE_AT) < u64::MAX;
     if !(given & (heap::bears(h, z) & made)) {
@@ -85,7 +106,12 @@ fn decide_buy(
     if objects == 0 {
         return Plan::Refuse(Refusal::Objects);
     }
-    Plan::Buy(z)
+    Plan::Buy(Buying {
+        order: z,
+        size: size,
+        mask: mask,
+        loan: loan,
+    })
 }
 
 pub fn decide(
@@ -100,6 +126,7 @@ pub fn decide(
 ) -> Plan
     requires { ⌜ FreeListIn s ⌝ }
     ensures { λ r. ⌜ planOf r ≡ decideAsk s h objects size mask (tables (now (head .entry)) [] [] (now (regions .entry)) (now (index .entry))) ⌝ }
+    ensures { λ r. ⌜ Planned s size mask (tables (now (head .entry)) [] [] (now (regions .entry)) (now (index .entry))) r ⌝ }
 {
     if !counter::is_alignment(mask) {
         return Plan::Refuse(Refusal::Mask);
@@ -107,12 +134,12 @@ pub fn decide(
     if !is_size(s, size) {
         return Plan::Refuse(Refusal::Size);
     }
-    let n = freelist_place::size_for(s, size);
-    let m = freelist_place::mask_for(s, mask);
+    let n = freelist_regions::size_for(s, size);
+    let m = freelist_regions::mask_for(s, mask);
     let k = freelist_regions::region_count(s, regions);
     let found = freelist_regions::find_fit(regions, k, m, n);
     match found {
-        Found::At(i) => decide_take(s, i, head, index),
-        Found::Nowhere => decide_buy(s, h, objects, size, head, index),
+        Found::At(i, start) => decide_take(s, i, start, head, index),
+        Found::Nowhere => decide_buy(s, h, objects, n, m, head, index),
     }
 }

@@ -1,6 +1,6 @@
 -- The free list books as an engine has to: what one call of it charges and releases, and how many device objects it takes and
--- gives. Assumes nothing.
-use mathlib.Core.Path.{_≡_, refl, sym, ap, _∙_}
+-- gives.
+use mathlib.Core.Path.{_≡_, refl, sym, ap, subst, _∙_}
 use mathlib.Core.Bool.{Bool, true, false}
 use mathlib.Core.List.{List, [], _∷_}
 use Prim.Native.Nat.{ℕ, _+_, _-_}
@@ -9,6 +9,7 @@ use lib.ListN.{length}
 use Rattle.counter.specs.Account.{heapAt}
 use Rattle.counter.specs.InTable.{FreeListIn}
 use Rattle.counter.specs.Paper.{Said}
+use Rattle.counter.specs.Paper as Paper
 use Rattle.counter.specs.declared.account.Account.{Account}
 use Rattle.counter.specs.declared.account.KeptOrder.{KeptOrder}
 use Rattle.counter.specs.declared.answers.Block.{Block}
@@ -21,7 +22,7 @@ use Rattle.heap.specs.Heap.{bearsOk}
 use Rattle.heap.specs.History.{release}
 use Rattle.heap.proofs.Bounds.{agrees-yes}
 use Rattle.store_rules.specs.Delivery.{freeList, mapped, fateOf}
-use Rattle.store_rules.specs.Outcomes.{Out, Listed, listed, listOk, lostAccount}
+use Rattle.store_rules.specs.Outcomes.{Out, out, Listed, listed, listOk, chargedAccount, backAccount, lostAccount}
 use Rattle.store_rules.specs.Views.{sizes}
 use Rattle.freelist_rules.specs.Release.{bytesOf}
 use Rattle.freelist_rules.specs.Records.{Store}
@@ -33,6 +34,7 @@ use Rattle.freelist_outcomes.specs.Ask.{askOf}
 use Rattle.freelist_outcomes.specs.Deliver.{carryFate, deliverOf}
 use Rattle.freelist_outcomes.specs.Return.{wordFor, onLoanOk, givenTables, goneFrom, releasedTables, releaseOf, returnOf, cleanUpOf}
 use Rattle.freelist_outcomes.specs.SetUp.{SetUp, setUpOf}
+use Rattle.store_rules.proofs.Accounts.{lost-nothing}
 use Rattle.freelist_outcomes.proofs.Accounts.{account-is, covers-yes}
 use Rattle.freelist_outcomes.proofs.Changed.{released-store}
 use Rattle.freelist_outcomes.proofs.Comes as Comes
@@ -88,9 +90,13 @@ module _ (s : FreeListSettings) (a : Account) (t : Tables) where
         }
 
     fated-booked : (o : Outcome) → ListBooked (delivers o) (arrived (carryFate s a k t (fateOf freeList o)))
-    unfolding carryFate lostAccount
-    fated-booked O.OutOfDevice = still (s .store .heap) a _ _ _ refl refl refl refl refl
-    fated-booked O.OutOfHost = still (s .store .heap) a _ _ _ refl refl refl refl refl
+    unfolding carryFate lostAccount chargedAccount backAccount
+    fated-booked O.OutOfDevice =
+        subst (λ (b : Account). ListBooked (delivers O.OutOfDevice) (arrived (out (Paper.refusal 11 []) b t))) (sym (lost-nothing (s .store) a (k .order .size) []))
+        (still (s .store .heap) a _ _ _ refl refl refl refl refl)
+    fated-booked O.OutOfHost =
+        subst (λ (b : Account). ListBooked (delivers O.OutOfHost) (arrived (out (Paper.refusal 12 []) b t))) (sym (lost-nothing (s .store) a (k .order .size) []))
+        (still (s .store .heap) a _ _ _ refl refl refl refl refl)
     fated-booked (O.Made m) = by (m .mapping)
       where
         by : (x : Mapping) → ListBooked (delivers (O.Made m)) (arrived (carryFate s a k t (mapped freeList (m .number) x)))

@@ -1,10 +1,10 @@
 -- The free list counts its serials as an engine has to: up from 1, none given twice, and a block returned is never taken
--- again. Assumes nothing.
+-- again.
 use mathlib.Core.Path.{_≡_, refl, sym, ap, subst, _∙_}
 use mathlib.Core.Bool.{true}
 use mathlib.Core.Logic.{_⊎_, inl, inr, ⊎-elim}
 use mathlib.Core.List.{List, []}
-use Prim.Native.Nat.{ℕ}
+use Prim.Native.Nat.{ℕ, _≤_}
 use native.Mathlib.Omega.{arith}
 use lib.Dec.{eqb}
 use borrow.Author.Tests.{eq-eqb}
@@ -22,7 +22,7 @@ use Rattle.engines.specs.Serials.{Gone, Counted, Counts}
 use Rattle.engines.specs.Shapes.{Lent, Call, setsUp, does}
 use Rattle.freelist_rules.specs.Records.{Store}
 use Rattle.freelist_rules.specs.Tables.{Tables, placesIn, storeOf}
-use Rattle.freelist_rules.proofs.Blocks.{loanOf, returned-is}
+use Rattle.freelist_rules.proofs.Blocks.{returned-is}
 use Rattle.freelist_rules.proofs.Giving.{those-yes}
 use Rattle.freelist_rules.proofs.NeverAgain as Rules
 use Rattle.freelist_rules.proofs.Ordered.{ordered-in, ordered-out}
@@ -66,12 +66,13 @@ module _ (s : FreeListSettings) (a : Account) (b : Block) (t : Tables) (list : L
   back-gone p on =
       let v = storeOf s t in
       let m = on-loan-is s t (p .settings) (p .sound) b on in
-      let e : storeOf s (releasedTables s true (givenTables s b (wordFor s b t) t)) ≡ settled (loanOf b) v =
+      let e : storeOf s (releasedTables s true (givenTables s b (wordFor s b t) t)) ≡ settled (m .0) v =
       back-store s a b t (listOk (s .store) list) p on ∙ returned-is s (p .settings) b v (p .sound .store) m in
-      let g : Rules.Gone (b .serial) (settled (loanOf b) v) =
+      let serial : m .0 .serial ≡ b .serial = m .2 .serial in
+      let g : Rules.Gone (b .serial) (settled (m .0) v) =
       record {
-        old = p .sound .store .serials-given (loanOf b) m .1;
-        away = λ l k q. true-false (eqb (l .serial) (b .serial)) (eq-eqb (l .serial) (b .serial) q) (not-yes (eqb (l .serial) (b .serial)) (those-yes _ l (v .loans) k));
+        old = subst (λ (k : ℕ). k ≤ v .given) serial (p .sound .store .serials-given (m .0) (m .1) .1);
+        away = λ l k q. let w = m .0 .serial in true-false (eqb (l .serial) w) (eq-eqb (l .serial) w (q ∙ sym serial)) (not-yes (eqb (l .serial) w) (those-yes _ l (v .loans) k));
       } in
       gone-here s (b .serial) (releasedTables s true (givenTables s b (wordFor s b t) t)) (back-marked s a b t (listOk (s .store) list) p on) (subst (Rules.Gone (b .serial)) (sym e) g)
 
@@ -86,7 +87,7 @@ module _ (s : FreeListSettings) (a : Account) (b : Block) (t : Tables) (list : L
     where
       by : (r : Listed Tables) → ReturnComes s a b t list r → (k : ℕ) × (r .said ≡ Paper.refusal k [])
       by _ (ReturnComes.denied n) = (n, refl)
-      by _ (takes p on) = absurd (gone-there s (b .serial) t g .away (loanOf b) (on-loan-is s t (p .settings) (p .sound) b on) refl)
+      by _ (takes p on) = let w = on-loan-is s t (p .settings) (p .sound) b on in absurd (gone-there s (b .serial) t g .away (w .0) (w .1) (w .2 .serial))
 
   stale-or-earlier : Gone listShape (b .serial) (asLent t) → (k : ℕ) × (returnOf s a b t list ≡ listed (Paper.refusal k []) a t list) × ((k ≡ 7) ⊎ Given (listRows listWords s a t list) k)
   stale-or-earlier g =

@@ -1,4 +1,4 @@
--- Different blocks of a free list come back, and every order ends alike, as an engine has to. Assumes nothing.
+-- Different blocks of a free list come back, and every order ends alike, as an engine has to.
 use mathlib.Core.Path.{_≡_, refl, sym, ap, subst, _∙_}
 use mathlib.Core.Bool.{true}
 use mathlib.Core.Logic.{⊎-elim, _↔_}
@@ -11,7 +11,7 @@ use Rattle.counter.specs.declared.account.Account.{Account}
 use Rattle.counter.specs.declared.answers.Block.{Block}
 use Rattle.counter.specs.declared.settings.FreeListSettings.{FreeListSettings}
 use Rattle.store_rules.specs.Loans.{loansOf}
-use Rattle.store_rules.specs.Views.{loanOf, loansLess, sizes}
+use Rattle.store_rules.specs.Views.{Matches, OnLoan, loansLess, sizes}
 use Rattle.store_rules.proofs.Accounts.{covers-yes}
 use Rattle.store_rules.proofs.Lessening.{less-one}
 use Rattle.store_rules.specs.declared.Loan.{Loan}
@@ -23,7 +23,7 @@ use Rattle.freelist_rules.specs.Place.{Found, nowhere, at}
 use Rattle.freelist_rules.specs.Seek.{seek}
 use Rattle.freelist_rules.specs.Steps.{takenBack, returned, returnedAll}
 use Rattle.freelist_rules.specs.Tables.{Tables, placesIn, storeOf}
-use Rattle.freelist_rules.proofs.Blocks.{OnLoan, returned-is, left-on-loan, perm-mem}
+use Rattle.freelist_rules.proofs.Blocks.{AllOnLoan, returned-is, left-on-loan, perm-mem}
 use Rattle.freelist_rules.proofs.AtOnce.{returned-at-once, at-once-same}
 use Rattle.freelist_rules.proofs.Ordered.{ordered-in, ordered-out}
 use Rattle.freelist_outcomes.specs.Gate.{gateOf}
@@ -43,13 +43,16 @@ loan-here : (s : FreeListSettings) (t : Tables) (l : Loan) → List·Memᴰ l (s
 unfolding storeOf
 loan-here s t l m = ordered-out l (loansOf (placesIn t) (t .loans)) m
 
-lot-there : (s : FreeListSettings) (bs : List Block) (t : Lent) → Lot listShape bs t → OnLoan bs (storeOf s (asList t))
-lot-there s bs t lot b m = loan-there s (asList t) (loanOf b) (lot .lent b m)
+block-there : (s : FreeListSettings) (t : Tables) (b : Block) → OnLoan b (loansOf (placesIn t) (t .loans)) → OnLoan b (storeOf s t .loans)
+block-there s t b w = (w .0, loan-there s t (w .0) (w .1), w .2)
+
+lot-there : (s : FreeListSettings) (bs : List Block) (t : Lent) → Lot listShape bs t → AllOnLoan bs (storeOf s (asList t))
+lot-there s bs t lot b m = block-there s (asList t) b (lot .lent b m)
 
 -- ---- one block
 
 module _ (s : FreeListSettings) (a : Account) (b : Block) (t : Tables) (list : List ℕ) (passes : gateOf s a t true ≡ pass)
-    (lent : List·Memᴰ (loanOf b) (storeOf s t .loans)) (long : s .store .chunks ≤ length list) where
+    (lent : OnLoan b (storeOf s t .loans)) (long : s .store .chunks ≤ length list) where
   p : Passed s a t true
   p = gate-passed s a t true (sym passes)
 
@@ -63,19 +66,19 @@ module _ (s : FreeListSettings) (a : Account) (b : Block) (t : Tables) (list : L
   loans-left : storeOf s after .loans ≡ loansLess (b ∷ []) (storeOf s t .loans)
   loans-left = ap (λ (v : Store). v .loans) (handed .store ∙ returned-at-once s (p .settings) (storeOf s t) (p .sound .store) (b ∷ []) (tt, tt) only)
     where
-      only : OnLoan (b ∷ []) (storeOf s t)
-      only c m = ⊎-elim (λ e. subst (λ (d : Block). List·Memᴰ (loanOf d) (storeOf s t .loans)) (sym e) lent) (λ k. absurd (List·Memᴰ·not-nil k)) (List·Memᴰ·cases-cons m)
+      only : AllOnLoan (b ∷ []) (storeOf s t)
+      only c m = ⊎-elim (λ e. subst (λ (d : Block). OnLoan d (storeOf s t .loans)) (sym e) lent) (λ k. absurd (List·Memᴰ·not-nil k)) (List·Memᴰ·cases-cons m)
 
-  loans-are : (l : Loan) → List·Memᴰ l (loansOf (placesIn after) (after .loans)) ↔ (List·Memᴰ l (loansOf (placesIn t) (t .loans)) × (l ≡ loanOf b → ⊥))
+  loans-are : (l : Loan) → List·Memᴰ l (loansOf (placesIn after) (after .loans)) ↔ (List·Memᴰ l (loansOf (placesIn t) (t .loans)) × (Matches b l → ⊥))
   loans-are l = (there, back)
     where
-      one : List·Memᴰ l (storeOf s after .loans) ↔ (List·Memᴰ l (storeOf s t .loans) × (l ≡ loanOf b → ⊥))
-      one = subst (λ (ls : List Loan). List·Memᴰ l ls ↔ (List·Memᴰ l (storeOf s t .loans) × (l ≡ loanOf b → ⊥))) (sym loans-left) (less-one b (storeOf s t .loans) l)
+      one : List·Memᴰ l (storeOf s after .loans) ↔ (List·Memᴰ l (storeOf s t .loans) × (Matches b l → ⊥))
+      one = subst (λ (ls : List Loan). List·Memᴰ l ls ↔ (List·Memᴰ l (storeOf s t .loans) × (Matches b l → ⊥))) (sym loans-left) (less-one b (storeOf s t .loans) l)
 
-      there : List·Memᴰ l (loansOf (placesIn after) (after .loans)) → List·Memᴰ l (loansOf (placesIn t) (t .loans)) × (l ≡ loanOf b → ⊥)
+      there : List·Memᴰ l (loansOf (placesIn after) (after .loans)) → List·Memᴰ l (loansOf (placesIn t) (t .loans)) × (Matches b l → ⊥)
       there m = let w = one .0 (loan-there s after l m) in (loan-here s t l (w .0), w .1)
 
-      back : List·Memᴰ l (loansOf (placesIn t) (t .loans)) × (l ≡ loanOf b → ⊥) → List·Memᴰ l (loansOf (placesIn after) (after .loans))
+      back : List·Memᴰ l (loansOf (placesIn t) (t .loans)) × (Matches b l → ⊥) → List·Memᴰ l (loansOf (placesIn after) (after .loans))
       back w = loan-here s after l (one .1 (loan-there s t l (w .0), w .1))
 
 -- ---- the counts
@@ -95,8 +98,8 @@ next s a b bs t list passes lot long =
     let lent = o b (List·Memᴰ·head refl) in
     let e : storeOf s (returnOf s a b (asList t) list .tables) ≡ returned b v = return-handed s a b (asList t) list passes lent long .store in
     let sound = return-sound s a b (asList t) list (p .sound) .store in
-    let left : OnLoan bs (storeOf s (returnOf s a b (asList t) list .tables)) =
-    subst (OnLoan bs) (sym (e ∙ returned-is s (p .settings) b v (p .sound .store) lent)) (left-on-loan b bs v (lot .apart) o) in
+    let left : AllOnLoan bs (storeOf s (returnOf s a b (asList t) list .tables)) =
+    subst (AllOnLoan bs) (sym (e ∙ returned-is s (p .settings) b v (p .sound .store) lent)) (left-on-loan b bs v lent (lot .apart) o) in
     sym (returned-at-once s (p .settings) (storeOf s (returnOf s a b (asList t) list .tables)) sound bs (lot .apart .1) left)
     ∙ ap (returnedAll bs) e
     ∙ returned-at-once s (p .settings) v (p .sound .store) (b ∷ bs) (lot .apart) o
@@ -106,7 +109,7 @@ pub list-ends : Ends listShape
 list-ends =
     record {
       taken = λ s a b t list passes lent long.
-          let there = loan-there s (asList t) (loanOf b) lent in
+          let there = block-there s (asList t) b lent in
           let h = handed s a b (asList t) list passes there long in
           record {
             said = h .said;
@@ -116,7 +119,7 @@ list-ends =
           };
       rest-stays = λ s a b t list passes lent long.
           let v = storeOf s (asList t) in
-          ap countsOf (return-handed s a b (asList t) list passes (loan-there s (asList t) (loanOf b) lent) long .store) ∙ back-counts v (seek b (v .loans));
+          ap countsOf (return-handed s a b (asList t) list passes (block-there s (asList t) b lent) long .store) ∙ back-counts v (seek b (v .loans));
       none = λ s a t passes. refl;
       next = λ s a b bs t list passes lot long. ap seen (next s a b bs t list passes lot long);
       same = λ s a bs cs t passes lot e. ap seen (at-once-same bs cs (storeOf s (asList t)) (λ b. (perm-mem b (Permᴰ·symm e), perm-mem b e)));

@@ -1,4 +1,4 @@
--- The free list is an engine: every law of one holds of it. Assumes nothing.
+-- The free list is an engine: every law of one holds of it.
 use Rattle.engines.specs.Engines.{Engine}
 use Rattle.freelist_engine.specs.Shape.{listShape}
 use Rattle.freelist_engine.proofs.Booking.{list-books}

@@ -1,8 +1,8 @@
--- A block on loan is handed back at a store that passes tests 1 to 4: what the return says, leaves and tells. Assumes nothing.
+-- A block on loan is handed back at a store that passes tests 1 to 4: what the return says, leaves and tells.
 use mathlib.Core.Path.{_≡_, refl, sym, ap, subst, _∙_}
 use mathlib.Core.Bool.{Bool, true}
 use mathlib.Core.Logic.{inl, inr, ⊎-elim}
-use mathlib.Core.List.{List, [], List·Memᴰ}
+use mathlib.Core.List.{List, []}
 use Prim.Native.Nat.{ℕ, _-_, _≤_}
 use native.Mathlib.Omega.{arith}
 use lib.ListN.{length, take, drop}
@@ -16,13 +16,12 @@ use Rattle.counter.specs.declared.account.Account.{Account}
 use Rattle.counter.specs.declared.answers.Block.{Block}
 use Rattle.counter.specs.declared.settings.FreeListSettings.{FreeListSettings}
 use Rattle.store_rules.specs.Outcomes.{Listed, toFree, releasedAccount}
-use Rattle.store_rules.specs.Views.{sizes, Go}
+use Rattle.store_rules.specs.Views.{OnLoan, sizes, Go}
 use Rattle.freelist_rules.specs.Records.{Store}
-use Rattle.freelist_rules.specs.Release.{leaving, left, memoriesOf, bytesOf}
+use Rattle.freelist_rules.specs.Release.{leaving, isCovered, memoriesOf, bytesOf}
 use Rattle.freelist_rules.specs.Sound.{Sound}
 use Rattle.freelist_rules.specs.Steps.{released, returned}
 use Rattle.freelist_rules.specs.Tables.{Tables, storeOf}
-use Rattle.freelist_rules.proofs.Blocks.{loanOf}
 use Rattle.freelist_rules.proofs.Fits.{lengths-are, chunks-length}
 use Rattle.freelist_rules.proofs.GivesBack.{gone-bytes, gone-count, gone-memories}
 use Rattle.freelist_rules.proofs.Releases.{remaining-in, in-remaining}
@@ -42,8 +41,8 @@ release-goes s t fit sound spare =
     record {
       among = λ c m. remaining-in gone c (t .chunks) m .0;
       either = λ c m.
-          ⊎-elim (λ e. inr (λ k. true-false (left gone c) e (remaining-in gone c (t .chunks) k .1))) (λ e. inl (in-remaining gone c (t .chunks) m e))
-          (told (left gone c));
+          ⊎-elim (λ e. inr (λ k. true-false (isCovered gone c) e (remaining-in gone c (t .chunks) k .1))) (λ e. inl (in-remaining gone c (t .chunks) m e))
+          (told (isCovered gone c));
       count = omega (arith, gone-count s t fit sound spare, memories-length (t .chunks) gone);
       bytes = omega (arith, gone-bytes s t fit sound spare);
       tells = gone-memories s t fit sound spare;
@@ -64,7 +63,7 @@ pub record Handed (s : FreeListSettings) (a : Account) (b : Block) (t : Tables) 
   pub goes : Go (storeOf s t .chunks) (storeOf s (r .tables) .chunks) (take (toFree (r .said)) (r .list))
 
 module _ (s : FreeListSettings) (a : Account) (b : Block) (t : Tables) (list : List ℕ) (passes : gateOf s a t true ≡ pass)
-    (lent : List·Memᴰ (loanOf b) (storeOf s t .loans)) (long : s .store .chunks ≤ length list) where
+    (lent : OnLoan b (storeOf s t .loans)) (long : s .store .chunks ≤ length list) where
   p : Passed s a t true
   p = gate-passed s a t true (sym passes)
 

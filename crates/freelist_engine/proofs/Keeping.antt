@@ -1,4 +1,4 @@
--- The free list stays sound and filled as an engine has to, and lends good blocks. Assumes nothing.
+-- The free list stays sound and filled as an engine has to, and lends good blocks.
 use mathlib.Core.Path.{_≡_, refl, sym, ap, subst, _∙_}
 use mathlib.Core.Bool.{true}
 use mathlib.Core.Logic.{_↔_, ⊎-elim}
@@ -103,13 +103,13 @@ unfolding storeOf
 good-block s size mask t v cs serial number offset len given loans chunks good =
     let there : (l : Loan) → List·Memᴰ l (loansOf (placesIn t) (t .loans)) → List·Memᴰ l (v .loans) = λ l m. subst (List·Memᴰ l) (sym loans) (ordered-in l (loansOf (placesIn t) (t .loans)) m) in
     record {
-      next = good .next ∙ ap (λ (g : ℕ). g + 1) given;
-      held = subst (λ (ds : List Chunk). (c : Chunk) × List·Memᴰ c ds × (c .number ≡ number) × (offset + len ≤ c .size)) chunks (good .held);
-      aligned = good .aligned;
-      atoms = good .atom;
-      enough = good .enough;
-      apart = λ l m. good .apart l (there l m);
-      new = λ l m. good .new l (there l m);
+      next = good .block .next ∙ ap (λ (g : ℕ). g + 1) given;
+      held = subst (λ (ds : List Chunk). (c : Chunk) × List·Memᴰ c ds × (c .number ≡ number) × (offset + len ≤ c .size)) chunks (good .block .held);
+      aligned = good .block .aligned;
+      atoms = good .block .atoms;
+      enough = good .block .enough;
+      apart = λ l m. good .block .apart l (there l m);
+      new = λ l m. good .block .new l (there l m);
     }
 
 -- an ask leaves the held chunks

@@ -1,5 +1,5 @@
 -- The free list refuses as an engine has to: each number exactly when, and what a refusal leaves; its calls on another
--- engine's tables too. Assumes nothing.
+-- engine's tables too.
 use mathlib.Core.Path.{_≡_, refl, ap}
 use mathlib.Core.Bool.{Bool, true, _&&_}
 use mathlib.Core.Logic.{_↔_}
@@ -17,20 +17,20 @@ use Rattle.counter.specs.declared.answers.Outcome.{Outcome}
 use Rattle.counter.specs.declared.settings.FreeListSettings.{FreeListSettings}
 use Rattle.counter.proofs.Reasoned.{clear-first}
 use Rattle.store_rules.specs.Outcomes.{Out, out, listed, listOk}
-use Rattle.store_rules.specs.Tests.{noOrder, orderFor, gateRow}
+use Rattle.store_rules.specs.Tests.{noOrder, openFor, gateRow}
 use Rattle.engines.specs.Refuses.{Refuses}
-use Rattle.store_rules.specs.Rows.{gateRows, listRows, keptRows}
+use Rattle.store_rules.specs.Rows.{gateRows, keptRows}
 use Rattle.engines.specs.Shapes.{Lent, Call, setsUp, asks, delivers, returns, others, does, Marked, lentList, wordsOf}
 use Rattle.engines.proofs.Shutting.{shut}
 use Rattle.freelist_rules.specs.Tables.{Tables, mark, markAt, soundRow, soundOk, storeOf}
-use Rattle.freelist_outcomes.specs.Gate.{lentOk, accountOk, gateOf}
+use Rattle.freelist_outcomes.specs.Gate.{inTableOk, accountOk, gateOf}
 use Rattle.freelist_outcomes.specs.Ask.{carryAsk, planAsk, askOf}
 use Rattle.freelist_outcomes.specs.Deliver.{stillOk, deliverGateOf, planDeliver, carryDeliver, deliverOf}
 use Rattle.freelist_outcomes.specs.Refusals.{listWords, seen}
 use Rattle.freelist_outcomes.specs.Return.{planReturn, carryReturn, returnOf, carryCleanUp, cleanUpOf}
 use Rattle.freelist_outcomes.proofs.Gated.{gate-decided}
 use Rattle.freelist_outcomes.proofs.Refused.{kept-decided, set-up-refused, ask-refused, deliver-refused, return-refused, clean-up-refused, set-up-leaves, ask-leaves, deliver-leaves, return-leaves, clean-up-leaves-all, deliver-lost}
-use Rattle.freelist_engine.specs.Shape.{OwnCall, cleansUp, asList, begunAs, outAs, listedAs, ownOf, listShape}
+use Rattle.freelist_engine.specs.Shape.{OwnCall, cleansUp, asList, begunAs, outAs, listedAs, ownOf, ownRows, listShape}
 
 -- ---- tables without the mark
 
@@ -41,12 +41,12 @@ module _ (s : FreeListSettings) (a : Account) (t : Tables) (other : getD (t .hea
 
   gate-shut : (list : Bool) → (n : ℕ) × (gateOf s a t list ≡ refuse n) × (0 < n) × (n ≤ 3)
   unfolding gateOf
-  gate-shut list = shut (lentOk s a t && list) (noOrder (a .order)) (soundOk s t) (accountOk s a t) not-sound
+  gate-shut list = shut (inTableOk s a t && list) (noOrder (a .order)) (soundOk s t) (accountOk s a t) not-sound
 
   deliver-gate-shut : (n : ℕ) × (deliverGateOf s a t ≡ refuse n) × (0 < n) × (n ≤ 3)
   unfolding deliverGateOf
   deliver-gate-shut =
-      shut (lentOk s a t) (orderFor (s .store .number) (a .order)) (soundOk s t && stillOk s a t (a .order)) (accountOk s a t)
+      shut (inTableOk s a t) (openFor (s .store .number) (a .order)) (soundOk s t && stillOk s a t (a .order)) (accountOk s a t)
       (λ e. not-sound (and-left (soundOk s t) (stillOk s a t (a .order)) e))
 
   ask-shut : (size mask : ℕ) → (n : ℕ) × (askOf s a size mask t ≡ out (Paper.refusal n []) a t) × (0 < n) × (n ≤ 3)
@@ -78,7 +78,7 @@ foreign s a t (others cleansUp list) f m = let r = clean-up-shut s a (asList t) 
 
 -- ---- a call that only a free list has
 
-own-refused : (s : FreeListSettings) (a : Account) (c : OwnCall) (t : Tables) (list : List ℕ) (n : ℕ) → (ownOf s a c t list .said ≡ Paper.refusal n []) ↔ Given (listRows listWords s a t list) n
+own-refused : (s : FreeListSettings) (a : Account) (c : OwnCall) (t : Tables) (list : List ℕ) (n : ℕ) → (ownOf s a c t list .said ≡ Paper.refusal n []) ↔ Given (ownRows s a c t list) n
 own-refused s a cleansUp t list n = clean-up-refused s a t list n
 
 own-leaves : (s : FreeListSettings) (a : Account) (c : OwnCall) (t : Tables) (list : List ℕ) (n : ℕ) (back : List ℕ) → ownOf s a c t list .said ≡ Paper.refusal n back → ownOf s a c t list ≡ listed (Paper.refusal n []) a t list
@@ -90,13 +90,13 @@ gate-clear : (s : FreeListSettings) (a : Account) (t : Lent) → (gateOf s a (as
 unfolding gateOf
 gate-clear s a t =
     let u = asList t in
-    clear-first (gateRow (lentOk s a u && true) (noOrder (a .order)) (soundOk s u) (accountOk s a u)) (gateRows listWords s a u) (gate-decided s a u)
+    clear-first (gateRow (inTableOk s a u && true) (noOrder (a .order)) (soundOk s u) (accountOk s a u)) (gateRows listWords s a u) (gate-decided s a u)
 
 deliver-clear : (s : FreeListSettings) (a : Account) (t : Lent) → (deliverGateOf s a (asList t) ≡ pass) ↔ Clear (keptRows (wordsOf listShape) s a t)
 unfolding deliverGateOf
 deliver-clear s a t =
     let u = asList t in
-    clear-first (gateRow (lentOk s a u) (orderFor (s .store .number) (a .order)) (soundOk s u && stillOk s a u (a .order)) (accountOk s a u)) (keptRows listWords s a u) (kept-decided s a u)
+    clear-first (gateRow (inTableOk s a u) (openFor (s .store .number) (a .order)) (soundOk s u && stillOk s a u (a .order)) (accountOk s a u)) (keptRows listWords s a u) (kept-decided s a u)
 
 -- the free list refuses as an engine has to
 pub list-refuses : Refuses listShape

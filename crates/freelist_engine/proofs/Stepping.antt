@@ -1,5 +1,5 @@
 -- Each call of a free list but set-up leaves the tables as they were or makes steps that the rules know, gives the next
--- serials, and leaves the tables their mark. Assumes nothing.
+-- serials, and leaves the tables their mark.
 use mathlib.Core.Path.{_≡_, refl, sym, ap, subst, _∙_}
 use mathlib.Core.Bool.{Bool, true, false}
 use mathlib.Core.Logic.{_⊎_, inl, inr}

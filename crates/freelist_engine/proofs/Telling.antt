@@ -1,8 +1,8 @@
--- The free list tells its caller of every loan and every chunk, as an engine has to. Assumes nothing.
+-- The free list tells its caller of every loan and every chunk, as an engine has to.
 use mathlib.Core.Path.{_≡_, refl, sym, ap, subst, _∙_}
 use mathlib.Core.Bool.{false}
-use mathlib.Core.Logic.{_⊎_, inl, inr, ⊎-elim, _↔_}
-use mathlib.Core.List.{List, [], _∷_, _++_, List·Memᴰ, List·Memᴰ·head, List·Memᴰ·cases-cons, List·Memᴰ·not-nil, append-nil}
+use mathlib.Core.Logic.{_⊎_, inl, inr, ⊎-elim, _↔_, Iff·symm}
+use mathlib.Core.List.{List, [], _∷_, _++_, List·Memᴰ, List·Memᴰ·head, List·Memᴰ·tail, List·Memᴰ·cases-cons, append-nil}
 use Prim.Native.Nat.{ℕ, _+_}
 use native.Mathlib.Omega.{arith}
 use lib.ListN.{length, getD}
@@ -27,7 +27,7 @@ use Rattle.store_rules.specs.declared.Region.{Region}
 use Rattle.store_rules.proofs.Amid.{amid-member}
 use Rattle.engines.specs.Shapes.{Lent}
 use Rattle.engines.specs.Tells.{lentBy, Same, Joined, Blocked, Ordered, Released, Refused, Tells}
-use Rattle.engines.proofs.Joins.{none-joined}
+use Rattle.engines.proofs.Joins.{blockOf, own-block, none-joined, joined-same}
 use Rattle.freelist_rules.specs.Place.{sizeFor, maskFor, lentLoan, putLoan}
 use Rattle.freelist_rules.specs.Records.{Store, region}
 use Rattle.freelist_rules.specs.Steps.{noRegion, served, delivered}
@@ -79,10 +79,14 @@ own-says s a cleansUp t list = clean-up-says s a t list (cleanUpOf s a t list) (
 
 -- ---- loans
 
-put-joined : (n : Loan) (ls : List Loan) → Joined (putLoan n ls) ls (n ∷ [])
-put-joined n ls l = (
-  (λ m. ⊎-elim (λ e. inr (List·Memᴰ·head e)) (λ k. inl k) (put-member n ls l m)),
-  ⊎-elim (λ k. put-in l n ls (inr k)) (λ k. ⊎-elim (λ e. put-in l n ls (inl e)) (λ z. absurd (List·Memᴰ·not-nil z)) (List·Memᴰ·cases-cons k)),
+put-joined : (n : Loan) (ls : List Loan) → Joined (putLoan n ls) ls (blockOf n ∷ [])
+put-joined n ls = (
+  n,
+  own-block n,
+  λ l. (
+    (λ m. ⊎-elim (λ e. List·Memᴰ·head e) (λ k. List·Memᴰ·tail k) (put-member n ls l m)),
+    (λ m. put-in l n ls (List·Memᴰ·cases-cons m)),
+  ),
 )
 
 -- of the loans by chunk and place
@@ -93,7 +97,7 @@ ask-lends : (s : FreeListSettings) (a : Account) (size mask : ℕ) (t : Tables) 
 ask-lends s a size mask t _ (AskComes.denied n) = none-joined (storeOf s t .loans) (storeOf s t .loans) refl
 ask-lends s a size mask t _ (lends i p v) =
     let e = taken-store s t (p .settings) (lengths-are s t (p .lengths)) (p .sound) size mask i (v .aligned) (v .some) (v .place) (v .found) in
-    subst (λ (x : Store). Joined (x .loans) (storeOf s t .loans) (loanFrom s size mask t i ∷ [])) (sym e) (put-joined (loanFrom s size mask t i) (storeOf s t .loans))
+    subst (λ (x : Store). Joined (x .loans) (storeOf s t .loans) (blockOf (loanFrom s size mask t i) ∷ [])) (sym e) (put-joined (loanFrom s size mask t i) (storeOf s t .loans))
 ask-lends s a size mask t _ (orders p v) =
     let e = ordered-store s t (p .settings) (lengths-are s t (p .lengths)) (p .sound) (raisedFor s size t) in
     subst (λ (x : Store). Joined (x .loans) (storeOf s t .loans) []) (sym e) (none-joined (storeOf s t .loans) (storeOf s t .loans) refl)
@@ -106,8 +110,8 @@ deliver-lends s a o t _ (keeps k m f w new) =
     let e = lent-store s a t k w (m .number) new in
     let loanIn : Store → Loan = λ x. lentLoan (x .given + 1) (served (maskFor s (k .ask .mask)) (sizeFor s (k .ask .size)) x (length (storeOf s t .regions))) in
     let g = arrived-store s a t k w (m .number) new in
-    subst (λ (x : Store). Joined (x .loans) (storeOf s t .loans) (loanIn (storeOf s (arrived s a t k w (m .number) new)) ∷ [])) (sym e)
-    (subst (λ (n : Loan). Joined (putLoan (loanIn (delivered s (m .number) (k .order .size) (storeOf s t))) (storeOf s t .loans)) (storeOf s t .loans) (n ∷ [])) (ap loanIn (sym g))
+    subst (λ (x : Store). Joined (x .loans) (storeOf s t .loans) (blockOf (loanIn (storeOf s (arrived s a t k w (m .number) new))) ∷ [])) (sym e)
+    (subst (λ (n : Loan). Joined (putLoan (loanIn (delivered s (m .number) (k .order .size) (storeOf s t))) (storeOf s t .loans)) (storeOf s t .loans) (blockOf n ∷ [])) (ap loanIn (sym g))
     (put-joined (loanIn (delivered s (m .number) (k .order .size) (storeOf s t))) (storeOf s t .loans)))
 
 clean-up-leaves : (s : FreeListSettings) (a : Account) (t : Tables) (list : List ℕ) (r : Listed Tables) → CleanUpComes s a t list r → storeOf s (r .tables) .loans ≡ storeOf s t .loans
@@ -125,12 +129,11 @@ fresh-none s t _ (readies fit lengths) e = refl
 
 -- the loans as the tables have them
 seen-joined : (s : FreeListSettings) (t u : Lent) (said : Said) → Lends s (asList t) (asList u) said → Joined (listShape .loans u) (listShape .loans t) (lentBy said)
-seen-joined s t u said j l =
-    let there = list-keeps .loans-seen s u l in
-    let here = list-keeps .loans-seen s t l in (
-      (λ m. ⊎-elim (λ k. inl (here .0 k)) (λ k. inr k) (j l .0 (there .1 m))),
-      ⊎-elim (λ k. there .0 (j l .1 (inl (here .1 k)))) (λ k. there .0 (j l .1 (inr k))),
-    )
+seen-joined s t u said j =
+    joined-same (listShape .loans u) (storeOf s (asList u) .loans) (listShape .loans t) (storeOf s (asList t) .loans) (lentBy said)
+    (λ l. Iff·symm (list-keeps .loans-seen s u l))
+    (λ l. Iff·symm (list-keeps .loans-seen s t l))
+    j
 
 seen-same : (s : FreeListSettings) (t u : Lent) → storeOf s (asList u) .loans ≡ storeOf s (asList t) .loans → Same (listShape .loans u) (listShape .loans t)
 seen-same s t u e l =

@@ -1,15 +1,17 @@
--- The free list's calls and tables as those of an engine. Assumes nothing: these are definitions.
+-- The free list's calls and tables as those of an engine.
 use mathlib.Core.Bool.{true}
 use mathlib.Core.List.{List}
 use Prim.Native.Nat.{ℕ, _≤_}
 use lib.ListN.{getD}
 use Rattle.counter.specs.InTable.{FreeListIn}
 use Rattle.counter.specs.Limits.{spent}
+use Rattle.counter.specs.Reasons.{Reasons}
 use Rattle.counter.specs.declared.account.Account.{Account}
 use Rattle.counter.specs.declared.settings.FreeListSettings.{FreeListSettings}
 use Rattle.store_rules.specs.Delivery.{freeList}
 use Rattle.store_rules.specs.Loans.{loansOf}
 use Rattle.store_rules.specs.Outcomes.{Out, out, Listed, listed}
+use Rattle.store_rules.specs.Rows.{listRows}
 use Rattle.engines.specs.Shapes.{Lent, Begun, Shape}
 use Rattle.freelist_rules.specs.AtOnce.{atOnce}
 use Rattle.freelist_rules.specs.Records.{Store}
@@ -17,7 +19,7 @@ use Rattle.freelist_rules.specs.Tables.{Tables, tables, Lengths, mark, givenAt,
 use Rattle.freelist_outcomes.specs.Gate.{gateOf}
 use Rattle.freelist_outcomes.specs.Ask.{raisedFor, askOf}
 use Rattle.freelist_outcomes.specs.Deliver.{deliverGateOf, deliverOf}
-use Rattle.freelist_outcomes.specs.Refusals.{InTable, SizeOff, Needed}
+use Rattle.freelist_outcomes.specs.Refusals.{SizeOff, Needed, listWords}
 pub use Rattle.freelist_outcomes.specs.Refusals.{seen}
 use Rattle.freelist_outcomes.specs.Return.{returnOf, cleanUpOf}
 use Rattle.freelist_outcomes.specs.SetUp.{SetUp, setUpOf}
@@ -45,6 +47,10 @@ listedAs r = listed (r .said) (r .account) (asLent (r .tables)) (r .list)
 abbrev pub ownOf : FreeListSettings → Account → OwnCall → Tables → List ℕ → Listed Tables
 ownOf s a cleansUp t list = cleanUpOf s a t list
 
+-- a clean-up is lent a list, and passes the tests 1 to 4
+abbrev pub ownRows : FreeListSettings → Account → OwnCall → Tables → List ℕ → Reasons
+ownRows s a cleansUp t list = listRows listWords s a t list
+
 -- serials and chunk numbers given, and the chunk size now
 pub record Counts : Type 0 where
   pub given : ℕ
@@ -65,7 +71,7 @@ listShape =
       deliver = λ s a o t. outAs (deliverOf s a o (asList t));
       return = λ s a b t list. listedAs (returnOf s a b (asList t) list);
       other = λ s a c t list. listedAs (ownOf s a c (asList t) list);
-      kind = freeList;
+      engine = freeList;
       mark = mark;
       given = λ t. getD (t .head) givenAt 0;
       loans = λ t. loansOf (placesIn (asList t)) (t .loans);
@@ -76,10 +82,11 @@ listShape =
       Needed = λ s size mask t. Needed s size mask (asList t);
       orderSize = λ s size mask t. raisedFor s size (asList t);
       Fits = λ s t. FreeListIn s × Lengths s (asList t);
-      InTable = λ s a t. InTable s a (asList t);
+      MaskHigh = λ s mask. ⊥;
       SizeOff = λ s size mask. SizeOff s size;
       Roomless = λ s size mask t. ⊥;
       Numberless = λ s t. spent ≤ storeOf s (asList t) .made;
+      ownRows = λ s a c t list. ownRows s a c (asList t) list;
       gate = λ s a t. gateOf s a (asList t) true;
       deliverGate = λ s a t. deliverGateOf s a (asList t);
       atOnce = λ s bs t. seen (atOnce bs (storeOf s (asList t)));

@@ -1,5 +1,5 @@
 -- Lists that hold the same members equally often: they have the same sums of any measure. Two of them are equal where one
--- climbs by a key and the other does not fall. Assumes nothing.
+-- climbs by a key and the other does not fall.
 use mathlib.Core.Path.{_≡_, refl, sym, ap, _∙_}
 use mathlib.Core.Bool.{cond}
 use mathlib.Core.Logic.{_⊎_, inl, inr, ⊎-elim}

@@ -1,5 +1,5 @@
 -- The walk over the loans in the order of their keys decides what the walk over the loans in order does; and where a loan
--- has no chunk, or a place that no chunk has, they fill nothing. Assumes nothing.
+-- has no chunk, or a place that no chunk has, they fill nothing.
 use mathlib.Core.Path.{_≡_, refl, sym, ap, _∙_}
 use mathlib.Core.Bool.{true, false}
 use mathlib.Core.Logic.{_⊎_, inl, inr, ⊎-elim}

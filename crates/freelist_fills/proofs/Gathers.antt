@@ -1,4 +1,4 @@
--- The keys of a table's loans gathered, a place a turn: what holds at each turn, and at each end. Assumes nothing.
+-- The keys of a table's loans gathered, a place a turn: what holds at each turn, and at each end.
 use mathlib.Core.Path.{_≡_, refl, sym, ap, _∙_, subst}
 use mathlib.Core.Bool.{Bool, true, false, _&&_, _||_}
 use mathlib.Core.Logic.{_⊎_, ⊎-elim}

@@ -1,4 +1,4 @@
--- The keys of loans lead back to them, and rise as the loans do by chunk and place. Assumes nothing.
+-- The keys of loans lead back to them, and rise as the loans do by chunk and place.
 use mathlib.Core.Path.{_≡_, refl, sym, ap, _∙_}
 use mathlib.Core.Bool.{true, false, _&&_}
 use mathlib.Core.Logic.{_⊎_, inl, inr, ⊎-elim}

@@ -1,4 +1,4 @@
--- Which chunk has a number, where the chunks' numbers rise. Assumes nothing.
+-- Which chunk has a number, where the chunks' numbers rise.
 use mathlib.Core.Path.{_≡_, refl, sym, ap, _∙_}
 use mathlib.Core.Bool.{true, false, _&&_}
 use mathlib.Core.Logic.{_⊎_, inl, inr, ⊎-elim}

@@ -1,4 +1,4 @@
--- Loans put in order by chunk and place do not fall, and are the loans that they were. Assumes nothing.
+-- Loans put in order by chunk and place do not fall, and are the loans that they were.
 use mathlib.Core.Path.{_≡_, refl, ap, _∙_}
 use mathlib.Core.Bool.{true, false}
 use mathlib.Core.Logic.{_⊎_, inl, inr}
@@ -13,7 +13,7 @@ use Rattle.distinct.specs.Order.{RisesFrom}
 use Rattle.words.specs.Rows.{insertAt}
 use Rattle.store_rules.specs.declared.Loan.{Loan}
 use Rattle.freelist_rules.specs.Pieces.{total}
-use Rattle.freelist_rules.specs.Place.{spotFor, putLoan}
+use Rattle.freelist_rules.specs.Place.{loanRank, putLoan}
 use Rattle.freelist_rules.specs.Tables.{ordered}
 use Rattle.freelist_rules.proofs.Gaps.{begins}
 use Rattle.freelist_rules.proofs.GivesBack.{total-append}
@@ -29,7 +29,7 @@ pub ordered-alike : (ls : List Loan) → Alike (ordered ls) ls
 unfolding ordered
 ordered-alike [] h = refl
 ordered-alike (l ∷ ls) h =
-    inserted-total h (spotFor (begins l) (ordered ls)) l (ordered ls) ∙ ap (λ (k : ℕ). h l + k) (ordered-alike ls h)
+    inserted-total h (loanRank (begins l) (ordered ls)) l (ordered ls) ∙ ap (λ (k : ℕ). h l + k) (ordered-alike ls h)
 
 -- ---- in order
 

@@ -1,5 +1,5 @@
 -- A turn of the walk passes one loan, or the first chunk when no loan of it is left; and what the code says of the gap
--- before it. Assumes nothing.
+-- before it.
 use mathlib.Core.Path.{_≡_, sym, ap, _∙_}
 use mathlib.Core.Bool.{Bool, true, false, _&&_}
 use mathlib.Core.Logic.{_⊎_, inl, inr}

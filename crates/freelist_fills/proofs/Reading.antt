@@ -1,4 +1,4 @@
--- Records read word by word are read whole. Assumes nothing.
+-- Records read word by word are read whole.
 use mathlib.Core.Path.{_≡_, sym, ap, _∙_}
 use mathlib.Core.List.{List}
 use Prim.Native.Nat.{ℕ, _<_}

@@ -1,4 +1,4 @@
--- What a turn leaves to test, in the code's words: after a loan, after a chunk, and at the end. Assumes nothing.
+-- What a turn leaves to test, in the code's words: after a loan, after a chunk, and at the end.
 use mathlib.Core.Path.{_≡_, refl, sym, ap, _∙_}
 use mathlib.Core.Bool.{Bool, true, false, _&&_}
 use mathlib.Core.Logic.{_⊎_, inl, inr, ⊎-elim}

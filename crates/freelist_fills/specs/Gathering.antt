@@ -1,4 +1,4 @@
--- What the gathering of the keys says. Assumes nothing: these are definitions.
+-- What the gathering of the keys says.
 use mathlib.Core.Path.{_≡_}
 use mathlib.Core.Bool.{true, false}
 use mathlib.Core.List.{List}

@@ -1,5 +1,4 @@
 -- A loan's key: a number by which loans are sorted by chunk and place, and which leads back to the loan.
--- Assumes nothing: these are definitions.
 use mathlib.Core.Bool.{Bool, cond, _&&_}
 use mathlib.Core.List.{List, [], _∷_, map}
 use Prim.Native.Nat.{ℕ, suc, _+_, _*_, _%_}

@@ -1,4 +1,4 @@
--- A turn of the walk over chunks, loans and free regions together. Assumes nothing: these are definitions.
+-- A turn of the walk over chunks, loans and free regions together.
 use mathlib.Core.Path.{_≡_}
 use mathlib.Core.Bool.{Bool, cond, _&&_}
 use mathlib.Core.List.{List, _∷_}

@@ -1,4 +1,4 @@
--- The gate's tests in the code's words. Assumes nothing.
+-- The gate's tests in the code's words.
 use mathlib.Core.Path.{_≡_, refl, sym, ap, _∙_}
 use mathlib.Core.Bool.{Bool, true, false, _&&_}
 use mathlib.Core.List.{List, [], _∷_}
@@ -18,41 +18,53 @@ use Rattle.counter.specs.declared.account.Heap.{Heap}
 use Rattle.counter.specs.declared.settings.FreeListSettings.{FreeListSettings}
 use Rattle.counter.proofs.Tables.{free-list-yes}
 use Rattle.store_rules.specs.Loans.{loanWords}
-use Rattle.store_rules.specs.Shares.{holding, orderBy, holder}
+use Rattle.store_rules.proofs.Holders.{holding, orderBy, holder}
 use Rattle.store_rules.specs.Tests.{noOrder, coversOk}
 use Rattle.book_rules.specs.Book.{indexWords}
 use Rattle.freelist_rules.specs.Records.{chunkWords, chunkRow}
 use Rattle.freelist_rules.specs.Pieces.{total}
-use Rattle.freelist_rules.specs.Tables.{Tables, headWords, chunksAt, chunksIn, countAt, lengthsOk, storeOf, soundOk}
+use Rattle.freelist_rules.specs.Tables.{Tables, headWords, chunksAt, chunksIn, regionCountAt, lengthsOk, storeOf, soundOk}
 use Rattle.store_rules.specs.declared.Chunk.{Chunk}
 use Rattle.store_rules.specs.declared.Share.{Share}
 use Rattle.store_rules.proofs.Shares.{held-heap, held-table, held-free}
 use Rattle.freelist_rules.proofs.GivesBack.{total-append}
-use Rattle.freelist_outcomes.specs.Gate.{lentOk, accountOk, gateOf}
+use Rattle.freelist_outcomes.specs.Gate.{inTableOk, accountOk, gateOf}
+use Rattle.freelist_outcomes.specs.SetUp.{fitOk}
 use Rattle.freelist_outcomes.proofs.Passing.{lent-in}
 use Rattle.freelist_gate.specs.Gates.{storeGate}
 
 module _ (s : FreeListSettings) (t : Tables) where
-  pub lengths-is : (count : ℕ) → count ≡ countAt s
+  pub lengths-is : (count : ℕ) → count ≡ regionCountAt s
       → ((((eqb (length (t .head)) headWords && eqb (length (t .loans)) (loanWords * s .store .loans)) && eqb (length (t .chunks)) (chunkWords * s .store .chunks)) && eqb (length (t .regions)) (count + 1)) && eqb (length (t .index)) (indexWords (s .store .loans))) ≡ lengthsOk s t
   unfolding lengthsOk
   lengths-is count e = rw e refl
 
   -- the share's word on all heaps and its own heap's test are the test of the heaps that hold it
-  pub lent-yes : (h : Share) (b f : Bool) → freeListOk s ≡ true → b ≡ heapOk (h .heap) → f ≡ lengthsOk s t → (h .table && (b && f)) ≡ lentOk s (holder (s .store) h) t
-  unfolding lentOk
+  pub lent-yes : (h : Share) (b f : Bool) → freeListOk s ≡ true → b ≡ heapOk (h .heap) → f ≡ lengthsOk s t → (h .bounded && (b && f)) ≡ inTableOk s (holder (s .store) h) t
+  unfolding inTableOk
   lent-yes h b f e p q =
-      let k : (h .table && b) ≡ heapsOk (holder (s .store) h .heaps) =
-      ap (λ (x : Bool). h .table && x) p ∙ sym (held-table (s .store) h (orderBy (h .free)) (free-list-yes s e .store .heap)) in
-      and-again (h .table) b f ∙ (λ j. k j && q j) ∙ rw e refl
+      let k : (h .bounded && b) ≡ heapsOk (holder (s .store) h .heaps) =
+      ap (λ (x : Bool). h .bounded && x) p ∙ sym (held-table (s .store) h (orderBy (h .idle)) (free-list-yes s e .store .heap)) in
+      and-again (h .bounded) b f ∙ (λ j. k j && q j) ∙ rw e refl
     where
       and-again : (x y z : Bool) → (x && (y && z)) ≡ ((x && y) && z)
       and-again true y z = refl
       and-again false y z = refl
 
-  pub lent-no : (a : Account) → freeListOk s ≡ false → false ≡ lentOk s a t
-  unfolding lentOk
+  pub lent-no : (a : Account) → freeListOk s ≡ false → false ≡ inTableOk s a t
+  unfolding inTableOk
   lent-no a e = rw e refl
+
+-- ---- set-up's
+
+module _ (s : FreeListSettings) (t : Tables) where
+  pub fit-yes : (f : Bool) → freeListOk s ≡ true → f ≡ lengthsOk s t → f ≡ fitOk s t
+  unfolding fitOk
+  fit-yes f e g = g ∙ rw e refl
+
+  pub fit-no : freeListOk s ≡ false → false ≡ fitOk s t
+  unfolding fitOk
+  fit-no e = rw e refl
 
 abbrev pub bytes : ℕ → List ℕ → ℕ
 bytes i t = total (λ (c : Chunk). c .size) (rows chunkRow i t)
@@ -87,15 +99,15 @@ pub covered-is : (h : Heap) (objects k b : ℕ) (r : Bool) (head chunks : List �
 covered-is h objects k b r head chunks e f g = g ∙ (λ j. coversOk h objects (e j) ((f ∙ ap (λ (i : ℕ). bytes i chunks) e) j))
 
 module _ (s : FreeListSettings) (a : Account) (t : Tables) (list : Bool) where
-  pub gate-lent : (lentOk s a t && list) ≡ false → refuse 1 ≡ gateOf s a t list
+  pub gate-lent : (inTableOk s a t && list) ≡ false → refuse 1 ≡ gateOf s a t list
   unfolding gateOf
   gate-lent e = rw e refl
 
-  gate-order : (lentOk s a t && list) ≡ true → noOrder (a .order) ≡ false → refuse 2 ≡ gateOf s a t list
+  gate-order : (inTableOk s a t && list) ≡ true → noOrder (a .order) ≡ false → refuse 2 ≡ gateOf s a t list
   unfolding gateOf
   gate-order e f = rw (e, f) refl
 
-  gate-rest : (v : Verdict) → (lentOk s a t && list) ≡ true → noOrder (a .order) ≡ true → v ≡ storeGate s (heapAt a (s .store .heap)) (a .objects) t → v ≡ gateOf s a t list
+  gate-rest : (v : Verdict) → (inTableOk s a t && list) ≡ true → noOrder (a .order) ≡ true → v ≡ storeGate s (heapAt a (s .store .heap)) (a .objects) t → v ≡ gateOf s a t list
   unfolding gateOf storeGate accountOk
   gate-rest v e f g = g ∙ rw (e, f) refl
 
@@ -104,13 +116,13 @@ module _ (s : FreeListSettings) (h : Share) (t : Tables) (list : Bool) where
   abbrev held : Account
   held = holder (s .store) h
 
-  pub gate-closed : (lentOk s held t && list) ≡ true → h .free ≡ false → refuse 2 ≡ gateOf s held t list
+  pub gate-closed : (inTableOk s held t && list) ≡ true → h .idle ≡ false → refuse 2 ≡ gateOf s held t list
   unfolding holding
-  gate-closed e f = gate-order s held t list e (held-free (h .free) ∙ f)
+  gate-closed e f = gate-order s held t list e (held-free (h .idle) ∙ f)
 
-  pub gate-open : (v : Verdict) → (lentOk s held t && list) ≡ true → h .free ≡ true → v ≡ storeGate s (h .heap) (h .objects) t → v ≡ gateOf s held t list
+  pub gate-open : (v : Verdict) → (inTableOk s held t && list) ≡ true → h .idle ≡ true → v ≡ storeGate s (h .heap) (h .objects) t → v ≡ gateOf s held t list
   unfolding holding
   gate-open v e f g =
-      let below = lent-in s held t (and-left (lentOk s held t) list e) .0 .store .heap in
-      gate-rest s held t list v e (held-free (h .free) ∙ f)
-      (g ∙ ap (λ (x : Heap). storeGate s x (h .objects) t) (sym (held-heap (s .store) h (orderBy (h .free)) below)))
+      let below = lent-in s held t (and-left (inTableOk s held t) list e) .0 .store .heap in
+      gate-rest s held t list v e (held-free (h .idle) ∙ f)
+      (g ∙ ap (λ (x : Heap). storeGate s x (h .objects) t) (sym (held-heap (s .store) h (orderBy (h .idle)) below)))

@@ -7,12 +7,13 @@ ghost use Rattle.words.specs.Rows.{rows};
 ghost use Rattle.counter.specs.Gate.{verdictOf};
 ghost use Rattle.counter.specs.InTable.{FreeListIn};
 ghost use Rattle.counter.specs.Limits.{chunksMost, chunkSizeMost};
-ghost use Rattle.store_rules.specs.Shares.{holder};
+ghost use Rattle.store_rules.proofs.Holders.{holder};
 ghost use Rattle.store_rules.specs.Tests.{coversOk};
 ghost use Rattle.freelist_rules.specs.Records.{chunkRow};
 ghost use Rattle.freelist_rules.specs.Pieces.{total};
 ghost use Rattle.freelist_rules.specs.Tables.{tables, lengthsOk, chunksAt};
-ghost use Rattle.freelist_outcomes.specs.Gate.{lentOk, gateOf};
+ghost use Rattle.freelist_outcomes.specs.Gate.{inTableOk, gateOf};
+ghost use Rattle.freelist_outcomes.specs.SetUp.{fitOk};
 ghost use Rattle.freelist_gate.specs.Gates.{storeGate};
 use book::ENTRY_WORDS;
 use counter::FreeListSettings;
@@ -46,22 +47,40 @@ pub fn lengths_fit(
         & (index.len() == 1 + ENTRY_WORDS * store.loans)
 }
 
-// Test 1: every value, and every table's length.
-pub fn is_lent(
+// Whether a store with these settings can be set up in these tables: test 1, but for the account.
+pub fn is_fit(
     s: FreeListSettings,
-    h: Share,
     head: &[u64],
     loans: &[u64],
     chunks: &[u64],
     regions: &[u64],
     index: &[u64],
 ) -> bool
-    ensures { λ r. ⌜ r ≡ lentOk s (holder (s .store) h) (tables (now (head .entry)) (now (loans .entry)) (now (chunks .entry)) (now (regions .entry)) (now (index .entry))) ⌝ }
+    ensures { λ r. ⌜ r ≡ fitOk s (tables (now (head .entry)) (now (loans .entry)) (now (chunks .entry)) (now (regions .entry)) (now (index .entry))) ⌝ }
 {
     if s.in_table() {
-        let heap = h.heap;
+        lengths_fit(s, head, loans, chunks, regions, index)
+    } else {
+        false
+    }
+}
+
+// Test 1: every value, and every table's length.
+pub fn is_in_table(
+    s: FreeListSettings,
+    share: Share,
+    head: &[u64],
+    loans: &[u64],
+    chunks: &[u64],
+    regions: &[u64],
+    index: &[u64],
+) -> bool
+    ensures { λ r. ⌜ r ≡ inTableOk s (holder (s .store) share) (tables (now (head .entry)) (now (loans .entry)) (now (chunks .entry)) (now (regions .entry)) (now (index .entry))) ⌝ }
+{
+    if s.in_table() {
+        let heap = share.heap;
         let fit = lengths_fit(s, head, loans, chunks, regions, index);
-        h.table & (counter::heap_in_table(heap) & fit)
+        share.bounded & (counter::heap_in_table(heap) & fit)
     } else {
         false
     }
@@ -116,7 +135,7 @@ fn gate_store(
 // The gate of an ask, a return and a clean-up. `list` says whether a release list is long enough.
 pub fn gate(
     s: FreeListSettings,
-    h: Share,
+    share: Share,
     list: bool,
     head: &[u64],
     loans: &[u64],
@@ -124,15 +143,15 @@ pub fn gate(
     regions: &[u64],
     index: &[u64],
 ) -> Gate
-    ensures { λ r. ⌜ verdictOf r ≡ gateOf s (holder (s .store) h) (tables (now (head .entry)) (now (loans .entry)) (now (chunks .entry)) (now (regions .entry)) (now (index .entry))) list ⌝ }
+    ensures { λ r. ⌜ verdictOf r ≡ gateOf s (holder (s .store) share) (tables (now (head .entry)) (now (loans .entry)) (now (chunks .entry)) (now (regions .entry)) (now (index .entry))) list ⌝ }
 {
-    let lent = is_lent(s, h, head, loans, chunks, regions, index);
+    let lent = is_in_table(s, share, head, loans, chunks, regions, index);
     if !(lent & list) {
         return Gate::Shut(Refusal::Setup);
     }
-    if !h.free {
+    if !share.idle {
         return Gate::Shut(Refusal::Order);
     }
-    let heap = h.heap;
-    gate_store(s, heap, h.objects, head, loans, chunks, regions, index)
+    let heap = share.heap;
+    gate_store(s, heap, share.objects, head, loans, chunks, regions, index)
 }

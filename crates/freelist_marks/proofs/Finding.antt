@@ -1,4 +1,4 @@
--- The chunk with a number stands where a search by halves ends, and says whether a region is all of it. Assumes nothing.
+-- The chunk with a number stands where a search by halves ends, and says whether a region is all of it.
 use mathlib.Core.Path.{_≡_, refl, sym, ap, _∙_}
 use mathlib.Core.Bool.{Bool, true, false, cond, _&&_, _||_, not}
 use mathlib.Core.Logic.{_⊎_, inl, inr, ⊎-elim}

@@ -1,4 +1,4 @@
--- Words put at the front of a list, one more of them, and the first of them sent behind the others. Assumes nothing.
+-- Words put at the front of a list, one more of them, and the first of them sent behind the others.
 use mathlib.Core.Path.{_≡_, refl, sym, ap, _∙_}
 use mathlib.Core.List.{List, [], _∷_, _++_}
 use Prim.Native.Nat.{ℕ, zero, suc, _+_, _-_, _≤_, _<_}

@@ -1,4 +1,4 @@
--- What leaves, region by region. Assumes nothing.
+-- What leaves, region by region.
 use mathlib.Core.Path.{_≡_, sym, ap, _∙_}
 use mathlib.Core.Bool.{Bool, true, false, cond, _&&_, not}
 use mathlib.Core.List.{List, [], _∷_, _++_}

@@ -1,4 +1,4 @@
--- The walk that lists the chunks that go, turn by turn. Assumes nothing.
+-- The walk that lists the chunks that go, turn by turn.
 use mathlib.Core.Path.{_≡_, refl, sym, ap, _∙_}
 use mathlib.Core.Bool.{Bool, true, false, _&&_, not}
 use mathlib.Core.List.{List, [], _∷_, _++_}

@@ -1,4 +1,4 @@
--- The chunk with a number, and whether a region is all of it. Assumes nothing: these are definitions.
+-- The chunk with a number, and whether a region is all of it.
 use mathlib.Core.Bool.{Bool, cond, _&&_}
 use mathlib.Core.List.{List, [], _∷_}
 use Prim.Native.Nat.{ℕ}

@@ -1,5 +1,4 @@
--- What a release asks of a store's chunks and regions; every sound store has it (proofs/Sounds). Assumes nothing: these are
--- definitions.
+-- What a release asks of a store's chunks and regions; every sound store has it (proofs/Sounds).
 use mathlib.Core.Bool.{Bool}
 use mathlib.Core.List.{List, []}
 use Prim.Native.Nat.{suc, _≤_}

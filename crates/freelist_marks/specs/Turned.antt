@@ -1,4 +1,4 @@
--- The front of a list turned by one. Assumes nothing: these are definitions.
+-- The front of a list turned by one.
 use mathlib.Core.List.{List, _++_}
 use Prim.Native.Nat.{ℕ}
 use lib.ListN.{take, drop}

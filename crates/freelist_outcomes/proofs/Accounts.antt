@@ -1,5 +1,5 @@
 -- The account that a call leaves: that every heap stays in 01's table, and that test 4 holds again of the chunks that are
--- left. Assumes nothing.
+-- left.
 use mathlib.Core.Path.{_≡_, sym, ap, _∙_}
 use mathlib.Core.Bool.{Bool, true}
 use mathlib.Core.List.{List, [], _∷_, _++_}

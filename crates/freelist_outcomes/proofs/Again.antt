@@ -1,4 +1,4 @@
--- After a call that opened no order, on a store that passes tests 1 to 4, they pass again. Assumes nothing.
+-- After a call that opened no order, on a store that passes tests 1 to 4, they pass again.
 use mathlib.Core.Path.{_≡_, refl, ap, _∙_}
 use mathlib.Core.Bool.{Bool, true, false, _&&_}
 use mathlib.Core.List.{List}
@@ -20,12 +20,12 @@ use Rattle.counter.proofs.Gates.{passed, passes}
 use Rattle.counter.proofs.Tables.{free-list-all}
 use Rattle.heap.specs.Heap.{bearsOk, Within}
 use Rattle.store_rules.specs.Outcomes.{Out, Listed, releasedAccount}
-use Rattle.store_rules.specs.Tests.{noOrder, orderFor, gateRow}
+use Rattle.store_rules.specs.Tests.{noOrder, openFor, gateRow}
 use Rattle.freelist_rules.specs.Records.{Store, chunk}
 use Rattle.freelist_rules.specs.Tables.{Tables, Lengths, lengthsOk, storeOf, soundOk, SoundTables}
 use Rattle.freelist_rules.proofs.Fits.{lengths-are, are-lengths}
 use Rattle.freelist_rules.proofs.Tested.{tables-all}
-use Rattle.freelist_outcomes.specs.Gate.{lentOk, accountOk, gateOf}
+use Rattle.freelist_outcomes.specs.Gate.{inTableOk, accountOk, gateOf}
 use Rattle.freelist_outcomes.specs.Ask.{askOf}
 use Rattle.freelist_outcomes.specs.Deliver.{stillOk, deliverGateOf, carryFate, deliverOf}
 use Rattle.freelist_outcomes.specs.Return.{wordFor, givenTables, releaseOf, returnOf, cleanUpOf}
@@ -38,10 +38,10 @@ use Rattle.freelist_outcomes.proofs.Taken.{taken-lengths, taken-store, 
 
 -- what tests 1 to 4 ask for
 pub gate-passes : (s : FreeListSettings) (a : Account) (t : Tables) → FreeListIn s → heapsOk (a .heaps) ≡ true → Lengths s t → noOrder (a .order) ≡ true → SoundTables s t → accountOk s a t ≡ true → gateOf s a t true ≡ pass
-unfolding gateOf lentOk
+unfolding gateOf inTableOk
 gate-passes s a t fit heaps lengths none sound covered =
-    passes (gateRow (lentOk s a t && true) (noOrder (a .order)) (soundOk s t) (accountOk s a t)) (
-      and-both (lentOk s a t) true (and-both (freeListOk s) (heapsOk (a .heaps) && lengthsOk s t) (free-list-all s fit) (and-both (heapsOk (a .heaps)) (lengthsOk s t) heaps (are-lengths s t lengths))) refl,
+    passes (gateRow (inTableOk s a t && true) (noOrder (a .order)) (soundOk s t) (accountOk s a t)) (
+      and-both (inTableOk s a t) true (and-both (freeListOk s) (heapsOk (a .heaps) && lengthsOk s t) (free-list-all s fit) (and-both (heapsOk (a .heaps)) (lengthsOk s t) heaps (are-lengths s t lengths))) refl,
       (none, (tables-all s t fit sound, (covered, tt))),
     )
 
@@ -62,7 +62,7 @@ module _ (s : FreeListSettings) (a : Account) (t : Tables) (typed : Typed a) (pa
   -- no order is open
   none-open : noOrder (a .order) ≡ true
   unfolding gateOf
-  none-open = passed (gateRow (lentOk s a t && true) (noOrder (a .order)) (soundOk s t) (accountOk s a t)) passes-now .1 .0
+  none-open = passed (gateRow (inTableOk s a t && true) (noOrder (a .order)) (soundOk s t) (accountOk s a t)) passes-now .1 .0
 
   -- after an ask that opened no order tests 1 to 4 pass again
   pub ask-again : (size mask : ℕ) → noOrder (askOf s a size mask t .account .order) ≡ true → gateOf s (askOf s a size mask t .account) (askOf s a size mask t .tables) true ≡ pass
@@ -100,9 +100,9 @@ module _ (s : FreeListSettings) (a : Account) (t : Tables) (typed : Typed a) (pa
       go _ (cleans p) = release-passes s a t false list (p .settings) (p .heaps) (lengths-are s t (p .lengths)) none-open (p .sound) (typed .totals (s .store .heap)) (p .covered)
 
 -- a delivery's gate asks for an order of this store
-deliver-for : (s : FreeListSettings) (a : Account) (t : Tables) → deliverGateOf s a t ≡ pass → orderFor (s .store .number) (a .order) ≡ true
+deliver-for : (s : FreeListSettings) (a : Account) (t : Tables) → deliverGateOf s a t ≡ pass → openFor (s .store .number) (a .order) ≡ true
 unfolding deliverGateOf
-deliver-for s a t g = passed (gateRow (lentOk s a t) (orderFor (s .store .number) (a .order)) (soundOk s t && stillOk s a t (a .order)) (accountOk s a t)) g .1 .0
+deliver-for s a t g = passed (gateRow (inTableOk s a t) (openFor (s .store .number) (a .order)) (soundOk s t && stillOk s a t (a .order)) (accountOk s a t)) g .1 .0
 
 -- and after a delivery that closed the order, into an account that has all its heaps: one that lacks the store's heap
 -- charges nothing for the chunk, and 4 would fail
@@ -112,7 +112,7 @@ unfolding carryFate
 deliver-again s a o t typed passes-now = go (deliverOf s a o t) (deliver-comes s a o t)
   where
     -- the gate asked for an order
-    open-none : (x : OpenOrder) → orderFor (s .store .number) x ≡ true → noOrder x ≡ true → ⊥
+    open-none : (x : OpenOrder) → openFor (s .store .number) x ≡ true → noOrder x ≡ true → ⊥
     open-none Nothing e f = true-false false e refl
     open-none (Kept k) e f = true-false false f refl
 

@@ -1,4 +1,4 @@
--- A chunk that has arrived serves the ask that ordered it, from its region, the last. Assumes nothing.
+-- A chunk that has arrived serves the ask that ordered it, from its region, the last.
 use mathlib.Core.Path.{_≡_, sym, ap, subst, _∙_}
 use Prim.Native.Nat.{ℕ, _+_, _≤_}
 use native.Mathlib.Omega.{arith}

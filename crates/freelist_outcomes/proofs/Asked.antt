@@ -1,4 +1,4 @@
--- An ask's tests 5, 6, 8, 10 and 9 decide 01's rows, and what an ask comes to in the paper's words. Assumes nothing.
+-- An ask's tests 5, 6, 8, 10 and 9 decide 01's rows, and what an ask comes to in the paper's words.
 use mathlib.Core.Path.{_≡_, refl, sym, ap, subst, _∙_}
 use mathlib.Core.Bool.{Bool, true, false, _&&_, _||_, not}
 use mathlib.Core.Logic.{_⊎_, inl, inr, ⊎-elim, _↔_, Iff·trans}
@@ -32,7 +32,7 @@ use Rattle.slab.proofs.Places.{insert-last}
 use Rattle.slab.proofs.Steps.{vacancies-none, vacancies-more, vacancies-same}
 use Rattle.store_rules.specs.Loans.{loanWords, sizeAt, loanRow, onLoan, loansOf}
 use Rattle.store_rules.specs.Orders.{take, buy}
-use Rattle.store_rules.proofs.Refused.{mask-off}
+use Rattle.store_rules.proofs.Refused.{or-never, mask-off}
 use Rattle.store_rules.proofs.Tested.{off-and, off-where, off-less, off-within, off-some, off-room, bears-off}
 use Rattle.book_rules.specs.Book.{entryWords, vacantAfterAt, slabOf, takenOf}
 use Rattle.freelist_rules.specs.Place.{Found, nowhere, at, sizeFor, maskFor, cut}
@@ -193,7 +193,7 @@ module _ (s : FreeListSettings) (t : Tables) (fit : FreeListIn s) (sound : Sound
 
     -- each test fails exactly when its row's words hold, where those before it do not
     pub ask-decided : Decides (askRow s h objects size mask t (foundFor s size mask t)) (askTests listWords s h objects size mask t)
-    ask-decided = (refl, mask-off mask, λ a. (refl, size-off s size, λ z. late (Iff·trans (needs-none found) (needed-is size mask a (size-some s size z)))))
+    ask-decided = (refl, or-never (mask-off mask), λ a. (refl, size-off s size, λ z. late (Iff·trans (needs-none found) (needed-is size mask a (size-some s size z)))))
       where
         late : (needs found ≡ true) ↔ Needed s size mask t → Decides (lateRow s h objects size t found) (reason (Full listWords s size mask t) 8 (reason (Spent listWords s h size mask t) 10 (reason (NoObject listWords s objects size mask t) 9 Reasons.none)))
         late n = (refl, room-off n, λ p. (refl, count-off n, λ q. (refl, objects-off n, λ r. tt)))

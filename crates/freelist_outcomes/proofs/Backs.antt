@@ -1,4 +1,4 @@
--- The store as it is when a block on loan has gone back among its free regions. Assumes nothing.
+-- The store as it is when a block on loan has gone back among its free regions.
 use mathlib.Core.Path.{_≡_, refl, ap}
 use mathlib.Core.Bool.{true}
 use Prim.Native.Nat.{_+_, _≤_}
@@ -70,4 +70,4 @@ module _ (s : FreeListSettings) (t : Tables) (fit : FreeListIn s) (sound : Sound
   block-low =
       let l = getD (before .loans) (stands .spot) noLoan in
       let e = same-loan b l (stands .same) in
-      omega (arith, loan-low s before fit (sound .store) l (at-in (stands .spot) (before .loans) noLoan (stands .here)), e .2, e .3)
+      omega (arith, loan-low s before fit (sound .store) l (at-in (stands .spot) (before .loans) noLoan (stands .here)), e .offset, e .size)

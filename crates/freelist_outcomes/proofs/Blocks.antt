@@ -1,4 +1,4 @@
--- A new block is as it has to be. Assumes nothing.
+-- A new block is as it has to be.
 use mathlib.Core.Path.{_≡_, refl, ap, subst}
 use mathlib.Core.Bool.{true}
 use mathlib.Core.Logic.{_⊎_, inl, inr}
@@ -65,14 +65,16 @@ lent-good s fit t sound size mask i aligned some e =
     let g = lent-block s t fit sound mask size aligned some i e in
     let ends : b .start + (b .end - b .start) ≡ r .end = omega (arith, g .2) in
     record {
-      next = refl;
-      held = (h .0, h .1, h .2, omega (arith, h .3, ends));
-      aligned = g .0;
-      atom = g .1;
-      enough = omega (arith, g .2);
+      block = record {
+        next = refl;
+        held = (h .0, h .1, h .2, omega (arith, h .3, ends));
+        aligned = g .0;
+        atoms = g .1;
+        enough = omega (arith, g .2);
+        apart = free-apart s fit t sound r k (b .start) (b .start + (b .end - b .start)) (f .1) (omega (arith, g .2)) (omega (arith, ends));
+        new = λ l p. omega (arith, sound .serials-given l p .1);
+      };
       close = omega (arith, down-close (r .end - n) m, up-close size (s .store .atom), f .0);
-      apart = free-apart s fit t sound r k (b .start) (b .start + (b .end - b .start)) (f .1) (omega (arith, g .2)) (omega (arith, ends));
-      new = λ l p. omega (arith, sound .serials-given l p .1);
     }
 
 good-as : (s : FreeListSettings) (size mask : ℕ) (t : Store) (a b c d p q u v : ℕ) → a ≡ p → b ≡ q → c ≡ u → d ≡ v → Good s size mask t a b c d → Good s size mask t p q u v

@@ -1,5 +1,5 @@
 -- What the tables hold after set-up, an order, a delivery's chunk and a release: the store that each leads to, and they are
--- sound. Assumes nothing.
+-- sound.
 use mathlib.Core.Path.{_≡_, refl, sym, ap, subst, _∙_}
 use mathlib.Core.Bool.{Bool}
 use mathlib.Core.List.{List, [], _∷_}
@@ -22,7 +22,7 @@ use Rattle.freelist_rules.specs.Place.{sizeFor}
 use Rattle.freelist_rules.specs.Release.{staying, remaining}
 use Rattle.freelist_rules.specs.Sound.{Sound}
 use Rattle.freelist_rules.specs.Steps.{fresh, raised, delivered, released}
-use Rattle.freelist_rules.specs.Tables.{Tables, tables, markAt, givenAt, madeAt, chunkSizeAt, placesAt, chunksAt, headWords, regionsMost, countAt, Lengths, placesIn, chunksIn, regionsIn, ordered, storeOf, vacantIn, vacantAfterIn, SoundTables, laidRegions, RegionsFit}
+use Rattle.freelist_rules.specs.Tables.{Tables, tables, markAt, givenAt, madeAt, chunkSizeAt, placesAt, chunksAt, headWords, regionsMost, regionCountAt, Lengths, placesIn, chunksIn, regionsIn, ordered, storeOf, vacantIn, vacantAfterIn, SoundTables, laidRegions, RegionsFit}
 use Rattle.store_rules.specs.declared.Chunk.{Chunk}
 use Rattle.store_rules.specs.declared.Region.{Region}
 use Rattle.freelist_rules.proofs.Delivers.{fresh-sound, raised-sound, delivered-sound}
@@ -52,11 +52,11 @@ module _ (s : FreeListSettings) (t : Tables) (fit : FreeListIn s) (lengths : Len
   -- no region is counted
   fresh-count : regionsIn s (freshTables s t) ≡ 0
   unfolding freshTables
-  fresh-count = getD-set-same (t .regions) (countAt s) 0 0 (omega (arith, lengths .regions))
+  fresh-count = getD-set-same (t .regions) (regionCountAt s) 0 0 (omega (arith, lengths .regions))
 
   pub fresh-store : storeOf s (freshTables s t) ≡ fresh s
   unfolding freshTables storeOf loansOf ordered
-  fresh-store = ap (λ (n : ℕ). record { given = 0; made = 0; size = s .start; loans = []; chunks = []; regions = rows regionRow n (set (t .regions) (countAt s) 0) }) fresh-count
+  fresh-store = ap (λ (n : ℕ). record { given = 0; made = 0; size = s .start; loans = []; chunks = []; regions = rows regionRow n (set (t .regions) (regionCountAt s) 0) }) fresh-count
 
   pub fresh-tables-sound : SoundTables s (freshTables s t)
   unfolding freshTables
@@ -83,7 +83,7 @@ module _ (s : FreeListSettings) (t : Tables) (fit : FreeListIn s) (lengths : Len
     changed-lengths made size held chunks regions c r =
         record { head = refl; loans = lengths .loans; chunks = c ∙ lengths .chunks; regions = r ∙ lengths .regions; index = lengths .index }
 
-    changed-sound : (made size held : ℕ) (chunks regions : List ℕ) → held ≤ s .store .chunks → getD regions (countAt s) 0 ≤ regionsMost s → Sound s (storeOf s (changed made size held chunks regions))
+    changed-sound : (made size held : ℕ) (chunks regions : List ℕ) → held ≤ s .store .chunks → getD regions (regionCountAt s) 0 ≤ regionsMost s → Sound s (storeOf s (changed made size held chunks regions))
         → SoundTables s (changed made size held chunks regions)
     changed-sound made size held chunks regions c r w =
         record { marked = sound .marked; chunks-fit = c; regions-fit = r; parted = sound .parted; chained = sound .chained; store = w }

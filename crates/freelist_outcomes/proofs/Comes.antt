@@ -1,5 +1,5 @@
 -- What each call comes to: a refusal that leaves all as it was, or one change of the tables and the account, with what the
--- gate and the tests have shown. Assumes nothing.
+-- gate and the tests have shown.
 use mathlib.Core.Path.{_≡_, refl, sym, ap, subst, _∙_}
 use mathlib.Core.Bool.{Bool, true, false, _&&_, _||_, not}
 use mathlib.Core.Logic.{_⊎_, inl, inr, ⊎-elim}
@@ -10,7 +10,7 @@ use lib.Dec.{eqb, ltb}
 use borrow.Author.Tests.{eqb-true, eq-eqb, ltb-true}
 use Rattle.lists.proofs.Bools.{told, true-false, and-left, and-right, not-yes}
 use Rattle.counter.specs.Account.{heapAt}
-use Rattle.counter.specs.Gate.{Verdict, pass, refuse, first}
+use Rattle.counter.specs.Gate.{Verdict, pass, refuse, first, gated}
 use Rattle.counter.specs.InTable.{FreeListIn}
 use Rattle.counter.specs.Paper as Paper
 use Rattle.counter.specs.Table.{alignmentOk, heapsOk, freeListOk}
@@ -34,7 +34,7 @@ use Rattle.store_rules.specs.Delivery.{kept, lost, freeList, holds, suits, deli
 use Rattle.store_rules.specs.Orders as Orders
 use Rattle.store_rules.specs.Orders.{orderFrom, keptFrom, sameOrder, leadsTo}
 use Rattle.store_rules.specs.Outcomes.{Out, out, Listed, listed, listOk, withOrder, blockSaid}
-use Rattle.store_rules.specs.Tests.{orderFor, gateRow}
+use Rattle.store_rules.specs.Tests.{openFor, gateRow}
 use Rattle.store_rules.proofs.Tested.{gate-low}
 use Rattle.book_rules.specs.Book.{takenOf}
 use Rattle.freelist_rules.specs.Place.{nowhere, at}
@@ -44,7 +44,7 @@ use Rattle.freelist_rules.specs.Walk.{memories}
 use Rattle.store_rules.specs.declared.Chunk.{Chunk}
 use Rattle.freelist_rules.proofs.Fits.{lengths-are}
 use Rattle.freelist_rules.proofs.Tested.{tables-yes}
-use Rattle.freelist_outcomes.specs.Gate.{lentOk, accountOk, gateOf}
+use Rattle.freelist_outcomes.specs.Gate.{inTableOk, accountOk, gateOf}
 use Rattle.freelist_outcomes.specs.Ask as Ask
 use Rattle.freelist_outcomes.specs.Ask.{foundFor, raisedFor, roomOk, countOk, objectsOk, decideAsk, loanFrom, takenTables, orderedTables, carryAsk, planAsk, askOf}
 use Rattle.freelist_outcomes.specs.Deliver as Deliver
@@ -117,7 +117,7 @@ module _ (s : FreeListSettings) (a : Account) (size mask : ℕ) (t : Tables) whe
   abbrev decided : Orders.Plan ℕ
   decided = decideAsk s (heapAt a (s .store .heap)) (a .objects) size mask t
 
-  after-gate : (v : Verdict) (p : Orders.Plan ℕ) → gateOf s a t true ≡ v → decided ≡ p → AskComes s a size mask t (carryAsk s a size mask t (Ask.gated v p))
+  after-gate : (v : Verdict) (p : Orders.Plan ℕ) → gateOf s a t true ≡ v → decided ≡ p → AskComes s a size mask t (carryAsk s a size mask t (gated Ask.deny v p))
   unfolding carryAsk
   after-gate (refuse n) p g e = denied n
   after-gate pass (Orders.deny n) g e = denied n
@@ -187,7 +187,7 @@ module _ (s : FreeListSettings) (a : Account) (o : Outcome) (t : Tables) where
   pub deliver-open : (k : KeptOrder) → a .order ≡ Kept k → deliverGateOf s a t ≡ pass → Open s a t k
   unfolding deliverGateOf
   deliver-open k e g =
-      let held = passed (gateRow (lentOk s a t) (orderFor (s .store .number) (a .order)) (soundOk s t && stillOk s a t (a .order)) (accountOk s a t)) g in
+      let held = passed (gateRow (inTableOk s a t) (openFor (s .store .number) (a .order)) (soundOk s t && stillOk s a t (a .order)) (accountOk s a t)) g in
       let lent = lent-in s a t (held .0) in
       let still : stillOk s a t (Kept k) ≡ true = subst (λ (x : OpenOrder). stillOk s a t x ≡ true) e (and-right (soundOk s t) (stillOk s a t (a .order)) (held .1 .1 .0)) in
       let leads = leads-open k (decideAsk s (heapAt a (s .store .heap)) (a .objects) (k .ask .size) (k .ask .mask) t) refl still in
@@ -225,9 +225,9 @@ module _ (s : FreeListSettings) (a : Account) (o : Outcome) (t : Tables) where
 
   gate-number : (n : ℕ) → deliverGateOf s a t ≡ refuse n → n ≤ 4
   unfolding deliverGateOf
-  gate-number n e = gate-low (lentOk s a t) (orderFor (s .store .number) (a .order)) (soundOk s t && stillOk s a t (a .order)) (accountOk s a t) n e
+  gate-number n e = gate-low (inTableOk s a t) (openFor (s .store .number) (a .order)) (soundOk s t && stillOk s a t (a .order)) (accountOk s a t) n e
 
-  after-delivery : (v : Verdict) (x : OpenOrder) → deliverGateOf s a t ≡ v → a .order ≡ x → Arrival s a o t (carryDeliver s a t (Deliver.gated v (decideDeliver o (memories (storeOf s t .chunks)) x)))
+  after-delivery : (v : Verdict) (x : OpenOrder) → deliverGateOf s a t ≡ v → a .order ≡ x → Arrival s a o t (carryDeliver s a t (gated Deliver.deny v (decideDeliver o (memories (storeOf s t .chunks)) x)))
   unfolding carryDeliver
   after-delivery (refuse n) x g e = early n (λ q. omega (arith, gate-number n g)) (λ q. omega (arith, gate-number n g))
   after-delivery pass Nothing g e = early 2 (λ q. omega arith) (λ q. omega arith)
@@ -256,7 +256,7 @@ pub data ReturnComes (s : FreeListSettings) (a : Account) (b : Block) (t : Table
   takes : Passed s a t (listOk (s .store) list) → onLoanOk s b t ≡ true → ReturnComes s a b t list (releaseOf s a true (givenTables s b (wordFor s b t) t) list)
 
 module _ (s : FreeListSettings) (a : Account) (b : Block) (t : Tables) (list : List ℕ) where
-  after-return : (v : Verdict) → gateOf s a t (listOk (s .store) list) ≡ v → ReturnComes s a b t list (carryReturn s a b t list (Return.gated v (decideReturn s b t)))
+  after-return : (v : Verdict) → gateOf s a t (listOk (s .store) list) ≡ v → ReturnComes s a b t list (carryReturn s a b t list (gated Return.deny v (decideReturn s b t)))
   unfolding carryReturn decideReturn
   after-return (refuse n) g = denied n
   after-return pass g =

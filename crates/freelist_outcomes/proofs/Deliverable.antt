@@ -1,5 +1,4 @@
--- What an ask that gave an order leaves, and that the order can be delivered: the delivery's tests 1 to 4 pass on it. Assumes
--- nothing.
+-- What an ask that gave an order leaves, and that the order can be delivered: the delivery's tests 1 to 4 pass on it.
 use mathlib.Core.Path.{_≡_, refl, ap, _∙_}
 use mathlib.Core.Bool.{Bool, true, _&&_}
 use mathlib.Core.List.{[]}
@@ -27,7 +26,7 @@ use Rattle.heap.specs.Heap.{bearsOk}
 use Rattle.store_rules.specs.Orders as Orders
 use Rattle.store_rules.specs.Orders.{orderFrom, keptFrom, leadsTo}
 use Rattle.store_rules.specs.Outcomes.{Out, out, withOrder}
-use Rattle.store_rules.specs.Tests.{orderFor, gateRow}
+use Rattle.store_rules.specs.Tests.{openFor, gateRow}
 use Rattle.store_rules.proofs.Said.{refusal-order, block-order, same-order}
 use Rattle.book_rules.specs.Book.{takenOf}
 use Rattle.freelist_rules.specs.Place.{Found, nowhere, find, sizeFor, maskFor}
@@ -39,7 +38,7 @@ use Rattle.freelist_rules.proofs.Fits.{lengths-are, are-lengths}
 use Rattle.freelist_rules.proofs.Tested.{tables-all}
 use Rattle.freelist_outcomes.specs.Ask.{foundFor, raisedFor, roomOk, countOk, askRow, planned, decideAsk, orderedTables, carryAsk, planAsk, askOf}
 use Rattle.freelist_outcomes.specs.Deliver.{stillOk, deliverGateOf}
-use Rattle.freelist_outcomes.specs.Gate.{lentOk, accountOk}
+use Rattle.freelist_outcomes.specs.Gate.{inTableOk, accountOk}
 use Rattle.freelist_outcomes.proofs.Accounts.{account-same}
 use Rattle.freelist_outcomes.proofs.Arrives.{raised-most}
 use Rattle.freelist_outcomes.proofs.Changed.{ordered-store, ordered-sound}
@@ -62,11 +61,11 @@ module _ (s : FreeListSettings) (a : Account) (size mask : ℕ) (t : Tables) whe
     pub leaves : askOf s a size mask t
         ≡ out (Paper.orderOf (orderFrom (s .store) (raisedFor s size t))) (withOrder a (Kept (keptFrom (s .store) size mask (raisedFor s size t)))) (orderedTables (raisedFor s size t) t)
 
-  module _ (store bytes kind : ℕ) (map : Bool) where
-    planned-buying : (p : Orders.Plan ℕ) → planAsk s a size mask t ≡ p → carryAsk s a size mask t p .said ≡ Paper.order store bytes kind map → Buying
+  module _ (store bytes memtype : ℕ) (map : Bool) where
+    planned-buying : (p : Orders.Plan ℕ) → planAsk s a size mask t ≡ p → carryAsk s a size mask t p .said ≡ Paper.order store bytes memtype map → Buying
     unfolding carryAsk askOf
-    planned-buying (Orders.deny n) e w = refusal-order n [] store bytes kind map w
-    planned-buying (Orders.take i) e w = block-order _ _ _ _ store bytes kind map w
+    planned-buying (Orders.deny n) e w = refusal-order n [] store bytes memtype map w
+    planned-buying (Orders.take i) e w = block-order _ _ _ _ store bytes memtype map w
     planned-buying (Orders.buy x) e w =
         let p = plan-buy s a size mask t x e in
         let q : x ≡ z = buy-held s own (a .objects) size mask t x (p .1) .1 in
@@ -76,7 +75,7 @@ module _ (s : FreeListSettings) (a : Account) (size mask : ℕ) (t : Tables) whe
           leaves = ap (carryAsk s a size mask t) (e ∙ ap Orders.buy q);
         }
 
-    pub order-buying : askOf s a size mask t .said ≡ Paper.order store bytes kind map → Buying
+    pub order-buying : askOf s a size mask t .said ≡ Paper.order store bytes memtype map → Buying
     unfolding askOf
     order-buying w = planned-buying (planAsk s a size mask t) refl w
 
@@ -142,10 +141,10 @@ module _ (s : FreeListSettings) (a : Account) (size mask : ℕ) (t : Tables) whe
 
     -- the delivery's tests 1 to 4 pass
     gate-open : deliverGateOf s kept u ≡ pass
-    unfolding deliverGateOf lentOk accountOk
+    unfolding deliverGateOf inTableOk accountOk
     gate-open =
         let fit = b .passed .settings in
-        passes (gateRow (lentOk s kept u) (orderFor (s .store .number) (kept .order)) (soundOk s u && stillOk s kept u (kept .order)) (accountOk s kept u)) (
+        passes (gateRow (inTableOk s kept u) (openFor (s .store .number) (kept .order)) (soundOk s u && stillOk s kept u (kept .order)) (accountOk s kept u)) (
           and-both (freeListOk s) (heapsOk (a .heaps) && lengthsOk s u) (free-list-all s fit) (and-both (heapsOk (a .heaps)) (lengthsOk s u) (b .passed .heaps) (are-lengths s u after-lengths)),
           (
             eq-eqb (s .store .number) (s .store .number) refl,

@@ -1,4 +1,4 @@
--- When an ask gives an order, and which place is taken of a block that it lends. Assumes nothing.
+-- When an ask gives an order, and which place is taken of a block that it lends.
 use mathlib.Core.Path.{_≡_, refl, sym, ap, _∙_}
 use mathlib.Core.Bool.{true}
 use mathlib.Core.Logic.{_↔_}

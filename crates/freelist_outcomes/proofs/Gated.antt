@@ -1,72 +1,58 @@
--- The gate of a free-list store decides rows 1 to 4 of 01's table. Assumes nothing.
+-- The gate of a free-list store decides rows 1 to 4 of 01's table.
 use mathlib.Core.Path.{_≡_, refl, subst}
 use mathlib.Core.Bool.{Bool, true, false, _&&_}
 use mathlib.Core.Logic.{_↔_}
 use mathlib.Core.List.{List}
 use Prim.Native.Nat.{ℕ}
-use lib.Dec.{leb}
-use lib.ListN.{length, getD}
+use lib.ListN.{length}
 use borrow.Author.Tests.{leb-true, le-leb}
 use Rattle.lists.proofs.Bools.{and-left, and-right, and-both}
-use Rattle.counter.specs.Account.{heapAt, noHeap}
+use Rattle.counter.specs.Account.{heapAt}
 use Rattle.counter.specs.InTable.{FreeListIn}
-use Rattle.counter.specs.Limits.{heapsMost, heapBytesMost}
 use Rattle.counter.specs.Reasons.{none, reason, Decides}
 use Rattle.counter.specs.Table.{freeListOk, heapsOk}
 use Rattle.counter.specs.declared.account.Account.{Account}
 use Rattle.counter.specs.declared.settings.FreeListSettings.{FreeListSettings}
-use Rattle.counter.proofs.Tables.{free-list-yes, free-list-all, heaps-each, each-heaps}
+use Rattle.counter.proofs.Tables.{free-list-yes, free-list-all}
 use Rattle.store_rules.specs.Outcomes.{listOk}
 use Rattle.store_rules.specs.Refusals.{OrderOpen}
 use Rattle.store_rules.specs.Tests.{noOrder, coversOk, gateRow}
-use Rattle.store_rules.proofs.Refused.{fails, order-open, uncovered}
+use Rattle.store_rules.proofs.Refused.{fails, heaps-in, order-open, uncovered}
 use Rattle.freelist_rules.specs.Pieces.{total}
 use Rattle.freelist_rules.specs.Tables.{Tables, lengthsOk, storeOf, soundOk, SoundTables}
 use Rattle.store_rules.specs.declared.Chunk.{Chunk}
 use Rattle.freelist_rules.proofs.Fits.{lengths-are, are-lengths, chunks-length}
 use Rattle.freelist_rules.proofs.Tested.{tables-yes, tables-all}
-use Rattle.freelist_outcomes.specs.Gate.{lentOk, accountOk}
-use Rattle.freelist_outcomes.specs.Refusals.{InTable, listWords}
-use Rattle.store_rules.specs.Rows.{Short, WithList, gateRows, listRows}
+use Rattle.freelist_outcomes.specs.Gate.{inTableOk, accountOk}
+use Rattle.freelist_outcomes.specs.Refusals.{listWords}
+use Rattle.store_rules.specs.Rows.{InTable, Short, WithList, gateRows, listRows}
 
 -- ---- 1
 
-pub in-table : (s : FreeListSettings) (a : Account) (t : Tables) → (lentOk s a t ≡ true) ↔ InTable s a t
-unfolding lentOk
+pub in-table : (s : FreeListSettings) (a : Account) (t : Tables) → (inTableOk s a t ≡ true) ↔ InTable listWords s a t
+unfolding inTableOk
 in-table s a t = (there, back)
   where
-    there : lentOk s a t ≡ true → InTable s a t
+    there : inTableOk s a t ≡ true → InTable listWords s a t
     there e =
-        let rest = and-right (freeListOk s) (heapsOk (a .heaps) && lengthsOk s t) e in
-        let each = heaps-each (a .heaps) heapsMost (and-left (heapsOk (a .heaps)) (lengthsOk s t) rest) in
-        record {
-          settings = free-list-yes s (and-left (freeListOk s) (heapsOk (a .heaps) && lengthsOk s t) e);
-          heaps = λ i low.
-              let h = getD (a .heaps) i noHeap in
-              let size = leb (h .size) heapBytesMost in
-              let used = leb (h .used) heapBytesMost in
-              (leb-true (h .size) heapBytesMost (and-left size used (each i low)), leb-true (h .used) heapBytesMost (and-right size used (each i low)));
-          lengths = lengths-are s t (and-right (heapsOk (a .heaps)) (lengthsOk s t) rest);
-        }
+        let rest = and-right (freeListOk s) (heapsOk (a .heaps) && lengthsOk s t) e in (
+          (free-list-yes s (and-left (freeListOk s) (heapsOk (a .heaps) && lengthsOk s t) e), lengths-are s t (and-right (heapsOk (a .heaps)) (lengthsOk s t) rest)),
+          heaps-in a .0 (and-left (heapsOk (a .heaps)) (lengthsOk s t) rest),
+        )
 
-    back : InTable s a t → lentOk s a t ≡ true
+    back : InTable listWords s a t → inTableOk s a t ≡ true
     back w =
-        and-both (freeListOk s) (heapsOk (a .heaps) && lengthsOk s t) (free-list-all s (w .settings))
-        (and-both (heapsOk (a .heaps)) (lengthsOk s t)
-        (each-heaps (a .heaps) heapsMost
-        (λ i low.
-        let h = getD (a .heaps) i noHeap in
-        and-both (leb (h .size) heapBytesMost) (leb (h .used) heapBytesMost) (le-leb (h .size) heapBytesMost (w .heaps i low .0)) (le-leb (h .used) heapBytesMost (w .heaps i low .1))))
-        (are-lengths s t (w .lengths)))
+        and-both (freeListOk s) (heapsOk (a .heaps) && lengthsOk s t) (free-list-all s (w .0 .0))
+        (and-both (heapsOk (a .heaps)) (lengthsOk s t) (heaps-in a .1 (w .1)) (are-lengths s t (w .0 .1)))
 
 module _ (s : FreeListSettings) (a : Account) (t : Tables) where
-  with-list : (list : List ℕ) → ((lentOk s a t && listOk (s .store) list) ≡ true) ↔ WithList listWords s a t list
+  with-list : (list : List ℕ) → ((inTableOk s a t && listOk (s .store) list) ≡ true) ↔ WithList listWords s a t list
   with-list list = (
     (λ e. (
-      in-table s a t .0 (and-left (lentOk s a t) (listOk (s .store) list) e),
-      leb-true (s .store .chunks) (length list) (and-right (lentOk s a t) (listOk (s .store) list) e),
+      in-table s a t .0 (and-left (inTableOk s a t) (listOk (s .store) list) e),
+      leb-true (s .store .chunks) (length list) (and-right (inTableOk s a t) (listOk (s .store) list) e),
     )),
-    (λ w. and-both (lentOk s a t) (listOk (s .store) list) (in-table s a t .1 (w .0)) (le-leb (s .store .chunks) (length list) (w .1))),
+    (λ w. and-both (inTableOk s a t) (listOk (s .store) list) (in-table s a t .1 (w .0)) (le-leb (s .store .chunks) (length list) (w .1))),
   )
 
   -- ---- 4
@@ -96,12 +82,12 @@ module _ (s : FreeListSettings) (a : Account) (t : Tables) where
     )),
   )
 
-pub gate-decided : (s : FreeListSettings) (a : Account) (t : Tables) → Decides (gateRow (lentOk s a t && true) (noOrder (a .order)) (soundOk s t) (accountOk s a t)) (gateRows listWords s a t)
-gate-decided s a t = decided s a t (lentOk s a t && true) w (λ (i : InTable s a t). i .settings)
+pub gate-decided : (s : FreeListSettings) (a : Account) (t : Tables) → Decides (gateRow (inTableOk s a t && true) (noOrder (a .order)) (soundOk s t) (accountOk s a t)) (gateRows listWords s a t)
+gate-decided s a t = decided s a t (inTableOk s a t && true) w (λ (i : InTable listWords s a t). i .0 .0)
   where
-    w : ((lentOk s a t && true) ≡ true) ↔ InTable s a t
-    w = ((λ e. in-table s a t .0 (and-left (lentOk s a t) true e)), (λ i. and-both (lentOk s a t) true (in-table s a t .1 i) refl))
+    w : ((inTableOk s a t && true) ≡ true) ↔ InTable listWords s a t
+    w = ((λ e. in-table s a t .0 (and-left (inTableOk s a t) true e)), (λ i. and-both (inTableOk s a t) true (in-table s a t .1 i) refl))
 
-pub list-decided : (s : FreeListSettings) (a : Account) (t : Tables) (list : List ℕ) → Decides (gateRow (lentOk s a t && listOk (s .store) list) (noOrder (a .order)) (soundOk s t) (accountOk s a t)) (listRows listWords s a t list)
+pub list-decided : (s : FreeListSettings) (a : Account) (t : Tables) (list : List ℕ) → Decides (gateRow (inTableOk s a t && listOk (s .store) list) (noOrder (a .order)) (soundOk s t) (accountOk s a t)) (listRows listWords s a t list)
 list-decided s a t list =
-    decided s a t (lentOk s a t && listOk (s .store) list) (with-list s a t list) (λ (i : WithList listWords s a t list). i .0 .settings)
+    decided s a t (inTableOk s a t && listOk (s .store) list) (with-list s a t list) (λ (i : WithList listWords s a t list). i .0 .0 .0)

@@ -1,9 +1,9 @@
--- Test 7 in the paper's words, and what the tables hold when a block has been taken back. Assumes nothing.
+-- Test 7 in the paper's words, and what the tables hold when a block has been taken back.
 use mathlib.Core.Path.{_≡_, sym, ap, subst, _∙_}
 use mathlib.Core.Bool.{true, false, not}
 use mathlib.Core.Logic.{⊎-elim}
-use mathlib.Core.List.{List, _∷_, _++_, List·Memᴰ, Memᴰ·cast}
-use Prim.Native.Nat.{ℕ, _*_, _≤_, _<_}
+use mathlib.Core.List.{List, _∷_, _++_, List·Memᴰ}
+use Prim.Native.Nat.{ℕ, _+_, _*_, _≤_, _<_}
 use native.Mathlib.Omega.{arith}
 use lib.Dec.{eqb}
 use lib.ListN.{length, getD, set}
@@ -18,19 +18,22 @@ use Rattle.counter.specs.declared.settings.FreeListSettings.{FreeListSettings}
 use Rattle.slab.specs.Slab.{nowhere, changed}
 use Rattle.slab.proofs.Places.{changed-here, changed-other}
 use Rattle.store_rules.specs.Loans.{loanWords, serialAt, sizeAt, loanRow, loansOf}
+use Rattle.store_rules.specs.Views.{OnLoan}
 use Rattle.store_rules.specs.declared.Loan.{Loan}
+use Rattle.store_rules.proofs.Loaned.{loan-same}
 use Rattle.book_rules.specs.Book.{indexWords, serialOf, firstIn, wordTo, struck, struckIndex}
 use Rattle.book_rules.proofs.Changed.{serial-kept, vacant-now}
 use Rattle.book_rules.proofs.Decides.{serial-once}
 use Rattle.book_rules.proofs.Keeps.{BookChained, BookParted, freeIn, nextIn, found, struck-long, struck-wide, struck-chained, struck-parted}
 use Rattle.freelist_rules.specs.Join.{insert}
-use Rattle.freelist_rules.specs.Pieces.{All}
+use Rattle.freelist_rules.specs.Pieces.{All, piece}
+use Rattle.freelist_rules.specs.Records.{region}
 use Rattle.freelist_rules.specs.Seek.{sameLoan}
 use Rattle.freelist_rules.specs.Sound.{Sound}
 use Rattle.freelist_rules.specs.Steps.{noLoan}
 use Rattle.freelist_rules.specs.Tables.{Tables, Lengths, SoundTables, RegionsFit, givenAt, placesIn, ordered, regionsMost, storeOf}
 use Rattle.store_rules.specs.declared.Region.{Region}
-use Rattle.freelist_rules.proofs.Blocks.{loanOf, loan-is, same-self}
+use Rattle.freelist_rules.proofs.Search.{same-loan}
 use Rattle.freelist_rules.proofs.Base.{at-in}
 use Rattle.freelist_rules.proofs.Fits.{are-lengths, regions-fit, laid-long, laid-count, laid-regions}
 use Rattle.freelist_rules.proofs.Gaps.{LoansRise}
@@ -63,23 +66,24 @@ place-of n t l m =
 -- ---- 7: the test holds exactly when a loan has this serial, chunk, offset and size
 
 module _ (s : FreeListSettings) (t : Tables) (fit : FreeListIn s) (sound : SoundTables s t) (b : Block) where
-  pub on-loan-is : onLoanOk s b t ≡ true → List·Memᴰ (loanOf b) (storeOf s t .loans)
+  pub on-loan-is : onLoanOk s b t ≡ true → OnLoan b (storeOf s t .loans)
   on-loan-is e =
       let ls = storeOf s t .loans in
       let w = block-stands s t fit sound b e in
-      Memᴰ·cast (sym (loan-is b (getD ls (w .spot) noLoan) (w .same))) (at-in (w .spot) ls noLoan (w .here))
+      let l = getD ls (w .spot) noLoan in
+      (l, at-in (w .spot) ls noLoan (w .here), same-loan b l (w .same))
 
-  pub is-on-loan : List·Memᴰ (loanOf b) (storeOf s t .loans) → onLoanOk s b t ≡ true
+  pub is-on-loan : OnLoan b (storeOf s t .loans) → onLoanOk s b t ≡ true
   unfolding onLoanOk storeOf
-  is-on-loan m =
+  is-on-loan v =
       let n = s .store .loans in
-      let w = place-of (placesIn t) (t .loans) (loanOf b) (ordered-out (loanOf b) (loansOf (placesIn t) (t .loans)) m) in
+      let w = place-of (placesIn t) (t .loans) (v .0) (ordered-out (v .0) (loansOf (placesIn t) (t .loans)) (v .1)) in
       let f = found (t .loans) (t .index) n (placesIn t) (getD (t .head) givenAt 0) (fit .store .loans-some) (sound .parted .limit) (omega (arith, fit .store .loans-most)) (sound .chained) (w .spot) (w .below) (w .used) in
       let g : (wordFor s b t < indexWords n) × (getD (t .index) (wordFor s b t) 0 ≡ w .spot) =
-      subst (λ (k : ℕ). (wordTo (t .loans) (t .index) n (placesIn t) (getD (t .head) givenAt 0) k < indexWords n) × (getD (t .index) (wordTo (t .loans) (t .index) n (placesIn t) (getD (t .head) givenAt 0) k) 0 ≡ w .spot)) (w .serial) f in
+      subst (λ (k : ℕ). (wordTo (t .loans) (t .index) n (placesIn t) (getD (t .head) givenAt 0) k < indexWords n) × (getD (t .index) (wordTo (t .loans) (t .index) n (placesIn t) (getD (t .head) givenAt 0) k) 0 ≡ w .spot)) (w .serial ∙ v .2 .serial) f in
       let there : not (eqb (wordFor s b t) nowhere) ≡ true = ap not (ne-eqb (wordFor s b t) nowhere (λ e. omega (arith, g .0, fit .store .loans-most))) in
       let same : sameLoan b (row loanRow (getD (t .index) (wordFor s b t) 0) (t .loans)) ≡ true =
-      ap (λ (p : ℕ). sameLoan b (row loanRow p (t .loans))) (g .1) ∙ ap (sameLoan b) (w .is) ∙ same-self b in
+      ap (λ (p : ℕ). sameLoan b (row loanRow p (t .loans))) (g .1) ∙ ap (sameLoan b) (w .is) ∙ loan-same b (v .0) (v .2) in
       and-both _ _ there same
 
 -- ---- a block on loan has been taken back
@@ -167,12 +171,15 @@ module _ (s : FreeListSettings) (t : Tables) (fit : FreeListIn s) (lengths : Len
 
   -- ---- the store
 
-  -- the store that the tables hold is the one with the loan given back
-  pub given-store : storeOf s (givenTables s b (wordFor s b t) t) ≡ give (loanOf b) (storeOf s t)
+  -- the store that the tables hold is the one with the loan given back that matches the block
+  pub given-store : storeOf s (givenTables s b (wordFor s b t) t) ≡ give (on-loan-is s t fit sound b on .0) (storeOf s t)
   unfolding storeOf givenTables struck
   given-store =
-      let l = given-loans in
-      let r = laid-regions s joined (t .regions) regions-whole room in
+      let v = on-loan-is s t fit sound b on in
+      let m = v .2 in
+      let l = given-loans ∙ ap (λ (k : ℕ). without k (storeOf s t .loans)) (sym (m .serial)) in
+      let p : returning b ≡ piece (v .0) = λ j. region (sym (m .chunk) j) (sym (m .offset) j) (sym (m .offset) j + sym (m .size) j) in
+      let r = laid-regions s joined (t .regions) regions-whole room ∙ ap (λ (x : Region). insert x (storeOf s t .regions)) p in
       (λ j. record { given = storeOf s t .given; made = storeOf s t .made; size = storeOf s t .size; loans = l j; chunks = storeOf s t .chunks; regions = r j })
 
   given-chained : BookChained (struck word (t .index) (t .loans)) (struckIndex word (t .index)) n (placesIn t) given
@@ -194,5 +201,5 @@ module _ (s : FreeListSettings) (t : Tables) (fit : FreeListIn s) (lengths : Len
         regions-fit = omega (arith, laid-count s joined (t .regions) regions-whole room, room);
         parted = given-parted;
         chained = given-chained;
-        store = subst (Sound s) (sym given-store) (give-sound s (storeOf s t) fit (sound .store) (loanOf b) (on-loan-is s t fit sound b on));
+        store = let v = on-loan-is s t fit sound b on in subst (Sound s) (sym given-store) (give-sound s (storeOf s t) fit (sound .store) (v .0) (v .1));
       }

@@ -1,4 +1,4 @@
--- The loan at a place in use is one of the store's loans, and a block that is on loan is one of them. Assumes nothing.
+-- The loan at a place in use is one of the store's loans, and a block that is on loan is one of them.
 use mathlib.Core.Path.{_≡_, sym, ap, subst, _∙_}
 use mathlib.Core.Bool.{true, false, not}
 use mathlib.Core.List.{List·Memᴰ}
@@ -72,4 +72,4 @@ module _ (s : FreeListSettings) (t : Tables) where
       record { spot = m .0; here = m .1; same = ap (sameLoan b) (m .2) ∙ and-right (not (eqb w nowhere)) (sameLoan b l) e }
 
   pub block-piece : (b : Block) (w : Stands b) → piece (getD (storeOf s t .loans) (w .spot) noLoan) ≡ region (b .chunk) (b .offset) (b .offset + b .size)
-  block-piece b w = let e = same-loan b (getD (storeOf s t .loans) (w .spot) noLoan) (w .same) in (λ i. region (e .1 i) (e .2 i) (e .2 i + e .3 i))
+  block-piece b w = let e = same-loan b (getD (storeOf s t .loans) (w .spot) noLoan) (w .same) in (λ i. region (e .chunk i) (e .offset i) (e .offset i + e .size i))

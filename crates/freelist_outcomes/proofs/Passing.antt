@@ -1,4 +1,4 @@
--- What a passed gate says of the store and the account. Assumes nothing.
+-- What a passed gate says of the store and the account.
 use mathlib.Core.Path.{_≡_, sym}
 use mathlib.Core.Bool.{Bool, true, _&&_}
 use native.Mathlib.Omega.{arith}
@@ -15,15 +15,15 @@ use Rattle.counter.proofs.Tables.{free-list-yes}
 use Rattle.store_rules.specs.Tests.{noOrder, gateRow}
 use Rattle.freelist_rules.specs.Tables.{Tables, placesIn, lengthsOk, soundOk, SoundTables}
 use Rattle.freelist_rules.proofs.Tested.{tables-yes}
-use Rattle.freelist_outcomes.specs.Gate.{lentOk, accountOk, gateOf}
+use Rattle.freelist_outcomes.specs.Gate.{inTableOk, accountOk, gateOf}
 
 -- what test 1 says
-pub lent-in : (s : FreeListSettings) (a : Account) (t : Tables) → lentOk s a t ≡ true → FreeListIn s × (lengthsOk s t ≡ true)
-unfolding lentOk
+pub lent-in : (s : FreeListSettings) (a : Account) (t : Tables) → inTableOk s a t ≡ true → FreeListIn s × (lengthsOk s t ≡ true)
+unfolding inTableOk
 lent-in s a t e = (free-list-yes s (and-left (freeListOk s) _ e), and-right (heapsOk (a .heaps)) _ (and-right (freeListOk s) _ e))
 
-pub lent-heaps : (s : FreeListSettings) (a : Account) (t : Tables) → lentOk s a t ≡ true → heapsOk (a .heaps) ≡ true
-unfolding lentOk
+pub lent-heaps : (s : FreeListSettings) (a : Account) (t : Tables) → inTableOk s a t ≡ true → heapsOk (a .heaps) ≡ true
+unfolding inTableOk
 lent-heaps s a t e = and-left (heapsOk (a .heaps)) _ (and-right (freeListOk s) _ e)
 
 pub record Passed (s : FreeListSettings) (a : Account) (t : Tables) (list : Bool) : Type 0 where
@@ -37,13 +37,13 @@ pub record Passed (s : FreeListSettings) (a : Account) (t : Tables) (list : Bool
 pub gate-passed : (s : FreeListSettings) (a : Account) (t : Tables) (list : Bool) → pass ≡ gateOf s a t list → Passed s a t list
 unfolding gateOf
 gate-passed s a t list e =
-    let held = passed (gateRow (lentOk s a t && list) (noOrder (a .order)) (soundOk s t) (accountOk s a t)) (sym e) in
-    let lent = lent-in s a t (and-left (lentOk s a t) list (held .0)) in
+    let held = passed (gateRow (inTableOk s a t && list) (noOrder (a .order)) (soundOk s t) (accountOk s a t)) (sym e) in
+    let lent = lent-in s a t (and-left (inTableOk s a t) list (held .0)) in
     record {
       settings = lent .0;
-      heaps = lent-heaps s a t (and-left (lentOk s a t) list (held .0));
+      heaps = lent-heaps s a t (and-left (inTableOk s a t) list (held .0));
       lengths = lent .1;
-      listed = and-right (lentOk s a t) list (held .0);
+      listed = and-right (inTableOk s a t) list (held .0);
       sound = tables-yes s t (lent .0) (held .1 .1 .0);
       covered = held .1 .1 .1 .0;
     }

@@ -1,4 +1,4 @@
--- What an ask's plan tells of the gate, the search and the tests. Assumes nothing.
+-- What an ask's plan tells of the gate, the search and the tests.
 use mathlib.Core.Path.{_≡_, refl, sym, ap, _∙_}
 use mathlib.Core.Bool.{true, _&&_}
 use Prim.Native.Nat.{ℕ, _≤_, _<_}
@@ -9,7 +9,7 @@ use borrow.Author.Tests.{ltb-true, leb-true}
 use Rattle.lists.proofs.Bools.{and-left, and-right}
 use Rattle.counter.specs.Limits.{spent}
 use Rattle.counter.specs.Account.{heapAt}
-use Rattle.counter.specs.Gate.{Verdict, pass, refuse, first, Held}
+use Rattle.counter.specs.Gate.{Verdict, pass, refuse, first, Held, gated}
 use Rattle.counter.specs.declared.account.Account.{Account}
 use Rattle.counter.specs.declared.account.Heap.{Heap}
 use Rattle.counter.specs.declared.settings.FreeListSettings.{FreeListSettings}
@@ -20,7 +20,7 @@ use Rattle.book_rules.specs.Book.{takenOf}
 use Rattle.freelist_rules.specs.Place.{Found, nowhere, at}
 use Rattle.freelist_rules.specs.Tables.{Tables, givenAt, madeAt, placesIn, chunksIn, storeOf}
 use Rattle.freelist_outcomes.specs.Gate.{gateOf}
-use Rattle.freelist_outcomes.specs.Ask.{foundFor, raisedFor, sizeOk, roomOk, countOk, askRow, planned, decideAsk, gated, planAsk}
+use Rattle.freelist_outcomes.specs.Ask.{foundFor, raisedFor, sizeOk, roomOk, countOk, askRow, planned, decideAsk, planAsk}
 use Rattle.freelist_outcomes.proofs.Passing.{Passed, gate-passed}
 
 -- ---- no plan is two
@@ -100,11 +100,11 @@ chunk-number s h size t e =
 
 -- ---- what a plan says
 
-gated-take : (v : Verdict) (p : Plan ℕ) (i : ℕ) → gated v p ≡ take i → (v ≡ pass) × (p ≡ take i)
+gated-take : (v : Verdict) (p : Plan ℕ) (i : ℕ) → gated deny v p ≡ take i → (v ≡ pass) × (p ≡ take i)
 gated-take pass p i e = (refl, e)
 gated-take (refuse n) p i e = deny-take n i e
 
-gated-buy : (v : Verdict) (p : Plan ℕ) (z : ℕ) → gated v p ≡ buy z → (v ≡ pass) × (p ≡ buy z)
+gated-buy : (v : Verdict) (p : Plan ℕ) (z : ℕ) → gated deny v p ≡ buy z → (v ≡ pass) × (p ≡ buy z)
 gated-buy pass p z e = (refl, e)
 gated-buy (refuse n) p z e = deny-buy n z e
 

@@ -1,4 +1,4 @@
--- What a refusal leaves, and exactly when each number of 01's table is given. Assumes nothing.
+-- What a refusal leaves, and exactly when each number of 01's table is given.
 use mathlib.Core.Path.{_≡_, refl, sym, ap, subst, _∙_}
 use mathlib.Core.Bool.{Bool, true, false, cond, _&&_}
 use mathlib.Core.Logic.{_⊎_, ⊎-elim, _↔_, Iff·trans}
@@ -6,7 +6,7 @@ use mathlib.Core.List.{List, [], _∷_, _++_}
 use Prim.Native.Nat.{ℕ}
 use Rattle.lists.proofs.Bools.{true-false, and-left, and-right, and-both}
 use Rattle.counter.specs.Account.{heapAt}
-use Rattle.counter.specs.Gate.{Verdict, pass, refuse, Row, first}
+use Rattle.counter.specs.Gate.{Verdict, pass, refuse, Row, first, gated}
 use Rattle.counter.specs.InTable.{FreeListIn}
 use Rattle.counter.specs.Paper as Paper
 use Rattle.counter.specs.Reasons.{none, reason, Given, Clear, Decides}
@@ -25,7 +25,7 @@ use Rattle.store_rules.specs.Delivery.{Fate, kept, lost, freeList, fateOf}
 use Rattle.store_rules.specs.Orders.{Plan, deny, take, buy, orderFrom, leadsTo}
 use Rattle.store_rules.specs.Outcomes.{Out, out, listed, listOk}
 use Rattle.store_rules.specs.Refusals.{DeviceOut, HostOut, lostFor, UnwelcomeTo}
-use Rattle.store_rules.specs.Tests.{noOrder, orderFor, gateRow}
+use Rattle.store_rules.specs.Tests.{noOrder, openFor, gateRow}
 use Rattle.store_rules.proofs.Refused.{fails, none-for, is-same-order, leads-buy}
 use Rattle.store_rules.proofs.Said.{not-refused, said-number, said-back, Says, says-refused, says-passed, Tells, tells-refused, tells-passed}
 use Rattle.store_rules.proofs.Fates.{left, fateVerdict, fateRow, device-out, host-out, welcomeOk, unwelcomed, same-kept, arrival-tells}
@@ -34,7 +34,7 @@ use Rattle.freelist_rules.specs.Tables.{Tables, lengthsOk, Lengths, storeOf, so
 use Rattle.freelist_rules.specs.Walk.{memories}
 use Rattle.freelist_rules.proofs.Fits.{lengths-are, are-lengths}
 use Rattle.freelist_rules.proofs.Tested.{tables-yes, tables-all}
-use Rattle.freelist_outcomes.specs.Gate.{lentOk, accountOk, gateOf}
+use Rattle.freelist_outcomes.specs.Gate.{inTableOk, accountOk, gateOf}
 use Rattle.freelist_outcomes.specs.Ask.{foundFor, raisedFor, askRow, planned, decideAsk, carryAsk, planAsk, askOf}
 use Rattle.freelist_outcomes.specs.Ask as A
 use Rattle.freelist_outcomes.specs.Deliver.{stillOk, deliverGateOf, carryFate, planDeliver, carryDeliver, deliverOf}
@@ -98,7 +98,7 @@ unfolding cleanUpOf carryCleanUp releaseOf gateOf
 clean-up-refused s a t list n = Iff·trans (by (first row)) (given-first row (listRows listWords s a t list) (list-decided s a t list) n)
   where
     row : Row
-    row = gateRow (lentOk s a t && listOk (s .store) list) (noOrder (a .order)) (soundOk s t) (accountOk s a t)
+    row = gateRow (inTableOk s a t && listOk (s .store) list) (noOrder (a .order)) (soundOk s t) (accountOk s a t)
 
     by : (v : Verdict) → Says (carryCleanUp s a t list v .said) v n
     by (refuse m) = says-refused m n
@@ -166,7 +166,7 @@ module _ (s : FreeListSettings) (a : Account) (t : Tables) where
 
   abbrev gates : Row
   gates =
-      gateRow (lentOk s a t) (orderFor (s .store .number) (a .order)) (soundOk s t && stillOk s a t (a .order)) (accountOk s a t)
+      gateRow (inTableOk s a t) (openFor (s .store .number) (a .order)) (soundOk s t && stillOk s a t (a .order)) (accountOk s a t)
 
   leads : FreeListIn s → ((soundOk s t && stillOk s a t (a .order)) ≡ true) ↔ (SoundTables s t × Leads listWords s a t)
   leads fit = (there, back)
@@ -201,13 +201,13 @@ module _ (s : FreeListSettings) (a : Account) (t : Tables) where
   pub kept-decided : Decides gates (keptRows listWords s a t)
   kept-decided = (
     refl,
-    fails (lentOk s a t) (in-table s a t .0) (in-table s a t .1),
+    fails (inTableOk s a t) (in-table s a t .0) (in-table s a t .1),
     (λ e. (
       refl,
       none-for (s .store .number) a,
       (λ _. (
         refl,
-        (let w = leads (in-table s a t .0 e .settings) in fails (soundOk s t && stillOk s a t (a .order)) (w .0) (w .1)),
+        (let w = leads (in-table s a t .0 e .0 .0) in fails (soundOk s t && stillOk s a t (a .order)) (w .0) (w .1)),
         (λ _. (refl, short s a t, (λ _. tt))),
       )),
     )),
@@ -238,7 +238,7 @@ deliver-refused s a o t n =
 
 -- the gate, which both pass first
 abbrev gateFor : FreeListSettings → Account → Tables → Bool → Row
-gateFor s a t list = gateRow (lentOk s a t && list) (noOrder (a .order)) (soundOk s t) (accountOk s a t)
+gateFor s a t list = gateRow (inTableOk s a t && list) (noOrder (a .order)) (soundOk s t) (accountOk s a t)
 
 gate-went : (s : FreeListSettings) (a : Account) (t : Tables) (list : Bool) → first (gateFor s a t list) ≡ pass → Passed s a t list
 unfolding gateOf
@@ -260,7 +260,7 @@ ask-refused s a size mask t n =
     later : first gate ≡ pass → Decides tests (askTests listWords s (heapAt a (s .store .heap)) (a .objects) size mask t)
     later e = let p = gate-went s a t true e in ask-decided s t (p .settings) (p .sound) (heapAt a (s .store .heap)) (a .objects) size mask
 
-    by : (v : Verdict) (f : Found) (u : Verdict) → Says (carryAsk s a size mask t (A.gated v (planned s size t f u)) .said) (andThen v u) n
+    by : (v : Verdict) (f : Found) (u : Verdict) → Says (carryAsk s a size mask t (gated A.deny v (planned s size t f u)) .said) (andThen v u) n
     by (refuse m) f u = says-refused m n
     by pass f (refuse m) = says-refused m n
     by pass (at i) pass = says-passed (carryAsk s a size mask t (take i) .said) n refl
@@ -286,7 +286,7 @@ return-refused s a b t list n =
     later : first gate ≡ pass → Decides tests (reason (Stale listWords s b t) 7 none)
     later e = let p = gate-went s a t (listOk (s .store) list) e in (refl, stale-is s b t (p .settings) (p .sound), (λ _. tt))
 
-    by : (v : Verdict) (on : Bool) → Says (carryReturn s a b t list (R.gated v (cond on (R.back (wordFor s b t)) (R.deny 7))) .said) (andThen v (first ((on, 7) ∷ []))) n
+    by : (v : Verdict) (on : Bool) → Says (carryReturn s a b t list (gated R.deny v (cond on (R.back (wordFor s b t)) (R.deny 7))) .said) (andThen v (first ((on, 7) ∷ []))) n
     by (refuse m) on = says-refused m n
     by pass true = says-passed (carryReturn s a b t list (R.back (wordFor s b t)) .said) n refl
     by pass false = says-refused 7 n

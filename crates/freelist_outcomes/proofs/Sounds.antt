@@ -1,5 +1,5 @@
 -- Set-up gives a sound store, and every call on a sound store leaves it sound, refused or not: asks, orders, deliveries,
--- returns and clean-ups, whatever their numbers. Assumes nothing.
+-- returns and clean-ups, whatever their numbers.
 use mathlib.Core.Path.{_≡_, ap}
 use mathlib.Core.Bool.{Bool, true, false}
 use mathlib.Core.List.{List}

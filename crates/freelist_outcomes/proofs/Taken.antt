@@ -1,4 +1,4 @@
--- What the tables hold when a block has been lent: the store with the block lent, and it is sound. Assumes nothing.
+-- What the tables hold when a block has been lent: the store with the block lent, and it is sound.
 use mathlib.Core.Path.{_≡_, refl, sym, ap, subst, _∙_}
 use mathlib.Core.Bool.{true, false}
 use mathlib.Core.Logic.{inl, inr, ⊎-elim}

@@ -1,5 +1,5 @@
 -- The released list and the count say the same: a return or a clean-up writes the memory number of each chunk that it
--- releases, and nothing past them. Assumes nothing.
+-- releases, and nothing past them.
 use mathlib.Core.Path.{_≡_, refl, sym, ap, subst, _∙_}
 use mathlib.Core.Bool.{Bool, true, false}
 use mathlib.Core.Logic.{_↔_}
@@ -38,8 +38,8 @@ refused-not : (k n : ℕ) (back : List ℕ) → Paper.refusal k back ≡ Paper.r
 refused-not k n back e = let z : _≡_ {A = ℕ} 5 3 = ap kindOf e in omega arith
 
 -- a chunk with the memory number m that is of the one list and not of the other
-abbrev Gone : ℕ → List Chunk → List Chunk → Type 0
-Gone m before after = (c : Chunk) × List·Memᴰ c before × (c .memory ≡ m) × (List·Memᴰ c after → ⊥)
+abbrev Went : ℕ → List Chunk → List Chunk → Type 0
+Went m before after = (c : Chunk) × List·Memᴰ c before × (c .memory ≡ m) × (List·Memᴰ c after → ⊥)
 
 -- ---- a release, of tables u that hold the chunks of t
 
@@ -63,10 +63,10 @@ module _ (s : FreeListSettings) (t u : Tables) (fit : FreeListIn s) (lengths : L
   fits : length numbers ≤ length list
   fits = omega (arith, memories-length (storeOf s u .chunks) gone, told-count, ap length same, chunks-length s u, sound .chunks-fit, room)
 
-  told-numbers : (m : ℕ) → List·Memᴰ m numbers ↔ Gone m (storeOf s t .chunks) (storeOf s left .chunks)
+  told-numbers : (m : ℕ) → List·Memᴰ m numbers ↔ Went m (storeOf s t .chunks) (storeOf s left .chunks)
   told-numbers m =
-      subst (λ (cs : List Chunk). List·Memᴰ m numbers ↔ Gone m cs (storeOf s left .chunks)) same
-      (subst (λ (cs : List Chunk). List·Memᴰ m numbers ↔ Gone m (storeOf s u .chunks) cs) (sym chunks-left) (gone-memories s (storeOf s u) fit (sound .store) spare m))
+      subst (λ (cs : List Chunk). List·Memᴰ m numbers ↔ Went m cs (storeOf s left .chunks)) same
+      (subst (λ (cs : List Chunk). List·Memᴰ m numbers ↔ Went m (storeOf s u .chunks) cs) (sym chunks-left) (gone-memories s (storeOf s u) fit (sound .store) spare m))
 
   told-of : (n : ℕ) → length gone ≡ n → Told s t left list (sets list 0 numbers) n
   told-of n e =
@@ -75,7 +75,7 @@ module _ (s : FreeListSettings) (t u : Tables) (fit : FreeListIn s) (lengths : L
       let written : take n (sets list 0 numbers) ≡ numbers = ap (take n) (sets-front list numbers fits) ∙ take-at numbers tail n long in
       record {
         count = omega (arith, told-count, e);
-        numbers = λ m. subst (λ (ms : List ℕ). List·Memᴰ m ms ↔ Gone m (storeOf s t .chunks) (storeOf s left .chunks)) (sym written) (told-numbers m);
+        numbers = λ m. subst (λ (ms : List ℕ). List·Memᴰ m ms ↔ Went m (storeOf s t .chunks) (storeOf s left .chunks)) (sym written) (told-numbers m);
         rest = ap (drop n) (sets-front list numbers fits) ∙ drop-at numbers tail n long ∙ ap (λ (k : ℕ). drop k list) long;
         long = length-sets list 0 numbers;
       }

@@ -1,13 +1,13 @@
--- What an ask says and leaves. 01, "freelist.rs", and the tests 5, 6, 8, 10 and 9. Assumes nothing: these are definitions.
+-- What an ask says and leaves. 01, "freelist.rs", and the tests 5, 6, 8, 10 and 9.
 use mathlib.Core.Bool.{Bool, true, false, _&&_, _||_, not}
-use mathlib.Core.List.{[], _∷_}
+use mathlib.Core.List.{List, [], _∷_}
 use Prim.Native.Nat.{ℕ, _+_}
 use lib.Dec.{leb, ltb}
 use lib.ListN.{set}
 use Rattle.rounding_rules.specs.Growth.{grown}
 use Rattle.counter.specs.Limits.{spent}
 use Rattle.counter.specs.Account.{heapAt}
-use Rattle.counter.specs.Gate.{Verdict, pass, refuse, Row, first}
+use Rattle.counter.specs.Gate.{Verdict, pass, refuse, Row, first, gated}
 use Rattle.counter.specs.Paper as Paper
 use Rattle.counter.specs.Table.{alignmentOk}
 use Rattle.counter.specs.declared.account.Account.{Account}
@@ -15,7 +15,8 @@ use Rattle.counter.specs.declared.account.Heap.{Heap}
 use Rattle.counter.specs.declared.account.OpenOrder.the-variants.{Kept}
 use Rattle.counter.specs.declared.settings.FreeListSettings.{FreeListSettings}
 use Rattle.heap.specs.Heap.{bearsOk}
-use Rattle.store_rules.specs.Orders.{Plan, deny, take, buy, orderFrom, keptFrom}
+pub use Rattle.store_rules.specs.Orders.{Plan, deny, take, buy}
+use Rattle.store_rules.specs.Orders.{orderFrom, keptFrom}
 use Rattle.store_rules.specs.Outcomes.{Out, out, withOrder, blockSaid}
 use Rattle.store_rules.specs.declared.Loan.{Loan}
 use Rattle.book_rules.specs.Book.{takenOf, entered, enteredIndex}
@@ -85,14 +86,24 @@ blockAt s size mask t i = served (maskFor s mask) (sizeFor s size) (storeOf s t)
 abbrev pub loanFrom : FreeListSettings → ℕ → ℕ → Tables → ℕ → Loan
 loanFrom s size mask t i = lentLoan (storeOf s t .given + 1) (blockAt s size mask t i)
 
+-- the loan l, whose serial is then the last given, is entered in the book
+abbrev pub bookedTables : FreeListSettings → Loan → Tables → Tables
+bookedTables s l t =
+    tables
+    (set (set (t .head) givenAt (l .serial)) placesAt (takenOf (placesIn t) (t .index) .slab .places))
+    (entered (placesIn t) (t .index) l (t .loans))
+    (t .chunks)
+    (t .regions)
+    (enteredIndex (s .store .loans) (placesIn t) (l .serial) (t .index))
+
+-- these are the free regions from now on
+abbrev pub withRegions : FreeListSettings → List Region → Tables → Tables
+withRegions s rs t = tables (t .head) (t .loans) (t .chunks) (laidRegions s rs (t .regions)) (t .index)
+
+-- "The block runs from there to the region's end": it is cut off region i and lent
 unfoldable pub takenTables : FreeListSettings → ℕ → ℕ → Tables → ℕ → Tables
 takenTables s size mask t i =
-    tables
-    (set (set (t .head) givenAt (storeOf s t .given + 1)) placesAt (takenOf (placesIn t) (t .index) .slab .places))
-    (entered (placesIn t) (t .index) (loanFrom s size mask t i) (t .loans))
-    (t .chunks)
-    (laidRegions s (cutOff (blockAt s size mask t i .start) i (storeOf s t .regions)) (t .regions))
-    (enteredIndex (s .store .loans) (placesIn t) (storeOf s t .given + 1) (t .index))
+    withRegions s (cutOff (blockAt s size mask t i .start) i (storeOf s t .regions)) (bookedTables s (loanFrom s size mask t i) t)
 
 -- an order raises the chunk size and is kept in the account
 unfoldable pub orderedTables : ℕ → Tables → Tables
@@ -106,12 +117,8 @@ carryAsk s a size mask t (buy z) =
 
 -- ---- the call
 
-abbrev pub gated : Verdict → Plan ℕ → Plan ℕ
-gated (refuse n) p = deny n
-gated pass p = p
-
 unfoldable pub planAsk : FreeListSettings → Account → ℕ → ℕ → Tables → Plan ℕ
-planAsk s a size mask t = gated (gateOf s a t true) (decideAsk s (heapAt a (s .store .heap)) (a .objects) size mask t)
+planAsk s a size mask t = gated deny (gateOf s a t true) (decideAsk s (heapAt a (s .store .heap)) (a .objects) size mask t)
 
 unfoldable pub askOf : FreeListSettings → Account → ℕ → ℕ → Tables → Out Tables
 askOf s a size mask t = carryAsk s a size mask t (planAsk s a size mask t)

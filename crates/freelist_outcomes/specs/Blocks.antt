@@ -1,8 +1,6 @@
--- What a new block has to be. Assumes nothing: these are definitions.
+-- What a new block has to be.
 use mathlib.Core.Path.{_≡_}
-use mathlib.Core.Logic.{_⊎_}
-use mathlib.Core.List.{List·Memᴰ}
-use Prim.Native.Nat.{ℕ, _+_, _%_, _≤_, _<_}
+use Prim.Native.Nat.{ℕ, _+_, _≤_}
 use Rattle.counter.specs.declared.account.Account.{Account}
 use Rattle.counter.specs.declared.account.KeptOrder.{KeptOrder}
 use Rattle.counter.specs.declared.account.OpenOrder.the-variants.{Kept}
@@ -11,32 +9,19 @@ use Rattle.counter.specs.declared.answers.Outcome.{Outcome}
 use Rattle.counter.specs.declared.answers.Outcome.the-variants as O
 use Rattle.counter.specs.declared.settings.FreeListSettings.{FreeListSettings}
 use Rattle.store_rules.specs.Outcomes.{chargedAccount}
-use Rattle.store_rules.specs.declared.Loan.{Loan}
+use Rattle.store_rules.specs.Views.{GoodBlock}
 use Rattle.freelist_rules.specs.Place.{maskFor}
 use Rattle.freelist_rules.specs.Records.{Store}
 use Rattle.freelist_rules.specs.Steps.{delivered}
 use Rattle.freelist_rules.specs.Tables.{Tables, storeOf}
-use Rattle.store_rules.specs.declared.Chunk.{Chunk}
 use Rattle.freelist_outcomes.specs.Deliver.{deliverOf}
 
 -- a block as it has to be, in the store t and for this ask
 pub record Good (s : FreeListSettings) (size mask : ℕ) (t : Store) (serial chunk offset len : ℕ) : Type 0 where
-  -- its serial is the next one
-  pub next : serial ≡ t .given + 1
-  -- it lies in a held chunk
-  pub held : (c : Chunk) × List·Memᴰ c (t .chunks) × (c .number ≡ chunk) × (offset + len ≤ c .size)
-  -- it starts where the ask's mask allows
-  pub aligned : offset % (mask + 1) ≡ 0
-  -- and at a whole atom unit
-  pub atom : offset % (s .store .atom + 1) ≡ 0
-  -- it is as long as was asked for
-  pub enough : size ≤ len
+  -- as every engine's has to be
+  pub block : GoodBlock (s .store .atom) size mask (t .given) (t .loans) (t .chunks) serial chunk offset len
   -- and longer by no more than the atom unit and the alignment take
   pub close : len ≤ size + s .store .atom + maskFor s mask
-  -- no byte of it is on loan
-  pub apart : (l : Loan) → List·Memᴰ l (t .loans) → l .chunk ≡ chunk → (l .offset + l .size ≤ offset) ⊎ (offset + len ≤ l .offset)
-  -- every loan has a lower serial
-  pub new : (l : Loan) → List·Memᴰ l (t .loans) → l .serial < serial
 
 -- a delivery answered by a block: it is good in the store that has the new chunk, for the ask that was kept, and the
 -- account is charged for the chunk

@@ -1,5 +1,5 @@
 -- What a delivery says and leaves. 01, "freelist.rs": "After a good delivery it doubles, up to final", and the tests 13, 11
--- and 12. Assumes nothing: these are definitions.
+-- and 12.
 use mathlib.Core.Bool.{Bool, false, _&&_}
 use mathlib.Core.List.{List, [], _∷_, _++_}
 use Prim.Native.Nat.{ℕ, _+_}
@@ -7,7 +7,7 @@ use lib.ListN.{length, set}
 use Rattle.rounding_rules.specs.Growth.{doubled}
 use Rattle.words.specs.Rows.{laid}
 use Rattle.counter.specs.Account.{heapAt}
-use Rattle.counter.specs.Gate.{Verdict, first}
+use Rattle.counter.specs.Gate.{Verdict, first, gated}
 use Rattle.counter.specs.Paper as Paper
 use Rattle.counter.specs.declared.account.Account.{Account}
 use Rattle.counter.specs.declared.account.KeptOrder.{KeptOrder}
@@ -15,15 +15,15 @@ use Rattle.counter.specs.declared.account.OpenOrder.{OpenOrder}
 use Rattle.counter.specs.declared.account.OpenOrder.the-variants.{Nothing, Kept}
 use Rattle.counter.specs.declared.answers.Outcome.{Outcome}
 use Rattle.counter.specs.declared.settings.FreeListSettings.{FreeListSettings}
-pub use Rattle.store_rules.specs.Arrivals.{Arrival, deny, go, arrivalOf, gated}
+pub use Rattle.store_rules.specs.Arrivals.{Arrival, deny, go, arrivalOf}
 use Rattle.store_rules.specs.Delivery.{Fate, kept, lost, freeList}
 use Rattle.store_rules.specs.Orders.{leadsTo}
 use Rattle.store_rules.specs.Outcomes.{Out, out, chargedAccount, lostAccount, blockSaid}
-use Rattle.store_rules.specs.Tests.{orderFor, gateRow}
+use Rattle.store_rules.specs.Tests.{openFor, gateRow}
 use Rattle.freelist_rules.specs.Records.{region, chunk, chunkRow}
 use Rattle.freelist_rules.specs.Tables.{Tables, tables, madeAt, chunkSizeAt, chunksAt, chunksIn, storeOf, soundOk, laidRegions}
 use Rattle.freelist_rules.specs.Walk.{memories}
-use Rattle.freelist_outcomes.specs.Gate.{lentOk, accountOk}
+use Rattle.freelist_outcomes.specs.Gate.{inTableOk, accountOk}
 use Rattle.freelist_outcomes.specs.Ask.{decideAsk, loanFrom, takenTables}
 
 -- 3 on a delivery: the kept ask still leads to the order that was told
@@ -35,7 +35,7 @@ stillOk s a t (Kept k) =
 -- the gate of a delivery: an order is to be open for this store
 unfoldable pub deliverGateOf : FreeListSettings → Account → Tables → Verdict
 deliverGateOf s a t =
-    first (gateRow (lentOk s a t) (orderFor (s .store .number) (a .order)) (soundOk s t && stillOk s a t (a .order)) (accountOk s a t))
+    first (gateRow (inTableOk s a t) (openFor (s .store .number) (a .order)) (soundOk s t && stillOk s a t (a .order)) (accountOk s a t))
 
 -- a chunk of z bytes under the next number, wholly free
 unfoldable pub deliveredTables : FreeListSettings → ℕ → ℕ → Tables → Tables
@@ -62,7 +62,7 @@ abbrev pub decideDeliver : Outcome → List ℕ → OpenOrder → Arrival
 decideDeliver = arrivalOf freeList
 
 unfoldable pub planDeliver : FreeListSettings → Account → Outcome → Tables → Arrival
-planDeliver s a o t = gated (deliverGateOf s a t) (decideDeliver o (memories (storeOf s t .chunks)) (a .order))
+planDeliver s a o t = gated deny (deliverGateOf s a t) (decideDeliver o (memories (storeOf s t .chunks)) (a .order))
 
 unfoldable pub carryDeliver : FreeListSettings → Account → Tables → Arrival → Out Tables
 carryDeliver s a t (deny n) = out (Paper.refusal n []) a t

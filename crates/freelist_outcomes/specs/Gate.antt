@@ -1,4 +1,4 @@
--- The gate of a free-list store: 01's tests 1 to 4. Assumes nothing: these are definitions.
+-- The gate of a free-list store: 01's tests 1 to 4.
 use mathlib.Core.Bool.{Bool, _&&_}
 use Rattle.counter.specs.Account.{heapAt}
 use Rattle.counter.specs.Gate.{Verdict, first}
@@ -11,8 +11,8 @@ use Rattle.freelist_rules.specs.Tables.{Tables, lengthsOk, chunksIn, storeOf, s
 use Rattle.store_rules.specs.declared.Chunk.{Chunk}
 
 -- 1: every value, and every table's length
-unfoldable pub lentOk : FreeListSettings → Account → Tables → Bool
-lentOk s a t = freeListOk s && (heapsOk (a .heaps) && lengthsOk s t)
+unfoldable pub inTableOk : FreeListSettings → Account → Tables → Bool
+inTableOk s a t = freeListOk s && (heapsOk (a .heaps) && lengthsOk s t)
 
 -- 4, of the store's own heap
 unfoldable pub accountOk : FreeListSettings → Account → Tables → Bool
@@ -21,4 +21,4 @@ accountOk s a t =
 
 -- of an ask, a return and a clean-up: no order may be open; `list` says whether the release list is long enough
 unfoldable pub gateOf : FreeListSettings → Account → Tables → Bool → Verdict
-gateOf s a t list = first (gateRow (lentOk s a t && list) (noOrder (a .order)) (soundOk s t) (accountOk s a t))
+gateOf s a t list = first (gateRow (inTableOk s a t && list) (noOrder (a .order)) (soundOk s t) (accountOk s a t))

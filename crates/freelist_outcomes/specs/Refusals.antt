@@ -1,14 +1,12 @@
 -- The words of 01's table, "When the counter says no", that are the free list's own. proofs/Refused shows that each call gives exactly
--- the numbers of the rows over these. Assumes nothing: these are definitions.
+-- the numbers of the rows over these.
 use mathlib.Core.Path.{_≡_}
 use mathlib.Core.Logic.{_⊎_}
 use mathlib.Core.List.{List·Memᴰ}
 use Prim.Native.Nat.{ℕ, _+_, _%_, _≤_, _<_}
 use lib.ListN.{getD}
-use Rattle.counter.specs.Account.{noHeap}
 use Rattle.counter.specs.InTable.{FreeListIn}
-use Rattle.counter.specs.Limits.{heapsMost, heapBytesMost, spent}
-use Rattle.counter.specs.declared.account.Account.{Account}
+use Rattle.counter.specs.Limits.{spent}
 use Rattle.counter.specs.declared.settings.FreeListSettings.{FreeListSettings}
 use Rattle.store_rules.specs.Views.{View}
 use Rattle.store_rules.specs.Words.{Words}
@@ -17,14 +15,6 @@ use Rattle.freelist_rules.specs.Tables.{Tables, Lengths, givenAt, storeOf, Soun
 use Rattle.store_rules.specs.declared.Chunk.{Chunk}
 use Rattle.store_rules.specs.declared.Region.{Region}
 use Rattle.freelist_outcomes.specs.Ask.{raisedFor}
-
--- ---- 1
-
--- every value is in 01's table, and every lent table is as long as it has to be
-pub record InTable (s : FreeListSettings) (a : Account) (t : Tables) : Type 0 where
-  pub settings : FreeListIn s
-  pub heaps : (i : ℕ) → i < heapsMost → (getD (a .heaps) i noHeap .size ≤ heapBytesMost) × (getD (a .heaps) i noHeap .used ≤ heapBytesMost)
-  pub lengths : Lengths s t
 
 -- ---- 6
 
@@ -68,7 +58,7 @@ listWords =
       Needed = Needed;
       orderSize = λ s size mask t. raisedFor s size t;
       Fits = λ s t. FreeListIn s × Lengths s t;
-      InTable = InTable;
+      MaskHigh = λ s mask. ⊥;
       SizeOff = λ s size mask. SizeOff s size;
       Roomless = λ s size mask t. ⊥;
       Numberless = λ s t. spent ≤ storeOf s t .made;

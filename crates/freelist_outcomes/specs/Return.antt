@@ -1,11 +1,11 @@
--- What a return and a clean-up say and leave. 01, "freelist.rs", and test 7. Assumes nothing: these are definitions.
+-- What a return and a clean-up say and leave. 01, "freelist.rs", and test 7.
 use mathlib.Core.Bool.{Bool, true, false}
 use mathlib.Core.List.{List, []}
 use Prim.Native.Nat.{ℕ, _+_}
 use lib.ListN.{length, getD, set}
 use lib.Seq.{sets}
 use Rattle.words.specs.Rows.{laid}
-use Rattle.counter.specs.Gate.{Verdict, pass, refuse}
+use Rattle.counter.specs.Gate.{Verdict, pass, refuse, gated}
 use Rattle.counter.specs.Paper as Paper
 use Rattle.counter.specs.declared.account.Account.{Account}
 use Rattle.counter.specs.declared.answers.Block.{Block}
@@ -13,7 +13,7 @@ use Rattle.counter.specs.declared.settings.FreeListSettings.{FreeListSettings}
 use Rattle.store_rules.specs.Outcomes.{Listed, listed, listOk, releasedAccount}
 use Rattle.book_rules.specs.Book.{struck, struckIndex}
 use Rattle.book_rules.specs.Returns as Returns
-pub use Rattle.book_rules.specs.Returns.{Plan, deny, back, decided, gated}
+pub use Rattle.book_rules.specs.Returns.{Plan, deny, back, decided}
 use Rattle.freelist_rules.specs.Records.{region, chunkRow}
 use Rattle.freelist_rules.specs.Join.{insert}
 use Rattle.freelist_rules.specs.Release.{staying, leaving, remaining, memoriesOf, bytesOf}
@@ -68,7 +68,7 @@ unfoldable pub decideReturn : FreeListSettings → Block → Tables → Plan
 decideReturn s b t = decided (onLoanOk s b t) (wordFor s b t)
 
 unfoldable pub planReturn : FreeListSettings → Account → Block → Tables → Bool → Plan
-planReturn s a b t list = gated (gateOf s a t list) (decideReturn s b t)
+planReturn s a b t list = gated deny (gateOf s a t list) (decideReturn s b t)
 
 unfoldable pub carryReturn : FreeListSettings → Account → Block → Tables → List ℕ → Plan → Listed Tables
 carryReturn s a b t list (deny n) = listed (Paper.refusal n []) a t list
@@ -77,9 +77,13 @@ carryReturn s a b t list (back w) = releaseOf s a true (givenTables s b w t) lis
 unfoldable pub returnOf : FreeListSettings → Account → Block → Tables → List ℕ → Listed Tables
 returnOf s a b t list = carryReturn s a b t list (planReturn s a b t (listOk (s .store) list))
 
+-- a clean-up has no test behind the gate
+abbrev pub planCleanUp : FreeListSettings → Account → Tables → Bool → Verdict
+planCleanUp s a t list = gateOf s a t list
+
 unfoldable pub carryCleanUp : FreeListSettings → Account → Tables → List ℕ → Verdict → Listed Tables
 carryCleanUp s a t list (refuse n) = listed (Paper.refusal n []) a t list
 carryCleanUp s a t list pass = releaseOf s a false t list
 
 unfoldable pub cleanUpOf : FreeListSettings → Account → Tables → List ℕ → Listed Tables
-cleanUpOf s a t list = carryCleanUp s a t list (gateOf s a t (listOk (s .store) list))
+cleanUpOf s a t list = carryCleanUp s a t list (planCleanUp s a t (listOk (s .store) list))

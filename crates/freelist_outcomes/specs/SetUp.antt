@@ -1,4 +1,4 @@
--- What set-up says and leaves. Assumes nothing: these are definitions.
+-- What set-up says and leaves.
 use mathlib.Core.Bool.{Bool, cond, _&&_}
 use mathlib.Core.List.{List, [], _∷_}
 use Prim.Native.Nat.{ℕ}
@@ -8,7 +8,7 @@ use Rattle.counter.specs.Paper as Paper
 use Rattle.counter.specs.Table.{freeListOk}
 use Rattle.counter.specs.declared.settings.FreeListSettings.{FreeListSettings}
 use Rattle.book_rules.specs.Book.{freshIndex}
-use Rattle.freelist_rules.specs.Tables.{Tables, tables, mark, countAt, lengthsOk}
+use Rattle.freelist_rules.specs.Tables.{Tables, tables, mark, regionCountAt, lengthsOk}
 
 pub record SetUp : Type 0 where
   pub said : Said
@@ -24,7 +24,7 @@ freshHead s = mark ∷ 0 ∷ 0 ∷ s .start ∷ 0 ∷ 0 ∷ []
 -- no region; no loan is in the book
 unfoldable pub freshTables : FreeListSettings → Tables → Tables
 freshTables s t =
-    tables (freshHead s) (t .loans) (t .chunks) (set (t .regions) (countAt s) 0) (freshIndex (t .index))
+    tables (freshHead s) (t .loans) (t .chunks) (set (t .regions) (regionCountAt s) 0) (freshIndex (t .index))
 
 -- 1, but for the account, which set-up does not take
 unfoldable pub fitOk : FreeListSettings → Tables → Bool

@@ -1,5 +1,5 @@
 -- What a caller is told of a release: a count, and as many memory numbers in the lent list. 01, "freelist.rs": "every
--- wholly free chunk except the one of the last region is released". Assumes nothing: these are definitions.
+-- wholly free chunk except the one of the last region is released".
 use mathlib.Core.Path.{_≡_}
 use mathlib.Core.Logic.{_↔_}
 use mathlib.Core.List.{List, List·Memᴰ}

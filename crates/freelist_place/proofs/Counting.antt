@@ -1,4 +1,4 @@
--- Regions changed and counted anew are the table of the regions as they then are. Assumes nothing.
+-- Regions changed and counted anew are the table of the regions as they then are.
 use mathlib.Core.Path.{_≡_, sym, ap, _∙_}
 use mathlib.Core.List.{List, [], _∷_, _++_}
 use Prim.Native.Nat.{ℕ, _+_, _*_, _≤_, _<_}
@@ -11,13 +11,13 @@ use Rattle.words.proofs.Records.{length-rows, appended}
 use Rattle.freelist_rules.specs.Records.{regionRow}
 use Rattle.freelist_rules.specs.Pieces.{lo, hi, Rising}
 use Rattle.freelist_rules.specs.Join.{insert}
-use Rattle.freelist_rules.specs.Tables.{regionsMost, countAt, laidRegions, RegionsFit, regionsOf}
+use Rattle.freelist_rules.specs.Tables.{regionsMost, regionCountAt, laidRegions, RegionsFit, regionsOf}
 use Rattle.store_rules.specs.declared.Region.{Region}
 use Rattle.freelist_regions.specs.Order.{RegionsStand, LowPlace}
 
 -- the count as the code reads it
-module _ (s : FreeListSettings) (t : List ℕ) (fit : RegionsFit s t) (at n : ℕ) (a : at ≡ countAt s) (c : n ≡ getD t at 0) where
-  pub counted : n ≡ getD t (countAt s) 0
+module _ (s : FreeListSettings) (t : List ℕ) (fit : RegionsFit s t) (at n : ℕ) (a : at ≡ regionCountAt s) (c : n ≡ getD t at 0) where
+  pub counted : n ≡ getD t (regionCountAt s) 0
   counted = c ∙ ap (λ (i : ℕ). getD t i 0) a
 
   regions-are : rows regionRow n t ≡ regionsOf s t
@@ -30,7 +30,7 @@ module _ (s : FreeListSettings) (t : List ℕ) (fit : RegionsFit s t) (at n : �
   pub few : n ≤ loansMost + chunksMost
   few = omega (arith, counted, fit .count, fit .settings .store .loans-most, fit .settings .store .chunks-most)
 
-  pub cut-fits : (i : ℕ) → i < getD t (countAt s) 0 → (i < n) × (3 * n ≤ length t)
+  pub cut-fits : (i : ℕ) → i < getD t (regionCountAt s) 0 → (i < n) × (3 * n ≤ length t)
   cut-fits i h = (omega (arith, counted), room)
 
   pub join-fits : (b : Region) → Rising lo hi 1 0 (regionsOf s t) → RegionsStand (regionsOf s t) → LowPlace (b .start) → length (insert b (regionsOf s t)) ≤ regionsMost s
@@ -45,7 +45,7 @@ module _ (s : FreeListSettings) (t : List ℕ) (fit : RegionsFit s t) (at n : �
       q ∙ rw (p, l, a, regions-are)
 
   -- one more, after the others
-  pub appended-done : (r : Region) (m : ℕ) (u v : List ℕ) → getD t (countAt s) 0 < regionsMost s → u ≡ written regionRow n r t → m ≡ n + 1 → v ≡ set u at m
+  pub appended-done : (r : Region) (m : ℕ) (u v : List ℕ) → getD t (regionCountAt s) 0 < regionsMost s → u ≡ written regionRow n r t → m ≡ n + 1 → v ≡ set u at m
       → v ≡ laidRegions s (regionsOf s t ++ (r ∷ [])) t
   appended-done r m u v h p l q =
       laid-done (λ (rs : List Region). rs ++ (r ∷ [])) m u v

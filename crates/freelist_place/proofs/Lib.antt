@@ -1,4 +1,4 @@
-pub mod Asking
 pub mod Counting
 pub mod Serving
+pub mod SettingUp
 pub mod Writing

@@ -1,48 +1,69 @@
--- A region serves an ask as it is defined: the loan, and every table. Assumes nothing.
-use mathlib.Core.Path.{_≡_, sym, _∙_}
+-- A region serves as it is defined: the loan, and every table; and with the numbers that a plan carries, as an ask is.
+use mathlib.Core.Path.{_≡_, refl, sym, ap, _∙_}
 use mathlib.Core.List.{List, []}
-use Prim.Native.Nat.{ℕ, _+_, _<_}
+use Prim.Native.Nat.{ℕ, _+_, _-_, _%_, _≤_, _<_}
+use native.Mathlib.Omega.{arith}
 use lib.ListN.{getD, set}
 use Rattle.counter.specs.declared.settings.FreeListSettings.{FreeListSettings}
-use Rattle.words.specs.Rows.{row}
+use Rattle.words.specs.Rows.{row, written}
 use Rattle.words.proofs.Records.{getD-rows}
+use Rattle.slab.specs.declared.Taken.{Taken}
+use Rattle.store_rules.specs.Loans.{loanRow}
 use Rattle.store_rules.specs.declared.Loan.{Loan}
-use Rattle.book_rules.specs.Book.{takenOf, entered, enteredIndex}
-use Rattle.freelist_rules.specs.Records.{regionRow}
-use Rattle.freelist_rules.specs.Place.{sizeFor, maskFor, block, cutOff, lentLoan}
-use Rattle.freelist_rules.specs.Steps.{noRegion}
-use Rattle.freelist_rules.specs.Tables.{Tables, tables, givenAt, placesAt, countAt, storeOf, laidRegions, regionsOf}
 use Rattle.store_rules.specs.declared.Region.{Region}
-use Rattle.freelist_outcomes.specs.Ask.{loanFrom, takenTables}
+use Rattle.book_rules.specs.Book.{vacatedAt, firstOf, nextOf, firstBefore, takenOf, entered, enteredIndex}
+use Rattle.freelist_rules.specs.Records.{region, regionRow}
+use Rattle.freelist_rules.specs.Place.{cutOff, lentLoan}
+use Rattle.freelist_rules.specs.Steps.{noRegion}
+use Rattle.freelist_rules.specs.Tables.{Tables, tables, givenAt, placesAt, regionCountAt, placesIn, storeOf, laidRegions, regionsOf}
+use Rattle.freelist_outcomes.specs.Ask.{blockAt, loanFrom, takenTables}
+use Rattle.freelist_place.specs.Lent.{lentFrom, enteredAt, lentTables}
 
-module _ (s : FreeListSettings) (size mask i : ℕ) (head regions : List ℕ) where
-  abbrev pub Served : Loan
-  Served = loanFrom s size mask (tables head [] [] regions []) i
+module _ (s : FreeListSettings) (i start : ℕ) (head regions : List ℕ) where
+  abbrev Served : Loan
+  Served = lentFrom s start (tables head [] [] regions []) i
 
-  pub loan-done : (n m w : ℕ) (r : Region) (l : Loan) → n ≡ sizeFor s size → m ≡ maskFor s mask → w ≡ getD head givenAt 0 → r ≡ row regionRow i regions
-      → l ≡ lentLoan (w + 1) (block m n r) → i < getD regions (countAt s) 0 → l ≡ Served
+  pub loan-done : (w : ℕ) (r : Region) (l : Loan) → w ≡ getD head givenAt 0 → r ≡ row regionRow i regions
+      → l ≡ record { serial = w + 1; chunk = r .chunk; offset = start; size = r .end - start } → i < getD regions (regionCountAt s) 0 → l ≡ Served
   unfolding storeOf
-  loan-done n m w r l a b c d e h =
-      let f : r ≡ getD (regionsOf s regions) i noRegion = d ∙ sym (getD-rows regionRow (getD regions (countAt s) 0) i regions noRegion h) in
-      e ∙ (λ j. lentLoan (c j + 1) (block (b j) (a j) (f j)))
+  loan-done w r l c d e h =
+      let f : r ≡ getD (regionsOf s regions) i noRegion = d ∙ sym (getD-rows regionRow (getD regions (regionCountAt s) 0) i regions noRegion h) in
+      e ∙ (λ j. lentLoan (c j + 1) (region (f j .chunk) start (f j .end)))
 
-  -- the tables as the loan l leaves them
-  abbrev pub after : List ℕ → List ℕ → ℕ → ℕ → Loan → Tables
-  after loans index places used l =
+  pub start-within : (r : Region) → r ≡ row regionRow i regions → i < getD regions (regionCountAt s) 0 → start ≤ getD (regionsOf s regions) i noRegion .end → start ≤ r .end
+  start-within r e below h =
+      let f : getD (regionsOf s regions) i noRegion ≡ row regionRow i regions = getD-rows regionRow (getD regions (regionCountAt s) 0) i regions noRegion below in
+      omega (arith, ap (λ (x : Region). x .end) e, ap (λ (x : Region). x .end) f, h)
+
+  -- the tables as the loan l at its place k leaves them
+  abbrev after : List ℕ → List ℕ → Taken → Loan → Tables
+  after loans index k l =
       tables
-      (set (set head givenAt (l .serial)) placesAt used)
-      (entered places index l loans)
+      (set (set head givenAt (l .serial)) placesAt (k .slab .places))
+      (written loanRow (k .place) l loans)
       []
-      (laidRegions s (cutOff (l .offset) i (regionsOf s regions)) regions)
-      (enteredIndex (s .store .loans) places (l .serial) index)
+      (laidRegions s (cutOff start i (regionsOf s regions)) regions)
+      (set
+      (set (set index vacatedAt (k .slab .vacant)) (nextOf (k .place)) (firstBefore (s .store .loans) (l .serial) index))
+      (firstOf (l .serial % s .store .loans))
+      (k .place))
 
-  pub lent-done : (loans index h′ l′ r′ i′ : List ℕ) (places used : ℕ) (l : Loan) → l ≡ Served → places ≡ getD head placesAt 0
-      → r′ ≡ laidRegions s (cutOff (l .offset) i (regionsOf s regions)) regions
-      → used ≡ takenOf places index .slab .places → l′ ≡ entered places index l loans → i′ ≡ enteredIndex (s .store .loans) places (l .serial) index
-      → h′ ≡ set (set head givenAt (l .serial)) placesAt used
-      → tables h′ l′ [] r′ i′ ≡ takenTables s size mask (tables head loans [] regions index) i
-  unfolding storeOf takenTables
-  lent-done loans index h′ l′ r′ i′ places used l e p r u a b h =
-      (λ j. tables (h j) (a j) [] (r j) (b j))
-      ∙ (λ j. after loans index places (u j) (e j))
-      ∙ (λ j. after loans index (p j) (takenOf (p j) index .slab .places) Served)
+  pub lent-done : (loans index h′ l′ r′ i′ : List ℕ) (k : Taken) (l : Loan) → l ≡ Served
+      → r′ ≡ laidRegions s (cutOff start i (regionsOf s regions)) regions
+      → l′ ≡ written loanRow (k .place) l loans
+      → i′ ≡ set (set (set index vacatedAt (k .slab .vacant)) (nextOf (k .place)) (firstBefore (s .store .loans) (l .serial) index)) (firstOf (l .serial % s .store .loans)) (k .place)
+      → h′ ≡ set (set head givenAt (l .serial)) placesAt (k .slab .places)
+      → tables h′ l′ [] r′ i′ ≡ lentTables s start k (tables head loans [] regions index) i
+  unfolding storeOf lentTables enteredAt
+  lent-done loans index h′ l′ r′ i′ k l e r a b h =
+      (λ j. tables (h j) (a j) [] (r j) (b j)) ∙ (λ j. after loans index k (e j))
+
+-- ---- with the start and the place that an ask comes to
+
+module _ (s : FreeListSettings) (size mask start i : ℕ) (k : Taken) (t : Tables) (e : start ≡ blockAt s size mask t i .start) where
+  pub loan-planned : lentFrom s start t i ≡ loanFrom s size mask t i
+  loan-planned = λ j. lentFrom s (e j) t i
+
+  pub tables-planned : k ≡ takenOf (placesIn t) (t .index) → lentTables s start k t i ≡ takenTables s size mask t i
+  unfolding lentTables enteredAt takenTables entered enteredIndex
+  tables-planned f = (λ j. lentTables s (e j) (f j) t i) ∙ refl

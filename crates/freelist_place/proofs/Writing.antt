@@ -1,4 +1,4 @@
--- A chunk added and a block taken back leave the tables as they are defined. Assumes nothing.
+-- A chunk added and a block taken back leave the tables as they are defined.
 use mathlib.Core.Path.{_≡_, ap, _∙_}
 use mathlib.Core.List.{List, [], _∷_, _++_}
 use Prim.Native.Nat.{ℕ, _+_}

@@ -1,30 +1,31 @@
--- What the code that writes a store's tables asks of them: the gate has shown it. Assumes nothing: these are definitions.
+-- What the code that writes a store's tables asks of them: the gate has shown it.
 use mathlib.Core.Path.{_≡_}
 use mathlib.Core.List.{List}
 use Prim.Native.Nat.{ℕ, _+_, _*_, _^_, _≤_, _<_}
 use lib.ListN.{length, getD}
-use Rattle.rounding_rules.specs.Masks.{Ones}
-use Rattle.counter.specs.Limits.{alignBits, spent}
+use Rattle.counter.specs.Limits.{spent}
 use Rattle.counter.specs.declared.answers.Block.{Block}
 use Rattle.counter.specs.declared.settings.FreeListSettings.{FreeListSettings}
+use Rattle.book_rules.specs.Ready.{Opens}
 use Rattle.freelist_rules.specs.Records.{chunkWords, region}
 use Rattle.freelist_rules.specs.Pieces.{lo, hi, Rising}
 use Rattle.freelist_rules.specs.Join.{insert}
-use Rattle.freelist_rules.specs.Tables.{givenAt, madeAt, chunksAt, regionsMost, countAt, regionsOf, RegionsFit}
+use Rattle.freelist_rules.specs.Steps.{noRegion}
+use Rattle.freelist_rules.specs.Tables.{givenAt, madeAt, chunksAt, regionsMost, regionCountAt, regionsOf, RegionsFit}
 use Rattle.freelist_regions.specs.Order.{RegionsStand, LowPlace}
 
--- region i can serve an ask of this size and mask
-pub record Lends (s : FreeListSettings) (size mask i : ℕ) (head regions : List ℕ) : Type 0 where
+-- region i can be lent from, from this start on, and the loan entered at place p of the book
+pub record Lends (s : FreeListSettings) (i start p : ℕ) (head loans regions index : List ℕ) : Type 0 where
   pub fit : RegionsFit s regions
-  pub aligned : Ones alignBits mask
-  pub size-most : size ≤ s .last
-  pub here : i < getD regions (countAt s) 0
+  pub here : i < getD regions (regionCountAt s) 0
+  pub within : start ≤ getD (regionsOf s regions) i noRegion .end
   pub serial : getD head givenAt 0 < spent
+  pub opens : Opens (s .store .loans) p loans index
 
 -- there is room for one chunk more
 pub record Adds (s : FreeListSettings) (head chunks regions : List ℕ) : Type 0 where
   pub fit : RegionsFit s regions
-  pub room : getD regions (countAt s) 0 < regionsMost s
+  pub room : getD regions (regionCountAt s) 0 < regionsMost s
   pub long : length chunks ≡ chunkWords * s .store .chunks
   pub few : getD head chunksAt 0 < s .store .chunks
   pub number : getD head madeAt 0 < spent

@@ -6,7 +6,7 @@ ghost use lib.ListN.{length, getD};
 ghost use Rattle.freelist_rules.specs.Pieces.{lo, hi, Rising};
 ghost use Rattle.freelist_rules.specs.Place.{cutOff};
 ghost use Rattle.freelist_rules.specs.Join.{insert};
-ghost use Rattle.freelist_rules.specs.Tables.{regionsMost, countAt, laidRegions, RegionsFit, regionsOf};
+ghost use Rattle.freelist_rules.specs.Tables.{regionsMost, regionCountAt, laidRegions, RegionsFit, regionsOf};
 ghost use Rattle.freelist_regions.specs.Order.{RegionsStand, LowPlace};
 use counter::FreeListSettings;
 use freelist_regions::count_at;
@@ -14,7 +14,7 @@ use store_rules::Region;
 
 // Region i ends at `place` from now on, or is gone where that is its start.
 pub fn cut(s: FreeListSettings, regions: &mut [u64], i: usize, place: u64)
-    requires { ⌜ RegionsFit s (now regions) × (i < getD (now regions) (countAt s) 0) ⌝ }
+    requires { ⌜ RegionsFit s (now regions) × (i < getD (now regions) (regionCountAt s) 0) ⌝ }
     ensures { λ _. ⌜ now (regions .exit) ≡ laidRegions s (cutOff place i (regionsOf s (now (regions .entry)))) (now (regions .entry)) ⌝ }
 {
     let at = count_at(s);
@@ -36,7 +36,7 @@ pub fn join(s: FreeListSettings, regions: &mut [u64], b: Region)
 
 // A region after the others.
 pub fn append(s: FreeListSettings, regions: &mut [u64], r: Region)
-    requires { ⌜ RegionsFit s (now regions) × (getD (now regions) (countAt s) 0 < regionsMost s) ⌝ }
+    requires { ⌜ RegionsFit s (now regions) × (getD (now regions) (regionCountAt s) 0 < regionsMost s) ⌝ }
     ensures { λ _. ⌜ now (regions .exit) ≡ laidRegions s (regionsOf s (now (regions .entry)) ++ (r ∷ [])) (now (regions .entry)) ⌝ }
 {
     let at = count_at(s);

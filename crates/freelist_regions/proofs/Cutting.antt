@@ -1,4 +1,4 @@
--- A region cut short, in words. Assumes nothing.
+-- A region cut short, in words.
 use mathlib.Core.Path.{_≡_, sym, ap, _∙_}
 use mathlib.Core.List.{List}
 use Prim.Native.Nat.{ℕ, _*_, _-_, _≤_, _<_}

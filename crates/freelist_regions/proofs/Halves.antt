@@ -1,4 +1,4 @@
--- The turns of a search by halves in what parts at a place. Assumes nothing.
+-- The turns of a search by halves in what parts at a place.
 use mathlib.Core.Path.{_≡_, ap, _∙_}
 use mathlib.Core.Bool.{Bool, true, false}
 use mathlib.Core.Logic.{⊎-elim}

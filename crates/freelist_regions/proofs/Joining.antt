@@ -1,4 +1,4 @@
--- A block put among regions, in words: the four ways in which it may touch its neighbours. Assumes nothing.
+-- A block put among regions, in words: the four ways in which it may touch its neighbours.
 use mathlib.Core.Path.{_≡_, sym, ap, _∙_}
 use mathlib.Core.Bool.{true, false, _&&_}
 use mathlib.Core.List.{List, _++_}

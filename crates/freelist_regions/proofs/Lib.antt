@@ -1,4 +1,5 @@
 -- The laws that this crate's proofs cite.
+pub mod Asking
 pub mod Cutting
 pub mod Halves
 pub mod Joining

@@ -1,4 +1,4 @@
--- Whether a chunk's number reaches another, as the code reads it. Assumes nothing.
+-- Whether a chunk's number reaches another, as the code reads it.
 use mathlib.Core.Path.{_≡_}
 use mathlib.Core.Bool.{true, false}
 use mathlib.Core.List.{List}

@@ -1,4 +1,4 @@
--- Regions that stand in order part at any place: those before it, and those past it. Assumes nothing.
+-- Regions that stand in order part at any place: those before it, and those past it.
 use mathlib.Core.Path.{_≡_, sym, ap, _∙_}
 use mathlib.Core.Bool.{true}
 use mathlib.Core.List.{List}

@@ -1,4 +1,4 @@
--- Regions read and written word by word are read and written whole. Assumes nothing.
+-- Regions read and written word by word are read and written whole.
 use mathlib.Core.Path.{_≡_, _∙_}
 use mathlib.Core.List.{List, [], _∷_}
 use Prim.Native.Nat.{ℕ, suc, _*_}

@@ -1,4 +1,4 @@
--- A region with another end. Assumes nothing: these are definitions.
+-- A region with another end.
 use mathlib.Core.List.{List}
 use Prim.Native.Nat.{ℕ}
 use Rattle.words.specs.Rows.{row, written}

@@ -1,8 +1,21 @@
--- What the code's searches say, in the definitions' words. Assumes nothing: these are definitions.
+-- What the code's searches say, in the definitions' words.
+use mathlib.Core.Path.{_≡_}
+use mathlib.Core.List.{List}
+use Prim.Native.Nat.{ℕ}
+use lib.ListN.{getD}
 use Rattle.freelist_rules.specs.Place as Place
+use Rattle.freelist_rules.specs.Place.{cut}
+use Rattle.freelist_rules.specs.Steps.{noRegion}
+use Rattle.store_rules.specs.declared.Region.{Region}
 use Rattle.freelist_regions.specs.declared.search.Found.{Found}
 use Rattle.freelist_regions.specs.declared.search.Found.the-variants.{Nowhere, At}
 
+-- which region serves
 abbrev pub foundOf : Found → Place.Found
 foundOf Nowhere = Place.nowhere
-foundOf (At i) = Place.at i
+foundOf (At i x) = Place.at i
+
+-- and where its block starts: "the highest aligned place that ends within the region"
+abbrev pub Starts : ℕ → ℕ → List Region → Found → Type 0
+Starts mask n rs Nowhere = Unit {0}
+Starts mask n rs (At i x) = x ≡ cut mask n (getD rs i noRegion)

@@ -1,5 +1,4 @@
 -- What the search by halves asks of a store's free regions: that they stand in order, at places a chunk can have.
--- Assumes nothing: these are definitions.
 use mathlib.Core.List.{List}
 use Prim.Native.Nat.{ℕ, _*_, _<_}
 use lib.ListN.{length, getD}

@@ -1,4 +1,4 @@
--- Where a chunk's number stands among chunks that are sorted by number. Assumes nothing: these are definitions.
+-- Where a chunk's number stands among chunks that are sorted by number.
 use mathlib.Core.Bool.{Bool}
 use mathlib.Core.List.{List}
 use Prim.Native.Nat.{ℕ}

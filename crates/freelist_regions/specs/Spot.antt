@@ -1,4 +1,4 @@
--- Where a place of a chunk stands among records that are sorted by chunk and place. Assumes nothing: these are definitions.
+-- Where a place of a chunk stands among records that are sorted by chunk and place.
 use mathlib.Core.Path.{_≡_}
 use mathlib.Core.Bool.{Bool, true, false}
 use mathlib.Core.List.{List}

@@ -12,7 +12,7 @@ ghost use Rattle.freelist_regions.specs.Order.{RegionsStand, LowPlace};
 use crate::records::end_at;
 use crate::records::put_region;
 use crate::records::region_at;
-use crate::spots::spot;
+use crate::spots::stands_at;
 use freelist_rules::REGION_WORDS;
 use store_rules::Region;
 
@@ -52,7 +52,7 @@ pub fn join_region(t: &mut [u64], n: usize, b: Region) -> usize
     ensures { λ r. ⌜ r ≡ length (insert b (rows regionRow n (now (t .entry)))) ⌝ }
     ensures { λ _. ⌜ now (t .exit) ≡ laid regionRow (insert b (rows regionRow n (now (t .entry)))) (now (t .entry)) ⌝ }
 {
-    let k = spot(t, 0, REGION_WORDS, n, b.chunk, b.start);
+    let k = stands_at(t, 0, REGION_WORDS, n, b.chunk, b.start);
     let before = touches_before(t, k, b);
     let next = touches_next(t, n, k, b);
     if next {

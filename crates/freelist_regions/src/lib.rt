@@ -1,4 +1,6 @@
-// A free-list store's records in their lent tables, and its free regions: sorted by chunk and start, one behind the other.
+// A free-list store's records in their lent tables, and its free regions: sorted by chunk and start, one behind the other; and
+// what an ask looks for among them.
+mod asks;
 mod counts;
 mod joins;
 mod records;
@@ -7,6 +9,8 @@ mod search;
 mod seats;
 mod spots;
 
+pub use asks::mask_for;
+pub use asks::size_for;
 pub use counts::count_at;
 pub use counts::region_count;
 pub use joins::join_region;

@@ -1,4 +1,4 @@
-// The free regions of a store: one cut short by a block, and one put among the others.
+// A free region cut short by a block.
 ghost use mathlib.Core.Path.{_≡_};
 ghost use Prim.Native.Nat.{_*_, _≤_, _<_};
 ghost use lib.ListN.{length};

@@ -15,7 +15,7 @@ fn is_after(t: &[u64], at: usize, w: usize, i: usize, chunk: u64, place: u64) ->
 }
 
 // Where those of the first n records that come after the place begin.
-pub fn spot(t: &[u64], at: usize, w: usize, n: usize, chunk: u64, place: u64) -> usize
+pub fn stands_at(t: &[u64], at: usize, w: usize, n: usize, chunk: u64, place: u64) -> usize
     requires { ⌜ (at < widest) × (0 < w) × (w ≤ widest) ⌝ }
     requires { ⌜ Parting (after (now t) at w chunk place) n ⌝ }
     ensures { λ r. ⌜ Parts (after (now (t .entry)) at w chunk place) n r ⌝ }

@@ -1,4 +1,5 @@
 -- The laws that this crate's proofs cite.
+pub mod Freeing
 pub mod Keeping
 pub mod Listing
 pub mod Releasing

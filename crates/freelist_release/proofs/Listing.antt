@@ -1,4 +1,4 @@
--- Whether a number is listed, word by word; the chunks that are not listed are those that remain. Assumes nothing.
+-- Whether a number is listed, word by word; the chunks that are not listed are those that remain.
 use mathlib.Core.Path.{_≡_, refl, sym, ap, _∙_}
 use mathlib.Core.Bool.{Bool, true, false, cond, _||_}
 use mathlib.Core.Logic.{_⊎_, inl, inr, ⊎-elim}
@@ -12,7 +12,7 @@ use lib.Seq.{drop-cons, getD-take, length-take-le}
 use borrow.Author.Tests.{eqb-true, eq-eqb, ne-eqb}
 use Rattle.lists.proofs.Bools.{or-cases, or-left, or-right, true-false, same-test}
 use Rattle.freelist_rules.specs.Pieces.{All}
-use Rattle.freelist_rules.specs.Release.{covers, leaving, left, remaining, memoriesOf}
+use Rattle.freelist_rules.specs.Release.{covers, leaving, isCovered, remaining, memoriesOf}
 use Rattle.store_rules.specs.declared.Chunk.{Chunk}
 use Rattle.store_rules.specs.declared.Region.{Region}
 use Rattle.freelist_rules.proofs.Releases.{covers-yes, wholly-where, left-where, where-left, going-in, leaving-in}
@@ -63,12 +63,12 @@ in-among x (y ∷ l) m = go (in-among x l) (List·Memᴰ·cases-cons m)
 
 -- ---- no two chunks have one memory number, so the listed chunks are those that a region that leaves covers
 
-unlisted-as : (ms : List ℕ) (gone : List Region) (cs : List Chunk) → All (λ (c : Chunk). among (c .memory) ms ≡ left gone c) cs → unlisted ms cs ≡ remaining gone cs
+unlisted-as : (ms : List ℕ) (gone : List Region) (cs : List Chunk) → All (λ (c : Chunk). among (c .memory) ms ≡ isCovered gone c) cs → unlisted ms cs ≡ remaining gone cs
 unfolding unlisted remaining
 unlisted-as ms gone [] a = refl
 unlisted-as ms gone (c ∷ cs) a =
     ap (λ (b : Bool). cond b (unlisted ms cs) (c ∷ unlisted ms cs)) (a c (List·Memᴰ·head refl))
-    ∙ ap (λ (z : List Chunk). cond (left gone c) z (c ∷ z)) (unlisted-as ms gone cs (λ d m. a d (List·Memᴰ·tail m)))
+    ∙ ap (λ (z : List Chunk). cond (isCovered gone c) z (c ∷ z)) (unlisted-as ms gone cs (λ d m. a d (List·Memᴰ·tail m)))
 
 module _ (cs : List Chunk) (rs : List Region) (spare : Bool) (fit : Releasable cs rs) where
   abbrev gone : List Region
@@ -77,17 +77,17 @@ module _ (cs : List Chunk) (rs : List Region) (spare : Bool) (fit : Releasable c
   covering : (r : Region) → List·Memᴰ r gone → (c : Chunk) × List·Memᴰ c cs × (covers r c ≡ true)
   covering r m = wholly-where cs r (⊎-elim (λ k. absurd (List·Memᴰ·not-nil k)) (λ k. going-in cs spare r rs k .1) (leaving-in cs spare r [] rs m))
 
-  listed-left : (c : Chunk) → List·Memᴰ c cs → among (c .memory) (memoriesOf cs gone) ≡ left gone c
-  listed-left c m = same-test (among (c .memory) (memoriesOf cs gone)) (left gone c) there back
+  listed-left : (c : Chunk) → List·Memᴰ c cs → among (c .memory) (memoriesOf cs gone) ≡ isCovered gone c
+  listed-left c m = same-test (among (c .memory) (memoriesOf cs gone)) (isCovered gone c) there back
     where
-      there : among (c .memory) (memoriesOf cs gone) ≡ true → left gone c ≡ true
+      there : among (c .memory) (memoriesOf cs gone) ≡ true → isCovered gone c ≡ true
       there e =
           let w = memory-in cs (c .memory) gone (among-in (c .memory) (memoriesOf cs gone) e) in
           let v = covering (w .0) (w .1) in
           let d = memory-of 1 cs (fit .numbers) (w .0) (v .0) (v .1) (covers-yes (w .0) (v .0) (v .2) .0) in
           where-left gone c (w .0) (w .1) (sym (ap (covers (w .0)) (fit .memories (v .0) c (v .1) m (sym d ∙ w .2))) ∙ v .2)
 
-      back : left gone c ≡ true → among (c .memory) (memoriesOf cs gone) ≡ true
+      back : isCovered gone c ≡ true → among (c .memory) (memoriesOf cs gone) ≡ true
       back e =
           let w = left-where gone c e in
           in-among (c .memory) (memoriesOf cs gone)

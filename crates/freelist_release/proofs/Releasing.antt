@@ -1,4 +1,4 @@
--- What a release leaves, from what its passes leave. Assumes nothing.
+-- What a release leaves, from what its passes leave.
 use mathlib.Core.Path.{_≡_, sym, ap, _∙_}
 use mathlib.Core.Bool.{Bool}
 use mathlib.Core.List.{List, [], _++_}

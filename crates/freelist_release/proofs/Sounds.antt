@@ -1,4 +1,4 @@
--- Every sound store has what a release asks. Assumes nothing.
+-- Every sound store has what a release asks.
 use native.Mathlib.Omega.{arith}
 use Rattle.counter.specs.InTable.{FreeListIn}
 use Rattle.counter.specs.declared.settings.FreeListSettings.{FreeListSettings}

@@ -1,4 +1,4 @@
--- What stays, region by region and chunk by chunk, and that all stays where none leaves. Assumes nothing.
+-- What stays, region by region and chunk by chunk, and that all stays where none leaves.
 use mathlib.Core.Path.{_≡_, refl, sym, ap, _∙_}
 use mathlib.Core.Bool.{Bool, true, false, cond, _&&_, not}
 use mathlib.Core.List.{List, [], _∷_, _++_}

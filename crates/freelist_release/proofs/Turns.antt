@@ -1,4 +1,4 @@
--- The turns of the loops that keep what stays: one record looked at, passed over or written behind those kept. Assumes nothing.
+-- The turns of the loops that keep what stays: one record looked at, passed over or written behind those kept.
 use mathlib.Core.Path.{_≡_, ap, _∙_}
 use mathlib.Core.Bool.{Bool, true, false, _&&_, not}
 use mathlib.Core.List.{List}

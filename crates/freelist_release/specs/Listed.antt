@@ -1,4 +1,4 @@
--- The chunks whose memory numbers are not listed. Assumes nothing: these are definitions.
+-- The chunks whose memory numbers are not listed.
 use mathlib.Core.Bool.{Bool, false, cond, _||_}
 use mathlib.Core.List.{List, [], _∷_}
 use Prim.Native.Nat.{ℕ}

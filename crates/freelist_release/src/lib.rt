@@ -1,62 +1,48 @@
-// Wholly free chunks of a free-list store released: out of its two tables, and into the list that the caller reads.
+// Wholly free chunks of a free-list store released: out of its tables, and into the list that the caller reads.
+mod dropping;
 mod keeps;
 
 ghost use mathlib.Core.Path.{_≡_};
 ghost use mathlib.Core.List.{[]};
-ghost use Prim.Native.Nat.{_+_, _*_, _≤_};
 ghost use lib.ListN.{length};
 ghost use lib.Seq.{sets};
-ghost use Rattle.words.specs.Rows.{rows, laid};
-ghost use Rattle.counter.specs.Limits.{loansMost, chunksMost};
-ghost use Rattle.freelist_rules.specs.Records.{chunkRow, chunkWords, regionRow, regionWords};
-ghost use Rattle.freelist_rules.specs.Release.{staying, leaving, remaining, memoriesOf, bytesOf};
-ghost use Rattle.freelist_marks.specs.Releasable.{Releasable};
-use crate::keeps::keep_chunks;
-use crate::keeps::keep_regions;
-use freelist_marks::mark;
+ghost use Rattle.freelist_rules.specs.Release.{memoriesOf, bytesOf};
+ghost use Rattle.freelist_rules.specs.Tables.{tables, storeOf};
+ghost use Rattle.freelist_outcomes.specs.Return.{goneFrom, releasedTables};
+ghost use Rattle.freelist_release.specs.Frees.{Frees};
+use crate::dropping::drop_chunks;
+use counter::FreeListSettings;
+use freelist_rules::CHUNKS_AT;
 
-// How many chunks went and of how many bytes; how many chunks and regions are left.
+// How many chunks went, and of how many bytes.
 pub struct Gone {
     pub count: u64,
     pub bytes: u64,
-    pub chunks: usize,
-    pub regions: usize,
 }
 
-// Of k chunks and n free regions, those that are wholly free go; the memory numbers of the chunks go to the front of `list`.
+// Wholly free chunks go, their memory numbers to the front of `list`; `spare` keeps that of the last region.
 pub fn release(
-    chunks: &mut [u64],
-    k: usize,
-    regions: &mut [u64],
-    n: usize,
+    s: FreeListSettings,
     spare: bool,
+    head: &mut [u64],
+    chunks: &mut [u64],
+    regions: &mut [u64],
     list: &mut [u64],
 ) -> Gone
-    requires { ⌜ (chunkWords * k ≤ length (now chunks)) × (regionWords * n ≤ length (now regions)) × (k ≤ length (now list)) × (n ≤ loansMost + chunksMost) ⌝ }
-    requires { ⌜ Releasable (rows chunkRow k (now chunks)) (rows regionRow n (now regions)) ⌝ }
-    ensures { λ r. ⌜ r .count ≡ length (leaving (rows chunkRow k (now (chunks .entry))) spare [] (rows regionRow n (now (regions .entry)))) ⌝ }
-    ensures { λ r. ⌜ r .bytes ≡ bytesOf (leaving (rows chunkRow k (now (chunks .entry))) spare [] (rows regionRow n (now (regions .entry)))) ⌝ }
-    ensures { λ r. ⌜ r .chunks ≡ length (remaining (leaving (rows chunkRow k (now (chunks .entry))) spare [] (rows regionRow n (now (regions .entry)))) (rows chunkRow k (now (chunks .entry)))) ⌝ }
-    ensures { λ r. ⌜ r .regions ≡ length (staying (rows chunkRow k (now (chunks .entry))) spare (rows regionRow n (now (regions .entry)))) ⌝ }
-    ensures { λ _. ⌜ now (chunks .exit) ≡ laid chunkRow (remaining (leaving (rows chunkRow k (now (chunks .entry))) spare [] (rows regionRow n (now (regions .entry)))) (rows chunkRow k (now (chunks .entry)))) (now (chunks .entry)) ⌝ }
-    ensures { λ _. ⌜ now (regions .exit) ≡ laid regionRow (staying (rows chunkRow k (now (chunks .entry))) spare (rows regionRow n (now (regions .entry)))) (now (regions .entry)) ⌝ }
-    ensures { λ _. ⌜ now (list .exit) ≡ sets (now (list .entry)) 0 (memoriesOf (rows chunkRow k (now (chunks .entry))) (leaving (rows chunkRow k (now (chunks .entry))) spare [] (rows regionRow n (now (regions .entry))))) ⌝ }
+    requires { ⌜ Frees s (now head) (now chunks) (now regions) (now list) ⌝ }
+    ensures { λ r. ⌜ r .count ≡ length (goneFrom s spare (tables (now (head .entry)) [] (now (chunks .entry)) (now (regions .entry)) [])) ⌝ }
+    ensures { λ r. ⌜ r .bytes ≡ bytesOf (goneFrom s spare (tables (now (head .entry)) [] (now (chunks .entry)) (now (regions .entry)) [])) ⌝ }
+    ensures { λ _. ⌜ tables (now (head .exit)) [] (now (chunks .exit)) (now (regions .exit)) [] ≡ releasedTables s spare (tables (now (head .entry)) [] (now (chunks .entry)) (now (regions .entry)) []) ⌝ }
+    ensures { λ _. ⌜ now (list .exit) ≡ sets (now (list .entry)) 0 (memoriesOf (storeOf s (tables (now (head .entry)) [] (now (chunks .entry)) (now (regions .entry)) []) .chunks) (goneFrom s spare (tables (now (head .entry)) [] (now (chunks .entry)) (now (regions .entry)) []))) ⌝ }
 {
-    let m = mark(chunks, k, regions, n, spare, list);
-    if m.count == 0 {
-        return Gone {
-            count: 0,
-            bytes: 0,
-            chunks: k,
-            regions: n,
-        };
-    }
-    let left = keep_regions(chunks, k, regions, n, spare);
-    let held = keep_chunks(chunks, k, list, m.count);
+    let at = freelist_regions::count_at(s);
+    let k = words::word(head, CHUNKS_AT) as usize;
+    let n = words::word(regions, at) as usize;
+    let gone = drop_chunks(chunks, k, regions, n, spare, list);
+    words::put(head, CHUNKS_AT, gone.chunks as u64);
+    words::put(regions, at, gone.regions as u64);
     Gone {
-        count: m.count as u64,
-        bytes: m.bytes,
-        chunks: held,
-        regions: left,
+        count: gone.count,
+        bytes: gone.bytes,
     }
 }

@@ -1,4 +1,4 @@
--- Blocks returned one after the other end as if they all came back at once. Assumes nothing.
+-- Blocks returned one after the other end as if they all came back at once.
 use mathlib.Core.Path.{_≡_, refl, sym, _∙_, ap, subst}
 use mathlib.Core.Bool.{Bool, true, _&&_, not}
 use mathlib.Core.Logic.{_⊎_, inl, inr, ⊎-elim, _↔_}
@@ -11,6 +11,8 @@ use Rattle.counter.specs.declared.settings.FreeListSettings.{FreeListSettings}
 use Rattle.lists.specs.Members.{Distinct}
 use Rattle.lists.proofs.Bools.{or-cases, or-left, or-right, same-test}
 use Rattle.store_rules.specs.declared.Loan.{Loan}
+use Rattle.store_rules.specs.Views.{Matches, OnLoan}
+use Rattle.store_rules.proofs.Loaned.{same-loan, loan-same}
 use Rattle.store_rules.proofs.Lessening.{less-those, not-or, less-none, less-alike}
 use Rattle.freelist_rules.specs.Records.{Store}
 use Rattle.freelist_rules.specs.Sound.{Sound}
@@ -19,13 +21,12 @@ use Rattle.freelist_rules.specs.Walk.{gapsOf}
 use Rattle.freelist_rules.specs.Steps.{released, returnedAll}
 use Rattle.freelist_rules.specs.AtOnce.{among, loansLess, without, atOnce}
 use Rattle.store_rules.specs.declared.Chunk.{Chunk}
-use Rattle.freelist_rules.proofs.Search.{same-loan}
 use Rattle.freelist_rules.proofs.Decides.{regions-are}
 use Rattle.freelist_rules.proofs.Releases.{released-sound}
 use Rattle.freelist_rules.proofs.Giving.{those, those-mem, those-yes, mem-those, those-same, those-twice, some-where, some-yes, give, give-sound}
 use Rattle.freelist_rules.proofs.Settling.{lastOr, busy, stays, released-chunks}
 use Rattle.freelist_rules.proofs.Swaps.{release-return}
-use Rattle.freelist_rules.proofs.Blocks.{loanOf, same-self, OnLoan, returned-is, left-on-loan}
+use Rattle.freelist_rules.proofs.Blocks.{AllOnLoan, returned-is, left-on-loan}
 
 -- ---- the loans left
 
@@ -37,10 +38,11 @@ less-without bs cs t v a b c d e = λ j. record { given = a j; made = b j; size 
 
 module _ (s : FreeListSettings) (fit : FreeListIn s) where
   -- a block on loan is known by its serial
-  serial-same : (t : Store) → Sound s t → (b : Block) → List·Memᴰ (loanOf b) (t .loans) → (l : Loan) → List·Memᴰ l (t .loans) → eqb (l .serial) (b .serial) ≡ sameLoan b l
-  serial-same t sound b m l k =
-      same-test _ _ (λ e. ap (sameLoan b) (sound .serials-differ l (loanOf b) k m (eqb-true _ _ e)) ∙ same-self b)
-      (λ e. eq-eqb (l .serial) (b .serial) (same-loan b l e .0))
+  serial-same : (t : Store) → Sound s t → (b : Block) → OnLoan b (t .loans) → (l : Loan) → List·Memᴰ l (t .loans) → eqb (l .serial) (b .serial) ≡ sameLoan b l
+  serial-same t sound b w l k =
+      same-test _ _
+      (λ e. loan-same b l (subst (Matches b) (sym (sound .serials-differ l (w .0) k (w .1) (eqb-true _ _ e ∙ sym (w .2 .serial)))) (w .2)))
+      (λ e. eq-eqb (l .serial) (b .serial) (same-loan b l e .serial))
 
   -- none comes back
   without-none : (t : Store) → Sound s t → without [] t ≡ t
@@ -50,36 +52,37 @@ module _ (s : FreeListSettings) (fit : FreeListIn s) where
       (λ j. record { given = t .given; made = t .made; size = t .size; loans = e j; chunks = t .chunks; regions = f j })
 
   -- the first comes back before the others
-  without-first : (t : Store) → Sound s t → (b : Block) (bs : List Block) → List·Memᴰ (loanOf b) (t .loans) → without (b ∷ bs) t ≡ without bs (give (loanOf b) t)
-  without-first t sound b bs m =
-      less-without (b ∷ bs) bs t (give (loanOf b) t) refl refl refl refl
+  without-first : (t : Store) → Sound s t → (b : Block) (bs : List Block) (w : OnLoan b (t .loans)) → without (b ∷ bs) t ≡ without bs (give (w .0) t)
+  without-first t sound b bs w =
+      less-without (b ∷ bs) bs t (give (w .0) t) refl refl refl refl
       (less-those (b ∷ bs) (t .loans)
-      ∙ those-same _ _ (t .loans) (λ l k. sym (ap (λ (z : Bool). not z && not (among bs l)) (serial-same t sound b m l k) ∙ not-or (sameLoan b l) (among bs l)))
+      ∙ those-same _ _ (t .loans)
+      (λ l k. sym (ap (λ (z : Bool). not z && not (among bs l)) (ap (eqb (l .serial)) (w .2 .serial) ∙ serial-same t sound b w l k) ∙ not-or (sameLoan b l) (among bs l)))
       ∙ sym (those-twice _ _ (t .loans))
-      ∙ sym (less-those bs (give (loanOf b) t .loans)))
+      ∙ sym (less-those bs (give (w .0) t .loans)))
 
   -- one after the other, with no release between
-  less-sound : (bs : List Block) (t : Store) → Sound s t → Distinct (map (λ (b : Block). b .serial) bs) → OnLoan bs t → Sound s (without bs t)
+  less-sound : (bs : List Block) (t : Store) → Sound s t → Distinct (map (λ (b : Block). b .serial) bs) → AllOnLoan bs t → Sound s (without bs t)
   less-sound [] t sound a o = rw (without-none t sound) sound
   less-sound (b ∷ bs) t sound a o =
       let m = o b (List·Memᴰ·head refl) in
-      rw (without-first t sound b bs m) (less-sound bs (give (loanOf b) t) (give-sound s t fit sound (loanOf b) m) (a .1) (left-on-loan b bs t a o))
+      rw (without-first t sound b bs m) (less-sound bs (give (m .0) t) (give-sound s t fit sound (m .0) (m .1)) (a .1) (left-on-loan b bs t m a o))
 
   -- a release before the returns makes no difference once they are done
-  released-then : (bs : List Block) (t : Store) → Sound s t → Distinct (map (λ (b : Block). b .serial) bs) → OnLoan bs t → returnedAll bs (released true t) ≡ released true (without bs t)
+  released-then : (bs : List Block) (t : Store) → Sound s t → Distinct (map (λ (b : Block). b .serial) bs) → AllOnLoan bs t → returnedAll bs (released true t) ≡ released true (without bs t)
   released-then [] t sound a o = ap (released true) (sym (without-none t sound))
   released-then (b ∷ bs) t sound a o =
       let m = o b (List·Memᴰ·head refl) in
-      ap (returnedAll bs) (returned-is s fit b (released true t) (released-sound s t fit sound true) m ∙ release-return s t fit sound (loanOf b) m)
-      ∙ released-then bs (give (loanOf b) t) (give-sound s t fit sound (loanOf b) m) (a .1) (left-on-loan b bs t a o)
+      ap (returnedAll bs) (returned-is s fit b (released true t) (released-sound s t fit sound true) m ∙ release-return s t fit sound (m .0) (m .1))
+      ∙ released-then bs (give (m .0) t) (give-sound s t fit sound (m .0) (m .1)) (a .1) (left-on-loan b bs t m a o)
       ∙ ap (released true) (sym (without-first t sound b bs m))
 
-  all-returned : (bs : List Block) (t : Store) → Sound s t → Distinct (map (λ (b : Block). b .serial) bs) → OnLoan bs t → returnedAll bs t ≡ atOnce bs t
+  all-returned : (bs : List Block) (t : Store) → Sound s t → Distinct (map (λ (b : Block). b .serial) bs) → AllOnLoan bs t → returnedAll bs t ≡ atOnce bs t
   all-returned [] t sound a o = refl
   all-returned (b ∷ bs) t sound a o =
       let m = o b (List·Memᴰ·head refl) in
       ap (returnedAll bs) (returned-is s fit b t sound m)
-      ∙ released-then bs (give (loanOf b) t) (give-sound s t fit sound (loanOf b) m) (a .1) (left-on-loan b bs t a o)
+      ∙ released-then bs (give (m .0) t) (give-sound s t fit sound (m .0) (m .1)) (a .1) (left-on-loan b bs t m a o)
       ∙ ap (released true) (sym (without-first t sound b bs m))
 
 -- ---- all at once
@@ -89,7 +92,7 @@ some-came [] t f = absurd (f refl)
 some-came (b ∷ bs) t f = refl
 
 module _ (s : FreeListSettings) (fit : FreeListIn s) (t : Store) (sound : Sound s t) (bs : List Block)
-    (apart : Distinct (map (λ (b : Block). b .serial) bs)) (lent : OnLoan bs t) where
+    (apart : Distinct (map (λ (b : Block). b .serial) bs)) (lent : AllOnLoan bs t) where
   -- with the blocks' bytes back, and nothing released yet, the store is sound
   pub without-sound : Sound s (without bs t)
   without-sound = less-sound s fit bs t sound apart lent

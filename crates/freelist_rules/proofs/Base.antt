@@ -1,4 +1,4 @@
--- The laws of lists of spans that rise. Assumes nothing.
+-- The laws of lists of spans that rise.
 use mathlib.Core.Path.{_≡_, refl, sym, _∙_, ap}
 use mathlib.Core.Bool.{Bool, true, false, cond}
 use mathlib.Core.Logic.{_⊎_, inl, inr, ⊎-elim}

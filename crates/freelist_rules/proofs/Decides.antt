@@ -1,5 +1,4 @@
 -- The test of soundness decides soundness, and the free regions of a sound store are the gaps between its loans.
--- Assumes nothing.
 use mathlib.Core.Path.{_≡_, refl, sym, _∙_, ap}
 use mathlib.Core.Bool.{Bool, true, _&&_, not}
 use mathlib.Core.Logic.{_⊎_, inl, inr, ⊎-elim}

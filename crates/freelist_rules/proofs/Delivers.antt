@@ -1,4 +1,4 @@
--- Set-up, an order and a good delivery: the store is sound after each, and a new chunk serves the ask. Assumes nothing.
+-- Set-up, an order and a good delivery: the store is sound after each, and a new chunk serves the ask.
 use mathlib.Core.Path.{_≡_, refl, sym, _∙_, ap}
 use mathlib.Core.Bool.{true}
 use mathlib.Core.Logic.{_⊎_, inl, inr, ⊎-elim}

@@ -1,4 +1,4 @@
--- A loan that is entered amid the others is put among them by chunk and place. Assumes nothing.
+-- A loan that is entered amid the others is put among them by chunk and place.
 use mathlib.Core.Path.{_≡_, sym, ap, _∙_}
 use mathlib.Core.List.{List, Memᴰ·append-left}
 use Rattle.store_rules.specs.declared.Loan.{Loan}

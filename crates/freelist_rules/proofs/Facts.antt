@@ -1,4 +1,4 @@
--- What soundness says of single pieces, and that the free regions follow from what is free. Assumes nothing.
+-- What soundness says of single pieces, and that the free regions follow from what is free.
 use mathlib.Core.Path.{_≡_, refl, sym, ap}
 use mathlib.Core.Logic.{_⊎_, inl, inr}
 use mathlib.Core.List.{List, [], _∷_, List·Memᴰ, List·Memᴰ·head, List·Memᴰ·tail}

@@ -1,5 +1,4 @@
 -- What the lengths of a store's tables and its soundness say of the counts in them, and its regions written back.
--- Assumes nothing.
 use mathlib.Core.Path.{_≡_, sym, ap, _∙_}
 use mathlib.Core.Bool.{true}
 use mathlib.Core.Logic.{⊎-elim}
@@ -18,7 +17,7 @@ use Rattle.counter.specs.declared.settings.FreeListSettings.{FreeListSettings}
 use Rattle.store_rules.specs.Loans.{loanRow, onLoan, loansOf}
 use Rattle.store_rules.specs.declared.Loan.{Loan}
 use Rattle.freelist_rules.specs.Records.{chunkRow, regionRow}
-use Rattle.freelist_rules.specs.Tables.{Tables, regionsMost, countAt, lengthsRow, lengthsOk, Lengths, placesIn, chunksIn, regionsIn, storeOf, SoundTables, laidRegions, RegionsFit, regionsOf}
+use Rattle.freelist_rules.specs.Tables.{Tables, regionsMost, regionCountAt, lengthsRow, lengthsOk, Lengths, placesIn, chunksIn, regionsIn, storeOf, SoundTables, laidRegions, RegionsFit, regionsOf}
 use Rattle.store_rules.specs.declared.Region.{Region}
 use Rattle.freelist_rules.proofs.Ordered.{ordered-length}
 
@@ -77,35 +76,35 @@ module _ (s : FreeListSettings) (t : Tables) where
 -- ---- the regions written back
 
 module _ (s : FreeListSettings) (rs : List Region) (t : List ℕ) (fit : RegionsFit s t) (room : length rs ≤ regionsMost s) where
-  laid-length : length (laid regionRow rs t) ≡ countAt s + 1
+  laid-length : length (laid regionRow rs t) ≡ regionCountAt s + 1
   laid-length = length-laid regionRow rs t (omega (arith, fit .long)) ∙ fit .long
 
-  pub laid-long : length (laidRegions s rs t) ≡ countAt s + 1
+  pub laid-long : length (laidRegions s rs t) ≡ regionCountAt s + 1
   unfolding laidRegions
-  laid-long = length-set (laid regionRow rs t) (countAt s) (length rs) ∙ laid-length
+  laid-long = length-set (laid regionRow rs t) (regionCountAt s) (length rs) ∙ laid-length
 
-  pub laid-count : getD (laidRegions s rs t) (countAt s) 0 ≡ length rs
+  pub laid-count : getD (laidRegions s rs t) (regionCountAt s) 0 ≡ length rs
   unfolding laidRegions
-  laid-count = getD-set-same (laid regionRow rs t) (countAt s) (length rs) 0 (omega (arith, laid-length))
+  laid-count = getD-set-same (laid regionRow rs t) (regionCountAt s) (length rs) 0 (omega (arith, laid-length))
 
   pub laid-fit : RegionsFit s (laidRegions s rs t)
   laid-fit = record { settings = fit .settings; long = laid-long; count = omega (arith, laid-count) }
 
   -- the count stands past the records
-  laid-front : laidRegions s rs t ≡ flat regionRow rs ++ set (drop (3 * length rs) (laid regionRow rs t)) (countAt s - 3 * length rs) (length rs)
+  laid-front : laidRegions s rs t ≡ flat regionRow rs ++ set (drop (3 * length rs) (laid regionRow rs t)) (regionCountAt s - 3 * length rs) (length rs)
   unfolding laidRegions
   laid-front =
       let u : List ℕ = laid regionRow rs t in
       let n : ℕ = 3 * length rs in
-      let e : n + (countAt s - n) ≡ countAt s = omega arith in
-      let v : List ℕ = set u (n + (countAt s - n)) (length rs) in
-      let a : take n v ≡ flat regionRow rs = take-set-le n u (n + (countAt s - n)) (length rs) (omega arith) ∙ take-at (flat regionRow rs) (drop n t) n (length-flat regionRow rs) in
+      let e : n + (regionCountAt s - n) ≡ regionCountAt s = omega arith in
+      let v : List ℕ = set u (n + (regionCountAt s - n)) (length rs) in
+      let a : take n v ≡ flat regionRow rs = take-set-le n u (n + (regionCountAt s - n)) (length rs) (omega arith) ∙ take-at (flat regionRow rs) (drop n t) n (length-flat regionRow rs) in
       ap (λ (k : ℕ). set u k (length rs)) (sym e)
       ∙ sym (take-append-drop n v)
-      ∙ (λ j. a j ++ drop-set-add n u (countAt s - n) (length rs) j)
+      ∙ (λ j. a j ++ drop-set-add n u (regionCountAt s - n) (length rs) j)
 
   pub laid-regions : regionsOf s (laidRegions s rs t) ≡ rs
   laid-regions =
       ap (λ (k : ℕ). rows regionRow k (laidRegions s rs t)) laid-count
       ∙ ap (λ (u : List ℕ). rows regionRow (length rs) u) laid-front
-      ∙ rows-flat regionRow rs (set (drop (3 * length rs) (laid regionRow rs t)) (countAt s - 3 * length rs) (length rs))
+      ∙ rows-flat regionRow rs (set (drop (3 * length rs) (laid regionRow rs t)) (regionCountAt s - 3 * length rs) (length rs))

@@ -1,5 +1,5 @@
 -- The walk's two halves: what it finds between the loans fills the chunks, in order and in whole units; and loans that lie
--- in their chunks, in order, pass it. Assumes nothing.
+-- in their chunks, in order, pass it.
 use mathlib.Core.Path.{_≡_, refl, sym, _∙_, ap}
 use mathlib.Core.Bool.{true, false, _&&_}
 use mathlib.Core.Logic.{_⊎_, inl, inr, ⊎-elim}

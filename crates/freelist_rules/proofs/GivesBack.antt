@@ -1,4 +1,4 @@
--- What a release gives back: the chunks that go, with their bytes, their count and their memory numbers. Assumes nothing.
+-- What a release gives back: the chunks that go, with their bytes, their count and their memory numbers.
 use mathlib.Core.Path.{_≡_, refl, sym, _∙_, ap}
 use mathlib.Core.Bool.{Bool, true, false, cond}
 use mathlib.Core.Logic.{_↔_, _⊎_, inl, inr, ⊎-elim}
@@ -15,7 +15,7 @@ pub use Rattle.store_rules.proofs.Bytes.{total-append}
 use Rattle.freelist_rules.specs.Records.{Store}
 use Rattle.freelist_rules.specs.Pieces.{total, lo, hi, Rising, All}
 use Rattle.freelist_rules.specs.Sound.{Sound}
-use Rattle.freelist_rules.specs.Release.{covers, goes, rotated, leaving, left, memoryOf, memoriesOf, bytesOf}
+use Rattle.freelist_rules.specs.Release.{covers, goes, rotated, leaving, isCovered, memoryOf, memoriesOf, bytesOf}
 use Rattle.freelist_rules.specs.Steps.{released}
 use Rattle.store_rules.specs.declared.Chunk.{Chunk}
 use Rattle.store_rules.specs.declared.Region.{Region}
@@ -63,7 +63,7 @@ removed-rise : (gone : List Region) (p : ℕ) (cs : List Chunk) → ChunksRise p
 unfolding removed
 removed-rise gone p [] h = tt
 removed-rise gone p (c ∷ cs) h =
-    taken-rise (λ (d : Chunk). d .number) (λ (d : Chunk). suc (d .number)) 0 p (left gone c) c (removed gone cs) (h .0) (h .1) (removed-rise gone (0 + suc (c .number)) cs (h .2))
+    taken-rise (λ (d : Chunk). d .number) (λ (d : Chunk). suc (d .number)) 0 p (isCovered gone c) c (removed gone cs) (h .0) (h .1) (removed-rise gone (0 + suc (c .number)) cs (h .2))
 
 -- ---- regions and the chunks they cover: both rise, so they pair off in order
 
@@ -196,13 +196,13 @@ module _ (s : FreeListSettings) (t : Store) (fit : FreeListIn s) (sound : Sound 
             v .0,
             v .1,
             sym (memory-of 1 (t .chunks) (sound .chunks-rise) (w .0) (v .0) (v .1) (covers-yes (w .0) (v .0) (v .2) .0)) ∙ w .2,
-            λ q. true-false (left gone (v .0)) (where-left gone (v .0) (w .0) (w .1) (v .2)) (remaining-in gone (v .0) (t .chunks) q .1),
+            λ q. true-false (isCovered gone (v .0)) (where-left gone (v .0) (w .0) (w .1) (v .2)) (remaining-in gone (v .0) (t .chunks) q .1),
           )
 
       back : (c : Chunk) × List·Memᴰ c (t .chunks) × (c .memory ≡ m) × (List·Memᴰ c (released spare t .chunks) → ⊥) → List·Memᴰ m (memoriesOf (t .chunks) gone)
-      back w = ⊎-elim found (λ e. absurd (w .3 (in-remaining gone (w .0) (t .chunks) (w .1) e))) (told (left gone (w .0)))
+      back w = ⊎-elim found (λ e. absurd (w .3 (in-remaining gone (w .0) (t .chunks) (w .1) e))) (told (isCovered gone (w .0)))
         where
-          found : left gone (w .0) ≡ true → List·Memᴰ m (memoriesOf (t .chunks) gone)
+          found : isCovered gone (w .0) ≡ true → List·Memᴰ m (memoriesOf (t .chunks) gone)
           found e =
               let v = left-where gone (w .0) e in
               in-memory (t .chunks) m (v .0) gone (v .1) (memory-of 1 (t .chunks) (sound .chunks-rise) (v .0) (w .0) (w .1) (covers-yes (v .0) (w .0) (v .2) .0) ∙ w .2)

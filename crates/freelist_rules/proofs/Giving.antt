@@ -1,4 +1,4 @@
--- A return said by what it keeps: the loans that have another serial. Assumes nothing.
+-- A return said by what it keeps: the loans that have another serial.
 use mathlib.Core.Path.{_≡_, refl, _∙_, ap}
 use mathlib.Core.Bool.{true, false, not}
 use mathlib.Core.List.{List, [], _∷_, List·Memᴰ, List·Memᴰ·head, List·Memᴰ·tail}

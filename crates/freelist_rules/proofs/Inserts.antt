@@ -1,5 +1,4 @@
 -- A block put among free regions that rise, by index: what a loop that looked for its neighbours is to write.
--- Assumes nothing.
 use mathlib.Core.Path.{_≡_, refl, sym, _∙_, ap}
 use mathlib.Core.Bool.{true, false, _&&_}
 use mathlib.Core.Logic.{_⊎_, inl, inr}

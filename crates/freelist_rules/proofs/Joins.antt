@@ -1,4 +1,4 @@
--- A returned block among the free regions: what is free, the order, and where the joined region stands. Assumes nothing.
+-- A returned block among the free regions: what is free, the order, and where the joined region stands.
 use mathlib.Core.Path.{_≡_, refl, sym, _∙_, ap}
 use mathlib.Core.Bool.{Bool, true, false, cond}
 use mathlib.Core.Logic.{_⊎_, inl, inr, ⊎-elim}

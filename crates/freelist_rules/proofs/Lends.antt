@@ -1,4 +1,4 @@
--- An ask that a region serves keeps a store sound, and what is lent. Assumes nothing.
+-- An ask that a region serves keeps a store sound, and what is lent.
 use mathlib.Core.Path.{_≡_, refl, sym, _∙_, ap}
 use mathlib.Core.Bool.{true, false}
 use mathlib.Core.Logic.{_⊎_, inl, inr, ⊎-elim}

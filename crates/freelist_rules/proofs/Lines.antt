@@ -1,4 +1,4 @@
--- Places on one line: by chunk, and then by place. Assumes nothing.
+-- Places on one line: by chunk, and then by place.
 use mathlib.Core.Path.{_≡_}
 use mathlib.Core.Bool.{true}
 use mathlib.Core.Logic.{inl, inr, ⊎-elim}

@@ -1,4 +1,4 @@
--- Memory numbers as they are listed: from the front of a list, as many as regions go. Assumes nothing.
+-- Memory numbers as they are listed: from the front of a list, as many as regions go.
 use mathlib.Core.Path.{_≡_, refl, ap, _∙_}
 use mathlib.Core.List.{List, [], _∷_, _++_}
 use Prim.Native.Nat.{ℕ, suc, _≤_}

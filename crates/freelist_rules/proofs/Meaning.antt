@@ -1,5 +1,5 @@
 -- What soundness means byte by byte: each byte of a held chunk lies in one piece, free pieces do not touch, and a chunk
--- without loans is one free region. Assumes nothing.
+-- without loans is one free region.
 use mathlib.Core.Path.{_≡_, refl, _∙_, ap}
 use mathlib.Core.Logic.{_↔_, _⊎_, inl, inr, ⊎-elim}
 use mathlib.Core.List.{List, [], _∷_, List·Memᴰ}

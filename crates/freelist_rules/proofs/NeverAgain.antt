@@ -1,4 +1,4 @@
--- A serial that was given and is on no loan stays so, whatever is called. Assumes nothing.
+-- A serial that was given and is on no loan stays so, whatever is called.
 use mathlib.Core.Path.{_≡_, ap}
 use mathlib.Core.Bool.{false}
 use mathlib.Core.Logic.{_⊎_, ⊎-elim}

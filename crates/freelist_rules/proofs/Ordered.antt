@@ -1,4 +1,4 @@
--- Loans put in order by chunk and place are the same loans. Assumes nothing.
+-- Loans put in order by chunk and place are the same loans.
 use mathlib.Core.Path.{_≡_, refl, sym, ap, _∙_}
 use mathlib.Core.Bool.{true, false}
 use mathlib.Core.Logic.{_⊎_, inl, inr, ⊎-elim}

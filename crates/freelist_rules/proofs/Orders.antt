@@ -1,4 +1,4 @@
--- A chunk is needed exactly when no held chunk has a fitting free place. Assumes nothing.
+-- A chunk is needed exactly when no held chunk has a fitting free place.
 use mathlib.Core.Path.{_≡_, refl, sym, _∙_}
 use mathlib.Core.Bool.{true, false}
 use mathlib.Core.Logic.{_↔_, ⊎-elim}

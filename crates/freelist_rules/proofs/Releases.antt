@@ -1,4 +1,4 @@
--- A release keeps a store sound, and which chunks it leaves. Assumes nothing.
+-- A release keeps a store sound, and which chunks it leaves.
 use mathlib.Core.Path.{_≡_, refl, sym, _∙_, ap}
 use mathlib.Core.Bool.{Bool, true, false, cond, _&&_, _||_, not}
 use mathlib.Core.Logic.{_⊎_, inl, inr, ⊎-elim}
@@ -13,7 +13,7 @@ use Rattle.lists.proofs.Bools.{and-left, and-right, and-both, or-cases, or-left
 use Rattle.freelist_rules.specs.Records.{Store}
 use Rattle.freelist_rules.specs.Pieces.{on, total, free, held, lo, hi, Rising}
 use Rattle.freelist_rules.specs.Sound.{Sound}
-use Rattle.freelist_rules.specs.Release.{covers, wholly, goes, staying, rotated, leaving, left, remaining}
+use Rattle.freelist_rules.specs.Release.{covers, wholly, goes, staying, rotated, leaving, isCovered, remaining}
 use Rattle.freelist_rules.specs.Steps.{released}
 use Rattle.store_rules.specs.declared.Chunk.{Chunk}
 use Rattle.store_rules.specs.declared.Region.{Region}
@@ -88,21 +88,21 @@ where-wholly (d ∷ cs) r c m e = go (where-wholly cs r c) (List·Memᴰ·cases-
     go ih (inl h) = or-left (covers r d) (wholly cs r) (sym (ap (covers r) h) ∙ e)
     go ih (inr k) = or-right (covers r d) (wholly cs r) (ih k e)
 
-pub left-where : (rs : List Region) (c : Chunk) → left rs c ≡ true → (r : Region) × List·Memᴰ r rs × (covers r c ≡ true)
+pub left-where : (rs : List Region) (c : Chunk) → isCovered rs c ≡ true → (r : Region) × List·Memᴰ r rs × (covers r c ≡ true)
 left-where [] c e = absurd (true-false false e refl)
-left-where (r ∷ rs) c e = go (left-where rs c) (or-cases (covers r c) (left rs c) e)
+left-where (r ∷ rs) c e = go (left-where rs c) (or-cases (covers r c) (isCovered rs c) e)
   where
-    go : (left rs c ≡ true → (d : Region) × List·Memᴰ d rs × (covers d c ≡ true)) → (covers r c ≡ true) ⊎ (left rs c ≡ true) → (d : Region) × List·Memᴰ d (r ∷ rs) × (covers d c ≡ true)
+    go : (isCovered rs c ≡ true → (d : Region) × List·Memᴰ d rs × (covers d c ≡ true)) → (covers r c ≡ true) ⊎ (isCovered rs c ≡ true) → (d : Region) × List·Memᴰ d (r ∷ rs) × (covers d c ≡ true)
     go ih (inl h) = (r, List·Memᴰ·head refl, h)
     go ih (inr h) = let w = ih h in (w .0, List·Memᴰ·tail (w .1), w .2)
 
-pub where-left : (rs : List Region) (c : Chunk) (r : Region) → List·Memᴰ r rs → covers r c ≡ true → left rs c ≡ true
+pub where-left : (rs : List Region) (c : Chunk) (r : Region) → List·Memᴰ r rs → covers r c ≡ true → isCovered rs c ≡ true
 where-left [] c r m e = absurd (List·Memᴰ·not-nil m)
 where-left (d ∷ rs) c r m e = go (where-left rs c r) (List·Memᴰ·cases-cons m)
   where
-    go : (List·Memᴰ r rs → covers r c ≡ true → left rs c ≡ true) → (r ≡ d) ⊎ List·Memᴰ r rs → (covers d c || left rs c) ≡ true
-    go ih (inl h) = or-left (covers d c) (left rs c) (sym (ap (λ (z : Region). covers z c) h) ∙ e)
-    go ih (inr k) = or-right (covers d c) (left rs c) (ih k e)
+    go : (List·Memᴰ r rs → covers r c ≡ true → isCovered rs c ≡ true) → (r ≡ d) ⊎ List·Memᴰ r rs → (covers d c || isCovered rs c) ≡ true
+    go ih (inl h) = or-left (covers d c) (isCovered rs c) (sym (ap (λ (z : Region). covers z c) h) ∙ e)
+    go ih (inr k) = or-right (covers d c) (isCovered rs c) (ih k e)
 
 goes-wholly : (cs : List Chunk) (spare : Bool) (r : Region) (rs : List Region) → goes cs spare r rs ≡ true → wholly cs r ≡ true
 goes-wholly cs spare r [] e = and-right (not spare) (wholly cs r) e
@@ -216,48 +216,48 @@ before-last p a r (d ∷ before) h m =
 -- those that do not, as they stand
 unfoldable pub removed : List Region → List Chunk → List Chunk
 removed gone [] = []
-removed gone (c ∷ cs) = cond (left gone c) (c ∷ removed gone cs) (removed gone cs)
+removed gone (c ∷ cs) = cond (isCovered gone c) (c ∷ removed gone cs) (removed gone cs)
 
 module _ (gone : List Region) where
-  pub remaining-in : (a : Chunk) (cs : List Chunk) → List·Memᴰ a (remaining gone cs) → List·Memᴰ a cs × (left gone a ≡ false)
+  pub remaining-in : (a : Chunk) (cs : List Chunk) → List·Memᴰ a (remaining gone cs) → List·Memᴰ a cs × (isCovered gone a ≡ false)
   unfolding remaining
   remaining-in a [] m = absurd (List·Memᴰ·not-nil m)
-  remaining-in a (c ∷ cs) m = go (remaining-in a cs) (left-in (left gone c) a c (remaining gone cs) m)
+  remaining-in a (c ∷ cs) m = go (remaining-in a cs) (left-in (isCovered gone c) a c (remaining gone cs) m)
     where
-      go : (List·Memᴰ a (remaining gone cs) → List·Memᴰ a cs × (left gone a ≡ false)) → ((a ≡ c) × (left gone c ≡ false)) ⊎ List·Memᴰ a (remaining gone cs) → List·Memᴰ a (c ∷ cs) × (left gone a ≡ false)
-      go ih (inl h) = (List·Memᴰ·head (h .0), ap (left gone) (h .0) ∙ h .1)
+      go : (List·Memᴰ a (remaining gone cs) → List·Memᴰ a cs × (isCovered gone a ≡ false)) → ((a ≡ c) × (isCovered gone c ≡ false)) ⊎ List·Memᴰ a (remaining gone cs) → List·Memᴰ a (c ∷ cs) × (isCovered gone a ≡ false)
+      go ih (inl h) = (List·Memᴰ·head (h .0), ap (isCovered gone) (h .0) ∙ h .1)
       go ih (inr k) = let w = ih k in (List·Memᴰ·tail (w .0), w .1)
 
-  pub in-remaining : (a : Chunk) (cs : List Chunk) → List·Memᴰ a cs → left gone a ≡ false → List·Memᴰ a (remaining gone cs)
+  pub in-remaining : (a : Chunk) (cs : List Chunk) → List·Memᴰ a cs → isCovered gone a ≡ false → List·Memᴰ a (remaining gone cs)
   unfolding remaining
   in-remaining a [] m e = m
   in-remaining a (c ∷ cs) m e =
-      in-left (left gone c) a c (remaining gone cs) (⊎-elim (λ h. inl (h, sym (ap (left gone) h) ∙ e)) (λ k. inr (in-remaining a cs k e)) (List·Memᴰ·cases-cons m))
+      in-left (isCovered gone c) a c (remaining gone cs) (⊎-elim (λ h. inl (h, sym (ap (isCovered gone) h) ∙ e)) (λ k. inr (in-remaining a cs k e)) (List·Memᴰ·cases-cons m))
 
-  pub removed-in : (a : Chunk) (cs : List Chunk) → List·Memᴰ a (removed gone cs) → left gone a ≡ true
+  pub removed-in : (a : Chunk) (cs : List Chunk) → List·Memᴰ a (removed gone cs) → isCovered gone a ≡ true
   unfolding removed
   removed-in a [] m = absurd (List·Memᴰ·not-nil m)
-  removed-in a (c ∷ cs) m = go (removed-in a cs) (taken-in (left gone c) a c (removed gone cs) m)
+  removed-in a (c ∷ cs) m = go (removed-in a cs) (taken-in (isCovered gone c) a c (removed gone cs) m)
     where
-      go : (List·Memᴰ a (removed gone cs) → left gone a ≡ true) → ((a ≡ c) × (left gone c ≡ true)) ⊎ List·Memᴰ a (removed gone cs) → left gone a ≡ true
-      go ih (inl h) = ap (left gone) (h .0) ∙ h .1
+      go : (List·Memᴰ a (removed gone cs) → isCovered gone a ≡ true) → ((a ≡ c) × (isCovered gone c ≡ true)) ⊎ List·Memᴰ a (removed gone cs) → isCovered gone a ≡ true
+      go ih (inl h) = ap (isCovered gone) (h .0) ∙ h .1
       go ih (inr k) = ih k
 
-  pub in-removed : (a : Chunk) (cs : List Chunk) → List·Memᴰ a cs → left gone a ≡ true → List·Memᴰ a (removed gone cs)
+  pub in-removed : (a : Chunk) (cs : List Chunk) → List·Memᴰ a cs → isCovered gone a ≡ true → List·Memᴰ a (removed gone cs)
   unfolding removed
   in-removed a [] m e = m
   in-removed a (c ∷ cs) m e =
-      in-taken (left gone c) a c (removed gone cs) (⊎-elim (λ h. inl (h, sym (ap (left gone) h) ∙ e)) (λ k. inr (in-removed a cs k e)) (List·Memᴰ·cases-cons m))
+      in-taken (isCovered gone c) a c (removed gone cs) (⊎-elim (λ h. inl (h, sym (ap (isCovered gone) h) ∙ e)) (λ k. inr (in-removed a cs k e)) (List·Memᴰ·cases-cons m))
 
   pub remaining-total : (f : Chunk → ℕ) (cs : List Chunk) → total f cs ≡ total f (remaining gone cs) + total f (removed gone cs)
   unfolding remaining removed
   remaining-total f [] = refl
-  remaining-total f (c ∷ cs) = split-total f (left gone c) c (remaining gone cs) (removed gone cs) cs (remaining-total f cs)
+  remaining-total f (c ∷ cs) = split-total f (isCovered gone c) c (remaining gone cs) (removed gone cs) cs (remaining-total f cs)
 
   remaining-rise : (lo hi : Chunk → ℕ) (g p : ℕ) (cs : List Chunk) → Rising lo hi g p cs → Rising lo hi g p (remaining gone cs)
   unfolding remaining
   remaining-rise lo hi g p [] h = tt
-  remaining-rise lo hi g p (c ∷ cs) h = left-rise lo hi g p (left gone c) c (remaining gone cs) (h .0) (h .1) (remaining-rise lo hi g (g + hi c) cs (h .2))
+  remaining-rise lo hi g p (c ∷ cs) h = left-rise lo hi g p (isCovered gone c) c (remaining gone cs) (h .0) (h .1) (remaining-rise lo hi g (g + hi c) cs (h .2))
 
 -- ---- a release: at every byte as many free regions go as chunks
 
@@ -340,13 +340,13 @@ module _ (s : FreeListSettings) (t : Store) (fit : FreeListIn s) (sound : Sound 
       let w = wholly-free s t fit sound c (k .0) .0 f in
       let e = yes-covers (w .0) c (w .2) (w .3) (w .4) in
       ⊎-elim
-      (λ g. absurd (true-false (left gone c) (where-left gone c (w .0) (in-gone (w .0) g) e) (k .1)))
+      (λ g. absurd (true-false (isCovered gone c) (where-left gone c (w .0) (in-gone (w .0) g) e) (k .1)))
       (λ g. (g .0, w .0, g .1, w .2))
       (goes-or-last (t .chunks) spare (w .0) (t .regions) (w .1) (where-wholly (t .chunks) (w .0) c (k .0) e))
 
   -- a chunk that goes was wholly free
   pub released-idle : (c : Chunk) → List·Memᴰ c (t .chunks) → List·Memᴰ c (released spare t .chunks) ⊎ Idle (t .loans) c
-  released-idle c m = ⊎-elim (λ e. inr (idle (left-where gone c e))) (λ e. inl (in-remaining gone c (t .chunks) m e)) (told (left gone c))
+  released-idle c m = ⊎-elim (λ e. inr (idle (left-where gone c e))) (λ e. inl (in-remaining gone c (t .chunks) m e)) (told (isCovered gone c))
     where
       idle : (r : Region) × List·Memᴰ r gone × (covers r c ≡ true) → Idle (t .loans) c
       idle v =
@@ -362,7 +362,7 @@ module _ (s : FreeListSettings) (t : Store) (fit : FreeListIn s) (sound : Sound 
   pub last-spared : (r : Region) → Last r (t .regions) → (c : Chunk) → List·Memᴰ c (t .chunks) → r .chunk ≡ c .number → List·Memᴰ c (released true t .chunks)
   last-spared r w c m e =
       ⊎-elim (λ h. absurd (other (left-where (gone s t fit sound true) c h))) (λ h. in-remaining (gone s t fit sound true) c (t .chunks) m h)
-      (told (left (gone s t fit sound true) c))
+      (told (isCovered (gone s t fit sound true) c))
     where
       in-regions : List·Memᴰ r (t .regions)
       in-regions = rw (w .1) (Memᴰ·append-right (w .0) (List·Memᴰ·head refl))

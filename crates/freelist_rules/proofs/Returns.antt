@@ -1,4 +1,4 @@
--- A returned block keeps a store sound. Assumes nothing.
+-- A returned block keeps a store sound.
 use mathlib.Core.Path.{_≡_, refl}
 use mathlib.Core.Bool.{true, false, cond}
 use mathlib.Core.Logic.{_⊎_, inl, inr, ⊎-elim}

@@ -1,4 +1,4 @@
--- What a loop that looks for a region or a loan finds, by index. Assumes nothing.
+-- What a loop that looks for a region or a loan finds, by index.
 use mathlib.Core.Path.{_≡_, refl, sym, _∙_, ap}
 use mathlib.Core.Bool.{true, false, cond}
 use mathlib.Core.Logic.{_⊎_, inl, inr}

@@ -1,4 +1,4 @@
--- Which chunks a release leaves: those with a loan and that of the last free region. Assumes nothing.
+-- Which chunks a release leaves: those with a loan and that of the last free region.
 use mathlib.Core.Path.{_≡_, refl, sym, _∙_, ap}
 use mathlib.Core.Bool.{Bool, true, false, cond, _&&_, _||_, not}
 use mathlib.Core.Logic.{_⊎_, inl, inr, ⊎-elim}
@@ -14,7 +14,7 @@ use Rattle.store_rules.specs.declared.Loan.{Loan}
 use Rattle.freelist_rules.specs.Records.{Store}
 use Rattle.freelist_rules.specs.Pieces.{lo, hi, Rising, All}
 use Rattle.freelist_rules.specs.Sound.{Sound}
-use Rattle.freelist_rules.specs.Release.{covers, wholly, goes, staying, rotated, leaving, left, remaining}
+use Rattle.freelist_rules.specs.Release.{covers, wholly, goes, staying, rotated, leaving, isCovered, remaining}
 use Rattle.freelist_rules.specs.Steps.{released}
 use Rattle.store_rules.specs.declared.Chunk.{Chunk}
 use Rattle.store_rules.specs.declared.Region.{Region}
@@ -53,18 +53,18 @@ or-turn true false = refl
 or-turn false true = refl
 or-turn false false = refl
 
-left-append : (xs ys : List Region) (c : Chunk) → left (xs ++ ys) c ≡ (left xs c || left ys c)
+left-append : (xs ys : List Region) (c : Chunk) → isCovered (xs ++ ys) c ≡ (isCovered xs c || isCovered ys c)
 left-append [] ys c = refl
-left-append (x ∷ xs) ys c = ap (λ (z : Bool). covers x c || z) (left-append xs ys c) ∙ or-swap (covers x c) (left xs c) (left ys c)
+left-append (x ∷ xs) ys c = ap (λ (z : Bool). covers x c || z) (left-append xs ys c) ∙ or-swap (covers x c) (isCovered xs c) (isCovered ys c)
 
-left-rotated : (xs : List Region) (c : Chunk) → left (rotated xs) c ≡ left xs c
+left-rotated : (xs : List Region) (c : Chunk) → isCovered (rotated xs) c ≡ isCovered xs c
 left-rotated [] c = refl
-left-rotated (x ∷ xs) c = left-append xs (x ∷ []) c ∙ or-turn (left xs c) (covers x c)
+left-rotated (x ∷ xs) c = left-append xs (x ∷ []) c ∙ or-turn (isCovered xs c) (covers x c)
 
 -- the order of those that leave does not matter
-left-leaving : (cs : List Chunk) (marked rs : List Region) (c : Chunk) → left (leaving cs true marked rs) c ≡ (left marked c || covered cs rs c)
+left-leaving : (cs : List Chunk) (marked rs : List Region) (c : Chunk) → isCovered (leaving cs true marked rs) c ≡ (isCovered marked c || covered cs rs c)
 unfolding leaving
-left-leaving cs marked [] c = or-none (left marked c)
+left-leaving cs marked [] c = or-none (isCovered marked c)
   where
     or-none : (a : Bool) → a ≡ (a || false)
     or-none true = refl
@@ -76,17 +76,17 @@ left-leaving cs marked (r ∷ rs) c = go (goes cs true r rs) (left-leaving cs (m
     one false true d = refl
     one false false d = refl
 
-    go : (g : Bool) → left (leaving cs true (marked ++ (r ∷ [])) rs) c ≡ (left (marked ++ (r ∷ [])) c || covered cs rs c) → left (leaving cs true (rotated marked) rs) c ≡ (left (rotated marked) c || covered cs rs c)
-        → left (cond g (leaving cs true (marked ++ (r ∷ [])) rs) (leaving cs true (rotated marked) rs)) c ≡ (left marked c || ((g && covers r c) || covered cs rs c))
-    go true p q = p ∙ ap (λ (z : Bool). z || covered cs rs c) (left-append marked (r ∷ []) c) ∙ one (left marked c) (covers r c) (covered cs rs c)
+    go : (g : Bool) → isCovered (leaving cs true (marked ++ (r ∷ [])) rs) c ≡ (isCovered (marked ++ (r ∷ [])) c || covered cs rs c) → isCovered (leaving cs true (rotated marked) rs) c ≡ (isCovered (rotated marked) c || covered cs rs c)
+        → isCovered (cond g (leaving cs true (marked ++ (r ∷ [])) rs) (leaving cs true (rotated marked) rs)) c ≡ (isCovered marked c || ((g && covers r c) || covered cs rs c))
+    go true p q = p ∙ ap (λ (z : Bool). z || covered cs rs c) (left-append marked (r ∷ []) c) ∙ one (isCovered marked c) (covers r c) (covered cs rs c)
     go false p q = q ∙ ap (λ (z : Bool). z || covered cs rs c) (left-rotated marked c)
 
-remaining-those : (gone : List Region) (p : Chunk → Bool) (cs : List Chunk) → ((c : Chunk) → List·Memᴰ c cs → left gone c ≡ not (p c)) → remaining gone cs ≡ those p cs
+remaining-those : (gone : List Region) (p : Chunk → Bool) (cs : List Chunk) → ((c : Chunk) → List·Memᴰ c cs → isCovered gone c ≡ not (p c)) → remaining gone cs ≡ those p cs
 unfolding remaining
 remaining-those gone p [] h = refl
 remaining-those gone p (c ∷ cs) h = go (p c) (h c (List·Memᴰ·head refl)) (remaining-those gone p cs (λ d m. h d (List·Memᴰ·tail m)))
   where
-    go : (b : Bool) → left gone c ≡ not b → remaining gone cs ≡ those p cs → cond (left gone c) (remaining gone cs) (c ∷ remaining gone cs) ≡ cond b (c ∷ those p cs) (those p cs)
+    go : (b : Bool) → isCovered gone c ≡ not b → remaining gone cs ≡ those p cs → cond (isCovered gone c) (remaining gone cs) (c ∷ remaining gone cs) ≡ cond b (c ∷ those p cs) (those p cs)
     go true e ih = rw (e, ih)
     go false e ih = rw (e, ih)
 

@@ -1,4 +1,4 @@
--- The loans when one of the places of a table is made vacant: the others, put in order as they were. Assumes nothing.
+-- The loans when one of the places of a table is made vacant: the others, put in order as they were.
 use mathlib.Core.Path.{_≡_, refl, ap, _∙_}
 use mathlib.Core.Bool.{Bool, true, false, not}
 use mathlib.Core.Logic.{_⊎_, inl, inr, ⊎-elim}

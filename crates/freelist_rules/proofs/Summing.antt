@@ -1,5 +1,4 @@
 -- The sizes of a sound store's chunks, summed: no sum on the way passes what as many of the largest chunks hold.
--- Assumes nothing.
 use mathlib.Core.Path.{refl, subst}
 use mathlib.Core.List.{List, [], _∷_, List·Memᴰ, List·Memᴰ·head, List·Memᴰ·tail}
 use Prim.Native.Nat.{ℕ, zero, suc, _*_, _≤_}

@@ -1,4 +1,4 @@
--- A return with its release: a release before it makes no difference, and the other loans are still on loan. Assumes nothing.
+-- A return with its release: a release before it makes no difference, and the other loans are still on loan.
 use mathlib.Core.Path.{_≡_, refl, sym, _∙_, ap}
 use mathlib.Core.Bool.{Bool, true, false, cond, _&&_, not}
 use mathlib.Core.Logic.{_⊎_, inl, inr, ⊎-elim}

@@ -1,4 +1,4 @@
--- The test of a store's tables decides whether they are sound. Assumes nothing.
+-- The test of a store's tables decides whether they are sound.
 use mathlib.Core.Path.{_≡_, sym, ap, _∙_}
 use mathlib.Core.Bool.{true, false}
 use mathlib.Core.List.{List}

@@ -1,5 +1,4 @@
 -- The soundness walk as a loop makes it: each turn passes one loan or one chunk, and each early end is a refusal.
--- Assumes nothing.
 use mathlib.Core.Path.{_≡_, refl, sym, _∙_, ap}
 use mathlib.Core.Bool.{Bool, true, false, _&&_}
 use mathlib.Core.Logic.{⊎-elim}

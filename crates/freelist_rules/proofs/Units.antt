@@ -1,4 +1,4 @@
--- Multiples of the atom unit: chunk sizes are, and so are the gaps between loans that are. Assumes nothing.
+-- Multiples of the atom unit: chunk sizes are, and so are the gaps between loans that are.
 use mathlib.Core.Path.{_≡_, refl, sym, _∙_, ap}
 use mathlib.Core.Logic.{_⊎_, inl, inr, ⊎-elim}
 use mathlib.Core.List.{List, [], _∷_, List·Memᴰ·head, List·Memᴰ·tail, List·Memᴰ·cases-cons, List·Memᴰ·not-nil}

@@ -1,5 +1,5 @@
 -- Several blocks come back: the end that 01's rules give, whatever their order. Demand 3: "every order ends with the same
--- loans, free pieces, held and released chunks". Assumes nothing: these are definitions.
+-- loans, free pieces, held and released chunks".
 use mathlib.Core.Bool.{true}
 use mathlib.Core.List.{List, [], _∷_}
 use Rattle.counter.specs.declared.answers.Block.{Block}

@@ -1,5 +1,4 @@
 -- A returned block among the free regions. 01, "freelist.rs": "Returns join with both neighbours."
--- Assumes nothing: these are definitions.
 use mathlib.Core.Bool.{Bool, cond, _&&_}
 use mathlib.Core.List.{List, [], _∷_}
 use lib.Dec.{eqb, ltb}

@@ -1,4 +1,4 @@
--- Where the pieces of a store lie, byte by byte. Assumes nothing: these are definitions.
+-- Where the pieces of a store lie, byte by byte.
 use mathlib.Core.List.{List, [], _∷_}
 use Prim.Native.Nat.{ℕ, _+_, _*_, _≤_, _<_}
 use Rattle.counter.specs.Limits.{chunkSizeMost}

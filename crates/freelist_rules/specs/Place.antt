@@ -1,6 +1,5 @@
 -- Where an ask is placed. 01, "freelist.rs": "Size is raised to a multiple of the atom unit. Search from the last region
 -- back; take the highest aligned place that ends within the region. The block runs from there to the region's end."
--- Assumes nothing: these are definitions.
 use mathlib.Core.Bool.{Bool, cond, _&&_}
 use mathlib.Core.List.{List, [], _∷_}
 use Prim.Native.Nat.{ℕ, suc, _-_, max}
@@ -56,12 +55,12 @@ cutOff x i rs =
     (removeAt i rs)
 
 -- where the new loan stands: after those that lie before it
-abbrev pub spotFor : ℕ → List Loan → ℕ
-spotFor x [] = 0
-spotFor x (l ∷ ls) = cond (ltb x (lo (piece l))) 0 (suc (spotFor x ls))
+abbrev pub loanRank : ℕ → List Loan → ℕ
+loanRank x [] = 0
+loanRank x (l ∷ ls) = cond (ltb x (lo (piece l))) 0 (suc (loanRank x ls))
 
 abbrev pub lentLoan : ℕ → Region → Loan
 lentLoan serial b = record { serial = serial; chunk = b .chunk; offset = b .start; size = b .end - b .start }
 
 abbrev pub putLoan : Loan → List Loan → List Loan
-putLoan l ls = insertAt (spotFor (lo (piece l)) ls) l ls
+putLoan l ls = insertAt (loanRank (lo (piece l)) ls) l ls

@@ -1,4 +1,4 @@
--- A free-list store as lists of records, and its records in words. Assumes nothing: these are definitions.
+-- A free-list store as lists of records, and its records in words.
 use mathlib.Core.Path.{_≡_, refl}
 use mathlib.Core.List.{List, [], _∷_}
 use Prim.Native.Nat.{ℕ, _≤_}

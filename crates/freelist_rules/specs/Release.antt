@@ -1,6 +1,6 @@
 -- Which chunks go, and how they are listed. 01, "freelist.rs": "Then every wholly free chunk except the one of the last
 -- region is released; clean-up spares none. Releases are listed thus: walking up, each kept region met sends the first of
--- those marked so far to the back of their list." Assumes nothing: these are definitions.
+-- those marked so far to the back of their list."
 use mathlib.Core.Bool.{Bool, false, cond, _&&_, _||_, not}
 use mathlib.Core.List.{List, [], _∷_, _++_}
 use Prim.Native.Nat.{ℕ, _+_}
@@ -36,14 +36,14 @@ unfoldable pub leaving : List Chunk → Bool → List Region → List Region →
 leaving cs spare marked [] = marked
 leaving cs spare marked (r ∷ rs) = cond (goes cs spare r rs) (leaving cs spare (marked ++ (r ∷ [])) rs) (leaving cs spare (rotated marked) rs)
 
--- a chunk stays where no region that leaves covers it
-abbrev pub left : List Region → Chunk → Bool
-left [] c = false
-left (r ∷ rs) c = covers r c || left rs c
+-- a chunk goes where a region that goes covers it
+abbrev pub isCovered : List Region → Chunk → Bool
+isCovered [] c = false
+isCovered (r ∷ rs) c = covers r c || isCovered rs c
 
 unfoldable pub remaining : List Region → List Chunk → List Chunk
 remaining gone [] = []
-remaining gone (c ∷ cs) = cond (left gone c) (remaining gone cs) (c ∷ remaining gone cs)
+remaining gone (c ∷ cs) = cond (isCovered gone c) (remaining gone cs) (c ∷ remaining gone cs)
 
 -- the memory number and the size of a region's chunk
 abbrev pub memoryOf : List Chunk → Region → ℕ

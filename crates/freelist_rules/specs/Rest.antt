@@ -1,4 +1,4 @@
--- The soundness walk on its way: what is left to test. Assumes nothing: these are definitions.
+-- The soundness walk on its way: what is left to test.
 use mathlib.Core.Bool.{Bool, false, _&&_}
 use mathlib.Core.List.{List, [], _∷_}
 use Prim.Native.Nat.{ℕ}

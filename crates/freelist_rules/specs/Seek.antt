@@ -1,5 +1,4 @@
 -- Which loan a block is. 01, "When the counter says no": 7, "no loan has this serial, chunk, offset and size".
--- Assumes nothing: these are definitions.
 use mathlib.Core.Bool.{cond}
 use mathlib.Core.List.{List, [], _∷_}
 use Prim.Native.Nat.{ℕ, _+_}

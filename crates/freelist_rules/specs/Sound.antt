@@ -1,4 +1,4 @@
--- When a free-list store is sound, as 01 defines it. Assumes nothing: these are definitions.
+-- When a free-list store is sound, as 01 defines it.
 use mathlib.Core.Path.{_≡_}
 use Prim.Native.Nat.{ℕ, suc, _+_, _*_, _^_, _%_, _≤_, _<_, min}
 use Rattle.counter.specs.declared.settings.FreeListSettings.{FreeListSettings}

@@ -1,4 +1,4 @@
--- What each call does to a store as lists of records. 01, "freelist.rs". Assumes nothing: these are definitions.
+-- What each call does to a store as lists of records. 01, "freelist.rs".
 use mathlib.Core.Bool.{Bool, true}
 use mathlib.Core.List.{List, [], _∷_, _++_}
 use Prim.Native.Nat.{ℕ, _+_}

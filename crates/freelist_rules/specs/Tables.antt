@@ -1,5 +1,5 @@
 -- A free-list store in its five lent tables. head, loans and chunks are the truth; regions and index are what can be made
--- again from them. Assumes nothing: these are definitions.
+-- again from them.
 use mathlib.Core.Path.{_≡_}
 use mathlib.Core.Bool.{Bool}
 use mathlib.Core.List.{List, [], _∷_}
@@ -64,15 +64,15 @@ headWords = 6
 abbrev pub regionsMost : FreeListSettings → ℕ
 regionsMost s = s .store .loans + s .store .chunks
 
-abbrev pub countAt : FreeListSettings → ℕ
-countAt s = regionWords * regionsMost s
+abbrev pub regionCountAt : FreeListSettings → ℕ
+regionCountAt s = regionWords * regionsMost s
 
 abbrev pub lengthsRow : FreeListSettings → Tables → List Bool
 lengthsRow s t =
     eqb (length (t .head)) headWords
     ∷ eqb (length (t .loans)) (loanWords * s .store .loans)
     ∷ eqb (length (t .chunks)) (chunkWords * s .store .chunks)
-    ∷ eqb (length (t .regions)) (countAt s + 1)
+    ∷ eqb (length (t .regions)) (regionCountAt s + 1)
     ∷ eqb (length (t .index)) (indexWords (s .store .loans))
     ∷ []
 
@@ -84,7 +84,7 @@ pub record Lengths (s : FreeListSettings) (t : Tables) : Type 0 where
   pub head : length (t .head) ≡ headWords
   pub loans : length (t .loans) ≡ loanWords * s .store .loans
   pub chunks : length (t .chunks) ≡ chunkWords * s .store .chunks
-  pub regions : length (t .regions) ≡ countAt s + 1
+  pub regions : length (t .regions) ≡ regionCountAt s + 1
   pub index : length (t .index) ≡ indexWords (s .store .loans)
 
 -- ---- the store that the tables hold
@@ -96,7 +96,7 @@ abbrev pub chunksIn : Tables → ℕ
 chunksIn t = getD (t .head) chunksAt 0
 
 abbrev pub regionsIn : FreeListSettings → Tables → ℕ
-regionsIn s t = getD (t .regions) (countAt s) 0
+regionsIn s t = getD (t .regions) (regionCountAt s) 0
 
 -- loans put in order by chunk and place
 unfoldable pub ordered : List Loan → List Loan
@@ -168,14 +168,14 @@ soundOk s t = all (soundRow s t)
 -- ---- the regions written back: the records from the front, and their count
 
 unfoldable pub laidRegions : FreeListSettings → List Region → List ℕ → List ℕ
-laidRegions s rs t = set (laid regionRow rs t) (countAt s) (length rs)
+laidRegions s rs t = set (laid regionRow rs t) (regionCountAt s) (length rs)
 
 -- the regions that a table holds
 abbrev pub regionsOf : FreeListSettings → List ℕ → List Region
-regionsOf s t = rows regionRow (getD t (countAt s) 0) t
+regionsOf s t = rows regionRow (getD t (regionCountAt s) 0) t
 
 -- settings in 01's table, and a table of regions of the right length with a count within it
 pub record RegionsFit (s : FreeListSettings) (t : List ℕ) : Type 0 where
   pub settings : FreeListIn s
-  pub long : length t ≡ countAt s + 1
-  pub count : getD t (countAt s) 0 ≤ regionsMost s
+  pub long : length t ≡ regionCountAt s + 1
+  pub count : getD t (regionCountAt s) 0 ≤ regionsMost s

@@ -1,5 +1,4 @@
 -- The test of soundness: one walk over chunks, loans and regions together, and a look at each record.
--- Assumes nothing: these are definitions.
 use mathlib.Core.Bool.{Bool, true, false, cond, _&&_, _||_, not}
 use mathlib.Core.List.{List, [], _∷_, map}
 use Prim.Native.Nat.{ℕ, zero, suc, _+_, _*_, _%_, min}

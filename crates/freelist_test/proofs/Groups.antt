@@ -1,4 +1,4 @@
--- Each group of tests, as the code takes it: what it comes to by what the code has read, and what it says where it holds. Assumes nothing.
+-- Each group of tests, as the code takes it: what it comes to by what the code has read, and what it says where it holds.
 use mathlib.Core.Path.{_≡_, refl, sym, _∙_}
 use mathlib.Core.Bool.{Bool, true, false, _&&_}
 use mathlib.Core.List.{List, []}

@@ -1,4 +1,4 @@
--- Whether a size is the start size doubled so often, or the final size: what the turns of the code show. Assumes nothing.
+-- Whether a size is the start size doubled so often, or the final size: what the turns of the code show.
 use mathlib.Core.Path.{_≡_, refl, sym, _∙_}
 use mathlib.Core.Bool.{true, false}
 use mathlib.Core.Logic.{⊎-elim}

@@ -1,4 +1,4 @@
--- Records tested one after the other: what each turn over the chunks and over the loans shows. Assumes nothing.
+-- Records tested one after the other: what each turn over the chunks and over the loans shows.
 use mathlib.Core.Path.{_≡_, refl, sym, ap, _∙_}
 use mathlib.Core.Bool.{Bool, true, false, cond, _&&_, _||_}
 use mathlib.Core.List.{List, [], _∷_}

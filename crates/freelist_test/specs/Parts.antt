@@ -1,4 +1,4 @@
--- The row of tests of a free-list store's tables, in groups as the code takes them. Assumes nothing: these are definitions.
+-- The row of tests of a free-list store's tables, in groups as the code takes them.
 use mathlib.Core.Bool.{Bool, _&&_}
 use mathlib.Core.List.{List, [], _∷_}
 use Prim.Native.Nat.{ℕ}

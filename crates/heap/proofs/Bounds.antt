@@ -1,4 +1,4 @@
--- What the tests of a heap's bounds say, and that a charge or release within them wraps nothing. Assumes nothing.
+-- What the tests of a heap's bounds say, and that a charge or release within them wraps nothing.
 use mathlib.Core.Path.{_≡_, refl, sym, ap, _∙_}
 use mathlib.Core.Bool.{Bool, true, false, _&&_, _||_}
 use Prim.Native.Nat.{ℕ, _+_, _*_, _-_, _^_, _%_, _≤_, _<_}

@@ -1,5 +1,5 @@
 -- The law of a heap's history: from used and totals 0, over charges and releases that pass no bound, used equals the
--- charges less the releases, and allocated less deallocated. Assumes nothing.
+-- charges less the releases, and allocated less deallocated.
 use mathlib.Core.Path.{_≡_, refl, sym, ap, subst, _∙_}
 use mathlib.Core.Bool.{true}
 use mathlib.Core.List.{List, [], _∷_, _++_}

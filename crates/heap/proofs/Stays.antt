@@ -1,5 +1,4 @@
 -- A heap in 01's table stays in it, agrees and keeps within its totals, charged, released or both within its bounds.
--- Assumes nothing.
 use mathlib.Core.Path.{_≡_, refl, sym, ap, subst, _∙_}
 use mathlib.Core.Bool.{true}
 use Prim.Native.Nat.{ℕ, _+_, _-_, _^_, _≤_, _<_}

@@ -1,4 +1,4 @@
--- A number of two words, and one word added to it. Assumes nothing.
+-- A number of two words, and one word added to it.
 use mathlib.Core.Path.{_≡_, refl, sym, ap, _∙_}
 use mathlib.Core.Bool.{true, _&&_, _||_}
 use mathlib.Core.Logic.{⊎-elim}

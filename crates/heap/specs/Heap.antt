@@ -1,6 +1,6 @@
 -- One heap's account. 01, "heap.rs": "Charge adds to used and allocated, release takes from used and adds to deallocated.
 -- The size is stored and not enforced." Sums wrap where a word or a total ends; 01's numbers 4 and 10 are tested first,
--- so none does in use (proofs/Bounds). Assumes nothing: these are definitions.
+-- so none does in use (proofs/Bounds).
 use mathlib.Core.Bool.{Bool, _&&_}
 use Prim.Native.Nat.{ℕ, _+_, _-_, _/_, _%_, _^_, _<_}
 use lib.Dec.{eqb, leb, ltb}

@@ -1,5 +1,5 @@
 -- A heap's history. 01, "heap.rs": "From used and totals 0, used always equals the charges less the releases and give-backs
--- in the history, and allocated less deallocated; a give-back is a release." Assumes nothing: these are definitions.
+-- in the history, and allocated less deallocated; a give-back is a release."
 use mathlib.Core.List.{List, [], _∷_}
 use Prim.Native.Nat.{ℕ, _+_, _^_, _≤_, _<_}
 use Rattle.counter.specs.Account.{value, noTotal}

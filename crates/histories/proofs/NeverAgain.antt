@@ -1,5 +1,4 @@
 -- A block that was returned is never taken again, whatever calls of either engine come between, but an accepted set-up of its tables.
--- Assumes nothing.
 use mathlib.Core.Path.{_≡_, ap}
 use mathlib.Core.Logic.{_⊎_}
 use mathlib.Core.List.{List, []}
@@ -10,7 +9,6 @@ use Rattle.counter.specs.Reasons.{Given}
 use Rattle.counter.specs.declared.answers.Block.{Block}
 use Rattle.counter.specs.declared.settings.BuddySettings.{BuddySettings}
 use Rattle.counter.specs.declared.settings.FreeListSettings.{FreeListSettings}
-use Rattle.store_rules.specs.Delivery as Kind
 use Rattle.store_rules.specs.Outcomes.{Listed, listed}
 use Rattle.engines.specs.Histories.{State, storeAt, step, run, NoSetUp, handBack}
 use Rattle.store_rules.specs.Rows.{listRows}
@@ -20,6 +18,7 @@ use Rattle.freelist_outcomes.specs.Return as FreeList
 use Rattle.freelist_engine.specs.Shape.{asList, listShape}
 use Rattle.buddy_outcomes.specs.Return as Buddy
 use Rattle.buddy_engine.specs.Shape.{asBuddy, buddyShape}
+use Rattle.histories.specs.Which.{Which, aList, aBuddy}
 use Rattle.histories.proofs.Both.{both, Call, differ}
 
 -- a block was returned to a free list at store i, and then any calls were made, of either engine, at any stores, with any
@@ -27,21 +26,21 @@ use Rattle.histories.proofs.Both.{both, Call, differ}
 -- changes nothing: as 7, or as one of the earlier rows 1 to 4
 pub list-never-again : (w : State) (i : ℕ) → i < length (w .stores) → (s : FreeListSettings) (b : Block) (list : List ℕ) (n : ℕ)
     → FreeList.returnOf s (w .account) b (asList (storeAt w i)) list .said ≡ Paper.released n
-    → (vs : List Call) → NoSetUp Kind.Engine both i (step Kind.Engine both w (handBack Kind.Engine both i Kind.freeList s (b, list))) vs → (s′ : FreeListSettings) (list′ : List ℕ)
-    → let u = run Kind.Engine both (step Kind.Engine both w (handBack Kind.Engine both i Kind.freeList s (b, list))) vs in
+    → (vs : List Call) → NoSetUp Which both i (step Which both w (handBack Which both i aList s (b, list))) vs → (s′ : FreeListSettings) (list′ : List ℕ)
+    → let u = run Which both (step Which both w (handBack Which both i aList s (b, list))) vs in
     (m : ℕ) × (FreeList.returnOf s′ (u .account) b (asList (storeAt u i)) list′ ≡ listed (Paper.refusal m []) (u .account) (asList (storeAt u i)) list′)
     × ((m ≡ 7) ⊎ Given (listRows (wordsOf listShape) s′ (u .account) (storeAt u i) list′) m)
 list-never-again w i here s b list n taken vs f s′ list′ =
-    let r = never-again Kind.Engine both differ w i here Kind.freeList s b list n taken vs f s′ list′ in
+    let r = never-again Which both differ w i here aList s b list n taken vs f s′ list′ in
     (r .0, ap (λ (d : Listed Lent). listed (d .said) (d .account) (asList (d .tables)) (d .list)) (r .1), r .2)
 
 -- and the same of a buddy store
 pub buddy-never-again : (w : State) (i : ℕ) → i < length (w .stores) → (s : BuddySettings) (b : Block) (list : List ℕ) (n : ℕ)
     → Buddy.returnOf s (w .account) b (asBuddy (storeAt w i)) list .said ≡ Paper.released n
-    → (vs : List Call) → NoSetUp Kind.Engine both i (step Kind.Engine both w (handBack Kind.Engine both i Kind.buddy s (b, list))) vs → (s′ : BuddySettings) (list′ : List ℕ)
-    → let u = run Kind.Engine both (step Kind.Engine both w (handBack Kind.Engine both i Kind.buddy s (b, list))) vs in
+    → (vs : List Call) → NoSetUp Which both i (step Which both w (handBack Which both i aBuddy s (b, list))) vs → (s′ : BuddySettings) (list′ : List ℕ)
+    → let u = run Which both (step Which both w (handBack Which both i aBuddy s (b, list))) vs in
     (m : ℕ) × (Buddy.returnOf s′ (u .account) b (asBuddy (storeAt u i)) list′ ≡ listed (Paper.refusal m []) (u .account) (asBuddy (storeAt u i)) list′)
     × ((m ≡ 7) ⊎ Given (listRows (wordsOf buddyShape) s′ (u .account) (storeAt u i) list′) m)
 buddy-never-again w i here s b list n taken vs f s′ list′ =
-    let r = never-again Kind.Engine both differ w i here Kind.buddy s b list n taken vs f s′ list′ in
+    let r = never-again Which both differ w i here aBuddy s b list n taken vs f s′ list′ in
     (r .0, ap (λ (d : Listed Lent). listed (d .said) (d .account) (asBuddy (d .tables)) (d .list)) (r .1), r .2)

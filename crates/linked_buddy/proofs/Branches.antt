@@ -1,4 +1,4 @@
--- What each exported call leaves where the lent words are right, and where they are not. Assumes nothing.
+-- What each exported call leaves where the lent words are right, and where they are not.
 use mathlib.Core.Path.{_≡_, refl, sym, ap, _∙_}
 use mathlib.Core.Bool.{Bool, true, false, _&&_}
 use mathlib.Core.List.{List, []}
@@ -12,7 +12,8 @@ use Rattle.counter.specs.declared.answers.Block.{Block}
 use Rattle.counter.specs.declared.answers.Outcome.{Outcome}
 use Rattle.counter.specs.declared.settings.BuddySettings.{BuddySettings}
 use Rattle.store_rules.specs.Outcomes.{out, listed}
-use Rattle.store_rules.specs.Shares.{shareOf, withShare, holding, holder, askLeft}
+use Rattle.store_rules.specs.Shares.{shareOf, withShare, askLeft}
+use Rattle.store_rules.proofs.Holders.{holding, holder}
 use Rattle.store_rules.specs.declared.Share.{Share}
 use Rattle.store.proofs.Wholes.{whole-ask, whole-deliver, whole-listed}
 use Rattle.buddy_rules.specs.Tables.{Tables}

@@ -1,4 +1,4 @@
--- What each exported call leaves: the free list's own where the lent words are right, and else nothing but a refusal. Assumes nothing.
+-- What each exported call leaves: the free list's own where the lent words are right, and else nothing but a refusal.
 use mathlib.Core.Path.{_≡_, sym, ap, _∙_}
 use mathlib.Core.Bool.{Bool, true, false, cond, _&&_}
 use mathlib.Core.List.{List, []}
@@ -10,7 +10,8 @@ use Rattle.counter.specs.declared.answers.Block.{Block}
 use Rattle.counter.specs.declared.answers.Outcome.{Outcome}
 use Rattle.counter.specs.declared.settings.FreeListSettings.{FreeListSettings}
 use Rattle.store_rules.specs.Outcomes.{out, listed}
-use Rattle.store_rules.specs.Shares.{shareOf, withShare, holding, holder, askLeft}
+use Rattle.store_rules.specs.Shares.{shareOf, withShare, askLeft}
+use Rattle.store_rules.proofs.Holders.{holding, holder}
 use Rattle.store_rules.specs.declared.Share.{Share}
 use Rattle.store.proofs.Wholes.{whole-ask, whole-deliver, whole-listed}
 use Rattle.freelist_rules.specs.Tables.{Tables}

@@ -1,4 +1,4 @@
--- Rows written word by word: one number more, a row's last two words, one row more; as many words are left. Assumes nothing.
+-- Rows written word by word: one number more, a row's last two words, one row more; as many words are left.
 use mathlib.Core.Path.{_≡_, refl, ap, _∙_}
 use mathlib.Core.List.{List}
 use Prim.Native.Nat.{ℕ, zero, suc, _+_, _*_}

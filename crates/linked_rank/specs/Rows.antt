@@ -1,5 +1,5 @@
 -- The rows of a ranking as words, for callers that lend slices alone: of each usage its 32 type numbers, then their count, then their
--- mask. Words past the end of what is lent are not written. Assumes nothing: these are definitions.
+-- mask. Words past the end of what is lent are not written.
 use mathlib.Core.List.{List, []}
 use Prim.Native.Nat.{ℕ, zero, suc}
 use lib.ListN.{getD, set}
@@ -7,8 +7,8 @@ use Rattle.words.specs.Words.{cellOf}
 use Rattle.counter.specs.Limits.{typesMost}
 use Rattle.usage_rules.specs.declared.Row.{Row}
 
-abbrev pub countAt : ℕ
-countAt = 32
+abbrev pub rowCountAt : ℕ
+rowCountAt = 32
 
 abbrev pub maskAt : ℕ
 maskAt = 33
@@ -26,7 +26,7 @@ typesOut ts u zero w = w
 typesOut ts u (suc n) w = set (typesOut ts u n w) (rowAt n u) (getD ts n 0)
 
 unfoldable pub rowOut : Row → ℕ → List ℕ → List ℕ
-rowOut r u w = set (set (typesOut (r .types) u typesMost w) (rowAt countAt u) (r .count)) (rowAt maskAt u) (r .mask)
+rowOut r u w = set (set (typesOut (r .types) u typesMost w) (rowAt rowCountAt u) (r .count)) (rowAt maskAt u) (r .mask)
 
 -- past the last row; a ranking always has a row for each usage
 abbrev pub noRow : Row

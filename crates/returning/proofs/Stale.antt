@@ -1,4 +1,4 @@
--- A return's tests in the code's order come to the plan that is defined. Assumes nothing.
+-- A return's tests in the code's order come to the plan that is defined.
 use mathlib.Core.Path.{_≡_, refl, sym, ap, _∙_}
 use mathlib.Core.Bool.{Bool, true, false, _&&_, not}
 use mathlib.Core.List.{List}

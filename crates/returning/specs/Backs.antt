@@ -1,4 +1,4 @@
--- What the code decides of a return, in the definitions' words. Assumes nothing: these are definitions.
+-- What the code decides of a return, in the definitions' words.
 use Rattle.counter.specs.Paper.{numberOf}
 use Rattle.book_rules.specs.Returns.{Plan, deny, back}
 use Rattle.returning.specs.declared.Back.{Back}

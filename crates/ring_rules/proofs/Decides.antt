@@ -1,4 +1,4 @@
--- The test of a ring tells its length where there is one, and that it is torn where there is none. Assumes nothing.
+-- The test of a ring tells its length where there is one, and that it is torn where there is none.
 use mathlib.Core.Path.{_≡_, refl, sym, ap, _∙_}
 use mathlib.Core.Bool.{true}
 use mathlib.Core.Logic.{_⊎_, inl, inr}

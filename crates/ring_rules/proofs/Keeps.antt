@@ -1,5 +1,5 @@
 -- What taking a place out of a ring and putting one in leave as it was: the table's length, and every word but those named;
--- and what a ring does not depend on. Assumes nothing.
+-- and what a ring does not depend on.
 use mathlib.Core.Path.{_≡_, _∙_}
 use mathlib.Core.Bool.{Bool, true, false, cond}
 use mathlib.Core.List.{List, [], _∷_}

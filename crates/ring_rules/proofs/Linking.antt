@@ -1,5 +1,5 @@
 -- A ring in the words of a table: when a place is taken out the rest is the ring, from the place after it on, and when one is
--- put in it stands before the head. Assumes nothing.
+-- put in it stands before the head.
 use mathlib.Core.Path.{_≡_, refl, sym, _∙_}
 use mathlib.Core.Logic.{inl, inr}
 use mathlib.Core.List.{List, [], _∷_, _++_}

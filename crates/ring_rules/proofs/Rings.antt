@@ -1,5 +1,5 @@
 -- The laws of a ring, whatever tells its links: where it begins does not matter, and what it takes for one place to go out or
--- come in. Assumes nothing.
+-- come in.
 use mathlib.Core.Path.{_≡_, refl, _∙_}
 use mathlib.Core.Logic.{inl, inr, ⊎-elim}
 use mathlib.Core.List.{List, [], _∷_, _++_, append-assoc, append-nil}

@@ -1,4 +1,4 @@
--- What the code of a ring has done where it returns, and what each turn of its walk shows. Assumes nothing.
+-- What the code of a ring has done where it returns, and what each turn of its walk shows.
 use mathlib.Core.Path.{_≡_, sym, _∙_}
 use mathlib.Core.Bool.{cond, _&&_}
 use mathlib.Core.List.{List}

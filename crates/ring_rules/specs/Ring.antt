@@ -1,5 +1,5 @@
 -- Places linked into a ring in a lent table, as a level of a buddy store links its ready pairs: what the ring is, and what
--- becomes of it when a place is taken out or joins. Assumes nothing: these are definitions.
+-- becomes of it when a place is taken out or joins.
 use mathlib.Core.Path.{_≡_}
 use mathlib.Core.Bool.{cond}
 use mathlib.Core.List.{List, [], _∷_, _++_}

@@ -1,5 +1,4 @@
 -- The test of a ring: a walk from the head on, back to it, of as many steps as there are places at most.
--- Assumes nothing: these are definitions.
 use mathlib.Core.Bool.{cond, _&&_}
 use mathlib.Core.List.{List}
 use Prim.Native.Nat.{ℕ, zero, suc, _-_}

@@ -1,4 +1,4 @@
--- The laws of a slab: what parts its places, and that insertions, removals and other stores keep it. Assumes nothing.
+-- The laws of a slab: what parts its places, and that insertions, removals and other stores keep it.
 use mathlib.Core.Path.{_≡_, refl, sym, ap, _∙_}
 use mathlib.Core.Bool.{Bool, true, false}
 use mathlib.Core.Logic.{_⊎_, inl, inr, ⊎-elim}

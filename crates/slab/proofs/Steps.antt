@@ -1,4 +1,4 @@
--- The test of a slab by one place more: what each turn of its loops shows. Assumes nothing.
+-- The test of a slab by one place more: what each turn of its loops shows.
 use mathlib.Core.Path.{_≡_, refl, _∙_}
 use mathlib.Core.Bool.{Bool, true, false, _&&_}
 use Prim.Native.Nat.{ℕ, zero, suc, _+_, _-_, _≤_, _<_}

@@ -1,6 +1,5 @@
 -- Places numbered from 0, and the chain of those that are vacant. 01, "slab.rs": insert takes the most recently vacated
 -- place, else the next new one; length counts places ever used. Nothing is said of a place that was never used.
--- Assumes nothing: these are definitions.
 use mathlib.Core.Path.{_≡_}
 use mathlib.Core.Bool.{Bool, true, cond}
 use mathlib.Core.List.{List, [], _∷_}

@@ -1,4 +1,4 @@
--- The test of a slab, linear in the places ever used. Assumes nothing: these are definitions.
+-- The test of a slab, linear in the places ever used.
 use mathlib.Core.Bool.{Bool, cond, _&&_}
 use Prim.Native.Nat.{ℕ, zero, suc, _+_}
 use lib.Dec.{eqb, ltb, leb}

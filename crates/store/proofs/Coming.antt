@@ -1,4 +1,4 @@
--- What a delivery comes to in the code is what it is to come to. Assumes nothing.
+-- What a delivery comes to in the code is what it is to come to.
 use mathlib.Core.Path.{_≡_, refl, sym, ap, _∙_}
 use mathlib.Core.Bool.{Bool, true, false, cond}
 use mathlib.Core.List.{List}

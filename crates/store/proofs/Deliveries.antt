@@ -1,5 +1,4 @@
 -- 13 as the code tests it is 13 as the paper says it, whichever way a store finds out whether a memory is held.
--- Assumes nothing.
 use mathlib.Core.Path.{_≡_, refl}
 use mathlib.Core.Bool.{Bool}
 use mathlib.Core.List.{List}

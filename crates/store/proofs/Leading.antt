@@ -1,4 +1,4 @@
--- What a delivered outcome leads to, case by case in the code's words. Assumes nothing.
+-- What a delivered outcome leads to, case by case in the code's words.
 use mathlib.Core.Path.{_≡_, sym, ap, _∙_}
 use mathlib.Core.Bool.{Bool, true, false, not}
 use mathlib.Core.List.{[], _∷_}

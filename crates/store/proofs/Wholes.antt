@@ -1,5 +1,4 @@
--- What a call leaves of an account that holds a store's share and nothing else tells what it leaves of the account itself. Assumes
--- nothing.
+-- What a call leaves of an account that holds a store's share and nothing else tells what it leaves of the account itself.
 use mathlib.Core.Path.{_≡_, sym, ap, _∙_}
 use mathlib.Core.List.{List}
 use Prim.Native.Nat.{ℕ}
@@ -8,7 +7,9 @@ use Rattle.counter.specs.declared.account.Account.{Account}
 use Rattle.counter.specs.declared.account.OpenOrder.{OpenOrder}
 use Rattle.counter.specs.declared.settings.StoreSettings.{StoreSettings}
 use Rattle.store_rules.specs.Outcomes.{Out, out, Listed, listed}
-use Rattle.store_rules.specs.Shares.{withShare, holding, orderBy, holder, askLeft, overAsk, overOut, overListed}
+use Rattle.store_rules.specs.Shares.{withShare, askLeft}
+use Rattle.store_rules.specs.Alike.{overAsk, overOut, overListed}
+use Rattle.store_rules.proofs.Holders.{holding, orderBy, holder}
 use Rattle.store_rules.specs.declared.Share.{Share}
 use Rattle.store_rules.proofs.Shares.{over-held}
 
@@ -24,4 +25,4 @@ module _ {T : Type 0} (s : StoreSettings) (a : Account) (said : Said) (t : T) wh
 
   -- a return and a clean-up
   pub whole-listed : (list : List ℕ) (h : Share) (r q : Listed T) → q ≡ overListed s a r → listed said (holder s h) t list ≡ r → listed said (withShare s a h (a .order)) t list ≡ q
-  whole-listed list h r q d e = (λ j. listed said (sym (over-held s a h (orderBy (h .free)) (a .order)) j) t list) ∙ ap (overListed s a) e ∙ sym d
+  whole-listed list h r q d e = (λ j. listed said (sym (over-held s a h (orderBy (h .idle)) (a .order)) j) t list) ∙ ap (overListed s a) e ∙ sym d

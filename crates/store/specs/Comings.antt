@@ -1,4 +1,4 @@
--- The code's words for what a delivery comes to, in the definitions' words. Assumes nothing: these are definitions.
+-- The code's words for what a delivery comes to, in the definitions' words.
 use mathlib.Core.Bool.{Bool, false, cond}
 use mathlib.Core.List.{List}
 use Prim.Native.Nat.{ℕ}

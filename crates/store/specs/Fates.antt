@@ -1,4 +1,4 @@
--- The code's words for a delivery, in the definitions' words. Assumes nothing: these are definitions.
+-- The code's words for a delivery, in the definitions' words.
 use mathlib.Core.Bool.{Bool, true, _&&_, not}
 use Rattle.counter.specs.Paper.{numberOf, freeOf}
 use Rattle.counter.specs.declared.answers.Outcome.{Outcome}

@@ -61,11 +61,11 @@ pub fn answer_order(s: StoreSettings, z: u64) -> AskAnswer
     AskAnswer::Order(store_accounts::order_from(s, z))
 }
 
-pub fn refuse_delivery(h: Share, order: OpenOrder, refusal: Refusal) -> DeliveredShare
-    ensures { λ r. ⌜ (r .share ≡ h) × (r .order ≡ order) × (deliverSaid (r .answer) ≡ Paper.refusal (numberOf refusal) []) ⌝ }
+pub fn refuse_delivery(share: Share, order: OpenOrder, refusal: Refusal) -> DeliveredShare
+    ensures { λ r. ⌜ (r .share ≡ share) × (r .order ≡ order) × (deliverSaid (r .answer) ≡ Paper.refusal (numberOf refusal) []) ⌝ }
 {
     DeliveredShare {
-        share: h,
+        share: share,
         order: order,
         answer: DeliverAnswer::Refused(Refused {
             refusal: refusal,
@@ -75,25 +75,25 @@ pub fn refuse_delivery(h: Share, order: OpenOrder, refusal: Refusal) -> Delivere
 }
 
 // A block is lent from the new chunk.
-pub fn deliver_block(h: Share, l: Loan) -> DeliveredShare
-    ensures { λ r. ⌜ (r .share ≡ h) × (r .order ≡ Nothing) × (deliverSaid (r .answer) ≡ blockSaid l) ⌝ }
+pub fn deliver_block(share: Share, l: Loan) -> DeliveredShare
+    ensures { λ r. ⌜ (r .share ≡ share) × (r .order ≡ Nothing) × (deliverSaid (r .answer) ≡ blockSaid l) ⌝ }
 {
     DeliveredShare {
-        share: h,
+        share: share,
         order: OpenOrder::Nothing,
         answer: DeliverAnswer::Block(block_of(l)),
     }
 }
 
 // The order is closed by a failure.
-pub fn lose_order(h: Share, k: KeptOrder, l: Loss) -> DeliveredShare
-    ensures { λ r. ⌜ (r .share ≡ lostShare h (k .order .size) (l .charged) (freeOf (l .free))) × (r .order ≡ Nothing) × (deliverSaid (r .answer) ≡ Paper.refusal (numberOf (l .refusal)) (freeOf (l .free))) ⌝ }
+pub fn lose_order(share: Share, k: KeptOrder, l: Loss) -> DeliveredShare
+    ensures { λ r. ⌜ (r .share ≡ lostShare share (k .order .size) (l .charged) (freeOf (l .free))) × (r .order ≡ Nothing) × (deliverSaid (r .answer) ≡ Paper.refusal (numberOf (l .refusal)) (freeOf (l .free))) ⌝ }
 {
     let order = k.order;
     let free = l.free;
     let refusal = l.refusal;
     DeliveredShare {
-        share: store_accounts::lost(h, order.size, l.charged, free),
+        share: store_accounts::lost(share, order.size, l.charged, free),
         order: OpenOrder::Nothing,
         answer: DeliverAnswer::Refused(Refused {
             refusal: refusal,
@@ -102,11 +102,11 @@ pub fn lose_order(h: Share, k: KeptOrder, l: Loss) -> DeliveredShare
     }
 }
 
-pub fn refuse_return(h: Share, refusal: Refusal) -> ReleasedShare
-    ensures { λ r. ⌜ (r .share ≡ h) × (releaseSaid (r .answer) ≡ Paper.refusal (numberOf refusal) []) ⌝ }
+pub fn refuse_return(share: Share, refusal: Refusal) -> ReleasedShare
+    ensures { λ r. ⌜ (r .share ≡ share) × (releaseSaid (r .answer) ≡ Paper.refusal (numberOf refusal) []) ⌝ }
 {
     ReleasedShare {
-        share: h,
+        share: share,
         answer: ReleaseAnswer::Refused(Refused {
             refusal: refusal,
             free: ToFree::Nothing,
@@ -115,12 +115,12 @@ pub fn refuse_return(h: Share, refusal: Refusal) -> ReleasedShare
 }
 
 // So many chunks, of so many bytes in all, are gone: its share allows one object more for each.
-pub fn settle(h: Share, count: u64, bytes: u64) -> ReleasedShare
-    requires { ⌜ h .objects + count ≤ objectsMost ⌝ }
-    ensures { λ r. ⌜ (r .share ≡ releasedShare h count bytes) × (releaseSaid (r .answer) ≡ Paper.released count) ⌝ }
+pub fn settle(share: Share, count: u64, bytes: u64) -> ReleasedShare
+    requires { ⌜ share .objects + count ≤ objectsMost ⌝ }
+    ensures { λ r. ⌜ (r .share ≡ releasedShare share count bytes) × (releaseSaid (r .answer) ≡ Paper.released count) ⌝ }
 {
     ReleasedShare {
-        share: store_accounts::released(h, count as u32, bytes),
+        share: store_accounts::released(share, count as u32, bytes),
         answer: ReleaseAnswer::Released(count),
     }
 }

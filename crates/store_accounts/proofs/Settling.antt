@@ -1,4 +1,4 @@
--- The share that a call leaves, put together of what its parts come to. Assumes nothing.
+-- The share that a call leaves, put together of what its parts come to.
 use mathlib.Core.Path.{_≡_, ap, _∙_}
 use mathlib.Core.Bool.{Bool, true, false, _&&_}
 use Prim.Native.Nat.{ℕ, _+_, _-_, _≤_}

@@ -29,19 +29,19 @@ pub fn share_of(s: StoreSettings, a: Account) -> Share
     let order = a.order;
     let heaps = a.heaps;
     Share {
-        table: counter::heaps_in_table(heaps),
-        free: crate::orders::no_order(order),
+        bounded: counter::heaps_in_table(heaps),
+        idle: crate::orders::no_order(order),
         heap: a.heap(s.heap),
         objects: a.objects,
     }
 }
 
 // The account with this share and this order in it, and the rest as it was.
-pub fn with_share(s: StoreSettings, a: Account, h: Share, order: OpenOrder) -> Account
-    ensures { λ r. ⌜ r ≡ withShare s a h order ⌝ }
+pub fn with_share(s: StoreSettings, a: Account, share: Share, order: OpenOrder) -> Account
+    ensures { λ r. ⌜ r ≡ withShare s a share order ⌝ }
 {
-    let heap = h.heap;
-    a.settled(s.heap, heap, h.objects, order)
+    let heap = share.heap;
+    a.settled(s.heap, heap, share.objects, order)
 }
 
 pub fn with_order(a: Account, order: OpenOrder) -> Account
@@ -66,65 +66,65 @@ fn one_fewer(objects: u32) -> u32
 }
 
 // A chunk of so many bytes was allocated, and the order is closed.
-pub fn charged(h: Share, size: u64) -> Share
-    ensures { λ r. ⌜ r ≡ chargedShare h size ⌝ }
+pub fn charged(share: Share, size: u64) -> Share
+    ensures { λ r. ⌜ r ≡ chargedShare share size ⌝ }
 {
     Share {
-        table: h.table,
-        free: true,
-        heap: heap::charge(h.heap, size),
-        objects: one_fewer(h.objects),
+        bounded: share.bounded,
+        idle: true,
+        heap: heap::charge(share.heap, size),
+        objects: one_fewer(share.objects),
     }
 }
 
 // It was, and is given back.
-fn given_back(h: Share, size: u64) -> Share
-    ensures { λ r. ⌜ r ≡ backShare h size ⌝ }
+fn given_back(share: Share, size: u64) -> Share
+    ensures { λ r. ⌜ r ≡ backShare share size ⌝ }
 {
     Share {
-        table: h.table,
-        free: true,
-        heap: heap::release(heap::charge(h.heap, size), size),
-        objects: h.objects,
+        bounded: share.bounded,
+        idle: true,
+        heap: heap::release(heap::charge(share.heap, size), size),
+        objects: share.objects,
     }
 }
 
 // The order is closed, and nothing else has changed.
-fn closed(h: Share) -> Share
-    ensures { λ r. ⌜ r ≡ closedShare h ⌝ }
+fn closed(share: Share) -> Share
+    ensures { λ r. ⌜ r ≡ closedShare share ⌝ }
 {
-    let heap = h.heap;
+    let heap = share.heap;
     Share {
-        table: h.table,
-        free: true,
+        bounded: share.bounded,
+        idle: true,
         heap: heap,
-        objects: h.objects,
+        objects: share.objects,
     }
 }
 
 // The order is closed by a failure.
-pub fn lost(h: Share, size: u64, charge: bool, free: ToFree) -> Share
-    ensures { λ r. ⌜ r ≡ lostShare h size charge (freeOf free) ⌝ }
+pub fn lost(share: Share, size: u64, charge: bool, free: ToFree) -> Share
+    ensures { λ r. ⌜ r ≡ lostShare share size charge (freeOf free) ⌝ }
 {
     if charge {
         match free {
-            ToFree::Nothing => charged(h, size),
-            ToFree::Memory(_) => given_back(h, size),
+            ToFree::Nothing => charged(share, size),
+            ToFree::Memory(_) => given_back(share, size),
         }
     } else {
-        closed(h)
+        closed(share)
     }
 }
 
 // So many chunks, of so many bytes in all, are released.
-pub fn released(h: Share, count: u32, bytes: u64) -> Share
-    requires { ⌜ h .objects + count ≤ objectsMost ⌝ }
-    ensures { λ r. ⌜ r ≡ releasedShare h count bytes ⌝ }
+pub fn released(share: Share, count: u32, bytes: u64) -> Share
+    requires { ⌜ share .objects + count ≤ objectsMost ⌝ }
+    ensures { λ r. ⌜ r ≡ releasedShare share count bytes ⌝ }
 {
     Share {
-        table: h.table,
-        free: h.free,
-        heap: heap::release(h.heap, bytes),
-        objects: h.objects + count,
+        bounded: share.bounded,
+        idle: share.idle,
+        heap: heap::release(share.heap, bytes),
+        objects: share.objects + count,
     }
 }

@@ -1,7 +1,7 @@
 // The order that an ask opens.
 ghost use mathlib.Core.Path.{_≡_};
 ghost use Rattle.store_rules.specs.Orders.{orderFrom, sameBool, sameOrder};
-ghost use Rattle.store_rules.specs.Tests.{noOrder, orderFor};
+ghost use Rattle.store_rules.specs.Tests.{noOrder, openFor};
 use counter::HOST_VISIBLE;
 use counter::OpenOrder;
 use counter::Order;
@@ -18,7 +18,7 @@ pub fn no_order(o: OpenOrder) -> bool
 
 // Whether an order is open for the store with this number.
 pub fn is_open_for(number: u32, o: OpenOrder) -> bool
-    ensures { λ r. ⌜ r ≡ orderFor number o ⌝ }
+    ensures { λ r. ⌜ r ≡ openFor number o ⌝ }
 {
     match o {
         OpenOrder::Nothing => false,
@@ -36,7 +36,7 @@ pub fn order_from(s: StoreSettings, size: u64) -> Order
     Order {
         store: s.number,
         size: size,
-        kind: s.kind,
+        memtype: s.memtype,
         map: counter::has(s.properties, HOST_VISIBLE),
     }
 }
@@ -51,5 +51,5 @@ pub fn same_order(o: Order, p: Order) -> bool
     ensures { λ r. ⌜ r ≡ sameOrder o p ⌝ }
 {
     let maps = same_bool(o.map, p.map);
-    (o.store == p.store) & ((o.size == p.size) & ((o.kind == p.kind) & maps))
+    (o.store == p.store) & ((o.size == p.size) & ((o.memtype == p.memtype) & maps))
 }

@@ -1,5 +1,5 @@
 -- The account that a call leaves: which heap is changed, that every heap stays in 01's table, and that test 4 holds again of
--- the chunks that are left. Assumes nothing.
+-- the chunks that are left.
 use mathlib.Core.Path.{_≡_, refl, sym, ap, subst, _∙_}
 use mathlib.Core.Bool.{Bool, true, false, cond, _&&_}
 use mathlib.Core.Logic.{_⊎_, inl, inr, ⊎-elim}
@@ -8,7 +8,7 @@ use Prim.Native.Nat.{ℕ, zero, suc, _+_, _-_, _≤_, _<_}
 use native.Mathlib.Omega.{arith}
 use lib.Dec.{leb, ltb}
 use lib.ListN.{length, getD, set, length-set}
-use lib.Seq.{getD-set-same, getD-set-other}
+use lib.Seq.{getD-set-same, getD-set-other, set-getD}
 use borrow.Author.Tests.{leb-true, le-leb, lt-ltb}
 use Rattle.lists.proofs.Bools.{and-left, and-right, and-both, same?, lt-or-le}
 use Rattle.counter.specs.Account.{noHeap, heapAt, settledOf}
@@ -22,8 +22,24 @@ use Rattle.counter.specs.declared.settings.StoreSettings.{StoreSettings}
 use Rattle.counter.proofs.Tables.{heaps-each, each-heaps}
 use Rattle.heap.specs.Heap.{chargedOf, releasedOf, bearsOk, agreesOk, Within}
 use Rattle.heap.proofs.Stays.{charged-used, charged-in, charged-right, charged-within, released-used, released-in, released-right}
-use Rattle.store_rules.specs.Outcomes.{chargedAccount, backAccount, lostAccount, releasedAccount}
+use Rattle.store_rules.specs.Outcomes.{withOrder, chargedAccount, backAccount, lostAccount, releasedAccount}
 use Rattle.store_rules.specs.Tests.{coversOk}
+
+-- ---- nothing but the order is another
+
+module _ (a : Account) (i : ℕ) where
+  same : (b : Bool) → cond b (set (a .heaps) i (cond b (getD (a .heaps) i noHeap) noHeap)) (a .heaps) ≡ a .heaps
+  same true = set-getD (a .heaps) i noHeap
+  same false = refl
+
+  -- with what it has, only the order is another
+  pub settled-same : (o : OpenOrder) → settledOf a i (heapAt a i) (a .objects) o ≡ withOrder a o
+  settled-same o = λ j. record { heaps = same (ltb i heapsMost) j; objects = a .objects; order = o }
+
+-- an order lost before memory was made
+pub lost-nothing : (s : StoreSettings) (a : Account) (z : ℕ) (back : List ℕ) → lostAccount s a z false back ≡ withOrder a Nothing
+unfolding lostAccount
+lost-nothing s a z back = settled-same a (s .heap) Nothing
 
 -- ---- one heap is written anew
 
@@ -202,8 +218,8 @@ module _ (s : StoreSettings) (a : Account) (below : s .heap < heapsMost) where
 
     -- or it is lost, charged for or not, given back or not
     pub lost-heaps : (charged : Bool) (back : List ℕ) → heapsOk (a .heaps) ≡ true → heapsOk (lostAccount s a z charged back .heaps) ≡ true
-    unfolding lostAccount backAccount
-    lost-heaps false back e = e
+    unfolding lostAccount chargedAccount backAccount
+    lost-heaps false back e = subst (λ (b : Account). heapsOk (b .heaps) ≡ true) (sym (lost-nothing s a z back)) e
     lost-heaps true [] e = charged-heaps e
     lost-heaps true (m ∷ back) e =
         settled-heaps a (s .heap) (releasedOf (chargedOf heap z) z) (a .objects) Nothing below (released-in (chargedOf heap z) z (charged-in heap z bears (own-in a (s .heap) below e))) e
@@ -212,7 +228,7 @@ module _ (s : StoreSettings) (a : Account) (below : s .heap < heapsMost) where
     pub lost-covered : (charged : Bool) (back : List ℕ) (n bytes : ℕ) → coversOk (heapAt a (s .heap)) (a .objects) n bytes ≡ true
         → coversOk (heapAt (lostAccount s a z charged back) (s .heap)) (lostAccount s a z charged back .objects) n bytes ≡ true
     unfolding lostAccount chargedAccount backAccount
-    lost-covered false back n bytes e = e
+    lost-covered false back n bytes e = subst (λ (b : Account). coversOk (heapAt b (s .heap)) (b .objects) n bytes ≡ true) (sym (lost-nothing s a z back)) e
     lost-covered true [] n bytes e =
         settled-covers (chargedOf heap z) (a .objects - 1) Nothing n bytes (lost-covers heap (a .objects) n bytes z bears e) (fewer-covers heap (a .objects) n bytes e)
     lost-covered true (m ∷ back) n bytes e =

@@ -1,4 +1,4 @@
--- A list with one more amid it: a loan that is entered, a chunk that arrives. Assumes nothing.
+-- A list with one more amid it: a loan that is entered, a chunk that arrives.
 use mathlib.Core.Path.{_≡_, sym, subst}
 use mathlib.Core.Logic.{_⊎_, inl, inr, ⊎-elim, _↔_}
 use mathlib.Core.List.{List, [], _∷_, _++_, List·Memᴰ, List·Memᴰ·head, List·Memᴰ·tail, List·Memᴰ·cases-cons}

@@ -1,4 +1,4 @@
--- The laws of bytes that pieces hold, and of sums. Assumes nothing.
+-- The laws of bytes that pieces hold, and of sums.
 use mathlib.Core.Path.{_≡_, refl, sym, ap}
 use mathlib.Core.Bool.{Bool, true, false, cond, _&&_}
 use mathlib.Core.Logic.{_⊎_, inl, inr, ⊎-elim}

@@ -1,12 +1,11 @@
--- What an outcome leads to, for both engines: when 13, 11 and 12 are given, and what 11 and 12 leave of the account. Assumes
--- nothing.
+-- What an outcome leads to, for both engines: when 13, 11 and 12 are given, and what 11 and 12 leave of the account.
 use mathlib.Core.Path.{_≡_, refl, sym, ap, _∙_}
 use mathlib.Core.Bool.{Bool, true, false, cond}
 use mathlib.Core.Logic.{_⊎_, inl, inr, ⊎-elim, _↔_}
 use mathlib.Core.List.{List, [], _∷_, _++_}
 use Prim.Native.Nat.{ℕ}
 use Rattle.lists.proofs.Bools.{true-false}
-use Rattle.counter.specs.Gate.{Verdict, pass, refuse, Row, first}
+use Rattle.counter.specs.Gate.{Verdict, pass, refuse, Row, first, gated}
 use Rattle.counter.specs.Paper.{Said}
 use Rattle.counter.specs.declared.account.Account.{Account}
 use Rattle.counter.specs.declared.account.KeptOrder.{KeptOrder}
@@ -18,11 +17,12 @@ use Rattle.counter.specs.declared.answers.Outcome.{Outcome}
 use Rattle.counter.specs.declared.answers.Outcome.the-variants as O
 use Rattle.counter.specs.declared.settings.StoreSettings.{StoreSettings}
 use Rattle.counter.proofs.Reasoned.{andThen, first-then}
-use Rattle.store_rules.specs.Arrivals.{Arrival, deny, go, arrivalOf, gated}
+use Rattle.store_rules.specs.Arrivals.{Arrival, deny, go, arrivalOf}
 use Rattle.store_rules.specs.Delivery.{Fate, kept, lost, Engine, givesBack, backOf, mapped, fateOf, deliveryOk}
 use Rattle.store_rules.specs.Outcomes.{withOrder, chargedAccount, backAccount, lostAccount}
 use Rattle.store_rules.specs.Refusals.{Unwelcome, UnwelcomeTo, DeviceOut, HostOut, lostFor}
-use Rattle.store_rules.specs.Tests.{orderFor}
+use Rattle.store_rules.specs.Tests.{openFor}
+use Rattle.store_rules.proofs.Accounts.{lost-nothing}
 use Rattle.store_rules.proofs.Refused.{unwelcome}
 use Rattle.store_rules.proofs.Said.{Tells}
 
@@ -55,15 +55,14 @@ module _ (e : Engine) (s : StoreSettings) (a : Account) (k : KeptOrder) where
 
   -- memory that was made is given back or not
   made-lost : (b : Bool) (memory : ℕ) → lostAccount s a (k .order .size) true (cond b (memory ∷ []) []) ≡ cond b (backAccount s a (k .order .size)) (chargedAccount s a (k .order .size))
-  unfolding lostAccount
+  unfolding lostAccount chargedAccount backAccount
   made-lost true memory = refl
   made-lost false memory = refl
 
   -- an order is lost with 11 or 12, and of the account is left what 01 says
   pub left : (o : Outcome) (n : ℕ) (c : Bool) (back : List ℕ) → fateOf e o ≡ lost n c back → ((n ≡ 11) ⊎ (n ≡ 12)) × (lostAccount s a (k .order .size) c back ≡ lostFor e s a k o)
-  unfolding lostAccount
-  left O.OutOfDevice n c back q = left-by (withOrder a Nothing) 11 n false c [] back (inl refl, refl) q
-  left O.OutOfHost n c back q = left-by (withOrder a Nothing) 12 n false c [] back (inr refl, refl) q
+  left O.OutOfDevice n c back q = left-by (withOrder a Nothing) 11 n false c [] back (inl refl, lost-nothing s a (k .order .size) []) q
+  left O.OutOfHost n c back q = left-by (withOrder a Nothing) 12 n false c [] back (inr refl, lost-nothing s a (k .order .size) []) q
   left (O.Made m) n c back q = made (m .mapping) q
     where
       what : Mapping → Account
@@ -190,13 +189,13 @@ module _ (e : Engine) (o : Outcome) (held : List ℕ) (store : ℕ) (say : Arriv
   on false k = denies 13
   on true k = rw (← fate-first e o) (fates k (fateOf e o))
 
-  by : (v : Verdict) (ord : OpenOrder) → (v ≡ pass → orderFor store ord ≡ true) → (u : Verdict) → u ≡ andThen v (first ((welcomeOk held o ord, 13) ∷ fateRow o))
-      → Tells (say (gated v (arrivalOf e o held ord))) u n
+  by : (v : Verdict) (ord : OpenOrder) → (v ≡ pass → openFor store ord ≡ true) → (u : Verdict) → u ≡ andThen v (first ((welcomeOk held o ord, 13) ∷ fateRow o))
+      → Tells (say (gated deny v (arrivalOf e o held ord))) u n
   by (refuse m) ord f u q = rw q (denies m)
   by pass Nothing f u q = absurd (true-false false (f refl) refl)
   by pass (Kept k) f u q = rw q (on (deliveryOk (k .order .map) held o) k)
 
   -- where each plan is said by its number, a delivery says what the row of its tests comes to: its gate's, 13, 11, 12
-  pub arrival-tells : (gates : Row) (ord : OpenOrder) → (first gates ≡ pass → orderFor store ord ≡ true)
-      → Tells (say (gated (first gates) (arrivalOf e o held ord))) (first (gates ++ ((welcomeOk held o ord, 13) ∷ fateRow o))) n
+  pub arrival-tells : (gates : Row) (ord : OpenOrder) → (first gates ≡ pass → openFor store ord ≡ true)
+      → Tells (say (gated deny (first gates) (arrivalOf e o held ord))) (first (gates ++ ((welcomeOk held o ord, 13) ∷ fateRow o))) n
   arrival-tells gates ord stands = by (first gates) ord stands (first (gates ++ ((welcomeOk held o ord, 13) ∷ fateRow o))) (first-then gates ((welcomeOk held o ord, 13) ∷ fateRow o))

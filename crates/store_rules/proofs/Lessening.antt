@@ -1,13 +1,13 @@
--- Parts of lists by a test, and the loans that are left when blocks come back. Assumes nothing.
+-- Parts of lists by a test, and the loans that are left when blocks come back.
 use mathlib.Core.Path.{_≡_, refl, sym, _∙_, ap, subst}
 use mathlib.Core.Bool.{Bool, true, false, cond, _&&_, _||_, not}
 use mathlib.Core.Logic.{_⊎_, inl, inr, ⊎-elim, _↔_}
 use mathlib.Core.List.{List, [], _∷_, List·Memᴰ, List·Memᴰ·head, List·Memᴰ·tail, List·Memᴰ·cases-cons, List·Memᴰ·not-nil, List·Permᴰ, Permᴰ·symm}
 use Rattle.lists.proofs.Bools.{or-cases, or-left, or-right, told, true-false, same-test, not-yes}
 use Rattle.counter.specs.declared.answers.Block.{Block}
-use Rattle.store_rules.specs.Views.{loanOf, sameLoan, among, loansLess}
+use Rattle.store_rules.specs.Views.{Matches, sameLoan, among, loansLess}
 use Rattle.store_rules.specs.declared.Loan.{Loan}
-use Rattle.store_rules.proofs.Loaned.{loan-is, same-self}
+use Rattle.store_rules.proofs.Loaned.{same-loan, loan-same}
 use Rattle.store_rules.proofs.Permuted.{perm-mem}
 
 -- ---- parts of lists by a test
@@ -83,14 +83,14 @@ among-some : (bs : List Block) (l : Loan) → among bs l ≡ some-of (λ (b : Bl
 among-some [] l = refl
 among-some (b ∷ bs) l = ap (λ (z : Bool). sameLoan b l || z) (among-some bs l)
 
--- a loan is one of the blocks exactly when it is some block's, whole
-pub among-where : (bs : List Block) (l : Loan) → among bs l ≡ true → (b : Block) × List·Memᴰ b bs × (l ≡ loanOf b)
+-- a loan is one of the blocks exactly when it matches one
+pub among-where : (bs : List Block) (l : Loan) → among bs l ≡ true → (b : Block) × List·Memᴰ b bs × Matches b l
 among-where bs l e =
     let w = some-where (λ (b : Block). sameLoan b l) bs (sym (among-some bs l) ∙ e) in
-    (w .0, w .1, loan-is (w .0) l (w .2))
+    (w .0, w .1, same-loan (w .0) l (w .2))
 
-pub among-yes : (bs : List Block) (l : Loan) (b : Block) → List·Memᴰ b bs → l ≡ loanOf b → among bs l ≡ true
-among-yes bs l b m e = among-some bs l ∙ some-yes (λ (c : Block). sameLoan c l) bs b m (ap (sameLoan b) e ∙ same-self b)
+pub among-yes : (bs : List Block) (l : Loan) (b : Block) → List·Memᴰ b bs → Matches b l → among bs l ≡ true
+among-yes bs l b m e = among-some bs l ∙ some-yes (λ (c : Block). sameLoan c l) bs b m (loan-same b l e)
 
 pub less-those : (bs : List Block) (ls : List Loan) → loansLess bs ls ≡ those (λ (l : Loan). not (among bs l)) ls
 less-those bs [] = refl
@@ -107,14 +107,14 @@ less-mem bs ls l = (there, λ w. subst (List·Memᴰ l) (sym (less-those bs ls))
     there : List·Memᴰ l (loansLess bs ls) → List·Memᴰ l ls × (among bs l ≡ false)
     there m = let k = subst (List·Memᴰ l) (less-those bs ls) m in (those-mem _ l ls k, not-yes (among bs l) (those-yes _ l ls k))
 
--- the loans left are exactly those that are none of the blocks, whole records
-pub loans-less-in : (bs : List Block) (ls : List Loan) (l : Loan) → List·Memᴰ l (loansLess bs ls) ↔ (List·Memᴰ l ls × ((b : Block) → List·Memᴰ b bs → l ≡ loanOf b → ⊥))
+-- the loans left are exactly those that match none of the blocks
+pub loans-less-in : (bs : List Block) (ls : List Loan) (l : Loan) → List·Memᴰ l (loansLess bs ls) ↔ (List·Memᴰ l ls × ((b : Block) → List·Memᴰ b bs → Matches b l → ⊥))
 loans-less-in bs ls l = (there, back)
   where
-    there : List·Memᴰ l (loansLess bs ls) → List·Memᴰ l ls × ((b : Block) → List·Memᴰ b bs → l ≡ loanOf b → ⊥)
+    there : List·Memᴰ l (loansLess bs ls) → List·Memᴰ l ls × ((b : Block) → List·Memᴰ b bs → Matches b l → ⊥)
     there m = let k = less-mem bs ls l .0 m in (k .0, λ b q e. true-false (among bs l) (among-yes bs l b q e) (k .1))
 
-    back : List·Memᴰ l ls × ((b : Block) → List·Memᴰ b bs → l ≡ loanOf b → ⊥) → List·Memᴰ l (loansLess bs ls)
+    back : List·Memᴰ l ls × ((b : Block) → List·Memᴰ b bs → Matches b l → ⊥) → List·Memᴰ l (loansLess bs ls)
     back w = less-mem bs ls l .1 (w .0, ⊎-elim (λ e. let v = among-where bs l e in absurd (w .1 (v .0) (v .1) (v .2))) (λ e. e) (told (among bs l)))
 
 pub not-or : (a b : Bool) → (not a && not b) ≡ not (a || b)
@@ -122,14 +122,14 @@ not-or true b = refl
 not-or false b = refl
 
 -- of one block: the others
-pub less-one : (b : Block) (ls : List Loan) (l : Loan) → List·Memᴰ l (loansLess (b ∷ []) ls) ↔ (List·Memᴰ l ls × (l ≡ loanOf b → ⊥))
+pub less-one : (b : Block) (ls : List Loan) (l : Loan) → List·Memᴰ l (loansLess (b ∷ []) ls) ↔ (List·Memᴰ l ls × (Matches b l → ⊥))
 less-one b ls l = (there, back)
   where
-    there : List·Memᴰ l (loansLess (b ∷ []) ls) → List·Memᴰ l ls × (l ≡ loanOf b → ⊥)
+    there : List·Memᴰ l (loansLess (b ∷ []) ls) → List·Memᴰ l ls × (Matches b l → ⊥)
     there m = let w = loans-less-in (b ∷ []) ls l .0 m in (w .0, w .1 b (List·Memᴰ·head refl))
 
-    back : List·Memᴰ l ls × (l ≡ loanOf b → ⊥) → List·Memᴰ l (loansLess (b ∷ []) ls)
-    back w = loans-less-in (b ∷ []) ls l .1 (w .0, λ c m e. ⊎-elim (λ q. w .1 (e ∙ ap loanOf q)) (λ k. List·Memᴰ·not-nil k) (List·Memᴰ·cases-cons m))
+    back : List·Memᴰ l ls × (Matches b l → ⊥) → List·Memᴰ l (loansLess (b ∷ []) ls)
+    back w = loans-less-in (b ∷ []) ls l .1 (w .0, λ c m e. ⊎-elim (λ q. w .1 (subst (λ (d : Block). Matches d l) q e)) (λ k. List·Memᴰ·not-nil k) (List·Memᴰ·cases-cons m))
 
 -- none came back
 pub less-none : (ls : List Loan) → loansLess [] ls ≡ ls

@@ -12,5 +12,6 @@ pub mod Going
 pub mod Releasing
 pub mod Permuted
 pub mod Lessening
+pub mod Holders
 pub mod Shares
 pub mod Amid

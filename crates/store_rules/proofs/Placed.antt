@@ -1,4 +1,4 @@
--- The loans at the places of a table: which they are, and what is left of them when a place is made vacant. Assumes nothing.
+-- The loans at the places of a table: which they are, and what is left of them when a place is made vacant.
 use mathlib.Core.Path.{_≡_, refl, sym, ap, _∙_}
 use mathlib.Core.Bool.{true, false}
 use mathlib.Core.Logic.{_⊎_, inl, inr, ⊎-elim}

@@ -1,14 +1,16 @@
--- The tests of the rows that both engines share decide exactly the paper's words. Assumes nothing.
+-- The tests of the rows that both engines share decide exactly the paper's words.
 use mathlib.Core.Path.{_≡_, refl, sym, ap, _∙_}
 use mathlib.Core.Bool.{Bool, true, false, _&&_, not}
 use mathlib.Core.Logic.{_⊎_, inl, inr, ⊎-elim, _↔_}
 use mathlib.Core.List.{List, [], _∷_, List·Memᴰ, List·Memᴰ·head, List·Memᴰ·tail, List·Memᴰ·cases-cons, List·Memᴰ·not-nil}
 use Prim.Native.Nat.{ℕ, _+_}
 use lib.Dec.{eqb, leb}
-use borrow.Author.Tests.{eqb-true, eq-eqb, ne-eqb}
+use lib.ListN.{getD}
+use borrow.Author.Tests.{eqb-true, eq-eqb, ne-eqb, leb-true, le-leb}
 use Rattle.lists.proofs.Bools.{told, true-false, and-left, and-right, and-both, or-cases, or-left, or-right, not-no}
-use Rattle.counter.specs.Limits.{objectsMost}
-use Rattle.counter.specs.Table.{alignmentOk}
+use Rattle.counter.specs.Account.{noHeap}
+use Rattle.counter.specs.Limits.{heapsMost, heapBytesMost, objectsMost}
+use Rattle.counter.specs.Table.{alignmentOk, heapsOk}
 use Rattle.counter.specs.declared.account.Account.{Account}
 use Rattle.counter.specs.declared.account.Heap.{Heap}
 use Rattle.counter.specs.declared.account.KeptOrder.{KeptOrder}
@@ -20,14 +22,14 @@ use Rattle.counter.specs.declared.answers.Mapping.the-variants as M
 use Rattle.counter.specs.declared.answers.Memory.{Memory}
 use Rattle.counter.specs.declared.answers.Outcome.{Outcome}
 use Rattle.counter.specs.declared.answers.Outcome.the-variants as O
-use Rattle.counter.proofs.Tables.{alignment-yes, alignment-all}
+use Rattle.counter.proofs.Tables.{alignment-yes, alignment-all, heaps-each, each-heaps}
 use Rattle.heap.specs.Heap.{agreesOk}
 use Rattle.heap.proofs.Bounds.{agrees-yes, agrees-all}
 use Rattle.counter.specs.declared.settings.StoreSettings.{StoreSettings}
 use Rattle.store_rules.specs.Delivery.{suits, holds, deliveryOk}
 use Rattle.store_rules.specs.Orders.{Plan, deny, take, buy, orderFrom, sameBool, sameOrder, leadsTo}
-use Rattle.store_rules.specs.Refusals.{OrderOpen, NoneFor, Uncovered, MaskOff, Unsuited, Unwelcome}
-use Rattle.store_rules.specs.Tests.{noOrder, orderFor, coversOk}
+use Rattle.store_rules.specs.Refusals.{HeapsIn, OrderOpen, NoneFor, Uncovered, MaskOff, Unsuited, Unwelcome}
+use Rattle.store_rules.specs.Tests.{noOrder, openFor, coversOk}
 use Rattle.store_rules.proofs.Tested.{off-and, off-within}
 
 -- ---- tests that fail
@@ -35,6 +37,30 @@ use Rattle.store_rules.proofs.Tested.{off-and, off-within}
 -- a test that holds exactly where some words do fails exactly where they do not
 pub fails : (b : Bool) {W : Type 0} → (b ≡ true → W) → (W → b ≡ true) → (b ≡ false) ↔ (W → ⊥)
 fails b to from = ((λ e w. true-false b (from w) e), (λ f. ⊎-elim (λ e. absurd (f (to e))) (λ e. e) (told b)))
+
+-- what decides some words decides them beside words that never hold
+pub or-never : {A W : Type 0} → A ↔ W → A ↔ (W ⊎ ⊥)
+or-never w = ((λ a. inl (w .0 a)), ⊎-elim (w .1) (λ n. absurd n))
+
+-- ---- 1
+
+pub heaps-in : (a : Account) → (heapsOk (a .heaps) ≡ true) ↔ HeapsIn a
+heaps-in a = (there, back)
+  where
+    there : heapsOk (a .heaps) ≡ true → HeapsIn a
+    there e i low =
+        let h = getD (a .heaps) i noHeap in
+        let size = leb (h .size) heapBytesMost in
+        let used = leb (h .used) heapBytesMost in
+        let each = heaps-each (a .heaps) heapsMost e i low in
+        (leb-true (h .size) heapBytesMost (and-left size used each), leb-true (h .used) heapBytesMost (and-right size used each))
+
+    back : HeapsIn a → heapsOk (a .heaps) ≡ true
+    back w =
+        each-heaps (a .heaps) heapsMost
+        (λ i low.
+        let h = getD (a .heaps) i noHeap in
+        and-both (leb (h .size) heapBytesMost) (leb (h .used) heapBytesMost) (le-leb (h .size) heapBytesMost (w i low .0)) (le-leb (h .used) heapBytesMost (w i low .1)))
 
 -- ---- 2
 
@@ -45,13 +71,13 @@ order-open a = (there (a .order), (λ w. ap noOrder (w .1)))
     there Nothing e = absurd (true-false true refl e)
     there (Kept k) e = (k, refl)
 
-pub none-for : (store : ℕ) (a : Account) → (orderFor store (a .order) ≡ false) ↔ NoneFor store a
+pub none-for : (store : ℕ) (a : Account) → (openFor store (a .order) ≡ false) ↔ NoneFor store a
 none-for store a = (there, back (a .order))
   where
-    there : orderFor store (a .order) ≡ false → NoneFor store a
-    there e k q s = true-false (orderFor store (a .order)) (ap (orderFor store) q ∙ eq-eqb (k .order .store) store s) e
+    there : openFor store (a .order) ≡ false → NoneFor store a
+    there e k q s = true-false (openFor store (a .order)) (ap (openFor store) q ∙ eq-eqb (k .order .store) store s) e
 
-    back : (o : OpenOrder) → ((k : KeptOrder) → o ≡ Kept k → k .order .store ≡ store → ⊥) → orderFor store o ≡ false
+    back : (o : OpenOrder) → ((k : KeptOrder) → o ≡ Kept k → k .order .store ≡ store → ⊥) → openFor store o ≡ false
     back Nothing f = refl
     back (Kept k) f = ne-eqb (k .order .store) store (f k refl)
 
@@ -152,13 +178,13 @@ same-order-is o p e =
     let store = and-left (eqb (o .store) (p .store)) _ e in
     let rest = and-right (eqb (o .store) (p .store)) _ e in
     let size = and-left (eqb (o .size) (p .size)) _ rest in
-    let kinds = and-right (eqb (o .size) (p .size)) _ rest in
-    let kind = and-left (eqb (o .kind) (p .kind)) _ kinds in
-    let map = and-right (eqb (o .kind) (p .kind)) _ kinds in
+    let memtypes = and-right (eqb (o .size) (p .size)) _ rest in
+    let memtype = and-left (eqb (o .memtype) (p .memtype)) _ memtypes in
+    let map = and-right (eqb (o .memtype) (p .memtype)) _ memtypes in
     (λ j. record {
       store = eqb-true (o .store) (p .store) store j;
       size = eqb-true (o .size) (p .size) size j;
-      kind = eqb-true (o .kind) (p .kind) kind j;
+      memtype = eqb-true (o .memtype) (p .memtype) memtype j;
       map = same-bool-is (o .map) (p .map) map j;
     })
 
@@ -166,7 +192,7 @@ order-same : (o : Order) → sameOrder o o ≡ true
 order-same o =
     and-both (eqb (o .store) (o .store)) _ (eq-eqb (o .store) (o .store) refl)
     (and-both (eqb (o .size) (o .size)) _ (eq-eqb (o .size) (o .size) refl)
-    (and-both (eqb (o .kind) (o .kind)) _ (eq-eqb (o .kind) (o .kind) refl) (bool-same (o .map))))
+    (and-both (eqb (o .memtype) (o .memtype)) _ (eq-eqb (o .memtype) (o .memtype) refl) (bool-same (o .map))))
 
 pub is-same-order : (o p : Order) → o ≡ p → sameOrder o p ≡ true
 is-same-order o p e = ap (sameOrder o) (sym e) ∙ order-same o

@@ -1,4 +1,4 @@
--- Releases one after the other are one release of all their chunks and bytes. Assumes nothing.
+-- Releases one after the other are one release of all their chunks and bytes.
 use mathlib.Core.Path.{_≡_, refl, sym, ap, _∙_}
 use mathlib.Core.Bool.{Bool, true, false, cond}
 use mathlib.Core.Logic.{⊎-elim}

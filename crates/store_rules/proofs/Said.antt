@@ -1,4 +1,4 @@
--- What is said against a verdict: a refusal says the verdict's number, and nothing else is a refusal. Assumes nothing.
+-- What is said against a verdict: a refusal says the verdict's number, and nothing else is a refusal.
 use mathlib.Core.Path.{_≡_, refl, sym, ap}
 use mathlib.Core.Bool.{Bool, true, false}
 use mathlib.Core.Logic.{_↔_}
@@ -77,11 +77,11 @@ same-block a b c d e f g h q = (cc, cc, cc, cc)
 
 -- ---- an order is neither a refusal nor a block, and the same as itself
 
-pub refusal-order : {A : Type 0} (n : ℕ) (back : List ℕ) (store size kind : ℕ) (map : Bool) → Paper.refusal n back ≡ Paper.order store size kind map → A
-refusal-order n back store size kind map e = let z : _≡_ {A = ℕ} 0 1 = cc in absurd (omega arith)
+pub refusal-order : {A : Type 0} (n : ℕ) (back : List ℕ) (store size memtype : ℕ) (map : Bool) → Paper.refusal n back ≡ Paper.order store size memtype map → A
+refusal-order n back store size memtype map e = let z : _≡_ {A = ℕ} 0 1 = cc in absurd (omega arith)
 
-pub block-order : {A : Type 0} (b c d f store size kind : ℕ) (map : Bool) → Paper.block b c d f ≡ Paper.order store size kind map → A
-block-order b c d f store size kind map e = let z : _≡_ {A = ℕ} 0 1 = cc in absurd (omega arith)
+pub block-order : {A : Type 0} (b c d f store size memtype : ℕ) (map : Bool) → Paper.block b c d f ≡ Paper.order store size memtype map → A
+block-order b c d f store size memtype map e = let z : _≡_ {A = ℕ} 0 1 = cc in absurd (omega arith)
 
 same-bool : (b : Bool) → sameBool b b ≡ true
 same-bool true = refl
@@ -90,4 +90,4 @@ same-bool false = refl
 pub same-order : (o : Order) → sameOrder o o ≡ true
 same-order o =
     and-both _ _ (eq-eqb (o .store) (o .store) refl)
-    (and-both _ _ (eq-eqb (o .size) (o .size) refl) (and-both _ _ (eq-eqb (o .kind) (o .kind) refl) (same-bool (o .map))))
+    (and-both _ _ (eq-eqb (o .size) (o .size) refl) (and-both _ _ (eq-eqb (o .memtype) (o .memtype) refl) (same-bool (o .map))))

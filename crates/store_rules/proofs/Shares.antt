@@ -1,5 +1,5 @@
 -- What a call does to a store's share is what it does to an account that holds it, and two accounts in which a store's share is the
--- same are left alike. Assumes nothing.
+-- same are left alike.
 use mathlib.Core.Path.{_≡_, refl, sym, ap, subst, _∙_}
 use mathlib.Core.Bool.{Bool, true, false, cond, _&&_}
 use mathlib.Core.Logic.{_⊎_, ⊎-elim}
@@ -21,10 +21,12 @@ use Rattle.counter.specs.declared.account.OpenOrder.the-variants.{Nothing}
 use Rattle.counter.specs.declared.settings.StoreSettings.{StoreSettings}
 use Rattle.heap.specs.Heap.{chargedOf, releasedOf}
 use Rattle.store_rules.specs.Outcomes.{withOrder, chargedAccount, backAccount, lostAccount, releasedAccount}
-use Rattle.store_rules.specs.Shares.{shareOf, withShare, overHeap, others, holding, orderBy, holder, chargedShare, backShare, lostShare, releasedShare, Alike, takenOver}
+use Rattle.store_rules.specs.Shares.{shareOf, withShare, chargedShare, backShare, lostShare, releasedShare}
+use Rattle.store_rules.specs.Alike.{Alike, takenOver}
+use Rattle.store_rules.proofs.Holders.{overHeap, others, holding, orderBy, holder}
 use Rattle.store_rules.specs.Tests.{noOrder}
 use Rattle.store_rules.specs.declared.Share.{Share}
-use Rattle.store_rules.proofs.Accounts.{settled-own, settled-other, settled-length, settled-heaps, own-in}
+use Rattle.store_rules.proofs.Accounts.{settled-same, settled-own, settled-other, settled-length, settled-heaps, own-in}
 
 -- ---- a settled account settled again
 
@@ -35,14 +37,6 @@ module _ (a : Account) (i : ℕ) where
 
   pub settled-again : (g h : Heap) (m n : ℕ) (o p : OpenOrder) → settledOf (settledOf a i g m o) i h n p ≡ settledOf a i h n p
   settled-again g h m n o p = λ j. record { heaps = again (ltb i heapsMost) g h j; objects = n; order = p }
-
-  same : (b : Bool) → cond b (set (a .heaps) i (cond b (getD (a .heaps) i noHeap) noHeap)) (a .heaps) ≡ a .heaps
-  same true = set-getD (a .heaps) i noHeap
-  same false = refl
-
-  -- with what it has, only the order is another
-  pub settled-same : (o : OpenOrder) → settledOf a i (heapAt a i) (a .objects) o ≡ withOrder a o
-  settled-same o = λ j. record { heaps = same (ltb i heapsMost) j; objects = a .objects; order = o }
 
   past : (b : Bool) → b ≡ false → (g h : Heap) → cond b (set (a .heaps) i g) (a .heaps) ≡ cond b (set (a .heaps) i h) (a .heaps)
   past b e g h = rw e refl
@@ -62,10 +56,10 @@ others-table false = refl
 
 module _ (s : StoreSettings) (h : Share) where
   abbrev blank : Account
-  blank = record { heaps = others (h .table); objects = 0; order = Nothing }
+  blank = record { heaps = others (h .bounded); objects = 0; order = Nothing }
 
-  sixteen : length (others (h .table)) ≡ heapsMost
-  sixteen = by (h .table)
+  sixteen : length (others (h .bounded)) ≡ heapsMost
+  sixteen = by (h .bounded)
     where
       by : (b : Bool) → length (others b) ≡ heapsMost
       by true = refl
@@ -77,13 +71,13 @@ module _ (s : StoreSettings) (h : Share) where
   held-heap o below = settled-own blank (s .heap) (h .heap) (h .objects) o below (subst (λ (n : ℕ). s .heap < n) (sym sixteen) below)
 
   -- settled, it holds what it is settled with
-  pub held-settled : (o p : OpenOrder) (free : Bool) (g : Heap) (n : ℕ) → settledOf (holding s h o) (s .heap) g n p ≡ holding s (record { table = h .table; free = free; heap = g; objects = n }) p
+  pub held-settled : (o p : OpenOrder) (free : Bool) (g : Heap) (n : ℕ) → settledOf (holding s h o) (s .heap) g n p ≡ holding s (record { bounded = h .bounded; idle = free; heap = g; objects = n }) p
   unfolding holding
   held-settled o p free g n = settled-again blank (s .heap) (h .heap) g (h .objects) n o p
 
   -- by what is done to its heap
   held-changed : (f : Heap → Heap) (o p : OpenOrder) (free : Bool) (n : ℕ)
-      → settledOf (holding s h o) (s .heap) (f (heapAt (holding s h o) (s .heap))) n p ≡ holding s (record { table = h .table; free = free; heap = f (h .heap); objects = n }) p
+      → settledOf (holding s h o) (s .heap) (f (heapAt (holding s h o) (s .heap))) n p ≡ holding s (record { bounded = h .bounded; idle = free; heap = f (h .heap); objects = n }) p
   held-changed f o p free n =
       ⊎-elim
       (λ below. ap (λ (g : Heap). settledOf (holding s h o) (s .heap) (f g) n p) (held-heap o below) ∙ held-settled o p free (f (h .heap)) n)
@@ -100,51 +94,51 @@ module _ (s : StoreSettings) (h : Share) where
 
   pub held-lost : (o : OpenOrder) (z : ℕ) (charged : Bool) (back : List ℕ) → lostAccount s (holding s h o) z charged back ≡ holding s (lostShare h z charged back) Nothing
   unfolding lostAccount holding
-  held-lost o z false back = refl
-  held-lost o z true [] = held-charged o z
-  held-lost o z true (m ∷ back) = held-back o z
+  held-lost o z false back = held-changed (λ (g : Heap). g) o Nothing true (h .objects)
+  held-lost o z true [] = held-changed (λ (g : Heap). chargedOf g z) o Nothing true (h .objects - 1)
+  held-lost o z true (m ∷ back) = held-changed (λ (g : Heap). releasedOf (chargedOf g z) z) o Nothing true (h .objects)
 
   pub held-released : (o : OpenOrder) (n bytes : ℕ) → releasedAccount s (holding s h o) n bytes ≡ holding s (releasedShare h n bytes) o
   unfolding releasedAccount holding
-  held-released o n bytes = held-changed (λ (g : Heap). releasedOf g bytes) o o (h .free) (h .objects + n)
+  held-released o n bytes = held-changed (λ (g : Heap). releasedOf g bytes) o o (h .idle) (h .objects + n)
 
   -- ---- its heaps are in the table
 
-  blank-heap : (j : ℕ) → j < heapsMost → getD (others (h .table)) j noHeap ≡ cond (h .table) noHeap overHeap
-  blank-heap j q = by (h .table)
+  blank-heap : (j : ℕ) → j < heapsMost → getD (others (h .bounded)) j noHeap ≡ cond (h .bounded) noHeap overHeap
+  blank-heap j q = by (h .bounded)
     where
       by : (b : Bool) → getD (others b) j noHeap ≡ cond b noHeap overHeap
       by true = getD-replicate heapsMost j noHeap noHeap q
       by false = getD-replicate heapsMost j overHeap noHeap q
 
-  pub held-table : (o : OpenOrder) → s .heap < heapsMost → heapsOk (holding s h o .heaps) ≡ (h .table && heapOk (h .heap))
+  pub held-table : (o : OpenOrder) → s .heap < heapsMost → heapsOk (holding s h o .heaps) ≡ (h .bounded && heapOk (h .heap))
   unfolding holding
-  held-table o below = same-test (heapsOk (holding s h o .heaps)) (h .table && heapOk (h .heap)) yes all
+  held-table o below = same-test (heapsOk (holding s h o .heaps)) (h .bounded && heapOk (h .heap)) yes all
     where
       own : heapsOk (holding s h o .heaps) ≡ true → heapOk (h .heap) ≡ true
       own e = sym (ap heapOk (held-heap o below)) ∙ own-in (holding s h o) (s .heap) below e
 
       -- of the first two one is another
-      one : heapsOk (holding s h o .heaps) ≡ true → (j : ℕ) → j < heapsMost → (j ≡ s .heap → ⊥) → heapOk (cond (h .table) noHeap overHeap) ≡ true
+      one : heapsOk (holding s h o .heaps) ≡ true → (j : ℕ) → j < heapsMost → (j ≡ s .heap → ⊥) → heapOk (cond (h .bounded) noHeap overHeap) ≡ true
       one e j q n =
-          let k : heapAt blank j ≡ cond (h .table) noHeap overHeap = rw (lt-ltb j heapsMost q) (blank-heap j q) in
+          let k : heapAt blank j ≡ cond (h .bounded) noHeap overHeap = rw (lt-ltb j heapsMost q) (blank-heap j q) in
           sym (ap heapOk (settled-other blank (s .heap) (h .heap) (h .objects) o j n ∙ k)) ∙ own-in (holding s h o) j q e
 
       tabled : (b : Bool) → heapOk (cond b noHeap overHeap) ≡ true → b ≡ true
       tabled true e = refl
       tabled false e = e
 
-      yes : heapsOk (holding s h o .heaps) ≡ true → (h .table && heapOk (h .heap)) ≡ true
+      yes : heapsOk (holding s h o .heaps) ≡ true → (h .bounded && heapOk (h .heap)) ≡ true
       yes e =
-          and-both (h .table) (heapOk (h .heap))
-          (tabled (h .table)
+          and-both (h .bounded) (heapOk (h .heap))
+          (tabled (h .bounded)
           (⊎-elim (λ z. one e 1 (omega arith) (λ q. absurd (omega (arith, z, q)))) (λ n. one e 0 (omega arith) (λ q. n (sym q))) (same? (s .heap) 0)))
           (own e)
 
-      all : (h .table && heapOk (h .heap)) ≡ true → heapsOk (holding s h o .heaps) ≡ true
+      all : (h .bounded && heapOk (h .heap)) ≡ true → heapsOk (holding s h o .heaps) ≡ true
       all e =
-          settled-heaps blank (s .heap) (h .heap) (h .objects) o below (and-right (h .table) _ e)
-          (others-table (h .table) ∙ and-left (h .table) _ e)
+          settled-heaps blank (s .heap) (h .heap) (h .objects) o below (and-right (h .bounded) _ e)
+          (others-table (h .bounded) ∙ and-left (h .bounded) _ e)
 
 -- no order is open where the share says so
 pub held-free : (b : Bool) → noOrder (orderBy b) ≡ b
@@ -223,8 +217,10 @@ module _ (s : StoreSettings) (a : Account) where
         ∙ ap (λ (n : ℕ). settledOf a (s .heap) (releasedOf (chargedOf (heapAt a (s .heap)) z) z) n Nothing) (sym (alike .objects))
 
     pub over-lost : (z : ℕ) (charged : Bool) (back : List ℕ) → takenOver s a (lostAccount s b z charged back) Nothing ≡ lostAccount s a z charged back
-    unfolding lostAccount
-    over-lost z false back = over-same Nothing Nothing
+    unfolding lostAccount chargedAccount backAccount
+    over-lost z false back =
+        over-changed (λ (g : Heap). g) (b .objects) Nothing Nothing
+        ∙ ap (λ (n : ℕ). settledOf a (s .heap) (heapAt a (s .heap)) n Nothing) (sym (alike .objects))
     over-lost z true [] = over-charged z
     over-lost z true (m ∷ back) = over-back z
 

@@ -1,4 +1,4 @@
--- Where a test put together of tests fails, and which numbers a gate gives. Assumes nothing.
+-- Where a test put together of tests fails, and which numbers a gate gives.
 use mathlib.Core.Path.{_≡_, refl, sym}
 use mathlib.Core.Bool.{Bool, true, false, _&&_, _||_, not}
 use mathlib.Core.Logic.{_⊎_, inl, inr, ⊎-elim, _↔_}

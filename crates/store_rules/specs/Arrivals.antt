@@ -1,9 +1,8 @@
 -- What a delivery comes to in a store of either engine, once its gate is passed. 01, "When the counter says no": 13, and the
--- paragraph after the table. Assumes nothing: these are definitions.
+-- paragraph after the table.
 use mathlib.Core.Bool.{cond}
 use mathlib.Core.List.{List}
 use Prim.Native.Nat.{ℕ}
-use Rattle.counter.specs.Gate.{Verdict, pass, refuse}
 use Rattle.counter.specs.declared.account.KeptOrder.{KeptOrder}
 use Rattle.counter.specs.declared.account.OpenOrder.{OpenOrder}
 use Rattle.counter.specs.declared.account.OpenOrder.the-variants.{Nothing, Kept}
@@ -19,7 +18,3 @@ pub data Arrival : Type 0 where
 abbrev pub arrivalOf : Engine → Outcome → List ℕ → OpenOrder → Arrival
 arrivalOf e o held Nothing = deny 2
 arrivalOf e o held (Kept k) = cond (deliveryOk (k .order .map) held o) (go k (fateOf e o)) (deny 13)
-
-abbrev pub gated : Verdict → Arrival → Arrival
-gated (refuse n) p = deny n
-gated pass p = p

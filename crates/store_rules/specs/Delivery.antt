@@ -1,5 +1,4 @@
 -- What a delivered outcome leads to. 01, "When the counter says no": 11, 12 and 13, and the paragraph after the table.
--- Assumes nothing: these are definitions.
 use mathlib.Core.Bool.{Bool, true, false, cond, _&&_, _||_, not}
 use mathlib.Core.List.{List, [], _∷_}
 use Prim.Native.Nat.{ℕ}

@@ -7,5 +7,6 @@ pub mod Refusals
 pub mod Arrivals
 pub mod Views
 pub mod Shares
+pub mod Alike
 pub mod Words
 pub mod Rows

@@ -1,4 +1,4 @@
--- A loan in words: 01, "A block carries serial, chunk, offset, size." Assumes nothing: these are definitions.
+-- A loan in words: 01, "A block carries serial, chunk, offset, size."
 use mathlib.Core.Path.{_≡_, refl}
 use mathlib.Core.Bool.{cond}
 use mathlib.Core.List.{List, [], _∷_}

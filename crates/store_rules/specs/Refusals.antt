@@ -1,12 +1,13 @@
 -- 01's rows that both engines share, in the paper's words and not as tests: proofs/Refused shows that the tests decide
--- exactly these. Assumes nothing: these are definitions.
+-- exactly these.
 use mathlib.Core.Path.{_≡_}
 use mathlib.Core.Bool.{Bool, true, false, cond}
 use mathlib.Core.Logic.{_⊎_}
 use mathlib.Core.List.{List, List·Memᴰ}
 use Prim.Native.Nat.{ℕ, _+_, _-_, _^_, _≤_, _<_}
-use Rattle.counter.specs.Account.{value}
-use Rattle.counter.specs.Limits.{alignBits, objectsMost}
+use lib.ListN.{getD}
+use Rattle.counter.specs.Account.{value, noHeap}
+use Rattle.counter.specs.Limits.{alignBits, heapsMost, heapBytesMost, objectsMost}
 use Rattle.counter.specs.declared.account.Account.{Account}
 use Rattle.counter.specs.declared.account.Heap.{Heap}
 use Rattle.counter.specs.declared.account.KeptOrder.{KeptOrder}
@@ -19,6 +20,10 @@ use Rattle.counter.specs.declared.answers.Outcome.the-variants as O
 use Rattle.counter.specs.declared.settings.StoreSettings.{StoreSettings}
 use Rattle.store_rules.specs.Delivery.{Engine, givesBack}
 use Rattle.store_rules.specs.Outcomes.{withOrder, chargedAccount, backAccount}
+
+-- 1: every heap's size and used are in the table
+abbrev pub HeapsIn : Account → Type 0
+HeapsIn a = (i : ℕ) → i < heapsMost → (getD (a .heaps) i noHeap .size ≤ heapBytesMost) × (getD (a .heaps) i noHeap .used ≤ heapBytesMost)
 
 -- 2: "an order is open, on an ask, return or clean-up"
 abbrev pub OrderOpen : Account → Type 0

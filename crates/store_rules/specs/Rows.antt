@@ -1,8 +1,8 @@
 -- 01's table, "When the counter says no", once for every engine: what the rows say of the account, of what a user sees of the
--- store and of the words that the engine gives, in the order of the tests. Assumes nothing: these are definitions.
+-- store and of the words that the engine gives, in the order of the tests.
 use mathlib.Core.Path.{_≡_}
 use mathlib.Core.Logic.{_⊎_}
-use mathlib.Core.List.{List, List·Memᴰ, map}
+use mathlib.Core.List.{List, map}
 use Prim.Native.Nat.{ℕ, _+_, _^_, _≤_, _<_}
 use lib.ListN.{length}
 use Rattle.counter.specs.Account.{value, heapAt}
@@ -16,8 +16,8 @@ use Rattle.counter.specs.declared.answers.Block.{Block}
 use Rattle.counter.specs.declared.answers.Outcome.{Outcome}
 use Rattle.counter.specs.declared.settings.StoreSettings.{StoreSettings}
 use Rattle.store_rules.specs.Orders.{orderFrom}
-use Rattle.store_rules.specs.Refusals.{OrderOpen, NoneFor, Uncovered, MaskOff, UnwelcomeTo, DeviceOut, HostOut}
-use Rattle.store_rules.specs.Views.{loanOf, sizes}
+use Rattle.store_rules.specs.Refusals.{HeapsIn, OrderOpen, NoneFor, Uncovered, MaskOff, UnwelcomeTo, DeviceOut, HostOut}
+use Rattle.store_rules.specs.Views.{OnLoan, sizes}
 use Rattle.store_rules.specs.declared.Chunk.{Chunk}
 use Rattle.store_rules.specs.Words.{Words}
 
@@ -30,9 +30,13 @@ pub record LeadsTo (own : StoreSettings) (a : Account) (tests : KeptOrder → Re
   pub same : kept .order ≡ orderFrom own (size kept)
 
 module _ (E : Words) where
+  -- 1: "a value outside the table", "a lent table of the wrong length": what set-up is lent, and the account's heaps
+  abbrev pub InTable : E .Settings → Account → E .Tables → Type 0
+  InTable s a t = E .Fits s t × HeapsIn a
+
   -- 1: "a release list shorter than the chunk limit"
   abbrev pub WithList : E .Settings → Account → E .Tables → List ℕ → Type 0
-  WithList s a t list = E .InTable s a t × (E .store s .chunks ≤ length list)
+  WithList s a t list = InTable s a t × (E .store s .chunks ≤ length list)
 
   -- 4: the account against this store's chunks
   abbrev pub Short : E .Settings → Account → E .Tables → Type 0
@@ -41,7 +45,7 @@ module _ (E : Words) where
 
   -- 7: "no loan has this serial, chunk, offset and size"
   abbrev pub Stale : E .Settings → Block → E .Tables → Type 0
-  Stale s b t = List·Memᴰ (loanOf b) (E .view s t .loans) → ⊥
+  Stale s b t = OnLoan b (E .view s t .loans) → ⊥
 
   -- 8: "no loan place; or a chunk is needed and no chunk place is vacant; or a level that needs a new pair has none", by how
   -- many are in use
@@ -68,7 +72,7 @@ module _ (E : Words) where
   -- 1 to 4 of a call that is lent no list, and of one that is
   abbrev pub gateRows : E .Settings → Account → E .Tables → Reasons
   gateRows s a t =
-      reason (E .InTable s a t → ⊥) 1 (reason (OrderOpen a) 2 (reason (E .Sound s t → ⊥) 3 (reason (Short s a t) 4 none)))
+      reason (InTable s a t → ⊥) 1 (reason (OrderOpen a) 2 (reason (E .Sound s t → ⊥) 3 (reason (Short s a t) 4 none)))
 
   abbrev pub listRows : E .Settings → Account → E .Tables → List ℕ → Reasons
   listRows s a t list =
@@ -77,7 +81,7 @@ module _ (E : Words) where
   -- "5, 6, 8, 10, 9 for an ask"
   abbrev pub askTests : E .Settings → Heap → ℕ → ℕ → ℕ → E .Tables → Reasons
   askTests s h objects size mask t =
-      reason (MaskOff mask) 5
+      reason (MaskOff mask ⊎ E .MaskHigh s mask) 5
       (reason (E .SizeOff s size mask) 6
       (reason (Full s size mask t) 8 (reason (Spent s h size mask t) 10 (reason (NoObject s objects size mask t) 9 none))))
 
@@ -93,7 +97,7 @@ module _ (E : Words) where
   -- 1 to 4 of a delivery
   abbrev pub keptRows : E .Settings → Account → E .Tables → Reasons
   keptRows s a t =
-      reason (E .InTable s a t → ⊥) 1
+      reason (InTable s a t → ⊥) 1
       (reason (NoneFor (E .store s .number) a) 2 (reason (E .Sound s t × Leads s a t → ⊥) 3 (reason (Short s a t) 4 none)))
 
   -- "13, 11, 12 for a delivery"

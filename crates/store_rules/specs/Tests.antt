@@ -1,4 +1,4 @@
--- The tests that both engines share: the gate, and 01's numbers 2 and 4. Assumes nothing: these are definitions.
+-- The tests that both engines share: the gate, and 01's numbers 2 and 4.
 use mathlib.Core.Bool.{Bool, true, false, _&&_}
 use mathlib.Core.List.{[], _∷_}
 use Prim.Native.Nat.{ℕ, _+_}
@@ -16,9 +16,9 @@ noOrder Nothing = true
 noOrder (Kept k) = false
 
 -- 2, on a delivery: an order is open for the store with this number
-abbrev pub orderFor : ℕ → OpenOrder → Bool
-orderFor store Nothing = false
-orderFor store (Kept k) = eqb (k .order .store) store
+abbrev pub openFor : ℕ → OpenOrder → Bool
+openFor store Nothing = false
+openFor store (Kept k) = eqb (k .order .store) store
 
 -- 4: heap used covers the sum of the store's chunks and is allocated less deallocated, and objects with its chunks are
 -- at most 2^32 - 1

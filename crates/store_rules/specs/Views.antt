@@ -1,5 +1,5 @@
 -- A store as its user sees it, of whichever engine: blocks on loan, held chunks, free pieces, and what fills what, byte by byte.
--- Demand 3: "blocks on loan and free pieces fill each held chunk without gap or overlap". Assumes nothing: these are definitions.
+-- Demand 3: "blocks on loan and free pieces fill each held chunk without gap or overlap".
 use mathlib.Core.Path.{_≡_}
 use mathlib.Core.Bool.{Bool, false, cond, _&&_, _||_}
 use mathlib.Core.Logic.{_⊎_, _↔_}
@@ -9,7 +9,6 @@ use lib.Dec.{eqb, leb, ltb}
 use lib.ListN.{length}
 use Rattle.lists.specs.Members.{Distinct}
 use Rattle.counter.specs.declared.answers.Block.{Block}
-use Rattle.store_rules.specs.Loans.{loan}
 use Rattle.store_rules.specs.declared.Chunk.{Chunk}
 use Rattle.store_rules.specs.declared.Loan.{Loan}
 use Rattle.store_rules.specs.declared.Region.{Region}
@@ -20,16 +19,26 @@ region c a b = record { chunk = c; start = a; end = b }
 abbrev pub chunk : ℕ → ℕ → ℕ → Chunk
 chunk n m z = record { number = n; memory = m; size = z }
 
+abbrev pub block : ℕ → ℕ → ℕ → ℕ → Block
+block serial number offset size = record { serial = serial; chunk = number; offset = offset; size = size }
+
 pub record View : Type 0 where
   pub loans : List Loan
   pub chunks : List Chunk
   pub free : List Region
 
--- the loan that a block is
-abbrev pub loanOf : Block → Loan
-loanOf b = loan (b .serial) (b .chunk) (b .offset) (b .size)
+-- 7: "this serial, chunk, offset and size": the loan is the block's
+pub record Matches (b : Block) (l : Loan) : Type 0 where
+  pub serial : l .serial ≡ b .serial
+  pub chunk : l .chunk ≡ b .chunk
+  pub offset : l .offset ≡ b .offset
+  pub size : l .size ≡ b .size
 
--- 7: "this serial, chunk, offset and size"
+-- a block is on loan: some loan has its serial, chunk, offset and size
+abbrev pub OnLoan : Block → List Loan → Type 0
+OnLoan b ls = (l : Loan) × List·Memᴰ l ls × Matches b l
+
+-- 7, tested: the loan is the block's
 abbrev pub sameLoan : Block → Loan → Bool
 sameLoan b l = eqb (l .serial) (b .serial) && (eqb (l .chunk) (b .chunk) && (eqb (l .offset) (b .offset) && eqb (l .size) (b .size)))
 

@@ -36,8 +36,8 @@ pub struct Region {
 // A store's share of the account, all that a call reads of it short of an order's text: whether every heap is in 01's table, whether
 // no order is open, the store's own heap, the device objects still allowed.
 pub struct Share {
-    pub table: bool,
-    pub free: bool,
+    pub bounded: bool,
+    pub idle: bool,
     pub heap: Heap,
     pub objects: u32,
 }

@@ -1,4 +1,4 @@
--- What a header that fits says of its words, and what it comes to by its engine. Assumes nothing.
+-- What a header that fits says of its words, and what it comes to by its engine.
 use mathlib.Core.Path.{_≡_, sym, ap, _∙_}
 use mathlib.Core.Bool.{Bool, true, false, _&&_}
 use mathlib.Core.List.{List}
@@ -8,7 +8,7 @@ use lib.ListN.{length}
 use borrow.Author.Tests.{leb-true, eq-eqb, ne-eqb}
 use Rattle.lists.proofs.Bools.{all-each}
 use Rattle.counter.specs.Limits.{heapBytesMost, objectsMost}
-use Rattle.tape.specs.Header.{headerBytes, narrowMost, number, kind, properties, heapSize, objects, engine, pairs, field, fitsRow, fitsOk, freeListIn, buddyIn, headerOf}
+use Rattle.tape.specs.Header.{headerBytes, narrowMost, number, memtype, properties, heapSize, objects, engine, pairs, field, fitsRow, fitsOk, freeListIn, buddyIn, headerOf}
 use Rattle.tape.specs.declared.header.Header.the-variants.{FreeList, Buddy, Refused}
 use Rattle.tape.specs.declared.header.FreeListStart.{FreeListStart}
 use Rattle.tape.specs.declared.header.BuddyStart.{BuddyStart}
@@ -16,7 +16,7 @@ use Rattle.tape.specs.declared.header.BuddyStart.{BuddyStart}
 pub record Fits (bs : List ℕ) : Type 0 where
   pub whole : headerBytes ≤ length bs
   pub number-most : field number bs ≤ narrowMost
-  pub kind-most : field kind bs ≤ narrowMost
+  pub memtype-most : field memtype bs ≤ narrowMost
   pub properties-most : field properties bs ≤ narrowMost
   pub size-most : field heapSize bs ≤ heapBytesMost
   pub objects-most : field objects bs ≤ objectsMost
@@ -28,7 +28,7 @@ fits-yes bs e =
     record {
       whole = leb-true _ _ (t .0);
       number-most = leb-true _ _ (t .1 .0);
-      kind-most = leb-true _ _ (t .1 .1 .0);
+      memtype-most = leb-true _ _ (t .1 .1 .0);
       properties-most = leb-true _ _ (t .1 .1 .1 .0);
       size-most = leb-true _ _ (t .1 .1 .1 .1 .0);
       objects-most = leb-true _ _ (t .1 .1 .1 .1 .1 .0);

@@ -1,4 +1,4 @@
--- What a record says, by its kind. Assumes nothing.
+-- What a record says, by its kind.
 use mathlib.Core.Path.{_≡_, sym, ap, _∙_}
 use mathlib.Core.Bool.{Bool, true, false, _&&_, not}
 use mathlib.Core.List.{List}

@@ -2,7 +2,7 @@
 -- A header is refused here, before any set-up, exactly where it is short; where the store number, the memory type or the
 -- property word is no u32; where heap size or device objects are outside 01's table ("at most 2^62", any u32); where the
 -- engine is neither 1 nor 2; or where a free list's has pairs. All other words fit their fields, and whether 01's table
--- allows the settings is set-up's own test. Assumes nothing: these are definitions.
+-- allows the settings is set-up's own test.
 use mathlib.Core.Bool.{Bool, cond, _&&_}
 use mathlib.Core.List.{List, [], _∷_}
 use Prim.Native.Nat.{ℕ, _*_, _^_, _-_}
@@ -43,8 +43,8 @@ engine = 0
 abbrev pub number : ℕ
 number = 1
 
-abbrev pub kind : ℕ
-kind = 2
+abbrev pub memtype : ℕ
+memtype = 2
 
 abbrev pub properties : ℕ
 properties = 3
@@ -88,7 +88,7 @@ abbrev pub fitsRow : List ℕ → List Bool
 fitsRow bs =
     leb headerBytes (length bs)
     ∷ leb (field number bs) narrowMost
-    ∷ leb (field kind bs) narrowMost
+    ∷ leb (field memtype bs) narrowMost
     ∷ leb (field properties bs) narrowMost
     ∷ leb (field heapSize bs) heapBytesMost
     ∷ leb (field objects bs) objectsMost
@@ -99,7 +99,7 @@ fitsOk bs = all (fitsRow bs)
 
 abbrev pub storeIn : List ℕ → StoreSettings
 storeIn bs =
-    record { number = field number bs; kind = field kind bs; properties = field properties bs; heap = field heap bs; atom = field atom bs; loans = field loans bs; chunks = field chunks bs }
+    record { number = field number bs; memtype = field memtype bs; properties = field properties bs; heap = field heap bs; atom = field atom bs; loans = field loans bs; chunks = field chunks bs }
 
 abbrev pub freeListIn : List ℕ → FreeListStart
 freeListIn bs =

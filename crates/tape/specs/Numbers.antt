@@ -1,4 +1,4 @@
--- Numbers in bytes. 02, Req 04: "numbers little-endian". Assumes nothing: these are definitions.
+-- Numbers in bytes. 02, Req 04: "numbers little-endian".
 use mathlib.Core.List.{List, [], _∷_, _++_}
 use Prim.Native.Nat.{ℕ, _+_, _*_}
 use lib.ListN.{getD}

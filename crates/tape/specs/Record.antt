@@ -1,5 +1,4 @@
--- A record of a call. 02, Req 04: "one byte of kind, then a body whose length the kind fixes". Assumes nothing: these are
--- definitions.
+-- A record of a call. 02, Req 04: "one byte of kind, then a body whose length the kind fixes".
 use mathlib.Core.Bool.{Bool, cond, _&&_, not}
 use mathlib.Core.List.{List}
 use Prim.Native.Nat.{ℕ, _+_}

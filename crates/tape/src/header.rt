@@ -25,7 +25,7 @@ const ENGINE: usize = 0;
 
 const NUMBER: usize = 1;
 
-const KIND: usize = 2;
+const MEMTYPE: usize = 2;
 
 const PROPERTIES: usize = 3;
 
@@ -81,7 +81,7 @@ fn fits(bytes: &[u8]) -> bool
 {
     (HEADER_BYTES <= bytes.len())
         & (word(bytes, NUMBER) <= NARROW_MOST)
-        & (word(bytes, KIND) <= NARROW_MOST)
+        & (word(bytes, MEMTYPE) <= NARROW_MOST)
         & (word(bytes, PROPERTIES) <= NARROW_MOST)
         & (word(bytes, HEAP_SIZE) <= HEAP_BYTES_MOST)
         & (word(bytes, OBJECTS) <= OBJECTS_MOST as u64)
@@ -100,7 +100,7 @@ fn store(bytes: &[u8]) -> StoreSettings
     ensures { λ r. ⌜ r ≡ storeIn (now (bytes .entry)) ⌝ }
 {
     let number = narrow(word(bytes, NUMBER));
-    let kind = narrow(word(bytes, KIND));
+    let memtype = narrow(word(bytes, MEMTYPE));
     let properties = narrow(word(bytes, PROPERTIES));
     let heap = word(bytes, HEAP);
     let atom = word(bytes, ATOM);
@@ -108,7 +108,7 @@ fn store(bytes: &[u8]) -> StoreSettings
     let chunks = word(bytes, CHUNKS);
     StoreSettings {
         number: number,
-        kind: kind,
+        memtype: memtype,
         properties: properties,
         heap: heap as usize,
         atom: atom,

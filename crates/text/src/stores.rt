@@ -34,7 +34,7 @@ fn print_block(b: Block) {
 fn print_order(o: Order) {
     word(b"order");
     spaced(o.size);
-    spaced(o.kind as u64);
+    spaced(o.memtype as u64);
     spaced(o.map as u64);
 }
 

@@ -98,7 +98,7 @@ pub fn tell_asked(w: &mut [u64], answer: AskAnswer)
             ORDER,
             o.store as u64,
             o.size,
-            o.kind as u64,
+            o.memtype as u64,
             o.map as u64,
         ),
         AskAnswer::Refused(r) => tell_refused(w, r),

@@ -46,7 +46,7 @@ fn read_store(w: &[u64], n: usize) -> StoreSettings
 {
     StoreSettings {
         number: narrow(w[0]),
-        kind: narrow(w[1]),
+        memtype: narrow(w[1]),
         properties: narrow(w[2]),
         heap: w[3] as usize,
         atom: w[4],

@@ -34,7 +34,7 @@ const ORDER_STORE_AT: usize = 98;
 
 const ORDER_SIZE_AT: usize = 99;
 
-const ORDER_KIND_AT: usize = 100;
+const ORDER_MEMTYPE_AT: usize = 100;
 
 const ORDER_MAP_AT: usize = 101;
 
@@ -54,7 +54,7 @@ pub fn is_account(w: &[u64]) -> bool
     is_narrow(w, OBJECTS_AT)
         & (words::word(w, OPEN_AT) <= 1)
         & is_narrow(w, ORDER_STORE_AT)
-        & is_narrow(w, ORDER_KIND_AT)
+        & is_narrow(w, ORDER_MEMTYPE_AT)
         & (words::word(w, ORDER_MAP_AT) <= 1)
 }
 
@@ -119,7 +119,7 @@ pub fn read_order(w: &[u64]) -> OpenOrder
         order: Order {
             store: narrow(words::word(w, ORDER_STORE_AT)),
             size: words::word(w, ORDER_SIZE_AT),
-            kind: narrow(words::word(w, ORDER_KIND_AT)),
+            memtype: narrow(words::word(w, ORDER_MEMTYPE_AT)),
             map: words::word(w, ORDER_MAP_AT) == 1,
         },
     })
@@ -133,8 +133,8 @@ pub fn read_share(w: &[u64], s: StoreSettings, table: bool) -> Share
 {
     let heap = read_heap(w, s.heap);
     Share {
-        table: table,
-        free: w[OPEN_AT] == 0,
+        bounded: table,
+        idle: w[OPEN_AT] == 0,
         heap: heap,
         objects: narrow(w[OBJECTS_AT]),
     }
@@ -156,16 +156,16 @@ fn put_heap(w: &mut [u64], i: usize, h: Heap)
 }
 
 // The store's heap and the objects are written again.
-pub fn put_share(w: &mut [u64], s: StoreSettings, h: Share)
+pub fn put_share(w: &mut [u64], s: StoreSettings, share: Share)
     requires { ⌜ accountOk (now w) ≡ true ⌝ }
-    ensures { λ _. ⌜ now (w .exit) ≡ shareOut (s .heap) h (now (w .entry)) ⌝ }
+    ensures { λ _. ⌜ now (w .exit) ≡ shareOut (s .heap) share (now (w .entry)) ⌝ }
 {
     let i = s.heap;
     if i < HEAPS {
-        let heap = h.heap;
+        let heap = share.heap;
         put_heap(w, i, heap);
     }
-    words::put(w, OBJECTS_AT, h.objects as u64);
+    words::put(w, OBJECTS_AT, share.objects as u64);
 }
 
 // An order is open.
@@ -177,7 +177,7 @@ fn put_kept(w: &mut [u64], k: KeptOrder)
     words::put(w, OPEN_AT, 1);
     words::put(w, ORDER_STORE_AT, o.store as u64);
     words::put(w, ORDER_SIZE_AT, o.size);
-    words::put(w, ORDER_KIND_AT, o.kind as u64);
+    words::put(w, ORDER_MEMTYPE_AT, o.memtype as u64);
     words::put(w, ORDER_MAP_AT, o.map as u64);
     words::put(w, ASK_SIZE_AT, a.size);
     words::put(w, ASK_MASK_AT, a.mask);

@@ -1,4 +1,4 @@
--- What a call writes of the account is read again as the account that it left. Assumes nothing.
+-- What a call writes of the account is read again as the account that it left.
 use mathlib.Core.Path.{_≡_, _∙_}
 use mathlib.Core.Bool.{true}
 use mathlib.Core.List.{List}
@@ -11,7 +11,7 @@ use Rattle.counter.specs.Limits.{heapsMost}
 use Rattle.counter.specs.declared.account.Account.{Account}
 use Rattle.counter.specs.declared.account.KeptOrder.{KeptOrder}
 use Rattle.counter.specs.declared.account.OpenOrder.the-variants.{Kept}
-use Rattle.wire_rules.specs.Wire.{narrowMost, accountWords, objectsAt, openAt, orderStoreAt, orderKindAt, orderMapAt, heapAt, heapIn, heapsIn, orderIn, accountIn, accountOk, heapsOut, accountOut}
+use Rattle.wire_rules.specs.Wire.{narrowMost, accountWords, objectsAt, openAt, orderStoreAt, orderMemtypeAt, orderMapAt, heapAt, heapIn, heapsIn, orderIn, accountIn, accountOk, heapsOut, accountOut}
 use Rattle.wire_rules.proofs.Heaps.{heaps-length, heap-same, heaps-each, heaps-front, heaps-past}
 use Rattle.wire_rules.proofs.Orders.{Right, right-yes, right-all, order-length, order-before, order-again, Tested, order-tested}
 
@@ -42,7 +42,7 @@ module _ (a : Account) (w : List ℕ) (right : Right w) where
       record {
         opened = omega (arith, unordered-past openAt (omega arith), right .opened-most);
         store = omega (arith, unordered-past orderStoreAt (omega arith), right .store-most);
-        kind = omega (arith, unordered-past orderKindAt (omega arith), right .kind-most);
+        memtype = omega (arith, unordered-past orderMemtypeAt (omega arith), right .memtype-most);
         map = omega (arith, unordered-past orderMapAt (omega arith), right .map-most);
       }
 
@@ -71,13 +71,13 @@ module _ (a : Account) (w : List ℕ) (right : Right w) where
   unfolding accountOut
   order-back = order-again (a .order) unordered unordered-whole
 
-  order-right : ((k : KeptOrder) → a .order ≡ Kept k → (k .order .store ≤ narrowMost) × (k .order .kind ≤ narrowMost)) → Tested (accountOut a w)
+  order-right : ((k : KeptOrder) → a .order ≡ Kept k → (k .order .store ≤ narrowMost) × (k .order .memtype ≤ narrowMost)) → Tested (accountOut a w)
   unfolding accountOut
   order-right n = order-tested (a .order) unordered unordered-whole unordered-tested n
 
 -- what a call writes is the words of an account, and read again it is the account that the call left
 pub account-again : (a : Account) (w : List ℕ) → accountOk w ≡ true → length (a .heaps) ≡ heapsMost → a .objects ≤ narrowMost
-    → ((k : KeptOrder) → a .order ≡ Kept k → (k .order .store ≤ narrowMost) × (k .order .kind ≤ narrowMost))
+    → ((k : KeptOrder) → a .order ≡ Kept k → (k .order .store ≤ narrowMost) × (k .order .memtype ≤ narrowMost))
     → (accountOk (accountOut a w) ≡ true) × (accountIn (accountOut a w) ≡ a)
 account-again a w ok heaps objects narrow =
     let r = right-yes w ok in
@@ -87,7 +87,7 @@ account-again a w ok heaps objects narrow =
         objects-most = omega (arith, objects-again a w r);
         opened-most = t .opened;
         store-most = t .store;
-        kind-most = t .kind;
+        memtype-most = t .memtype;
         map-most = t .map;
       }),
       rw (heaps-back a w r heaps, objects-again a w r, order-back a w r),

@@ -1,4 +1,4 @@
--- A test as a number, as code makes it. Assumes nothing.
+-- A test as a number, as code makes it.
 use mathlib.Core.Path.{_≡_, refl}
 use mathlib.Core.Bool.{Bool, true, false}
 use mir.Val.{boolByte}

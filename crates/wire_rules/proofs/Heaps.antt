@@ -1,4 +1,4 @@
--- The heaps' words, one heap after the other: read, written, and read again. Assumes nothing.
+-- The heaps' words, one heap after the other: read, written, and read again.
 use mathlib.Core.Path.{_≡_, refl, sym, ap, _∙_}
 use mathlib.Core.List.{List, [], _∷_, _++_}
 use mathlib.Core.Logic.{⊎-elim}

@@ -1,4 +1,4 @@
--- What a call leaves of the words that were lent to it, by what the tests of those words said. Assumes nothing.
+-- What a call leaves of the words that were lent to it, by what the tests of those words said.
 use mathlib.Core.Path.{_≡_, sym, ap, _∙_}
 use mathlib.Core.Bool.{Bool, true, false, _&&_}
 use mathlib.Core.List.{List, []}

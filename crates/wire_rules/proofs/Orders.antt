@@ -1,4 +1,4 @@
--- The words past the heaps: what a test of them says, the order read and written, and read again. Assumes nothing.
+-- The words past the heaps: what a test of them says, the order read and written, and read again.
 use mathlib.Core.Path.{_≡_, refl, sym, ap, _∙_}
 use mathlib.Core.Bool.{Bool, true, false, _&&_}
 use mathlib.Core.List.{List}
@@ -18,7 +18,7 @@ use Rattle.counter.specs.declared.account.OpenOrder.the-variants.{Nothing, Kept
 use Rattle.counter.specs.declared.account.Order.{Order}
 use Rattle.counter.specs.declared.answers.AskAnswer.{AskAnswer}
 use Rattle.counter.specs.declared.answers.AskAnswer.the-variants as A
-use Rattle.wire_rules.specs.Wire.{narrowMost, narrowOk, accountWords, objectsAt, openAt, orderStoreAt, orderSizeAt, orderKindAt, orderMapAt, askSizeAt, askMaskAt, orderIn, accountOk, flag, orderWordsOut, orderOut, askedOut}
+use Rattle.wire_rules.specs.Wire.{narrowMost, narrowOk, accountWords, objectsAt, openAt, orderStoreAt, orderSizeAt, orderMemtypeAt, orderMapAt, askSizeAt, askMaskAt, orderIn, accountOk, flag, orderWordsOut, orderOut, askedOut}
 use Rattle.wire_rules.proofs.Heaps.{over, on}
 use Rattle.wire_rules.proofs.Flags.{cast-flag}
 
@@ -28,7 +28,7 @@ pub record Right (w : List ℕ) : Type 0 where
   pub objects-most : getD w objectsAt 0 ≤ narrowMost
   pub opened-most : getD w openAt 0 ≤ 1
   pub store-most : getD w orderStoreAt 0 ≤ narrowMost
-  pub kind-most : getD w orderKindAt 0 ≤ narrowMost
+  pub memtype-most : getD w orderMemtypeAt 0 ≤ narrowMost
   pub map-most : getD w orderMapAt 0 ≤ 1
 
 -- five tests, put together from the left or from the right
@@ -40,12 +40,12 @@ five true true true d e = refl
 
 -- the test, as the code makes it where there are as many words as there are to be
 pub account-told : (w : List ℕ) (b d e : Bool) (n m : ℕ) → length w ≡ accountWords → b ≡ narrowOk w objectsAt → n ≡ getD w openAt 0 → d ≡ narrowOk w orderStoreAt
-    → e ≡ narrowOk w orderKindAt → m ≡ getD w orderMapAt 0
+    → e ≡ narrowOk w orderMemtypeAt → m ≡ getD w orderMapAt 0
     → ((((b && leb n 1) && d) && e) && leb m 1) ≡ accountOk w
 unfolding accountOk
 account-told w b d e n m l hb hn hd he hm =
     rw (eq-eqb (length w) accountWords l, hb, hn, hd, he, hm)
-    (five (narrowOk w objectsAt) (leb (getD w openAt 0) 1) (narrowOk w orderStoreAt) (narrowOk w orderKindAt) (leb (getD w orderMapAt 0) 1))
+    (five (narrowOk w objectsAt) (leb (getD w openAt 0) 1) (narrowOk w orderStoreAt) (narrowOk w orderMemtypeAt) (leb (getD w orderMapAt 0) 1))
 
 -- and where there are not
 pub account-not : (w : List ℕ) → (length w ≡ accountWords → ⊥) → false ≡ accountOk w
@@ -65,8 +65,8 @@ right-yes w e =
       objects-most = leb-true _ _ (and-left _ _ e1);
       opened-most = leb-true _ _ (and-left _ _ e2);
       store-most = leb-true _ _ (and-left _ _ e3);
-      kind-most = leb-true _ _ (and-left _ _ e4);
-      map-most = leb-true _ _ (and-right (narrowOk w orderKindAt) _ e4);
+      memtype-most = leb-true _ _ (and-left _ _ e4);
+      map-most = leb-true _ _ (and-right (narrowOk w orderMemtypeAt) _ e4);
     }
 
 -- and words that are right pass it
@@ -76,7 +76,7 @@ right-all w r =
     and-both _ _ (eq-eqb _ _ (r .whole))
     (and-both _ _ (le-leb _ _ (r .objects-most))
     (and-both _ _ (le-leb _ _ (r .opened-most))
-    (and-both _ _ (le-leb _ _ (r .store-most)) (and-both _ _ (le-leb _ _ (r .kind-most)) (le-leb _ _ (r .map-most))))))
+    (and-both _ _ (le-leb _ _ (r .store-most)) (and-both _ _ (le-leb _ _ (r .memtype-most)) (le-leb _ _ (r .map-most))))))
 
 -- ---- as the code reads an order
 
@@ -88,8 +88,8 @@ order-none w n e z = rw (eq-eqb (getD w openAt 0) 0 (sym e ∙ z))
 -- where one is; t and l are its store and type, by numbers of 32 bits
 pub order-kept : (w : List ℕ) (n a b s t z k l m : ℕ) → n ≡ getD w openAt 0 → (n ≡ 0 → ⊥)
     → a ≡ getD w askSizeAt 0 → b ≡ getD w askMaskAt 0 → s ≡ getD w orderStoreAt 0 → t ≡ s → z ≡ getD w orderSizeAt 0
-    → k ≡ getD w orderKindAt 0 → l ≡ k → m ≡ getD w orderMapAt 0
-    → Kept (record { ask = record { size = a; mask = b }; order = record { store = t; size = z; kind = l; map = eqb m 1 } }) ≡ orderIn w
+    → k ≡ getD w orderMemtypeAt 0 → l ≡ k → m ≡ getD w orderMapAt 0
+    → Kept (record { ask = record { size = a; mask = b }; order = record { store = t; size = z; memtype = l; map = eqb m 1 } }) ≡ orderIn w
 unfolding orderIn
 order-kept w n a b s t z k l m e ne ea eb es et ez ek el em =
     rw (ne-eqb (getD w openAt 0) 0 (λ q. ne (e ∙ q)), ea, eb, et, es, ez, el, ek, em)
@@ -98,7 +98,7 @@ order-kept w n a b s t z k l m e ne ea eb es et ez ek el em =
 
 -- seven words put in turn are a kept order's
 pub put-kept : (k : KeptOrder) (w a b c d e f g : List ℕ)
-    → a ≡ set w openAt 1 → b ≡ set a orderStoreAt (k .order .store) → c ≡ set b orderSizeAt (k .order .size) → d ≡ set c orderKindAt (k .order .kind)
+    → a ≡ set w openAt 1 → b ≡ set a orderStoreAt (k .order .store) → c ≡ set b orderSizeAt (k .order .size) → d ≡ set c orderMemtypeAt (k .order .memtype)
     → e ≡ set d orderMapAt (boolByte (k .order .map)) → f ≡ set e askSizeAt (k .ask .size) → g ≡ set f askMaskAt (k .ask .mask)
     → g ≡ orderOut (Kept k) w
 unfolding orderOut orderWordsOut
@@ -136,7 +136,7 @@ order-words-before o s z k m a b w i l =
     let n0 : i ≡ openAt → ⊥ = λ e. omega arith in
     let n1 : i ≡ orderStoreAt → ⊥ = λ e. omega arith in
     let n2 : i ≡ orderSizeAt → ⊥ = λ e. omega arith in
-    let n3 : i ≡ orderKindAt → ⊥ = λ e. omega arith in
+    let n3 : i ≡ orderMemtypeAt → ⊥ = λ e. omega arith in
     let n4 : i ≡ orderMapAt → ⊥ = λ e. omega arith in
     let n5 : i ≡ askSizeAt → ⊥ = λ e. omega arith in
     let n6 : i ≡ askMaskAt → ⊥ = λ e. omega arith in
@@ -153,7 +153,7 @@ record Seven (v : List ℕ) (o s z k m a b : ℕ) : Type 0 where
   pub open-is : getD v openAt 0 ≡ o
   pub store-is : getD v orderStoreAt 0 ≡ s
   pub size-is : getD v orderSizeAt 0 ≡ z
-  pub kind-is : getD v orderKindAt 0 ≡ k
+  pub memtype-is : getD v orderMemtypeAt 0 ≡ k
   pub map-is : getD v orderMapAt 0 ≡ m
   pub asked-is : getD v askSizeAt 0 ≡ a
   pub mask-is : getD v askMaskAt 0 ≡ b
@@ -167,17 +167,17 @@ seven o s z k m a b w l =
     let l1 : length w1 ≡ accountWords = length-set w0 orderStoreAt s ∙ l0 in
     let w2 = set w1 orderSizeAt z in
     let l2 : length w2 ≡ accountWords = length-set w1 orderSizeAt z ∙ l1 in
-    let w3 = set w2 orderKindAt k in
-    let l3 : length w3 ≡ accountWords = length-set w2 orderKindAt k ∙ l2 in
+    let w3 = set w2 orderMemtypeAt k in
+    let l3 : length w3 ≡ accountWords = length-set w2 orderMemtypeAt k ∙ l2 in
     let w4 = set w3 orderMapAt m in
     let l4 : length w4 ≡ accountWords = length-set w3 orderMapAt m ∙ l3 in
     let w5 = set w4 askSizeAt a in
     let l5 : length w5 ≡ accountWords = length-set w4 askSizeAt a ∙ l4 in
     record {
-      open-is = over w5 askMaskAt openAt b o (omega arith) (over w4 askSizeAt openAt a o (omega arith) (over w3 orderMapAt openAt m o (omega arith) (over w2 orderKindAt openAt k o (omega arith) (over w1 orderSizeAt openAt z o (omega arith) (over w0 orderStoreAt openAt s o (omega arith) (on w openAt o accountWords l (omega arith)))))));
-      store-is = over w5 askMaskAt orderStoreAt b s (omega arith) (over w4 askSizeAt orderStoreAt a s (omega arith) (over w3 orderMapAt orderStoreAt m s (omega arith) (over w2 orderKindAt orderStoreAt k s (omega arith) (over w1 orderSizeAt orderStoreAt z s (omega arith) (on w0 orderStoreAt s accountWords l0 (omega arith))))));
-      size-is = over w5 askMaskAt orderSizeAt b z (omega arith) (over w4 askSizeAt orderSizeAt a z (omega arith) (over w3 orderMapAt orderSizeAt m z (omega arith) (over w2 orderKindAt orderSizeAt k z (omega arith) (on w1 orderSizeAt z accountWords l1 (omega arith)))));
-      kind-is = over w5 askMaskAt orderKindAt b k (omega arith) (over w4 askSizeAt orderKindAt a k (omega arith) (over w3 orderMapAt orderKindAt m k (omega arith) (on w2 orderKindAt k accountWords l2 (omega arith))));
+      open-is = over w5 askMaskAt openAt b o (omega arith) (over w4 askSizeAt openAt a o (omega arith) (over w3 orderMapAt openAt m o (omega arith) (over w2 orderMemtypeAt openAt k o (omega arith) (over w1 orderSizeAt openAt z o (omega arith) (over w0 orderStoreAt openAt s o (omega arith) (on w openAt o accountWords l (omega arith)))))));
+      store-is = over w5 askMaskAt orderStoreAt b s (omega arith) (over w4 askSizeAt orderStoreAt a s (omega arith) (over w3 orderMapAt orderStoreAt m s (omega arith) (over w2 orderMemtypeAt orderStoreAt k s (omega arith) (over w1 orderSizeAt orderStoreAt z s (omega arith) (on w0 orderStoreAt s accountWords l0 (omega arith))))));
+      size-is = over w5 askMaskAt orderSizeAt b z (omega arith) (over w4 askSizeAt orderSizeAt a z (omega arith) (over w3 orderMapAt orderSizeAt m z (omega arith) (over w2 orderMemtypeAt orderSizeAt k z (omega arith) (on w1 orderSizeAt z accountWords l1 (omega arith)))));
+      memtype-is = over w5 askMaskAt orderMemtypeAt b k (omega arith) (over w4 askSizeAt orderMemtypeAt a k (omega arith) (over w3 orderMapAt orderMemtypeAt m k (omega arith) (on w2 orderMemtypeAt k accountWords l2 (omega arith))));
       map-is = over w5 askMaskAt orderMapAt b m (omega arith) (over w4 askSizeAt orderMapAt a m (omega arith) (on w3 orderMapAt m accountWords l3 (omega arith)));
       asked-is = over w5 askMaskAt askSizeAt b a (omega arith) (on w4 askSizeAt a accountWords l4 (omega arith));
       mask-is = on w5 askMaskAt b accountWords l5 (omega arith);
@@ -196,35 +196,35 @@ pub order-again : (o : OpenOrder) (w : List ℕ) → length w ≡ accountWords �
 unfolding orderIn orderOut
 order-again Nothing w l = let e : getD (set w openAt 0) openAt 0 ≡ 0 = on w openAt 0 accountWords l (omega arith) in rw e
 order-again (Kept k) w l =
-    let t = seven 1 (k .order .store) (k .order .size) (k .order .kind) (flag (k .order .map)) (k .ask .size) (k .ask .mask) w l in
-    rw (t .open-is, t .store-is, t .size-is, t .kind-is, t .map-is, t .asked-is, t .mask-is, unflag (k .order .map))
+    let t = seven 1 (k .order .store) (k .order .size) (k .order .memtype) (flag (k .order .map)) (k .ask .size) (k .ask .mask) w l in
+    rw (t .open-is, t .store-is, t .size-is, t .memtype-is, t .map-is, t .asked-is, t .mask-is, unflag (k .order .map))
 
 -- the tested words of an order
 pub record Tested (v : List ℕ) : Type 0 where
   pub opened : getD v openAt 0 ≤ 1
   pub store : getD v orderStoreAt 0 ≤ narrowMost
-  pub kind : getD v orderKindAt 0 ≤ narrowMost
+  pub memtype : getD v orderMemtypeAt 0 ≤ narrowMost
   pub map : getD v orderMapAt 0 ≤ 1
 
 -- and passes the test, where its store and type are of 32 bits, and where the words that none leaves passed it
 pub order-tested : (o : OpenOrder) (w : List ℕ) → length w ≡ accountWords → Tested w
-    → ((k : KeptOrder) → o ≡ Kept k → (k .order .store ≤ narrowMost) × (k .order .kind ≤ narrowMost)) → Tested (orderOut o w)
+    → ((k : KeptOrder) → o ≡ Kept k → (k .order .store ≤ narrowMost) × (k .order .memtype ≤ narrowMost)) → Tested (orderOut o w)
 unfolding orderOut
 order-tested Nothing w l t h =
     let past : (k : ℕ) → openAt < k → getD (set w openAt 0) k 0 ≡ getD w k 0 = λ k q. getD-set-other w openAt k 0 0 (λ e. omega arith) in
     record {
       opened = omega (arith, on w openAt 0 accountWords l (omega arith));
       store = omega (arith, past orderStoreAt (omega arith), t .store);
-      kind = omega (arith, past orderKindAt (omega arith), t .kind);
+      memtype = omega (arith, past orderMemtypeAt (omega arith), t .memtype);
       map = omega (arith, past orderMapAt (omega arith), t .map);
     }
 order-tested (Kept k) w l tested h =
-    let t = seven 1 (k .order .store) (k .order .size) (k .order .kind) (flag (k .order .map)) (k .ask .size) (k .ask .mask) w l in
+    let t = seven 1 (k .order .store) (k .order .size) (k .order .memtype) (flag (k .order .map)) (k .ask .size) (k .ask .mask) w l in
     let n = h k refl in
     record {
       opened = omega (arith, t .open-is);
       store = omega (arith, t .store-is, n .0);
-      kind = omega (arith, t .kind-is, n .1);
+      memtype = omega (arith, t .memtype-is, n .1);
       map = omega (arith, t .map-is, flag-most (k .order .map));
     }
 
@@ -243,5 +243,5 @@ order-stays w opened map =
     rw (eq-eqb (getD w openAt 0) 0 e) (ap (set w openAt) (sym e) ∙ set-getD w openAt 0))
     (λ (n : getD w openAt 0 ≡ 0 → ⊥).
     let e : 1 ≡ getD w openAt 0 = omega (arith, n) in
-    rw (ne-eqb (getD w openAt 0) 0 n, flag-back (getD w orderMapAt 0) map, e, set-getD w openAt 0, set-getD w orderStoreAt 0, set-getD w orderSizeAt 0, set-getD w orderKindAt 0, set-getD w orderMapAt 0, set-getD w askSizeAt 0, set-getD w askMaskAt 0))
+    rw (ne-eqb (getD w openAt 0) 0 n, flag-back (getD w orderMapAt 0) map, e, set-getD w openAt 0, set-getD w orderStoreAt 0, set-getD w orderSizeAt 0, set-getD w orderMemtypeAt 0, set-getD w orderMapAt 0, set-getD w askSizeAt 0, set-getD w askMaskAt 0))
     (same? (getD w openAt 0) 0)

@@ -1,4 +1,4 @@
--- What words that are settings say of their number and of the fields of 32 bits. Assumes nothing.
+-- What words that are settings say of their number and of the fields of 32 bits.
 use mathlib.Core.Path.{_≡_}
 use mathlib.Core.Bool.{true, _&&_}
 use mathlib.Core.List.{List}
@@ -17,7 +17,7 @@ settings-whole n w e = eqb-true (length w) n (and-left (eqb (length w) n) (narro
 -- number, memory type and properties are of 32 bits
 pub record Narrow (w : List ℕ) : Type 0 where
   pub number-most : getD w 0 0 ≤ narrowMost
-  pub kind-most : getD w 1 0 ≤ narrowMost
+  pub memtype-most : getD w 1 0 ≤ narrowMost
   pub properties-most : getD w 2 0 ≤ narrowMost
 
 -- words that pass as settings are narrow where they are to be
@@ -28,6 +28,6 @@ settings-narrow n w e =
     let g = and-right (narrowOk w 0) (narrowOk w 1 && narrowOk w 2) f in
     record {
       number-most = leb-true (getD w 0 0) narrowMost (and-left (narrowOk w 0) (narrowOk w 1 && narrowOk w 2) f);
-      kind-most = leb-true (getD w 1 0) narrowMost (and-left (narrowOk w 1) (narrowOk w 2) g);
+      memtype-most = leb-true (getD w 1 0) narrowMost (and-left (narrowOk w 1) (narrowOk w 2) g);
       properties-most = leb-true (getD w 2 0) narrowMost (and-right (narrowOk w 1) (narrowOk w 2) g);
     }

@@ -1,5 +1,5 @@
 -- A store's share of the account, in words: as the code reads and writes it; and what a call writes of it is what it would write of
--- the whole account, since all else is in the words as it was. Assumes nothing.
+-- the whole account, since all else is in the words as it was.
 use mathlib.Core.Path.{_≡_, refl, sym, ap, subst, _∙_}
 use mathlib.Core.Bool.{Bool, true, false, cond, _&&_}
 use mathlib.Core.List.{List}
@@ -22,11 +22,13 @@ use Rattle.counter.specs.declared.account.OpenOrder.the-variants.{Nothing, Kept
 use Rattle.counter.specs.declared.settings.StoreSettings.{StoreSettings}
 use Rattle.counter.proofs.Tables.{heaps-more}
 use Rattle.store_rules.specs.Outcomes.{withOrder}
-use Rattle.store_rules.specs.Shares.{shareOf, withShare, holding, holder, askLeft, Alike}
+use Rattle.store_rules.specs.Shares.{shareOf, withShare, askLeft}
+use Rattle.store_rules.specs.Alike.{Alike}
+use Rattle.store_rules.proofs.Holders.{holding, holder}
 use Rattle.store_rules.specs.Tests.{noOrder}
 use Rattle.store_rules.specs.declared.Share.{Share}
 use Rattle.store_rules.proofs.Shares.{held-alike, holder-alike}
-use Rattle.wire_rules.specs.Wire.{objectsAt, openAt, orderStoreAt, orderSizeAt, orderKindAt, orderMapAt, askSizeAt, askMaskAt, heapIn, heapsIn, orderIn, accountIn, accountOk, heapOut, heapsOut, orderOut, accountOut, shareOut, askedOut}
+use Rattle.wire_rules.specs.Wire.{objectsAt, openAt, orderStoreAt, orderSizeAt, orderMemtypeAt, orderMapAt, askSizeAt, askMaskAt, heapIn, heapsIn, orderIn, accountIn, accountOk, heapOut, heapsOut, orderOut, accountOut, shareOut, askedOut}
 use Rattle.wire_rules.proofs.Heaps.{read-six, heap-length, heap-other, heaps-many, heaps-at, heaps-stay, heaps-one}
 use Rattle.wire_rules.proofs.Orders.{right-yes, order-stays}
 
@@ -60,7 +62,7 @@ module _ (w : List ℕ) where
       by (eqb (getD w openAt 0) 0)
       (record {
         ask = record { size = getD w askSizeAt 0; mask = getD w askMaskAt 0 };
-        order = record { store = getD w orderStoreAt 0; size = getD w orderSizeAt 0; kind = getD w orderKindAt 0; map = eqb (getD w orderMapAt 0) 1 };
+        order = record { store = getD w orderStoreAt 0; size = getD w orderSizeAt 0; memtype = getD w orderMemtypeAt 0; map = eqb (getD w orderMapAt 0) 1 };
       })
     where
       by : (b : Bool) (k : KeptOrder) → b ≡ noOrder (cond b Nothing (Kept k))
@@ -68,7 +70,7 @@ module _ (w : List ℕ) where
       by false k = refl
 
   pub read-share : (s : StoreSettings) (table : Bool) (g : Heap) (n : ℕ) → g ≡ heapAt (accountIn w) (s .heap) → table ≡ heapsOk heaps → n ≡ getD w objectsAt 0
-      → record { table = table; free = eqb (getD w openAt 0) 0; heap = g; objects = n } ≡ shareOf s (accountIn w)
+      → record { bounded = table; idle = eqb (getD w openAt 0) 0; heap = g; objects = n } ≡ shareOf s (accountIn w)
   read-share s table g n e f k = rw (e, f, k, free-read)
 
 -- what was read of an account, held by an account that has nothing else
@@ -131,7 +133,7 @@ module _ (w : List ℕ) where
   pub asked-out : accountOk w ≡ true → (size mask : ℕ) (said : Said) → accountOut (askLeft (accountIn w) size mask said) w ≡ askedOut size mask said w
   asked-out ok size mask Paper.ready = account-kept ok
   asked-out ok size mask (Paper.block serial chunk offset z) = account-kept ok
-  asked-out ok size mask (Paper.order store z kind map) = order-alone _
+  asked-out ok size mask (Paper.order store z memtype map) = order-alone _
   asked-out ok size mask (Paper.released n) = account-kept ok
   asked-out ok size mask Paper.ranked = account-kept ok
   asked-out ok size mask (Paper.refusal n back) = account-kept ok
@@ -171,7 +173,7 @@ module _ (w : List ℕ) where
     order-past : orderIn (shareOut i h w) ≡ orderIn w
     unfolding orderIn
     order-past =
-        rw (share-past openAt (omega arith), share-past orderStoreAt (omega arith), share-past orderSizeAt (omega arith), share-past orderKindAt (omega arith), share-past orderMapAt (omega arith), share-past askSizeAt (omega arith), share-past askMaskAt (omega arith))
+        rw (share-past openAt (omega arith), share-past orderStoreAt (omega arith), share-past orderSizeAt (omega arith), share-past orderMemtypeAt (omega arith), share-past orderMapAt (omega arith), share-past askSizeAt (omega arith), share-past askMaskAt (omega arith))
 
     pub order-kept-out : accountOk w ≡ true → orderOut (orderIn w) (shareOut i h w) ≡ shareOut i h w
     order-kept-out ok =

@@ -1,4 +1,4 @@
--- An answer's six words: put one after another, and what they say. Assumes nothing.
+-- An answer's six words: put one after another, and what they say.
 use mathlib.Core.Path.{_≡_, sym, ap, _∙_}
 use mathlib.Core.List.{List}
 use Prim.Native.Nat.{ℕ}
@@ -34,9 +34,9 @@ refused-memory w v r n m e f t =
     t ∙ ap (λ (x : ℕ). answerOut 4 x 1 m 0 w) e ∙ sym (ap (λ (x : ToFree). saidOut (refusal (numberOf (r .refusal)) (freeOf x)) w) f)
 
 -- an order; whether to map is a test as a number
-pub told-order : (w v : List ℕ) (o : Order) → v ≡ answerOut 2 (o .store) (o .size) (o .kind) (boolByte (o .map)) w → v ≡ saidOut (orderOf o) w
+pub told-order : (w v : List ℕ) (o : Order) → v ≡ answerOut 2 (o .store) (o .size) (o .memtype) (boolByte (o .map)) w → v ≡ saidOut (orderOf o) w
 unfolding saidOut
-told-order w v o t = t ∙ ap (λ (x : ℕ). answerOut 2 (o .store) (o .size) (o .kind) x w) (cast-flag (o .map))
+told-order w v o t = t ∙ ap (λ (x : ℕ). answerOut 2 (o .store) (o .size) (o .memtype) x w) (cast-flag (o .map))
 
 -- equal answers are told alike
 pub told-as : {A : Type 0} (say : A → Said) (w v : List ℕ) (x y : A) → y ≡ x → v ≡ saidOut (say x) w → v ≡ saidOut (say y) w

@@ -1,6 +1,5 @@
 -- What a call leaves of the words that a caller in another language lends: the answer as it is said, the account's words, and the
--- tables. Words that are no settings, account or outcome are refused as 1, and nothing changes. Assumes nothing: these are
--- definitions.
+-- tables. Words that are no settings, account or outcome are refused as 1, and nothing changes.
 use mathlib.Core.Bool.{Bool, cond}
 use mathlib.Core.List.{List, []}
 use Prim.Native.Nat.{ℕ}

@@ -1,5 +1,4 @@
--- Settings, account, outcomes and answers as words, for callers that lend numbers and slices alone. Assumes nothing: these are
--- definitions.
+-- Settings, account, outcomes and answers as words, for callers that lend numbers and slices alone.
 use mathlib.Core.Bool.{Bool, cond, _&&_}
 use mathlib.Core.List.{List, [], _∷_, _++_}
 use Prim.Native.Nat.{ℕ, zero, suc, _^_, _-_}
@@ -43,7 +42,7 @@ abbrev pub storeIn : List ℕ → StoreSettings
 storeIn w =
     record {
       number = getD w 0 0;
-      kind = getD w 1 0;
+      memtype = getD w 1 0;
       properties = getD w 2 0;
       heap = getD w 3 0;
       atom = getD w 4 0;
@@ -79,8 +78,8 @@ orderStoreAt = 98
 abbrev pub orderSizeAt : ℕ
 orderSizeAt = 99
 
-abbrev pub orderKindAt : ℕ
-orderKindAt = 100
+abbrev pub orderMemtypeAt : ℕ
+orderMemtypeAt = 100
 
 abbrev pub orderMapAt : ℕ
 orderMapAt = 101
@@ -118,7 +117,7 @@ orderIn w =
     (Kept
     (record {
       ask = record { size = getD w askSizeAt 0; mask = getD w askMaskAt 0 };
-      order = record { store = getD w orderStoreAt 0; size = getD w orderSizeAt 0; kind = getD w orderKindAt 0; map = eqb (getD w orderMapAt 0) 1 };
+      order = record { store = getD w orderStoreAt 0; size = getD w orderSizeAt 0; memtype = getD w orderMemtypeAt 0; map = eqb (getD w orderMapAt 0) 1 };
     }))
 
 abbrev pub accountIn : List ℕ → Account
@@ -128,7 +127,7 @@ accountIn w = record { heaps = heapsIn w heapsMost; objects = getD w objectsAt 0
 unfoldable pub accountOk : List ℕ → Bool
 accountOk w =
     eqb (length w) accountWords
-    && (narrowOk w objectsAt && (leb (getD w openAt 0) 1 && (narrowOk w orderStoreAt && (narrowOk w orderKindAt && leb (getD w orderMapAt 0) 1))))
+    && (narrowOk w objectsAt && (leb (getD w openAt 0) 1 && (narrowOk w orderStoreAt && (narrowOk w orderMemtypeAt && leb (getD w orderMapAt 0) 1))))
 
 -- written again
 unfoldable pub heapOut : Heap → ℕ → List ℕ → List ℕ
@@ -150,13 +149,13 @@ flag b = cond b 1 0
 
 -- the seven words of an order
 unfoldable pub orderWordsOut : ℕ → ℕ → ℕ → ℕ → ℕ → ℕ → ℕ → List ℕ → List ℕ
-orderWordsOut opened store size kind map asked mask w =
-    set (set (set (set (set (set (set w openAt opened) orderStoreAt store) orderSizeAt size) orderKindAt kind) orderMapAt map) askSizeAt asked) askMaskAt mask
+orderWordsOut opened store size memtype map asked mask w =
+    set (set (set (set (set (set (set w openAt opened) orderStoreAt store) orderSizeAt size) orderMemtypeAt memtype) orderMapAt map) askSizeAt asked) askMaskAt mask
 
 -- the words of an order that is not open are spare
 unfoldable pub orderOut : OpenOrder → List ℕ → List ℕ
 orderOut Nothing w = set w openAt 0
-orderOut (Kept k) w = orderWordsOut 1 (k .order .store) (k .order .size) (k .order .kind) (flag (k .order .map)) (k .ask .size) (k .ask .mask) w
+orderOut (Kept k) w = orderWordsOut 1 (k .order .store) (k .order .size) (k .order .memtype) (flag (k .order .map)) (k .ask .size) (k .ask .mask) w
 
 unfoldable pub accountOut : Account → List ℕ → List ℕ
 accountOut a w = orderOut (a .order) (set (heapsOut (a .heaps) heapsMost w) objectsAt (a .objects))
@@ -169,9 +168,9 @@ shareOut i h w = set (cond (ltb i heapsMost) (heapOut (h .heap) i w) w) objectsA
 abbrev pub askedOut : ℕ → ℕ → Said → List ℕ → List ℕ
 askedOut size mask Paper.ready w = w
 askedOut size mask (Paper.block serial chunk offset z) w = w
-askedOut size mask (Paper.order store z kind map) w =
+askedOut size mask (Paper.order store z memtype map) w =
     orderOut
-    (Kept (record { ask = record { size = size; mask = mask }; order = record { store = store; size = z; kind = kind; map = map } }))
+    (Kept (record { ask = record { size = size; mask = mask }; order = record { store = store; size = z; memtype = memtype; map = map } }))
     w
 askedOut size mask (Paper.released n) w = w
 askedOut size mask Paper.ranked w = w
@@ -199,7 +198,7 @@ answerOut what a b c d w = set (set (set (set (set (set w 0 what) 1 a) 2 b) 3 c)
 unfoldable pub saidOut : Said → List ℕ → List ℕ
 saidOut Paper.ready w = answerOut 0 0 0 0 0 w
 saidOut (Paper.block serial chunk offset size) w = answerOut 1 serial chunk offset size w
-saidOut (Paper.order store size kind map) w = answerOut 2 store size kind (flag map) w
+saidOut (Paper.order store size memtype map) w = answerOut 2 store size memtype (flag map) w
 saidOut (Paper.released n) w = answerOut 3 n 0 0 0 w
 saidOut Paper.ranked w = answerOut 5 0 0 0 0 w
 saidOut (Paper.refusal n back) w = answerOut 4 n (length back) (getD back 0 0) 0 w

@@ -1,4 +1,4 @@
--- Where a record's word stands, against the ends of a table. Assumes nothing.
+-- Where a record's word stands, against the ends of a table.
 use mathlib.Core.Path.{subst}
 use Prim.Native.Nat.{ℕ, _*_, _≤_, _<_}
 use native.Mathlib.Nat.{mul-le-mul-right, one-mul}

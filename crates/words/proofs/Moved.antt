@@ -1,4 +1,4 @@
--- Words moved within a table: what one turn moves, how two moves join, and where nothing moves. Assumes nothing.
+-- Words moved within a table: what one turn moves, how two moves join, and where nothing moves.
 use mathlib.Core.Path.{_≡_, refl, sym, ap, _∙_}
 use mathlib.Core.Bool.{Bool, true, false, cond, _&&_}
 use mathlib.Core.List.{List, [], _∷_, _++_, append-assoc}

@@ -1,4 +1,4 @@
--- The laws of records in words, at any width. Assumes nothing.
+-- The laws of records in words, at any width.
 use mathlib.Core.Path.{_≡_, refl, sym, ap, subst, _∙_}
 use mathlib.Core.List.{List, [], _∷_, _++_, append-assoc, append-nil}
 use Prim.Native.Nat.{ℕ, zero, suc, _+_, _-_, _*_, _≤_, _<_}

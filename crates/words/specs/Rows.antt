@@ -1,5 +1,4 @@
 -- Records of one width, densely from the front of a lent table. Every law of them (proofs/Rows) is stated over the width.
--- Assumes nothing: these are definitions.
 use mathlib.Core.Path.{_≡_}
 use mathlib.Core.List.{List, [], _∷_, _++_}
 use Prim.Native.Nat.{ℕ, zero, suc, _*_, _≤_}

@@ -1,5 +1,4 @@
 -- Words of a lent table, and words moved within it. 01, "What one store holds": a store's tables are lent by the caller.
--- Assumes nothing: these are definitions.
 use mathlib.Core.Bool.{cond, _&&_}
 use mathlib.Core.List.{List}
 use Prim.Native.Nat.{ℕ, _+_, _*_, _-_, _^_}

@@ -3,8 +3,8 @@ use borrow.Author.Needs.{needs}
 use Rattle.buddy_levels.proofs.add_pair.Statement.{statement}
 use Rattle.buddy_levels.proofs.add_pair.Tie as tie
 
-spot-requires : tie.Need-spot-requires
-spot-requires c κs = search needs
+pair-taken-requires : tie.Need-pair-taken-requires
+pair-taken-requires c κs = search needs
 
 add-put : tie.Need-add-put
 add-put c = search needs
@@ -31,14 +31,14 @@ returns c =
     let f = e .before .before .before .before in
     let g = f .before .before .before in
     let a = g .before .before .before .args in
-    let taken = g .spot .ensures in
+    let taken = g .pair-taken .ensures in
     (spot-place (a .base) (a .tree .now) _ taken, pair-added (a .base) (a .tree .now) _ taken (a .chunk) (a .offset) (a .node) (a .left) _ _ _ (f .put .ensures) (e .put2 .ensures) (d .enter-pair .ensures))
 
 pub add-pair-spec : {M : Type 1} → statement M
 add-pair-spec =
     tie.close
     (tie.spec
-    spot-requires
+    pair-taken-requires
     add-put
     put-requires
     add-put-2

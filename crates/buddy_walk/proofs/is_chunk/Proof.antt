@@ -4,7 +4,7 @@ use native.Mathlib.Omega.{arith}
 use Rattle.lists.proofs.Bools.{not-yes, not-no}
 use Rattle.rounding_rules.proofs.Masks.{power-top}
 use Rattle.counter.specs.Limits.{levelsMost}
-use Rattle.buddy_levels.specs.Seen.{seen}
+use Rattle.buddy_levels.specs.Seen.{partTables}
 use Rattle.buddy_walk.proofs.Tops.{chunk-none, chunk-high, chunk-off, chunk-walk, level-low, whole-room, small-in}
 use Rattle.buddy_walk.proofs.is_chunk.Statement.{statement}
 use Rattle.buddy_walk.proofs.is_chunk.Tie as tie
@@ -16,7 +16,7 @@ returns : tie.Need-returns
 returns c =
     let n = c .before in
     let a = n .before .before .before .before .args in
-    chunk-none (a .s) (seen (a .levels) (a .places) (a .c + 1) (a .loans .now) (a .chunks .now) (a .tree .now)) (a .c) (n .cell .result) (omega arith) (n .cell .ensures) (c .if1 .taken)
+    chunk-none (a .s) (partTables (a .levels) (a .places) (a .c + 1) (a .loans .now) (a .chunks .now) (a .tree .now)) (a .c) (n .cell .result) (omega arith) (n .cell .ensures) (c .if1 .taken)
 
 level-requires : tie.Need-level-requires
 level-requires c κs = search needs
@@ -37,7 +37,7 @@ returns-2 c =
     let i = h .before in
     let n = i .before in
     let a = n .before .before .before .before .args in
-    chunk-high (a .s) (seen (a .levels) (a .places) (a .c + 1) (a .loans .now) (a .chunks .now) (a .tree .now)) (a .c) (n .cell .result) (omega arith) (n .cell .ensures)
+    chunk-high (a .s) (partTables (a .levels) (a .places) (a .c + 1) (a .loans .now) (a .chunks .now) (a .tree .now)) (a .c) (n .cell .result) (omega arith) (n .cell .ensures)
     (i .if1 .left) (h .level .result) (f .level2 .result) (h .level .ensures) (f .level2 .ensures) (not-yes _ (c .if2 .taken))
 
 chunks-from-requires : tie.Need-chunks-from-requires
@@ -67,7 +67,7 @@ returns-3 c =
     let i = h .before in
     let n = i .before in
     let a = n .before .before .before .before .args in
-    chunk-off (a .s) (seen (a .levels) (a .places) (a .c + 1) (a .loans .now) (a .chunks .now) (a .tree .now)) (a .c) (n .cell .result) (omega arith) (n .cell .ensures)
+    chunk-off (a .s) (partTables (a .levels) (a .places) (a .c + 1) (a .loans .now) (a .chunks .now) (a .tree .now)) (a .c) (n .cell .result) (omega arith) (n .cell .ensures)
     (i .if1 .left) (h .level .result) (f .level2 .result) (h .level .ensures) (f .level2 .ensures)
     (b .chunks-from .result) (m .before .cell2 .result) (m .node-bytes .result) (b .chunks-from .ensures .0) (m .before .cell2 .ensures) (m .node-bytes .ensures .0) (c .if3 .taken)
 
@@ -95,7 +95,7 @@ returns-4 c =
     let i = h .before in
     let n = i .before in
     let a = n .before .before .before .before .args in
-    chunk-walk (a .s) (seen (a .levels) (a .places) (a .c + 1) (a .loans .now) (a .chunks .now) (a .tree .now)) (a .c) (n .cell .result) (omega arith) (n .cell .ensures)
+    chunk-walk (a .s) (partTables (a .levels) (a .places) (a .c + 1) (a .loans .now) (a .chunks .now) (a .tree .now)) (a .c) (n .cell .result) (omega arith) (n .cell .ensures)
     (i .if1 .left) (h .level .result) (f .level2 .result) (h .level .ensures) (f .level2 .ensures)
     (b .chunks-from .result) (m .before .cell2 .result) (m .node-bytes .result) (b .chunks-from .ensures .0) (m .before .cell2 .ensures) (m .node-bytes .ensures .0)
     (c .is-node .result) (not-no _ (g .if2 .left)) (t .if3 .left) (c .is-node .ensures)

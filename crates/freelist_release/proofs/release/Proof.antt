@@ -1,10 +1,31 @@
 use borrow.Author.Needs.{needs}
-use Rattle.freelist_release.proofs.Releasing.{count-fits, released-some, released-none}
+use Rattle.freelist_release.proofs.Freeing.{drop-fits, drop-ready, gone-count, gone-bytes, gone-list, gone-tables}
 use Rattle.freelist_release.proofs.release.Statement.{statement}
 use Rattle.freelist_release.proofs.release.Tie as tie
 
-mark-requires : tie.Need-mark-requires
-mark-requires c κs = search needs
+count-at-requires : tie.Need-count-at-requires
+count-at-requires c κs = search needs
+
+word-requires : tie.Need-word-requires
+word-requires c κs = search needs
+
+word-requires-2 : tie.Need-word-requires-2
+word-requires-2 c κs = search needs
+
+drop-chunks-requires : tie.Need-drop-chunks-requires
+drop-chunks-requires c κs =
+    let n = c .before .before .before in
+    let k = n .before .before in
+    let at = k .before .before in
+    let b = at .before .before .before .before .before in
+    let a = b .args in
+    (drop-fits (a .s) (a .spare) (a .head .now) (a .chunks .now) (a .regions .now) (a .list .now) _ _ _ (at .count-at .ensures) (k .word .ensures) (n .word2 .ensures) (b .pre), drop-ready (a .s) (a .spare) (a .head .now) (a .chunks .now) (a .regions .now) (a .list .now) _ _ _ (at .count-at .ensures) (k .word .ensures) (n .word2 .ensures) (b .pre))
+
+put-requires : tie.Need-put-requires
+put-requires c κs = search needs
+
+put-requires-2 : tie.Need-put-requires-2
+put-requires-2 c κs = search needs
 
 same-length : tie.Need-same-length
 same-length c = search needs
@@ -15,53 +36,35 @@ same-length-2 c = search needs
 same-length-3 : tie.Need-same-length-3
 same-length-3 c = search needs
 
-returns : tie.Need-returns
-returns c =
-    let m = c .before .before .before .before in
-    let s = m .before .before .before .before .before .before .before in
-    let a = s .args in
-    released-none (a .chunks .now) (a .k) (a .regions .now) (a .n) (a .spare) (a .list .now) (s .pre .1) (m .mark .result .count) _ (m .mark .ensures .0) (m .mark .ensures .1 .1) (s .pre .0 .2) (c .if1 .taken) (s .pre .0 .0) (s .pre .0 .1)
-
-keep-regions-requires : tie.Need-keep-regions-requires
-keep-regions-requires c κs = search needs
-
-keep-chunks-requires : tie.Need-keep-chunks-requires
-keep-chunks-requires c κs =
-    let m = c .before .before .before .before .before .before .before .before .before .before .before in
-    let s = m .before .before .before .before .before .before .before in
-    let a = s .args in
-    (s .pre .0 .0, count-fits (a .chunks .now) (a .k) (a .regions .now) (a .n) (a .spare) (a .list .now) (s .pre .1) (m .mark .result .count) _ (m .mark .ensures .0) (m .mark .ensures .1 .1) (s .pre .0 .2))
-
 same-length-4 : tie.Need-same-length-4
 same-length-4 c = search needs
 
-same-length-5 : tie.Need-same-length-5
-same-length-5 c = search needs
-
-same-length-6 : tie.Need-same-length-6
-same-length-6 c = search needs
-
-returns-2 : tie.Need-returns-2
-returns-2 c =
-    let h = c .before .before in
-    let r = h .before .before .before .before .before in
-    let m = r .before .before .before .before .before .before .before in
-    let s = m .before .before .before .before .before .before .before in
-    let a = s .args in
-    released-some (a .chunks .now) (a .k) (a .regions .now) (a .n) (a .spare) (a .list .now) (s .pre .1) (m .mark .result .count) _ (m .mark .ensures .0) (m .mark .ensures .1 .1) (s .pre .0 .2) _ _ _ _ _ (m .mark .ensures .1 .0) (r .keep-regions .ensures) (h .keep-chunks .ensures)
+returns : tie.Need-returns
+returns c =
+    let r = c .before .before in
+    let h = r .before .before .before .before in
+    let g = h .before .before .before .before .before .before .before .before in
+    let n = g .before .before .before .before in
+    let k = n .before .before in
+    let at = k .before .before in
+    let a = at .before .before .before .before .before .args in
+    let e = g .drop-chunks .ensures in
+    let b = e .1 .1 in
+    let l = b .1 .1 .1 in
+    (gone-count (a .s) (a .spare) (a .head .now) (a .chunks .now) (a .regions .now) (a .list .now) _ _ _ (at .count-at .ensures) (k .word .ensures) (n .word2 .ensures) _ (e .0), (gone-bytes (a .s) (a .spare) (a .head .now) (a .chunks .now) (a .regions .now) (a .list .now) _ _ _ (at .count-at .ensures) (k .word .ensures) (n .word2 .ensures) _ (e .1 .0), (gone-tables (a .s) (a .spare) (a .head .now) (a .chunks .now) (a .regions .now) (a .list .now) _ _ _ (at .count-at .ensures) (k .word .ensures) (n .word2 .ensures) _ _ _ _ _ _ (b .0) (b .1 .0) (b .1 .1 .0) (l .0) (h .put .ensures) (r .put2 .ensures), gone-list (a .s) (a .spare) (a .head .now) (a .chunks .now) (a .regions .now) (a .list .now) _ _ _ (at .count-at .ensures) (k .word .ensures) (n .word2 .ensures) _ (l .1))))
 
 pub release-spec : {M : Type 1} → statement M
 release-spec =
     tie.close
     (tie.spec
-    mark-requires
+    count-at-requires
+    word-requires
+    word-requires-2
+    drop-chunks-requires
+    put-requires
+    put-requires-2
     same-length
     same-length-2
     same-length-3
-    returns
-    keep-regions-requires
-    keep-chunks-requires
     same-length-4
-    same-length-5
-    same-length-6
-    returns-2)
+    returns)

@@ -22,13 +22,13 @@ returns c =
     let p = c .before .before in
     let j = p .before .before .before in
     let a = j .before .before .args in
-    put-share (a .s .heap) (a .h) (a .w .now) (j .if1 .w) _
-    (⊎-elim (λ x. put-own (a .s .heap) (a .h) (a .w .now) (j .if1 .w) (x .0 .taken) (x .6 ∙ x .3 .ensures)) (λ x. put-past (a .s .heap) (a .h) (a .w .now) (j .if1 .w) (x .0 .left) (x .1)) (j .if1 .came))
+    put-share (a .s .heap) (a .share) (a .w .now) (j .if1 .w) _
+    (⊎-elim (λ x. put-own (a .s .heap) (a .share) (a .w .now) (j .if1 .w) (x .0 .taken) (x .6 ∙ x .3 .ensures)) (λ x. put-past (a .s .heap) (a .share) (a .w .now) (j .if1 .w) (x .0 .left) (x .1)) (j .if1 .came))
     (p .put .ensures)
 
 -- by what is written
 same-length : tie.Need-same-length
-same-length c = let a = c .before .before .before .before .before .before .before .args in ap length (returns c) ∙ share-length (a .s .heap) (a .h) (a .w .now)
+same-length c = let a = c .before .before .before .before .before .before .before .args in ap length (returns c) ∙ share-length (a .s .heap) (a .share) (a .w .now)
 
 pub put-share-spec : {M : Type 1} → statement M
 put-share-spec = tie.close (tie.spec put-heap-requires cast-put put-requires same-length returns)

@@ -29,7 +29,7 @@ word-requires-6 : tie.Need-word-requires-6
 word-requires-6 c κs = search needs
 
 narrow-requires-2 : tie.Need-narrow-requires-2
-narrow-requires-2 c κs = let s = c .before .before .before .before .before .before .before .before .before in omega (arith, right-yes (s .args .w .now) (s .pre) .kind-most)
+narrow-requires-2 c κs = let s = c .before .before .before .before .before .before .before .before .before in omega (arith, right-yes (s .args .w .now) (s .pre) .memtype-most)
 
 word-requires-7 : tie.Need-word-requires-7
 word-requires-7 c κs = search needs

@@ -8,17 +8,11 @@ use Rattle.buddy.proofs.set_ups.set_up.Tie as tie
 is-fit-requires : tie.Need-is-fit-requires
 is-fit-requires c κs = search needs
 
-fresh-head-requires : tie.Need-fresh-head-requires
-fresh-head-requires c κs =
-    let i = c .before in
-    let a = i .before .before .before .before .before .before .before .before .before .before .args in
-    fit-head (a .s) (tables (a .head .now) (a .loans .now) (a .chunks .now) (a .index .now) (a .tree .now)) (sym (i .before .is-fit .ensures) ∙ i .if1 .taken)
-
-fresh-tree-requires : tie.Need-fresh-tree-requires
-fresh-tree-requires c κs =
-    let i = c .before .before .before .before .before in
-    let a = i .before .before .before .before .before .before .before .before .before .before .args in
-    fit-settings (a .s) (tables (a .head .now) (a .loans .now) (a .chunks .now) (a .index .now) (a .tree .now)) (sym (i .before .is-fit .ensures) ∙ i .if1 .taken)
+fresh-requires : tie.Need-fresh-requires
+fresh-requires c κs =
+    let a = c .before .before .before .before .before .before .before .before .before .before .before .before .args in
+    let e = sym ((c .before .before .before) .is-fit .ensures) ∙ (c .before .before) .if1 .taken in
+    (fit-settings (a .s) (tables (a .head .now) (a .loans .now) (a .chunks .now) (a .index .now) (a .tree .now)) e, fit-head (a .s) (tables (a .head .now) (a .loans .now) (a .chunks .now) (a .index .now) (a .tree .now)) e)
 
 fresh-index-requires : tie.Need-fresh-index-requires
 fresh-index-requires c κs = search needs
@@ -34,12 +28,9 @@ same-length-3 c = search needs
 
 returns : tie.Need-returns
 returns c =
-    let n = c .before .before in
-    let r = n .before .before .before .before in
-    let h = r .before .before .before .before in
-    let i = h .before .before in
-    let a = i .before .before .before .before .before .before .before .before .before .before .args in
-    set-up-ready (a .s) (tables (a .head .now) (a .loans .now) (a .chunks .now) (a .index .now) (a .tree .now)) _ _ _ (sym (i .before .is-fit .ensures) ∙ i .if1 .taken) (h .fresh-head .ensures) (r .fresh-tree .ensures) (n .fresh-index .ensures)
+    let a = c .before .before .before .before .before .before .before .before .before .before .before .before .before .before .before .before .before .before .before .before .before .args in
+    let f = (c .before .before .before .before .before .before .before .before) .fresh .ensures in
+    set-up-ready (a .s) (tables (a .head .now) (a .loans .now) (a .chunks .now) (a .index .now) (a .tree .now)) _ _ _ (sym ((c .before .before .before .before .before .before .before .before .before .before .before .before) .is-fit .ensures) ∙ (c .before .before .before .before .before .before .before .before .before .before .before) .if1 .taken) (f .0) (f .1) ((c .before .before) .fresh-index .ensures)
 
 same-length-4 : tie.Need-same-length-4
 same-length-4 c = search needs
@@ -51,21 +42,9 @@ same-length-6 : tie.Need-same-length-6
 same-length-6 c = search needs
 
 returns-2 : tie.Need-returns-2
-returns-2 c = let a = c .before .before .before .before .before .before .before .before .before .before .args in set-up-unfit (a .s) (tables (a .head .now) (a .loans .now) (a .chunks .now) (a .index .now) (a .tree .now)) (sym (c .before .is-fit .ensures) ∙ c .if1 .left)
+returns-2 c =
+    let a = c .before .before .before .before .before .before .before .before .before .before .args in
+    set-up-unfit (a .s) (tables (a .head .now) (a .loans .now) (a .chunks .now) (a .index .now) (a .tree .now)) (sym ((c .before) .is-fit .ensures) ∙ (c) .if1 .left)
 
 pub set-up-spec : {M : Type 1} → statement M
-set-up-spec =
-    tie.close
-    (tie.spec
-    is-fit-requires
-    fresh-head-requires
-    fresh-tree-requires
-    fresh-index-requires
-    same-length
-    same-length-2
-    same-length-3
-    returns
-    same-length-4
-    same-length-5
-    same-length-6
-    returns-2)
+set-up-spec = tie.close (tie.spec is-fit-requires fresh-requires fresh-index-requires same-length same-length-2 same-length-3 returns same-length-4 same-length-5 same-length-6 returns-2)

@@ -4,7 +4,7 @@ use mathlib.Core.List.{[]}
 use Prim.Native.Nat.{_+_, _-_, _≤_}
 use native.Mathlib.Numerals.{unary-clauses}
 use native.Mathlib.Omega.{arith}
-use Rattle.buddy_levels.specs.Seen.{read, looked}
+use Rattle.buddy_levels.specs.Seen.{partSettings, levelPart}
 use Rattle.buddy_outcomes.specs.Ask.{pairsRoom}
 use Rattle.buddy_decide.proofs.Shows.{pairs-done, pairs-past, pairs-none, pairs-on}
 use borrow.Author.Needs.{needs}
@@ -12,7 +12,7 @@ use Rattle.buddy_decide.proofs.seeking.has_pairs.Statement.{statement}
 use Rattle.buddy_decide.proofs.seeking.has_pairs.Tie as tie
 
 abbrev Inv-loop : tie.InvT-loop
-Inv-loop pairs level n levels tree i₀ i = (i ≤ n) × (pairsRoom (read 0 pairs 0) (looked levels 0 [] tree) level n ≡ pairsRoom (read 0 pairs 0) (looked levels 0 [] tree) (level + i) (n - i))
+Inv-loop pairs level n levels tree i₀ i = (i ≤ n) × (pairsRoom (partSettings 0 pairs 0) (levelPart levels 0 [] tree) level n ≡ pairsRoom (partSettings 0 pairs 0) (levelPart levels 0 [] tree) (level + i) (n - i))
 
 abbrev μ-loop : tie.MeasureT-loop
 μ-loop pairs level n levels tree i₀ i = n - i
@@ -26,8 +26,8 @@ add-l c = search needs
 level-from-requires : tie.Need-level-from-requires Inv-loop μ-loop
 level-from-requires c κs = search needs
 
-spot-requires : tie.Need-spot-requires Inv-loop μ-loop
-spot-requires c κs = search needs
+pair-taken-requires : tie.Need-pair-taken-requires Inv-loop μ-loop
+pair-taken-requires c κs = search needs
 
 returns : tie.Need-returns Inv-loop μ-loop
 returns c =
@@ -36,7 +36,7 @@ returns c =
     let i = f .before in
     let b = i .before .before in
     let a = b .before .before .args in
-    sym (b .loop .inv .1 ∙ pairs-none (a .pairs) (a .level) (a .n) (a .levels) (a .tree .now) (b .loop .i) (i .before .loop-test .taken) (i .if1 .taken) _ _ (f .level-from .ensures .0) (s .spot .ensures) (c .if2 .taken))
+    sym (b .loop .inv .1 ∙ pairs-none (a .pairs) (a .level) (a .n) (a .levels) (a .tree .now) (b .loop .i) (i .before .loop-test .taken) (i .if1 .taken) _ _ (f .level-from .ensures .0) (s .pair-taken .ensures) (c .if2 .taken))
 
 add-i : tie.Need-add-i Inv-loop μ-loop
 add-i c = search needs
@@ -60,7 +60,7 @@ returns-2 : tie.Need-returns-2 Inv-loop μ-loop
 returns-2 c =
     let b = c .before in
     let a = b .before .before .args in
-    sym (b .loop .inv .1 ∙ pairs-done (read 0 (a .pairs) 0) (looked (a .levels) 0 [] (a .tree .now)) (a .level) (a .n) (b .loop .i) (c .loop-test .left))
+    sym (b .loop .inv .1 ∙ pairs-done (partSettings 0 (a .pairs) 0) (levelPart (a .levels) 0 [] (a .tree .now)) (a .level) (a .n) (b .loop .i) (c .loop-test .left))
 
 pub has-pairs-spec : {M : Type 1} → statement M
 has-pairs-spec =
@@ -71,7 +71,7 @@ has-pairs-spec =
     loop-holds
     add-l
     level-from-requires
-    spot-requires
+    pair-taken-requires
     returns
     add-i
     loop-less

@@ -15,8 +15,11 @@ abbrev μ-loop : tie.MeasureT-loop
 loop-holds : tie.Need-loop-holds Inv-loop μ-loop
 loop-holds c = search needs
 
-order-size-requires : tie.Need-order-size-requires Inv-loop μ-loop
-order-size-requires c κs = search needs
+grown-requires : tie.Need-grown-requires Inv-loop μ-loop
+grown-requires c κs = search needs
+
+node-bytes-requires : tie.Need-node-bytes-requires Inv-loop μ-loop
+node-bytes-requires c κs = let p = c .before .before .before .before .pre in (p .0, omega (arith, c .grown .ensures, p .2, p .3))
 
 level-from-requires : tie.Need-level-from-requires Inv-loop μ-loop
 level-from-requires c κs = search needs
@@ -43,9 +46,10 @@ loop-again c =
 
 returns : tie.Need-returns Inv-loop μ-loop
 returns c =
-    let b = c .before .before in
+    let g = c .before in
+    let b = g .before .before in
     let a = b .before .before .args in
-    seek-none (a .minimal) (a .pairs) (a .level) (a .levels) (a .tree .now) (b .loop .l) (b .loop .inv .1) (c .before .if1 .taken) _ (c .order-size .ensures)
+    seek-none (a .minimal) (a .pairs) (a .level) (a .levels) (a .tree .now) (b .loop .l) (b .loop .inv .1) (g .before .if1 .taken) _ _ (g .grown .ensures) (c .node-bytes .ensures .0)
 
 returns-2 : tie.Need-returns-2 Inv-loop μ-loop
 returns-2 c =
@@ -62,7 +66,8 @@ seek-spec =
     Inv-loop
     μ-loop
     loop-holds
-    order-size-requires
+    grown-requires
+    node-bytes-requires
     level-from-requires
     add-word
     word-requires

@@ -3,7 +3,8 @@ use mathlib.Core.Path.{_≡_, refl, ap, _∙_}
 use Prim.Native.Nat.{_+_, _-_, _≤_}
 use native.Mathlib.Omega.{arith}
 use Rattle.buddy_outcomes.specs.Gate.{heldBytes}
-use Rattle.buddy_gate.proofs.Held.{seen, bytes-next, bytes-low}
+use Rattle.buddy_decide.proofs.Known.{seen}
+use Rattle.buddy_gate.proofs.Held.{bytes-next, bytes-low}
 use Rattle.buddy_gate.proofs.gating.held_bytes.Statement.{statement}
 use Rattle.buddy_gate.proofs.gating.held_bytes.Tie as tie
 

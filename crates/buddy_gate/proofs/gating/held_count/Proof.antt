@@ -4,7 +4,8 @@ use mathlib.Core.Logic.{⊎-elim}
 use Prim.Native.Nat.{_-_, _≤_}
 use native.Mathlib.Omega.{arith}
 use Rattle.buddy_outcomes.specs.Gate.{heldCount}
-use Rattle.buddy_gate.proofs.Held.{seen, count-more, count-none, count-low}
+use Rattle.buddy_decide.proofs.Known.{seen}
+use Rattle.buddy_gate.proofs.Held.{count-more, count-none, count-low}
 use Rattle.buddy_gate.proofs.gating.held_count.Statement.{statement}
 use Rattle.buddy_gate.proofs.gating.held_count.Tie as tie
 

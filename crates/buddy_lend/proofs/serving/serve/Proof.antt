@@ -1,74 +1,80 @@
 use borrow.Author.Needs.{needs}
 use mathlib.Core.Path.{sym, ap, subst}
-use Prim.Native.Nat.{ℕ, _+_}
+use mathlib.Core.List.{List}
+use Prim.Native.Nat.{ℕ, _+_, _-_, _<_}
 use native.Mathlib.Omega.{arith}
+use Rattle.counter.specs.Limits.{pairsMost}
+use Rattle.slab.specs.Slab.{nowhere}
 use Rattle.slab.specs.declared.Taken.{Taken}
 use Rattle.book_rules.specs.Ready.{Opens}
-use Rattle.buddy_lend.proofs.Booked.{taken-is, place-in, booked-done}
-use Rattle.buddy_lend.proofs.Served.{same-given, still-next, still-roomy, loan-done, served-done}
+use Rattle.buddy_trees.specs.Trees.{up}
+use Rattle.buddy_rules.specs.Nodes.{freeWord}
+use Rattle.buddy_rules.specs.Level.{pairTaken, added}
+use Rattle.buddy_rules.specs.Moves.{leftNext}
+use Rattle.buddy_rules.specs.Tables.{levelFrom}
+use Rattle.buddy_moves.specs.Roomy.{Roomy}
+use Rattle.buddy_lend.proofs.Booked.{place-in, booked-done}
+use Rattle.buddy_lend.proofs.Served.{same-given, still-next, still, loan-done, served-done}
 use Rattle.buddy_lend.proofs.serving.serve.Statement.{statement}
 use Rattle.buddy_lend.proofs.serving.serve.Tie as tie
 
 word-requires : tie.Need-word-requires
 word-requires c κs = search needs
 
+add-chunk-requires : tie.Need-add-chunk-requires
+add-chunk-requires c κs = let p = c .before .before .before .before .before .before .before .before .before .before .pre in (p .0 .enters .fit, omega (arith, p .0 .below), p .0 .low, p .0 .pair, p .2)
+
 word-requires-2 : tie.Need-word-requires-2
 word-requires-2 c κs = search needs
 
-next-place-requires : tie.Need-next-place-requires
-next-place-requires c κs = search needs
-
-add-chunk-requires : tie.Need-add-chunk-requires
-add-chunk-requires c κs = search needs
-
-word-requires-3 : tie.Need-word-requires-3
-word-requires-3 c κs = search needs
-
-add-t32 : tie.Need-add-t32
-add-t32 c =
+add-t30 : tie.Need-add-t30
+add-t30 c =
     let m = c .before .before .before .before .before .before .before .before in
-    let k = m .before .before .before .before in
-    let p = k .before .before in
-    let w = p .before .before in
-    let b = w .before .before .before .before .before .before .before in
+    let b = c .before .before .before .before .before .before .before .before .before .before .before .before .before .before .before .before .before .before .before in
     let a = b .args in
-    omega (arith, c .word3 .ensures, same-given (a .s) (a .memory) (a .bytes) (a .head .now) (a .loans .now) (a .chunks .now) (a .index .now) (a .tree .now) _ _ _ (m .add-chunk .ensures .1), b .pre .enters .serial)
+    omega (arith, c .word2 .ensures, same-given (a .s) (a .memory) (a .bytes) (a .head .now) (a .loans .now) (a .chunks .now) (a .index .now) (a .tree .now) _ _ _ (m .add-chunk .ensures), b .pre .0 .enters .serial)
 
-sub-split-down : tie.Need-sub-split-down
-sub-split-down c = search needs
+sub-above : tie.Need-sub-above
+sub-above c =
+    let w = c .before .before .before .before .before .before .before .before .before .before .before .before in
+    let b = c .before .before .before .before .before .before .before .before .before .before .before .before .before .before .before .before .before .before .before in
+    omega (arith, w .word .ensures, b .pre .0 .below)
 
-split-down-requires : tie.Need-split-down-requires
-split-down-requires c κs =
+sub-above-2 : tie.Need-sub-above-2
+sub-above-2 c =
+    let w = c .before .before .before .before .before .before .before .before .before .before .before .before in
+    let b = c .before .before .before .before .before .before .before .before .before .before .before .before .before .before .before .before .before .before .before in
+    omega (arith, w .word .ensures, b .pre .0 .below)
+
+split-chunk-requires : tie.Need-split-chunk-requires
+split-chunk-requires c κs =
     let m = c .before .before .before .before .before .before .before .before .before in
-    let k = m .before .before .before .before in
-    let p = k .before .before in
-    let w = p .before .before in
-    let b = w .before .before .before .before .before .before .before in
+    let w = c .before .before .before .before .before .before .before .before .before .before .before .before .before in
+    let b = c .before .before .before .before .before .before .before .before .before .before .before .before .before .before .before .before .before .before .before .before in
     let a = b .args in
-    let next = taken-is (a .head .now) (a .index .now) _ (p .word2 .ensures) _ (k .next-place .ensures) in
-    let place = place-in (a .s) (a .head .now) (a .index .now) _ next (b .pre .enters .opens .place) in (
-      (b .pre .enters .fit .pairs-most, omega (arith, w .word .ensures, b .pre .below, b .pre .low), omega (arith, place, b .pre .enters .fit .store .loans-most)),
-      still-roomy (a .s) (a .memory) (a .bytes) (a .head .now) (a .loans .now) (a .chunks .now) (a .index .now) (a .tree .now) _ _ _ (m .add-chunk .ensures .1) _ (w .word .ensures) _ (m .add-chunk .ensures .0) (a .level) (b .pre .roomy),
+    let place = place-in (a .s) (a .head .now) (a .index .now) _ (b .pre .1) (b .pre .0 .enters .opens .place) in
+    let now = still (a .s) (a .memory) (a .bytes) (a .head .now) (a .loans .now) (a .chunks .now) (a .index .now) (a .tree .now) _ _ _ (m .add-chunk .ensures) _ (w .word .ensures) _ (ap (λ (x : Taken). x .place) (b .pre .2)) (a .level) in (
+      (
+        b .pre .0 .enters .fit .pairs-most,
+        omega (arith, w .word .ensures, b .pre .0 .below, b .pre .0 .low),
+        omega (arith, place, b .pre .0 .enters .fit .store .loans-most),
+        now (λ (x n : ℕ) (t : List ℕ). pairTaken (levelFrom (a .s) (up (n - a .level - 1) (a .level))) t .place < pairsMost) (b .pre .0 .own),
+      ),
+      now (λ (x n : ℕ) (t : List ℕ). Roomy (a .s .pairs) (a .level) x 0 (leftNext (a .s .pairs) (up (n - a .level - 1) (a .level)) t) (n - a .level - 1) (added (levelFrom (a .s) (up (n - a .level - 1) (a .level))) x 0 nowhere freeWord t)) (b .pre .0 .roomy),
     )
 
 put-node-requires : tie.Need-put-node-requires
 put-node-requires c κs =
-    let k = c .before .before .before .before .before .before .before .before .before .before .before .before .before .before .before .before .before .before in
-    let p = k .before .before in
-    let b = p .before .before .before .before .before .before .before .before .before in
+    let b = c .before .before .before .before .before .before .before .before .before .before .before .before .before .before .before .before .before .before .before .before .before .before .before .before .before in
     let a = b .args in
-    let next = taken-is (a .head .now) (a .index .now) _ (p .word2 .ensures) _ (k .next-place .ensures) in
-    let place = place-in (a .s) (a .head .now) (a .index .now) _ next (b .pre .enters .opens .place) in
-    (b .pre .enters .fit, omega (arith, place, b .pre .enters .fit .store .loans-most))
+    let place = place-in (a .s) (a .head .now) (a .index .now) _ (b .pre .1) (b .pre .0 .enters .opens .place) in
+    (b .pre .0 .enters .fit, omega (arith, place, b .pre .0 .enters .fit .store .loans-most))
 
 book-loan-requires : tie.Need-book-loan-requires
 book-loan-requires c κs =
-    let k = c .before .before .before .before .before .before .before .before .before .before .before .before .before .before .before .before .before .before .before .before .before .before .before .before in
-    let p = k .before .before in
-    let b = p .before .before .before .before .before .before .before .before .before in
+    let b = c .before .before .before .before .before .before .before .before .before .before .before .before .before .before .before .before .before .before .before .before .before .before .before .before .before .before .before .before .before .before .before in
     let a = b .args in
-    let next = taken-is (a .head .now) (a .index .now) _ (p .word2 .ensures) _ (k .next-place .ensures) in
-    subst (λ (x : Taken). Opens (a .s .store .loans) (x .place) (a .loans .now) (a .index .now)) (sym next) (b .pre .enters .opens)
+    subst (λ (x : Taken). Opens (a .s .store .loans) (x .place) (a .loans .now) (a .index .now)) (sym (b .pre .1)) (b .pre .0 .enters .opens)
 
 same-length : tie.Need-same-length
 same-length c = search needs
@@ -88,20 +94,17 @@ same-length-5 c = search needs
 returns : tie.Need-returns
 returns c =
     let d = c .before .before .before .before .before .before in
-    let q = d .before .before .before .before .before .before in
-    let n = q .before .before .before .before .before in
-    let g = n .before .before in
-    let m = g .before .before .before .before .before .before .before .before in
-    let k = m .before .before .before .before in
-    let p = k .before .before in
-    let w = p .before .before in
-    let b = w .before .before .before .before .before .before .before in
+    let q = c .before .before .before .before .before .before .before .before .before .before .before .before in
+    let n = c .before .before .before .before .before .before .before .before .before .before .before .before .before .before .before .before .before in
+    let g = c .before .before .before .before .before .before .before .before .before .before .before .before .before .before .before .before .before .before .before in
+    let m = c .before .before .before .before .before .before .before .before .before .before .before .before .before .before .before .before .before .before .before .before .before .before .before .before .before .before .before in
+    let w = c .before .before .before .before .before .before .before .before .before .before .before .before .before .before .before .before .before .before .before .before .before .before .before .before .before .before .before .before .before .before .before in
+    let b = c .before .before .before .before .before .before .before .before .before .before .before .before .before .before .before .before .before .before .before .before .before .before .before .before .before .before .before .before .before .before .before .before .before .before .before .before .before .before in
     let a = b .args in
-    let next = taken-is (a .head .now) (a .index .now) _ (p .word2 .ensures) _ (k .next-place .ensures) in
-    let still = still-next (a .s) (a .memory) (a .bytes) (a .head .now) (a .loans .now) (a .chunks .now) (a .index .now) (a .tree .now) _ _ _ (m .add-chunk .ensures .1) _ (p .word2 .ensures) _ (k .next-place .ensures) in
-    let booked = booked-done (a .s) _ (a .index .now) _ still _ (ap (λ (x : ℕ). x + 1) (g .word3 .ensures)) _ (a .loans .now) _ _ _ _ _ (q .put-node .ensures) (d .book-loan .ensures .0) (d .book-loan .ensures .1 .0) (d .book-loan .ensures .1 .1) in (
-      loan-done (a .s) (a .memory) (a .bytes) (a .head .now) (a .loans .now) (a .chunks .now) (a .index .now) (a .tree .now) _ _ _ (m .add-chunk .ensures .1) _ (w .word .ensures) _ (m .add-chunk .ensures .0) (a .level) (a .size) _ (g .word3 .ensures),
-      served-done (a .s) (a .memory) (a .bytes) (a .head .now) (a .loans .now) (a .chunks .now) (a .index .now) (a .tree .now) _ _ _ (m .add-chunk .ensures .1) _ (w .word .ensures) _ (m .add-chunk .ensures .0) (a .level) _ next (a .size) _ _ _ _ _ _ (n .split-down .ensures .0) (n .split-down .ensures .1) booked,
+    let after = still-next (a .s) (a .memory) (a .bytes) (a .head .now) (a .loans .now) (a .chunks .now) (a .index .now) (a .tree .now) _ _ _ (m .add-chunk .ensures) _ (b .pre .1) in
+    let booked = booked-done (a .s) _ (a .index .now) _ after _ (ap (λ (x : ℕ). x + 1) (g .word2 .ensures)) _ (a .loans .now) _ _ _ _ _ (q .put-node .ensures) (d .book-loan .ensures .0) (d .book-loan .ensures .1 .0) (d .book-loan .ensures .1 .1) in (
+      loan-done (a .s) (a .memory) (a .bytes) (a .head .now) (a .loans .now) (a .chunks .now) (a .index .now) (a .tree .now) _ _ _ (m .add-chunk .ensures) _ (w .word .ensures) _ (ap (λ (x : Taken). x .place) (b .pre .2)) (a .level) (a .size) _ (g .word2 .ensures),
+      served-done (a .s) (a .memory) (a .bytes) (a .head .now) (a .loans .now) (a .chunks .now) (a .index .now) (a .tree .now) _ _ _ (m .add-chunk .ensures) _ (w .word .ensures) _ (ap (λ (x : Taken). x .place) (b .pre .2)) (a .level) _ (b .pre .1) (a .size) _ _ _ _ _ _ (n .split-chunk .ensures .0) (n .split-chunk .ensures .1) booked,
     )
 
 pub serve-spec : {M : Type 1} → statement M
@@ -109,13 +112,12 @@ serve-spec =
     tie.close
     (tie.spec
     word-requires
-    word-requires-2
-    next-place-requires
     add-chunk-requires
-    word-requires-3
-    add-t32
-    sub-split-down
-    split-down-requires
+    word-requires-2
+    add-t30
+    sub-above
+    sub-above-2
+    split-chunk-requires
     put-node-requires
     book-loan-requires
     same-length

@@ -5,7 +5,7 @@ use native.Mathlib.Omega.{arith}
 use borrow.Author.Needs.{needs}
 use Rattle.lists.proofs.Bools.{not-yes, not-no}
 use Rattle.buddy_rules.specs.LevelTest.{goodOk}
-use Rattle.buddy_rules.specs.Tables.{levelAfter}
+use Rattle.buddy_rules.specs.Tables.{levelStart}
 use Rattle.buddy_rules.specs.Test.{every}
 use Rattle.buddy_rules.proofs.Tests.{every-stop, every-next}
 use Rattle.buddy_test.proofs.Parts.{good-told}
@@ -13,7 +13,7 @@ use Rattle.buddy_test.proofs.heads.are_good.Statement.{statement}
 use Rattle.buddy_test.proofs.heads.are_good.Tie as tie
 
 abbrev Inv-loop : tie.InvT-loop
-Inv-loop pairs levels tree l₀ l = (l ≤ levels) × (every (λ (i : ℕ). goodOk (levelAfter pairs i) pairs tree) l ≡ true)
+Inv-loop pairs levels tree l₀ l = (l ≤ levels) × (every (λ (i : ℕ). goodOk (levelStart pairs i) pairs tree) l ≡ true)
 
 abbrev μ-loop : tie.MeasureT-loop
 μ-loop pairs levels tree l₀ l = levels - l
@@ -33,7 +33,7 @@ returns c =
     let f = g .before in
     let o = f .before .before in
     let a = o .before .before .args in
-    let good : ℕ → Bool = λ (i : ℕ). goodOk (levelAfter (a .pairs) i) (a .pairs) (a .tree .now) in
+    let good : ℕ → Bool = λ (i : ℕ). goodOk (levelStart (a .pairs) i) (a .pairs) (a .tree .now) in
     let e = good-told (a .pairs) (o .loop .l) (f .level-from .result) (a .tree .now) (g .is-good .result) (f .level-from .ensures .0) (g .is-good .ensures) in
     sym (every-stop good (a .levels) (o .loop .l) (f .before .loop-test .taken) (sym e ∙ not-yes _ (c .if1 .taken)))
 
@@ -49,7 +49,7 @@ loop-again c =
     let f = g .before in
     let o = f .before .before in
     let a = o .before .before .args in
-    let good : ℕ → Bool = λ (i : ℕ). goodOk (levelAfter (a .pairs) i) (a .pairs) (a .tree .now) in
+    let good : ℕ → Bool = λ (i : ℕ). goodOk (levelStart (a .pairs) i) (a .pairs) (a .tree .now) in
     let e = good-told (a .pairs) (o .loop .l) (f .level-from .result) (a .tree .now) (g .is-good .result) (f .level-from .ensures .0) (g .is-good .ensures) in
     (omega arith, every-next good (o .loop .l) (o .loop .inv .1) (sym e ∙ not-no _ (c .if1 .left)))
 
@@ -58,7 +58,7 @@ returns-2 c =
     let o = c .before in
     let a = o .before .before .args in
     let e : o .loop .l ≡ a .levels = omega arith in
-    sym (o .loop .inv .1) ∙ ap (every (λ (i : ℕ). goodOk (levelAfter (a .pairs) i) (a .pairs) (a .tree .now))) e
+    sym (o .loop .inv .1) ∙ ap (every (λ (i : ℕ). goodOk (levelStart (a .pairs) i) (a .pairs) (a .tree .now))) e
 
 pub are-good-spec : {M : Type 1} → statement M
 are-good-spec =

@@ -5,7 +5,7 @@ use Prim.Native.Nat.{_-_, _≤_}
 use native.Mathlib.Omega.{arith}
 use borrow.Author.Needs.{needs}
 use lib.ListN.{length, take, length-set}
-use Rattle.buddy_levels.specs.Seen.{looked}
+use Rattle.buddy_levels.specs.Seen.{levelPart}
 use Rattle.buddy_rules.specs.Tables.{memories}
 use Rattle.buddy_test.proofs.Apart.{gather-none, gather-put, gather-pass}
 use Rattle.buddy_test.proofs.memories.gather_held.Statement.{statement}
@@ -13,7 +13,7 @@ use Rattle.buddy_test.proofs.memories.gather_held.Tie as tie
 
 abbrev Inv-loop : tie.InvT-loop
 Inv-loop chunks n found₀ k₀ c₀ found k c =
-    (k ≤ c) × (c ≤ n) × (length found ≡ length found₀) × (take k found ≡ memories (looked 0 n chunks []) c)
+    (k ≤ c) × (c ≤ n) × (length found ≡ length found₀) × (take k found ≡ memories (levelPart 0 n chunks []) c)
 
 abbrev μ-loop : tie.MeasureT-loop
 μ-loop chunks n found₀ k₀ c₀ found k c = n - c
@@ -76,7 +76,7 @@ returns c =
     let o = c .before in
     let a = o .before .before .before .args in
     let e : o .loop .c ≡ a .n = omega arith in
-    (o .loop .inv .3 ∙ ap (memories (looked 0 (a .n) (a .chunks .now) [])) e, (omega arith, o .loop .inv .2))
+    (o .loop .inv .3 ∙ ap (memories (levelPart 0 (a .n) (a .chunks .now) [])) e, (omega arith, o .loop .inv .2))
 
 pub gather-held-spec : {M : Type 1} → statement M
 gather-held-spec =

@@ -4,7 +4,7 @@ use Rattle.lists.proofs.Bools.{not-yes, not-no}
 use Rattle.counter.specs.Limits.{levelsMost}
 use Rattle.buddy_trees.specs.Trees.{bytes}
 use Rattle.buddy_levels.specs.Pairs.{entFrom}
-use Rattle.buddy_levels.specs.Seen.{read, walked}
+use Rattle.buddy_levels.specs.Seen.{partSettings, loanPart}
 use Rattle.buddy_levels.proofs.Bounds.{node-bytes-most}
 use Rattle.buddy_walk.proofs.Downs.{node-free, node-loan, node-low, node-split, halves-entry, halves-left, halves-right, halves-room}
 use Prim.Native.Nat.{ℕ, _+_, _*_, _<_}
@@ -50,7 +50,7 @@ is-node-returns : (t : ℕ) → is-node-lts.Need-returns (
 ) (is-node-at t) is-node.Post
 is-node-returns t c =
     let a = c .before .before .before .args in
-    node-free (read (a .minimal) (a .pairs) (a .chunks)) (walked (a .places) (a .loans .now) (a .tree .now)) (a .level) (a .chunk) (a .offset) (a .node) (a .word) (c .if1 .taken)
+    node-free (partSettings (a .minimal) (a .pairs) (a .chunks)) (loanPart (a .places) (a .loans .now) (a .tree .now)) (a .level) (a .chunk) (a .offset) (a .node) (a .word) (c .if1 .taken)
 
 is-node-is-leaf-requires : (t : ℕ) → is-node-lts.Need-is-leaf-requires (
   is-leaf-reads.Asked,
@@ -69,7 +69,7 @@ is-node-returns-2 : (t : ℕ) → is-node-lts.Need-returns-2 (
 is-node-returns-2 t c =
     let i = c .before in
     let a = i .before .before .before .before .args in
-    node-loan (read (a .minimal) (a .pairs) (a .chunks)) (walked (a .places) (a .loans .now) (a .tree .now)) (a .level) (a .chunk) (a .offset) (a .node) (a .word)
+    node-loan (partSettings (a .minimal) (a .pairs) (a .chunks)) (loanPart (a .places) (a .loans .now) (a .tree .now)) (a .level) (a .chunk) (a .offset) (a .node) (a .word)
     (c .is-leaf .result) (i .before .if1 .left) (i .if2 .taken) (c .is-leaf .ensures)
 
 is-node-returns-3 : (t : ℕ) → is-node-lts.Need-returns-3 (
@@ -81,7 +81,7 @@ is-node-returns-3 : (t : ℕ) → is-node-lts.Need-returns-3 (
 is-node-returns-3 t c =
     let i = c .before in
     let a = i .before .before .before .before .args in
-    node-low (read (a .minimal) (a .pairs) (a .chunks)) (walked (a .places) (a .loans .now) (a .tree .now)) (a .level) (a .chunk) (a .offset) (a .node) (a .word) (i .before .if1 .left) (i .if2 .left) (c .if3 .taken)
+    node-low (partSettings (a .minimal) (a .pairs) (a .chunks)) (loanPart (a .places) (a .loans .now) (a .tree .now)) (a .level) (a .chunk) (a .offset) (a .node) (a .word) (i .before .if1 .left) (i .if2 .left) (c .if3 .taken)
 
 is-node-sub-is-pair : (t : ℕ) → is-node-lts.Need-sub-is-pair (
   is-leaf-reads.Asked,
@@ -121,7 +121,7 @@ is-node-returns-4 t c =
     let n = c .before in
     let i = n .before in
     let a = i .before .before .before .before .args in
-    node-split (read (a .minimal) (a .pairs) (a .chunks)) (walked (a .places) (a .loans .now) (a .tree .now)) (a .level) (a .chunk) (a .offset) (a .node) (a .word)
+    node-split (partSettings (a .minimal) (a .pairs) (a .chunks)) (loanPart (a .places) (a .loans .now) (a .tree .now)) (a .level) (a .chunk) (a .offset) (a .node) (a .word)
     (c .is-pair .result) (i .before .if1 .left) (i .if2 .left) (n .if3 .left) (c .is-pair .ensures)
 
 is-pair-level-from-requires : (t : ℕ) → is-pair-lts.Need-level-from-requires (
@@ -183,7 +183,7 @@ is-pair-returns t c =
     let p = i .before in
     let b = p .before in
     let a = b .before .before .before .args in
-    halves-entry (read (a .minimal) (a .pairs) (a .chunks)) (walked (a .places) (a .loans .now) (a .tree .now)) (a .level) (a .chunk) (a .offset) (a .node) (a .p) (b .level-from .result) (entFrom (p .pair-in .result)) (i .is-entry .result)
+    halves-entry (partSettings (a .minimal) (a .pairs) (a .chunks)) (loanPart (a .places) (a .loans .now) (a .tree .now)) (a .level) (a .chunk) (a .offset) (a .node) (a .p) (b .level-from .result) (entFrom (p .pair-in .result)) (i .is-entry .result)
     (b .level-from .ensures .0) (p .pair-in .ensures) (i .is-entry .ensures) (not-yes _ (c .if1 .taken))
 
 is-pair-mul-l : (t : ℕ) → is-pair-lts.Need-mul-l (
@@ -233,7 +233,7 @@ is-pair-returns-2 t c =
     let p = i .before in
     let b = p .before in
     let a = b .before .before .before .args in
-    halves-left (read (a .minimal) (a .pairs) (a .chunks)) (walked (a .places) (a .loans .now) (a .tree .now)) (a .level) (a .chunk) (a .offset) (a .node) (a .p) (b .level-from .result) (entFrom (p .pair-in .result)) (i .is-entry .result)
+    halves-left (partSettings (a .minimal) (a .pairs) (a .chunks)) (loanPart (a .places) (a .loans .now) (a .tree .now)) (a .level) (a .chunk) (a .offset) (a .node) (a .p) (b .level-from .result) (entFrom (p .pair-in .result)) (i .is-entry .result)
     (b .level-from .ensures .0) (p .pair-in .ensures) (i .is-entry .ensures)
     (n .is-node .result) (not-no _ (f .if1 .left)) (n .is-node .ensures) (not-yes _ (c .if2 .taken))
 
@@ -318,7 +318,7 @@ is-pair-returns-3 t c =
     let p = i .before in
     let b = p .before in
     let a = b .before .before .before .args in
-    halves-right (read (a .minimal) (a .pairs) (a .chunks)) (walked (a .places) (a .loans .now) (a .tree .now)) (a .level) (a .chunk) (a .offset) (a .node) (a .p) (b .level-from .result) (entFrom (p .pair-in .result)) (i .is-entry .result)
+    halves-right (partSettings (a .minimal) (a .pairs) (a .chunks)) (loanPart (a .places) (a .loans .now) (a .tree .now)) (a .level) (a .chunk) (a .offset) (a .node) (a .p) (b .level-from .result) (entFrom (p .pair-in .result)) (i .is-entry .result)
     (b .level-from .ensures .0) (p .pair-in .ensures) (i .is-entry .ensures)
     (n .is-node .result) (c .is-node2 .result) (m .node-bytes .result) (not-no _ (f .if1 .left)) (n .is-node .ensures) (not-no _ (g .if2 .left)) (m .node-bytes .ensures .0) (c .is-node2 .ensures)
 

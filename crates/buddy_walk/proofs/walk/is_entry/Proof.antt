@@ -1,7 +1,7 @@
 use mathlib.Core.List.{[]}
 use borrow.Author.Needs.{needs}
 use Rattle.buddy_levels.specs.Pairs.{entFrom}
-use Rattle.buddy_levels.specs.Seen.{read, walked}
+use Rattle.buddy_levels.specs.Seen.{partSettings, loanPart}
 use Rattle.buddy_walk.proofs.Downs.{entry-is}
 use Rattle.buddy_walk.proofs.walk.is_entry.Statement.{statement}
 use Rattle.buddy_walk.proofs.walk.is_entry.Tie as tie
@@ -13,7 +13,7 @@ returns : tie.Need-returns
 returns c =
     let g = c .before .tag-of in
     let a = c .before .before .before .before .before .before .before .args in
-    entry-is (read 0 0 0) (walked 0 [] []) (entFrom (a .e)) (a .chunk) (a .offset) (a .node) (g .result) (g .ensures)
+    entry-is (partSettings 0 0 0) (loanPart 0 [] []) (entFrom (a .e)) (a .chunk) (a .offset) (a .node) (g .result) (g .ensures)
 
 pub is-entry-spec : {M : Type 1} → statement M
 is-entry-spec = tie.close (tie.spec tag-of-requires returns)

@@ -1,5 +1,5 @@
 use borrow.Author.Needs.{needs}
-use Rattle.buddy_levels.specs.Seen.{read, walked}
+use Rattle.buddy_levels.specs.Seen.{partSettings, loanPart}
 use Rattle.buddy_walk.proofs.Downs.{leaf-past, leaf-is}
 use Rattle.buddy_walk.proofs.walk.is_leaf.Statement.{statement}
 use Rattle.buddy_walk.proofs.walk.is_leaf.Tie as tie
@@ -7,7 +7,7 @@ use Rattle.buddy_walk.proofs.walk.is_leaf.Tie as tie
 returns : tie.Need-returns
 returns c =
     let a = c .before .before .before .args in
-    leaf-past (read (a .minimal) (a .pairs) (a .chunks)) (walked (a .places) (a .loans .now) (a .tree .now)) (a .place) (a .chunk) (a .level) (a .offset) (a .node) (c .if1 .taken)
+    leaf-past (partSettings (a .minimal) (a .pairs) (a .chunks)) (loanPart (a .places) (a .loans .now) (a .tree .now)) (a .place) (a .chunk) (a .level) (a .offset) (a .node) (c .if1 .taken)
 
 loan-at-requires : tie.Need-loan-at-requires
 loan-at-requires c κs = search needs
@@ -31,7 +31,7 @@ returns-2 c =
     let l = n .before in
     let i = l .before in
     let a = i .before .before .before .args in
-    leaf-is (read (a .minimal) (a .pairs) (a .chunks)) (walked (a .places) (a .loans .now) (a .tree .now)) (a .place) (a .chunk) (a .level) (a .offset) (a .node)
+    leaf-is (partSettings (a .minimal) (a .pairs) (a .chunks)) (loanPart (a .places) (a .loans .now) (a .tree .now)) (a .place) (a .chunk) (a .level) (a .offset) (a .node)
     (l .loan-at .result) (b .node-bytes .result) (n .nodes-from .result) (c .word .result) (l .loan-at .ensures) (b .node-bytes .ensures .0) (n .nodes-from .ensures .0) (c .word .ensures) (i .if1 .left)
 
 pub is-leaf-spec : {M : Type 1} → statement M

@@ -8,23 +8,13 @@ use Rattle.freelist.proofs.set_ups.set_up.Tie as tie
 is-fit-requires : tie.Need-is-fit-requires
 is-fit-requires c κs = search needs
 
-count-at-requires : tie.Need-count-at-requires
-count-at-requires c κs =
-    let f = c .before in
+fresh-requires : tie.Need-fresh-requires
+fresh-requires c κs =
+    let i = c .before .before .before in
+    let f = i .before in
     let a = f .before .before .before .before .before .before .before .before .before .args in
-    fit-in (a .s) (tables (a .head .now) (a .loans .now) (a .chunks .now) (a .regions .now) (a .index .now)) (sym (f .is-fit .ensures) ∙ c .if1 .taken) .0
-
-fresh-head-requires : tie.Need-fresh-head-requires
-fresh-head-requires c κs =
-    let f = c .before .before .before in
-    let a = f .before .before .before .before .before .before .before .before .before .args in
-    fit-head (a .s) (tables (a .head .now) (a .loans .now) (a .chunks .now) (a .regions .now) (a .index .now)) (sym (f .is-fit .ensures) ∙ c .before .before .if1 .taken)
-
-put-requires : tie.Need-put-requires
-put-requires c κs = search needs
-
-fresh-index-requires : tie.Need-fresh-index-requires
-fresh-index-requires c κs = search needs
+    let e = (sym (f .is-fit .ensures) ∙ i .if1 .taken) in
+    (fit-in (a .s) (tables (a .head .now) (a .loans .now) (a .chunks .now) (a .regions .now) (a .index .now)) e .0, fit-head (a .s) (tables (a .head .now) (a .loans .now) (a .chunks .now) (a .regions .now) (a .index .now)) e)
 
 same-length : tie.Need-same-length
 same-length c = search needs
@@ -37,13 +27,11 @@ same-length-3 c = search needs
 
 returns : tie.Need-returns
 returns c =
-    let n = c .before .before in
-    let r = n .before .before .before .before in
-    let h = r .before .before .before .before in
-    let k = h .before .before in
-    let f = k .before .before in
+    let h = c .before .before .before .before .before .before in
+    let i = h .before .before .before .before in
+    let f = i .before in
     let a = f .before .before .before .before .before .before .before .before .before .args in
-    set-up-ready (a .s) (tables (a .head .now) (a .loans .now) (a .chunks .now) (a .regions .now) (a .index .now)) _ _ _ _ (sym (f .is-fit .ensures) ∙ k .before .if1 .taken) (k .count-at .ensures) (h .fresh-head .ensures) (r .put .ensures) (n .fresh-index .ensures)
+    set-up-ready (a .s) (tables (a .head .now) (a .loans .now) (a .chunks .now) (a .regions .now) (a .index .now)) _ _ _ (sym (f .is-fit .ensures) ∙ i .if1 .taken) (h .fresh .ensures)
 
 same-length-4 : tie.Need-same-length-4
 same-length-4 c = search needs
@@ -65,10 +53,7 @@ set-up-spec =
     tie.close
     (tie.spec
     is-fit-requires
-    count-at-requires
-    fresh-head-requires
-    put-requires
-    fresh-index-requires
+    fresh-requires
     same-length
     same-length-2
     same-length-3

@@ -3,9 +3,9 @@ use mathlib.Core.Path.{sym, ap, _∙_}
 use Rattle.lists.proofs.Bools.{not-yes, not-no}
 use Rattle.counter.proofs.Tables.{alignment-yes}
 use Rattle.freelist_regions.specs.Found.{foundOf}
-use Rattle.freelist_place.proofs.Asking.{both-ones}
+use Rattle.freelist_regions.proofs.Asking.{both-ones}
 use Rattle.freelist_outcomes.proofs.Plans.{size-most}
-use Rattle.freelist_decide.proofs.Tests.{found-is, decide-mask, decide-size, decide-at, decide-nowhere}
+use Rattle.freelist_decide.proofs.Tests.{found-is, start-is, carried-is, decide-mask, decide-size, decide-at, decide-nowhere}
 use Rattle.freelist_decide.proofs.deciding.decide.Statement.{statement}
 use Rattle.freelist_decide.proofs.deciding.decide.Tie as tie
 
@@ -16,7 +16,7 @@ returns : tie.Need-returns
 returns c =
     let m = c .before in
     let a = m .before .before .before .before .args in
-    decide-mask (a .s) (a .h) (a .objects) (a .size) (a .mask) (a .head .now) (a .regions .now) (a .index .now) (sym (m .is-alignment .ensures) ∙ not-yes _ (c .if1 .taken))
+    (decide-mask (a .s) (a .h) (a .objects) (a .size) (a .mask) (a .head .now) (a .regions .now) (a .index .now) (sym (m .is-alignment .ensures) ∙ not-yes _ (c .if1 .taken)), tt)
 
 is-size-requires : tie.Need-is-size-requires
 is-size-requires c κs = search needs
@@ -26,7 +26,7 @@ returns-2 c =
     let z = c .before in
     let m = z .before .before in
     let a = m .before .before .before .before .args in
-    decide-size (a .s) (a .h) (a .objects) (a .size) (a .mask) (a .head .now) (a .regions .now) (a .index .now) (sym (m .is-alignment .ensures) ∙ not-no _ (z .before .if1 .left)) (sym (z .is-size .ensures) ∙ not-yes _ (c .if2 .taken))
+    (decide-size (a .s) (a .h) (a .objects) (a .size) (a .mask) (a .head .now) (a .regions .now) (a .index .now) (sym (m .is-alignment .ensures) ∙ not-no _ (z .before .if1 .left)) (sym (z .is-size .ensures) ∙ not-yes _ (c .if2 .taken)), tt)
 
 size-for-requires : tie.Need-size-for-requires
 size-for-requires c κs =
@@ -59,10 +59,7 @@ enum-told : tie.Need-enum-told
 enum-told c = search needs
 
 decide-buy-requires : tie.Need-decide-buy-requires
-decide-buy-requires c κs =
-    let z = c .before .before .before .before .before .before .before in
-    let b = z .before .before .before .before .before .before in
-    (b .pre, size-most (b .args .s) (b .args .size) (sym (z .is-size .ensures) ∙ not-no _ (c .before .before .before .before .before .before .if2 .left)))
+decide-buy-requires c κs = search needs
 
 returns-3 : tie.Need-returns-3
 returns-3 c =
@@ -74,8 +71,9 @@ returns-3 c =
     let g = z .before .before in
     let b = g .before .before .before .before in
     let a = b .args in
-    let found = found-is (a .s) (a .h) (a .objects) (a .size) (a .mask) (a .head .now) (a .regions .now) (a .index .now) (foundOf (f .find-fit .result)) _ _ _ (f .find-fit .ensures) (m .mask-for .ensures) (n .size-for .ensures) (k .region-count .ensures) in
-    decide-at (a .s) (a .h) (a .objects) (a .size) (a .mask) (a .head .now) (a .regions .now) (a .index .now) _ _ (sym (g .is-alignment .ensures) ∙ not-no _ (z .before .if1 .left)) (sym (z .is-size .ensures) ∙ not-no _ (n .before .if2 .left)) (sym (ap foundOf (c .before .before .found .given .1)) ∙ found) (c .decide-take .ensures)
+    let found = found-is (a .s) (a .h) (a .objects) (a .size) (a .mask) (a .head .now) (a .regions .now) (a .index .now) (foundOf (f .find-fit .result)) _ _ _ (f .find-fit .ensures .0) (m .mask-for .ensures) (n .size-for .ensures) (k .region-count .ensures) in
+    let starts = start-is (a .s) (a .h) (a .objects) (a .size) (a .mask) (a .head .now) (a .regions .now) (a .index .now) _ _ _ _ _ _ (c .before .before .found .given .1) (f .find-fit .ensures .1) (m .mask-for .ensures) (n .size-for .ensures) (k .region-count .ensures) in
+    (decide-at (a .s) (a .h) (a .objects) (a .size) (a .mask) (a .head .now) (a .regions .now) (a .index .now) _ _ (sym (g .is-alignment .ensures) ∙ not-no _ (z .before .if1 .left)) (sym (z .is-size .ensures) ∙ not-no _ (n .before .if2 .left)) (sym (ap foundOf (c .before .before .found .given .1)) ∙ found) (c .decide-take .ensures .0), c .decide-take .ensures .1 _ _ _ starts)
 
 returns-4 : tie.Need-returns-4
 returns-4 c =
@@ -87,8 +85,8 @@ returns-4 c =
     let g = z .before .before in
     let b = g .before .before .before .before in
     let a = b .args in
-    let found = found-is (a .s) (a .h) (a .objects) (a .size) (a .mask) (a .head .now) (a .regions .now) (a .index .now) (foundOf (f .find-fit .result)) _ _ _ (f .find-fit .ensures) (m .mask-for .ensures) (n .size-for .ensures) (k .region-count .ensures) in
-    decide-nowhere (a .s) (a .h) (a .objects) (a .size) (a .mask) (a .head .now) (a .regions .now) (a .index .now) _ (sym (g .is-alignment .ensures) ∙ not-no _ (z .before .if1 .left)) (sym (z .is-size .ensures) ∙ not-no _ (n .before .if2 .left)) (sym (ap foundOf (c .before .enum-told .given .1)) ∙ found) (c .decide-buy .ensures)
+    let found = found-is (a .s) (a .h) (a .objects) (a .size) (a .mask) (a .head .now) (a .regions .now) (a .index .now) (foundOf (f .find-fit .result)) _ _ _ (f .find-fit .ensures .0) (m .mask-for .ensures) (n .size-for .ensures) (k .region-count .ensures) in
+    (decide-nowhere (a .s) (a .h) (a .objects) (a .size) (a .mask) (a .head .now) (a .regions .now) (a .index .now) _ (sym (g .is-alignment .ensures) ∙ not-no _ (z .before .if1 .left)) (sym (z .is-size .ensures) ∙ not-no _ (n .before .if2 .left)) (sym (ap foundOf (c .before .enum-told .given .1)) ∙ found) (c .decide-buy .ensures .0 (a .size) (n .size-for .ensures)), carried-is (a .s) (a .h) (a .objects) (a .size) (a .mask) (a .head .now) (a .regions .now) (a .index .now) (c .decide-buy .result) _ _ (m .mask-for .ensures) (n .size-for .ensures) (c .decide-buy .ensures .1))
 
 pub decide-spec : {M : Type 1} → statement M
 decide-spec =

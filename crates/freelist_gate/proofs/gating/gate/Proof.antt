@@ -2,35 +2,35 @@ use borrow.Author.Needs.{needs}
 use mathlib.Core.Path.{sym, ap, _∙_}
 use mathlib.Core.Bool.{Bool, _&&_}
 use Rattle.lists.proofs.Bools.{not-yes, not-no, and-left}
-use Rattle.store_rules.specs.Shares.{holder}
+use Rattle.store_rules.proofs.Holders.{holder}
 use Rattle.freelist_rules.specs.Tables.{tables}
 use Rattle.freelist_gate.proofs.Gates.{gate-lent, gate-closed, gate-open}
 use Rattle.freelist_outcomes.proofs.Passing.{lent-in}
 use Rattle.freelist_gate.proofs.gating.gate.Statement.{statement}
 use Rattle.freelist_gate.proofs.gating.gate.Tie as tie
 
-is-lent-requires : tie.Need-is-lent-requires
-is-lent-requires c κs = search needs
+is-in-table-requires : tie.Need-is-in-table-requires
+is-in-table-requires c κs = search needs
 
 returns : tie.Need-returns
 returns c =
     let l = c .before in
     let a = l .before .before .before .before .before .before .args in
-    gate-lent (a .s) (holder (a .s .store) (a .h)) (tables (a .head .now) (a .loans .now) (a .chunks .now) (a .regions .now) (a .index .now)) (a .list) (ap (λ (b : Bool). b && a .list) (sym (l .is-lent .ensures)) ∙ not-yes _ (c .if1 .taken))
+    gate-lent (a .s) (holder (a .s .store) (a .share)) (tables (a .head .now) (a .loans .now) (a .chunks .now) (a .regions .now) (a .index .now)) (a .list) (ap (λ (b : Bool). b && a .list) (sym (l .is-in-table .ensures)) ∙ not-yes _ (c .if1 .taken))
 
 returns-2 : tie.Need-returns-2
 returns-2 c =
     let i = c .before .before in
     let l = i .before in
     let a = l .before .before .before .before .before .before .args in
-    gate-closed (a .s) (a .h) (tables (a .head .now) (a .loans .now) (a .chunks .now) (a .regions .now) (a .index .now)) (a .list) (ap (λ (b : Bool). b && a .list) (sym (l .is-lent .ensures)) ∙ not-no _ (i .if1 .left)) (not-yes _ (c .if2 .taken))
+    gate-closed (a .s) (a .share) (tables (a .head .now) (a .loans .now) (a .chunks .now) (a .regions .now) (a .index .now)) (a .list) (ap (λ (b : Bool). b && a .list) (sym (l .is-in-table .ensures)) ∙ not-no _ (i .if1 .left)) (not-yes _ (c .if2 .taken))
 
 gate-store-requires : tie.Need-gate-store-requires
 gate-store-requires c κs =
     let i = c .before .before .before in
     let l = i .before in
     let a = l .before .before .before .before .before .before .args in
-    lent-in (a .s) (holder (a .s .store) (a .h)) (tables (a .head .now) (a .loans .now) (a .chunks .now) (a .regions .now) (a .index .now)) (sym (l .is-lent .ensures) ∙ and-left _ (a .list) (not-no _ (i .if1 .left)))
+    lent-in (a .s) (holder (a .s .store) (a .share)) (tables (a .head .now) (a .loans .now) (a .chunks .now) (a .regions .now) (a .index .now)) (sym (l .is-in-table .ensures) ∙ and-left _ (a .list) (not-no _ (i .if1 .left)))
 
 returns-3 : tie.Need-returns-3
 returns-3 c =
@@ -38,7 +38,7 @@ returns-3 c =
     let i = o .before .before in
     let l = i .before in
     let a = l .before .before .before .before .before .before .args in
-    gate-open (a .s) (a .h) (tables (a .head .now) (a .loans .now) (a .chunks .now) (a .regions .now) (a .index .now)) (a .list) _ (ap (λ (b : Bool). b && a .list) (sym (l .is-lent .ensures)) ∙ not-no _ (i .if1 .left)) (not-no _ (o .if2 .left)) (c .gate-store .ensures)
+    gate-open (a .s) (a .share) (tables (a .head .now) (a .loans .now) (a .chunks .now) (a .regions .now) (a .index .now)) (a .list) _ (ap (λ (b : Bool). b && a .list) (sym (l .is-in-table .ensures)) ∙ not-no _ (i .if1 .left)) (not-no _ (o .if2 .left)) (c .gate-store .ensures)
 
 pub gate-spec : {M : Type 1} → statement M
-gate-spec = tie.close (tie.spec is-lent-requires returns returns-2 gate-store-requires returns-3)
+gate-spec = tie.close (tie.spec is-in-table-requires returns returns-2 gate-store-requires returns-3)

@@ -1,8 +1,4 @@
 use borrow.Author.Needs.{needs}
-use mathlib.Core.Path.{sym, subst}
-use Prim.Native.Nat.{ℕ}
-use Rattle.book_rules.specs.Book.{takenOf}
-use Rattle.book_rules.specs.Ready.{Opens}
 use Rattle.freelist_place.proofs.Serving.{lent-done}
 use Rattle.freelist_place.proofs.lending.lend.Statement.{statement}
 use Rattle.freelist_place.proofs.lending.lend.Tie as tie
@@ -10,18 +6,11 @@ use Rattle.freelist_place.proofs.lending.lend.Tie as tie
 loan-of-requires : tie.Need-loan-of-requires
 loan-of-requires c κs = search needs
 
-word-requires : tie.Need-word-requires
-word-requires c κs = search needs
-
 cut-requires : tie.Need-cut-requires
 cut-requires c κs = search needs
 
-enter-requires : tie.Need-enter-requires
-enter-requires c κs =
-    let w = c .before .before .before .before .before .before .before in
-    let b = w .before .before .before .before .before .before .before .before .before in
-    let a = b .args in
-    subst (λ (places : ℕ). Opens (a .s .store .loans) (takenOf places (a .index .now) .place) (a .loans .now) (a .index .now)) (sym (w .word .ensures)) (b .pre .1)
+enter-at-requires : tie.Need-enter-at-requires
+enter-at-requires c κs = search needs
 
 count-loan-requires : tie.Need-count-loan-requires
 count-loan-requires c κs = search needs
@@ -43,20 +32,18 @@ returns c =
     let k = c .before .before in
     let e = k .before .before .before .before .before .before in
     let t = e .before .before .before .before .before in
-    let w = t .before .before .before in
-    let l = w .before .before in
-    let b = l .before .before .before .before .before .before .before in
+    let l = t .before .before .before .before in
+    let a = l .before .before .before .before .before .before .before .before .before .args in
     let o = l .loan-of .ensures in
-    (o, lent-done (b .args .s) (b .args .size) (b .args .mask) (b .args .i) (b .args .head .now) (b .args .regions .now) (b .args .loans .now) (b .args .index .now) _ _ _ _ _ _ _ o (w .word .ensures) (t .cut .ensures) (e .enter .ensures .0) (e .enter .ensures .1 .0) (e .enter .ensures .1 .1) (k .count-loan .ensures))
+    (o, lent-done (a .s) (a .i) (a .start) (a .head .now) (a .regions .now) (a .loans .now) (a .index .now) _ _ _ _ (a .loan) _ o (t .cut .ensures) (e .enter-at .ensures .0) (e .enter-at .ensures .1) (k .count-loan .ensures))
 
 pub lend-spec : {M : Type 1} → statement M
 lend-spec =
     tie.close
     (tie.spec
     loan-of-requires
-    word-requires
     cut-requires
-    enter-requires
+    enter-at-requires
     count-loan-requires
     same-length
     same-length-2

@@ -12,8 +12,8 @@ use Rattle.freelist_regions.proofs.joins.join_region.Tie as tie
 some : (k n : ℕ) → k < n → 1 ≤ n
 some k n l = omega arith
 
-spot-requires : tie.Need-spot-requires
-spot-requires c κs =
+stands-at-requires : tie.Need-stands-at-requires
+stands-at-requires c κs =
     let s = c .before .before in
     let a = s .args in
     (search needs, regions-part (a .t .now) (a .n) (s .pre .2) (a .b .chunk) (a .b .start))
@@ -49,7 +49,7 @@ returns c =
     let o = p .before .before in
     let s = o .before .before .before in
     let a = s .args in
-    joined-both (a .t .now) (a .n) (o .spot .result) (a .b) (s .pre .0) (s .pre .1) (s .pre .2) (s .pre .3) (s .pre .4) (o .spot .ensures) _ _ (sym (p .touches-before .ensures) ∙ c .before .before .before .before .before .before .before .before .if2 .taken) (sym (q .touches-next .ensures) ∙ c .before .before .before .before .before .before .before .before .before .before .before .if1 .taken) (c .before .before .before .before .before .before .before .before .before .region-at .result) (c .before .before .before .before .before .before .before .before .before .region-at .ensures) (c .before .before .before .before .before .before .end-at .ensures) (c .before .before .close-row .ensures)
+    joined-both (a .t .now) (a .n) (o .stands-at .result) (a .b) (s .pre .0) (s .pre .1) (s .pre .2) (s .pre .3) (s .pre .4) (o .stands-at .ensures) _ _ (sym (p .touches-before .ensures) ∙ c .before .before .before .before .before .before .before .before .if2 .taken) (sym (q .touches-next .ensures) ∙ c .before .before .before .before .before .before .before .before .before .before .before .if1 .taken) (c .before .before .before .before .before .before .before .before .before .region-at .result) (c .before .before .before .before .before .before .before .before .before .region-at .ensures) (c .before .before .before .before .before .before .end-at .ensures) (c .before .before .close-row .ensures)
 
 put-region-requires : tie.Need-put-region-requires
 put-region-requires c κs = search needs
@@ -64,7 +64,7 @@ returns-2 c =
     let o = p .before .before in
     let s = o .before .before .before in
     let a = s .args in
-    joined-next (a .t .now) (a .n) (o .spot .result) (a .b) (s .pre .0) (s .pre .1) (s .pre .2) (s .pre .3) (s .pre .4) (o .spot .ensures) _ (sym (p .touches-before .ensures) ∙ c .before .before .before .before .if2 .left) (sym (q .touches-next .ensures) ∙ c .before .before .before .before .before .before .before .if1 .taken) (c .before .before .before .before .before .region-at .result) (c .before .before .before .before .before .region-at .ensures) (c .before .before .put-region .ensures)
+    joined-next (a .t .now) (a .n) (o .stands-at .result) (a .b) (s .pre .0) (s .pre .1) (s .pre .2) (s .pre .3) (s .pre .4) (o .stands-at .ensures) _ (sym (p .touches-before .ensures) ∙ c .before .before .before .before .if2 .left) (sym (q .touches-next .ensures) ∙ c .before .before .before .before .before .before .before .if1 .taken) (c .before .before .before .before .before .region-at .result) (c .before .before .before .before .before .region-at .ensures) (c .before .before .put-region .ensures)
 
 sub-end-at-2 : tie.Need-sub-end-at-2
 sub-end-at-2 c = ltb-true 0 _ (and-left _ _ (sym (c .before .before .before .before .before .touches-before .ensures) ∙ c .before .if3 .taken))
@@ -82,7 +82,7 @@ returns-3 c =
     let o = p .before .before in
     let s = o .before .before .before in
     let a = s .args in
-    joined-before (a .t .now) (a .n) (o .spot .result) (a .b) (s .pre .0) (s .pre .1) (s .pre .2) (s .pre .3) (s .pre .4) (o .spot .ensures) _ (sym (p .touches-before .ensures) ∙ c .before .before .before .before .if3 .taken) (sym (q .touches-next .ensures) ∙ c .before .before .before .before .before .if1 .left) (c .before .before .end-at2 .ensures)
+    joined-before (a .t .now) (a .n) (o .stands-at .result) (a .b) (s .pre .0) (s .pre .1) (s .pre .2) (s .pre .3) (s .pre .4) (o .stands-at .ensures) _ (sym (p .touches-before .ensures) ∙ c .before .before .before .before .if3 .taken) (sym (q .touches-next .ensures) ∙ c .before .before .before .before .before .if1 .left) (c .before .before .end-at2 .ensures)
 
 open-row-requires : tie.Need-open-row-requires
 open-row-requires c κs = search needs
@@ -103,9 +103,9 @@ returns-4 c =
     let o = p .before .before in
     let s = o .before .before .before in
     let a = s .args in
-    joined-alone (a .t .now) (a .n) (o .spot .result) (a .b) (s .pre .0) (s .pre .1) (s .pre .2) (s .pre .3) (s .pre .4) (o .spot .ensures) _ _ (sym (p .touches-before .ensures) ∙ c .before .before .before .before .before .before .before .before .if3 .left) (sym (q .touches-next .ensures) ∙ c .before .before .before .before .before .before .before .before .before .if1 .left) (c .before .before .before .before .before .before .open-row .ensures) (c .before .before .put-region2 .ensures)
+    joined-alone (a .t .now) (a .n) (o .stands-at .result) (a .b) (s .pre .0) (s .pre .1) (s .pre .2) (s .pre .3) (s .pre .4) (o .stands-at .ensures) _ _ (sym (p .touches-before .ensures) ∙ c .before .before .before .before .before .before .before .before .if3 .left) (sym (q .touches-next .ensures) ∙ c .before .before .before .before .before .before .before .before .before .if1 .left) (c .before .before .before .before .before .before .open-row .ensures) (c .before .before .put-region2 .ensures)
 
 pub join-region-spec : {M : Type 1} → statement M
 join-region-spec =
     tie.close
-    (tie.spec spot-requires touches-before-requires touches-next-requires region-at-requires sub-end-at end-at-requires close-row-requires sub-result same-length returns put-region-requires same-length-2 returns-2 sub-end-at-2 end-at-requires-2 same-length-3 returns-3 open-row-requires put-region-requires-2 add-result same-length-4 returns-4)
+    (tie.spec stands-at-requires touches-before-requires touches-next-requires region-at-requires sub-end-at end-at-requires close-row-requires sub-result same-length returns put-region-requires same-length-2 returns-2 sub-end-at-2 end-at-requires-2 same-length-3 returns-3 open-row-requires put-region-requires-2 add-result same-length-4 returns-4)

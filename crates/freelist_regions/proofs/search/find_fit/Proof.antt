@@ -1,5 +1,6 @@
 use borrow.Author.Needs.{needs}
-use mathlib.Core.Path.{_≡_, sym, ap, _∙_}
+use borrow.Author.Tests.{le-leb, lt-leb}
+use mathlib.Core.Path.{_≡_, refl, sym, ap, _∙_}
 use mathlib.Core.Bool.{true, false}
 use mathlib.Core.List.{List}
 use Prim.Native.Nat.{ℕ, suc, _-_, _≤_, _<_}
@@ -7,8 +8,9 @@ use native.Mathlib.Omega.{arith}
 use lib.ListN.{length, take, getD}
 use Rattle.words.specs.Rows.{rows, row}
 use Rattle.words.proofs.Records.{length-rows, getD-rows}
-use Rattle.freelist_rules.specs.Records.{region, regionRow}
-use Rattle.freelist_rules.specs.Place.{fitsIn, find}
+use Rattle.freelist_rules.specs.Records.{regionRow}
+use Rattle.freelist_rules.specs.Place.{at, cut, fitsIn, find}
+use Rattle.freelist_rules.specs.Steps.{noRegion}
 use Rattle.store_rules.specs.declared.Region.{Region}
 use Rattle.freelist_rules.proofs.Search.{find-start, find-none, find-here, find-past}
 use Rattle.freelist_regions.proofs.search.find_fit.Statement.{statement}
@@ -33,47 +35,82 @@ sub-k c = omega arith
 region-at-requires : tie.Need-region-at-requires Inv-loop μ-loop
 region-at-requires c κs = search needs
 
-fits-requires : tie.Need-fits-requires Inv-loop μ-loop
-fits-requires c κs = c .before .before .before .before .pre
+lower-to-unit-requires : tie.Need-lower-to-unit-requires Inv-loop μ-loop
+lower-to-unit-requires c κs = c .before .before .before .before .before .before .before .pre
 
 -- the region at hand, of the first k
-record Looked (t : List ℕ) (n k : ℕ) : Type 0 where
-  below : k - 1 < length (rows regionRow n t)
-  last : suc (k - 1) ≡ k
-  is : (r : Region) → r ≡ row regionRow (k - 1) t → r ≡ getD (rows regionRow n t) (k - 1) (region 0 0 0)
+module _ (t : List ℕ) (n k mask size : ℕ) (r : Region) (e : r ≡ row regionRow (k - 1) t) (some : 0 < k) (most : k ≤ n)
+    (inv : find mask size (rows regionRow n t) ≡ find mask size (take k (rows regionRow n t))) where
+  abbrev rs : List Region
+  rs = rows regionRow n t
 
-looked : (t : List ℕ) (n k : ℕ) → 0 < k → k ≤ n → Looked t n k
-looked t n k p h =
-    record {
-      below = omega (arith, length-rows regionRow n t);
-      last = omega arith;
-      is = λ r f. f ∙ sym (getD-rows regionRow n (k - 1) t (region 0 0 0) (omega arith));
-    }
+  below : k - 1 < length rs
+  below = omega (arith, length-rows regionRow n t)
+
+  last : suc (k - 1) ≡ k
+  last = omega arith
+
+  is : r ≡ getD rs (k - 1) noRegion
+  is = e ∙ sym (getD-rows regionRow n (k - 1) t noRegion (omega arith))
+
+  here : fitsIn mask size r ≡ true → find mask size rs ≡ at (k - 1)
+  here f = inv ∙ rw last at (find-here mask size (k - 1) rs noRegion below (ap (fitsIn mask size) (sym is) ∙ f))
+
+  past : fitsIn mask size r ≡ false → find mask size rs ≡ find mask size (take (k - 1) rs)
+  past f = inv ∙ rw last at (find-past mask size (k - 1) rs noRegion below (ap (fitsIn mask size) (sym is) ∙ f))
+
+  starts : (x : ℕ) → x ≡ cut mask size r → x ≡ cut mask size (getD rs (k - 1) noRegion)
+  starts x f = f ∙ ap (cut mask size) is
+
+-- whether it fits, as the code tests it
+module _ (mask size x : ℕ) (r : Region) where
+  fits-yes : size ≤ r .end → x ≡ cut mask size r → r .start ≤ x → fitsIn mask size r ≡ true
+  unfolding fitsIn
+  fits-yes l e h = rw (le-leb _ _ l, le-leb (r .start) (cut mask size r) (omega (arith, e, h)))
+
+  fits-low : size ≤ r .end → x ≡ cut mask size r → x < r .start → fitsIn mask size r ≡ false
+  unfolding fitsIn
+  fits-low l e h = rw (le-leb _ _ l, lt-leb (r .start) (cut mask size r) (omega (arith, e, h)))
+
+  fits-not : r .end < size → fitsIn mask size r ≡ false
+  unfolding fitsIn
+  fits-not h = rw (lt-leb size (r .end) h)
 
 returns : tie.Need-returns Inv-loop μ-loop
 returns c =
-    let a = c .before .before .before .before .before .before .args in
-    let l = c .before .before .before .before .loop in
-    let rs = rows regionRow (a .n) (a .t .now) in
-    let w = looked (a .t .now) (a .n) (l .k) (search needs) (search needs) in
-    let r = c .before .before .region-at .result in
-    let f : fitsIn (a .mask) (a .size) (getD rs (l .k - 1) (region 0 0 0)) ≡ true =
-    ap (fitsIn (a .mask) (a .size)) (sym (w .is r (c .before .before .region-at .ensures))) ∙ sym (c .before .fits2 .ensures) ∙ c .if1 .taken in
-    sym (l .inv .1 ∙ rw (w .last) at (find-here (a .mask) (a .size) (l .k - 1) rs (region 0 0 0) (w .below) f))
+    let u = c .before .before in
+    let i = u .before .before in
+    let g = i .before .before in
+    let l = g .before .before .loop in
+    let a = g .before .before .before .before .args in
+    let fit = fits-yes (a .mask) (a .size) _ (g .region-at .result) (i .if1 .taken) (u .lower-to-unit .ensures) (c .if2 .taken) in (
+      sym (here (a .t .now) (a .n) (l .k) (a .mask) (a .size) (g .region-at .result) (g .region-at .ensures) (search needs) (search needs) (l .inv .1) fit),
+      starts (a .t .now) (a .n) (l .k) (a .mask) (a .size) (g .region-at .result) (g .region-at .ensures) (search needs) (search needs) (l .inv .1) _ (u .lower-to-unit .ensures),
+    )
 
 loop-less : tie.Need-loop-less Inv-loop μ-loop
 loop-less c = omega arith
 
 loop-again : tie.Need-loop-again Inv-loop μ-loop
 loop-again c =
-    let a = c .before .before .before .before .before .before .args in
-    let l = c .before .before .before .before .loop in
-    let rs = rows regionRow (a .n) (a .t .now) in
-    let w = looked (a .t .now) (a .n) (l .k) (search needs) (search needs) in
-    let r = c .before .before .region-at .result in
-    let f : fitsIn (a .mask) (a .size) (getD rs (l .k - 1) (region 0 0 0)) ≡ false =
-    ap (fitsIn (a .mask) (a .size)) (sym (w .is r (c .before .before .region-at .ensures))) ∙ sym (c .before .fits2 .ensures) ∙ c .if1 .left in
-    (omega arith, l .inv .1 ∙ rw (w .last) at (find-past (a .mask) (a .size) (l .k - 1) rs (region 0 0 0) (w .below) f))
+    let u = c .before .before in
+    let i = u .before .before in
+    let g = i .before .before in
+    let l = g .before .before .loop in
+    let a = g .before .before .before .before .args in
+    let fit = fits-low (a .mask) (a .size) _ (g .region-at .result) (i .if1 .taken) (u .lower-to-unit .ensures) (c .if2 .left) in
+    (omega arith, past (a .t .now) (a .n) (l .k) (a .mask) (a .size) (g .region-at .result) (g .region-at .ensures) (search needs) (search needs) (l .inv .1) fit)
+
+loop-less-2 : tie.Need-loop-less-2 Inv-loop μ-loop
+loop-less-2 c = omega arith
+
+loop-again-2 : tie.Need-loop-again-2 Inv-loop μ-loop
+loop-again-2 c =
+    let g = c .before .before in
+    let l = g .before .before .loop in
+    let a = g .before .before .before .before .args in
+    let fit = fits-not (a .mask) (a .size) 0 (g .region-at .result) (c .if1 .left) in
+    (omega arith, past (a .t .now) (a .n) (l .k) (a .mask) (a .size) (g .region-at .result) (g .region-at .ensures) (search needs) (search needs) (l .inv .1) fit)
 
 returns-2 : tie.Need-returns-2 Inv-loop μ-loop
 returns-2 c =
@@ -81,9 +118,21 @@ returns-2 c =
     let l = c .before .loop in
     let rs = rows regionRow (a .n) (a .t .now) in
     let e : l .k ≡ 0 = omega arith in
-    sym ((rw e at (l .inv .1)) ∙ find-none (a .mask) (a .size) rs)
+    (sym ((rw e at (l .inv .1)) ∙ find-none (a .mask) (a .size) rs), tt)
 
 pub find-fit-spec : {M : Type 1} → statement M
 find-fit-spec =
     tie.close
-    (tie.spec Inv-loop μ-loop loop-holds sub-k region-at-requires fits-requires returns loop-less loop-again returns-2)
+    (tie.spec
+    Inv-loop
+    μ-loop
+    loop-holds
+    sub-k
+    region-at-requires
+    lower-to-unit-requires
+    returns
+    loop-less
+    loop-again
+    loop-less-2
+    loop-again-2
+    returns-2)

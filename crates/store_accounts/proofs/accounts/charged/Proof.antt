@@ -12,7 +12,7 @@ one-fewer-requires c κs = search needs
 returns : tie.Need-returns
 returns c =
     let a = c .before .before .args in
-    λ j. record { table = a .h .table; free = true; heap = (c .before .charge .ensures) j; objects = (c .one-fewer .ensures) j }
+    λ j. record { bounded = a .share .bounded; idle = true; heap = (c .before .charge .ensures) j; objects = (c .one-fewer .ensures) j }
 
 pub charged-spec : {M : Type 1} → statement M
 charged-spec = tie.close (tie.spec charge-requires one-fewer-requires returns)

@@ -16,7 +16,7 @@ returns : tie.Need-returns
 returns c =
     let a = c .before .before .args in
     let e = c .release .ensures ∙ ap (λ (k : Heap). releasedOf k (a .size)) (c .before .charge .ensures) in
-    λ j. record { table = a .h .table; free = true; heap = e j; objects = a .h .objects }
+    λ j. record { bounded = a .share .bounded; idle = true; heap = e j; objects = a .share .objects }
 
 pub given-back-spec : {M : Type 1} → statement M
 given-back-spec = tie.close (tie.spec charge-requires release-requires returns)

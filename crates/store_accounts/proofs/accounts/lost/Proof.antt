@@ -22,18 +22,18 @@ returns : tie.Need-returns
 returns c =
     let i = c .before .before .before in
     let a = i .before .args in
-    lost-kept (a .h) _ (a .size) (a .charge) (a .free) (i .if1 .taken) (c .before .enum-told .given .1) (c .charged .ensures)
+    lost-kept (a .share) _ (a .size) (a .charge) (a .free) (i .if1 .taken) (c .before .enum-told .given .1) (c .charged .ensures)
 
 returns-2 : tie.Need-returns-2
 returns-2 c =
     let i = c .before .before .before in
     let a = i .before .args in
-    lost-back (a .h) _ (a .size) (a .charge) (a .free) _ (i .if1 .taken) (c .before .enum-told2 .given .1) (c .given-back .ensures)
+    lost-back (a .share) _ (a .size) (a .charge) (a .free) _ (i .if1 .taken) (c .before .enum-told2 .given .1) (c .given-back .ensures)
 
 returns-3 : tie.Need-returns-3
 returns-3 c =
     let a = c .before .before .args in
-    lost-refused (a .h) _ (a .size) (a .charge) (a .free) (c .before .if1 .left) (c .closed .ensures)
+    lost-refused (a .share) _ (a .size) (a .charge) (a .free) (c .before .if1 .left) (c .closed .ensures)
 
 pub lost-spec : {M : Type 1} → statement M
 lost-spec =

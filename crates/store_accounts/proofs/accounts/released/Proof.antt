@@ -12,7 +12,7 @@ add-t5 c = search needs
 returns : tie.Need-returns
 returns c =
     let a = c .before .before .args in
-    λ j. record { table = a .h .table; free = a .h .free; heap = (c .before .release .ensures) j; objects = a .h .objects + a .count }
+    λ j. record { bounded = a .share .bounded; idle = a .share .idle; heap = (c .before .release .ensures) j; objects = a .share .objects + a .count }
 
 pub released-spec : {M : Type 1} → statement M
 released-spec = tie.close (tie.spec release-requires add-t5 returns)

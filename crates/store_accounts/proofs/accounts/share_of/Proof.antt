@@ -16,7 +16,7 @@ returns c =
     let n = c .before in
     let t = n .before in
     let a = t .before .before .args in
-    λ j. record { table = (t .heaps-in-table .ensures) j; free = (n .no-order .ensures) j; heap = (c .heap .ensures) j; objects = a .a .objects }
+    λ j. record { bounded = (t .heaps-in-table .ensures) j; idle = (n .no-order .ensures) j; heap = (c .heap .ensures) j; objects = a .a .objects }
 
 pub share-of-spec : {M : Type 1} → statement M
 share-of-spec =

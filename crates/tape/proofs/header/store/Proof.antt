@@ -14,7 +14,7 @@ word-requires-2 : tie.Need-word-requires-2
 word-requires-2 c κs = search needs
 
 narrow-requires-2 : tie.Need-narrow-requires-2
-narrow-requires-2 c κs = let s = c .before .before .before .before in omega (arith, fits-yes (s .args .bytes .now) (s .pre) .kind-most)
+narrow-requires-2 c κs = let s = c .before .before .before .before in omega (arith, fits-yes (s .args .bytes .now) (s .pre) .memtype-most)
 
 word-requires-3 : tie.Need-word-requires-3
 word-requires-3 c κs = search needs

@@ -18,7 +18,7 @@ shared-slice-read-narrow c = omega (arith, seven-words (c .before .before))
 narrow-requires : tie.Need-narrow-requires
 narrow-requires c κs =
     let n = narrow-words (c .before .before) in
-    omega (arith, n .number-most, n .kind-most, n .properties-most)
+    omega (arith, n .number-most, n .memtype-most, n .properties-most)
 
 shared-slice-read-narrow-2 : tie.Need-shared-slice-read-narrow-2
 shared-slice-read-narrow-2 c = omega (arith, seven-words (c .before .before .before .before))
@@ -26,7 +26,7 @@ shared-slice-read-narrow-2 c = omega (arith, seven-words (c .before .before .bef
 narrow-requires-2 : tie.Need-narrow-requires-2
 narrow-requires-2 c κs =
     let n = narrow-words (c .before .before .before .before) in
-    omega (arith, n .number-most, n .kind-most, n .properties-most)
+    omega (arith, n .number-most, n .memtype-most, n .properties-most)
 
 shared-slice-read-narrow-3 : tie.Need-shared-slice-read-narrow-3
 shared-slice-read-narrow-3 c = omega (arith, seven-words (c .before .before .before .before .before .before))
@@ -34,7 +34,7 @@ shared-slice-read-narrow-3 c = omega (arith, seven-words (c .before .before .bef
 narrow-requires-3 : tie.Need-narrow-requires-3
 narrow-requires-3 c κs =
     let n = narrow-words (c .before .before .before .before .before .before) in
-    omega (arith, n .number-most, n .kind-most, n .properties-most)
+    omega (arith, n .number-most, n .memtype-most, n .properties-most)
 
 shared-slice-read-t13 : tie.Need-shared-slice-read-t13
 shared-slice-read-t13 c = omega (arith, seven-words (c .before .before .before .before .before .before .before .before))

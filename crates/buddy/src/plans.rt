@@ -1,0 +1,130 @@
+// What each call comes to: the gate, and then the tests behind it. Reads only.
+ghost use mathlib.Core.Path.{_≡_};
+ghost use Rattle.store_rules.specs.Outcomes.{listOk};
+ghost use Rattle.store_rules.proofs.Holders.{holding, holder};
+ghost use Rattle.store.specs.Comings.{comingOf};
+ghost use Rattle.returning.specs.Backs.{backOf};
+ghost use Rattle.buddy_rules.specs.Tables.{tables};
+ghost use Rattle.buddy_outcomes.specs.Ask.{planAsk};
+ghost use Rattle.buddy_outcomes.specs.Deliver.{planDeliver};
+ghost use Rattle.buddy_outcomes.specs.Return.{planReturn};
+ghost use Rattle.buddy_decide.specs.Plans.{planOf, Planned};
+ghost use Rattle.buddy.specs.Ready.{Delivers};
+use buddy_decide::Buying;
+use buddy_decide::Plan;
+use buddy_gate::Passing;
+use counter::Block;
+use counter::BuddySettings;
+use counter::Gate;
+use counter::OpenOrder;
+use counter::Outcome;
+use returning::Back;
+use slab::Slab;
+use slab::Taken;
+use store::Coming;
+use store_rules::Share;
+
+// What a delivery comes to, and what its kept ask needs.
+pub struct Delivery {
+    pub coming: Coming,
+    pub buying: Buying,
+}
+
+pub fn plan_ask(
+    s: BuddySettings,
+    share: Share,
+    size: u64,
+    mask: u64,
+    head: &[u64],
+    loans: &[u64],
+    chunks: &[u64],
+    index: &[u64],
+    tree: &[u64],
+) -> Plan
+    ensures { λ r. ⌜ planOf r ≡ planAsk s (holder (s .store) share) size mask (tables (now (head .entry)) (now (loans .entry)) (now (chunks .entry)) (now (index .entry)) (now (tree .entry))) ⌝ }
+    ensures { λ r. ⌜ Planned s size mask (tables (now (head .entry)) (now (loans .entry)) (now (chunks .entry)) (now (index .entry)) (now (tree .entry))) r ⌝ }
+{
+    let g = buddy_gate::gate(s, share, true, head, loans, chunks, index, tree);
+    match g {
+        Gate::Shut(refusal) => Plan::Refuse(refusal),
+        Gate::Go => {
+            let heap = share.heap;
+            buddy_decide::decide(s, heap, share.objects, size, mask, head, index, tree)
+        }
+    }
+}
+
+// A refused delivery has none.
+fn no_buying() -> Buying
+    ensures { λ r. ⌜ r .order ≡ 0 ⌝ }
+{
+    let none = Taken {
+        place: 0,
+        slab: Slab::new(),
+    };
+    Buying {
+        order: 0,
+        size: 0,
+        level: 0,
+        levels: 0,
+        loan: none,
+        chunk: none,
+    }
+}
+
+pub fn plan_deliver(
+    s: BuddySettings,
+    share: Share,
+    order: OpenOrder,
+    o: Outcome,
+    head: &[u64],
+    loans: &[u64],
+    chunks: &[u64],
+    index: &[u64],
+    tree: &[u64],
+) -> Delivery
+    ensures { λ r. ⌜ comingOf (r .coming) ≡ planDeliver s (holding (s .store) share order) o (tables (now (head .entry)) (now (loans .entry)) (now (chunks .entry)) (now (index .entry)) (now (tree .entry))) ⌝ }
+    ensures { λ r. ⌜ Delivers s (tables (now (head .entry)) (now (loans .entry)) (now (chunks .entry)) (now (index .entry)) (now (tree .entry))) r ⌝ }
+{
+    let g = buddy_gate::gate_delivery(s, share, order, head, loans, chunks, index, tree);
+    match g {
+        Passing::Shut(refusal) => {
+            let coming = Coming::Refuse(refusal);
+            let buying = no_buying();
+            Delivery {
+                coming: coming,
+                buying: buying,
+            }
+        }
+        Passing::Go(b) => {
+            let coming = buddy_decide::decide_delivery(order, o, head, chunks);
+            Delivery {
+                coming: coming,
+                buying: b,
+            }
+        }
+    }
+}
+
+// The release list has to hold the chunk limit.
+pub fn plan_return(
+    s: BuddySettings,
+    share: Share,
+    b: Block,
+    head: &[u64],
+    loans: &[u64],
+    chunks: &[u64],
+    index: &[u64],
+    tree: &[u64],
+    list: &[u64],
+) -> Back
+    ensures { λ r. ⌜ backOf r ≡ planReturn s (holder (s .store) share) b (tables (now (head .entry)) (now (loans .entry)) (now (chunks .entry)) (now (index .entry)) (now (tree .entry))) (listOk (s .store) (now (list .entry))) ⌝ }
+{
+    let own = s.store;
+    let long = own.chunks <= list.len();
+    let g = buddy_gate::gate(s, share, long, head, loans, chunks, index, tree);
+    match g {
+        Gate::Shut(refusal) => Back::Refuse(refusal),
+        Gate::Go => buddy_decide::decide_return(s, b, head, loans, index),
+    }
+}

@@ -1,0 +1,31 @@
+use borrow.Author.Needs.{needs}
+use Rattle.buddy_decide.proofs.Shows.{spot-is}
+use Rattle.buddy_decide.proofs.seeking.chunk_taken.Statement.{statement}
+use Rattle.buddy_decide.proofs.seeking.chunk_taken.Tie as tie
+
+chunks-from-requires : tie.Need-chunks-from-requires
+chunks-from-requires c κs = search needs
+
+word-requires : tie.Need-word-requires
+word-requires c κs = search needs
+
+add-insert : tie.Need-add-insert
+add-insert c = search needs
+
+add-insert-2 : tie.Need-add-insert-2
+add-insert-2 c = search needs
+
+insert-requires : tie.Need-insert-requires
+insert-requires c κs = search needs
+
+returns : tie.Need-returns
+returns c =
+    let w = c .before in
+    let b = w .before in
+    let a = b .before .before .args in
+    spot-is (a .pairs) (a .places) (a .tree .now) _ _ _ (b .chunks-from .ensures .0) (w .word .ensures) (c .insert .ensures)
+
+pub chunk-taken-spec : {M : Type 1} → statement M
+chunk-taken-spec =
+    tie.close
+    (tie.spec chunks-from-requires word-requires add-insert add-insert-2 insert-requires returns)

@@ -1,0 +1,25 @@
+// What a return comes to, by test 7.
+ghost use mathlib.Core.Path.{_≡_};
+ghost use mathlib.Core.List.{[]};
+ghost use Prim.Native.Nat.{_≤_};
+ghost use lib.ListN.{getD};
+ghost use Rattle.counter.specs.InTable.{BuddyIn};
+ghost use Rattle.counter.specs.Limits.{loansMost};
+ghost use Rattle.returning.specs.Backs.{backOf};
+ghost use Rattle.buddy_rules.specs.Tables.{tables, placesAt};
+ghost use Rattle.buddy_outcomes.specs.Return.{decideReturn};
+use buddy_rules::GIVEN_AT;
+use buddy_rules::PLACES_AT;
+use counter::Block;
+use counter::BuddySettings;
+use returning::Back;
+
+pub fn decide_return(s: BuddySettings, b: Block, head: &[u64], loans: &[u64], index: &[u64]) -> Back
+    requires { ⌜ BuddyIn s × (getD (now head) placesAt 0 ≤ loansMost) ⌝ }
+    ensures { λ r. ⌜ backOf r ≡ decideReturn s b (tables (now (head .entry)) (now (loans .entry)) [] (now (index .entry)) []) ⌝ }
+{
+    let own = s.store;
+    let places = words::word(head, PLACES_AT);
+    let given = words::word(head, GIVEN_AT);
+    returning::decide(b, own.loans, places, given, loans, index)
+}

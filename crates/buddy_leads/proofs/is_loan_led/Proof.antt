@@ -1,0 +1,63 @@
+use borrow.Author.Needs.{needs}
+use Rattle.buddy_leads.proofs.Looks.{lent-none, lent-is}
+use Rattle.buddy_leads.proofs.is_loan_led.Statement.{statement}
+use Rattle.buddy_leads.proofs.is_loan_led.Tie as tie
+
+loan-at-requires : tie.Need-loan-at-requires
+loan-at-requires c κs = search needs
+
+returns : tie.Need-returns
+returns c =
+    let l = c .before .before in
+    let a = l .before .before .before .before .args in
+    lent-none (a .minimal) (a .pairs) (a .most) (a .levels) (a .held) (a .place) (a .loans .now) (a .chunks .now) (a .tree .now) (l .loan-at .result) (l .loan-at .ensures) (c .if1 .taken)
+
+level-requires : tie.Need-level-requires
+level-requires c κs = search needs
+
+cast-level : tie.Need-cast-level
+cast-level c = search needs
+
+nodes-from-requires : tie.Need-nodes-from-requires
+nodes-from-requires c κs = search needs
+
+add-word : tie.Need-add-word
+add-word c = search needs
+
+word-requires : tie.Need-word-requires
+word-requires c κs = search needs
+
+mul-leads-to : tie.Need-mul-leads-to
+mul-leads-to c = search needs
+
+add-leads-to : tie.Need-add-leads-to
+add-leads-to c = search needs
+
+leads-to-requires : tie.Need-leads-to-requires
+leads-to-requires c κs = search needs
+
+returns-2 : tie.Need-returns-2
+returns-2 c =
+    let w = c .before in
+    let n = w .before in
+    let v = n .before in
+    let i = v .before in
+    let l = i .before .before in
+    let a = l .before .before .before .before .args in
+    lent-is (a .minimal) (a .pairs) (a .most) (a .levels) (a .held) (a .place) (a .loans .now) (a .chunks .now) (a .tree .now) (l .loan-at .result) (l .loan-at .ensures) _ _ _ _ (i .if1 .left) (v .level .ensures) (n .nodes-from .ensures .0) (w .word .ensures) (c .leads-to .ensures)
+
+pub is-loan-led-spec : {M : Type 1} → statement M
+is-loan-led-spec =
+    tie.close
+    (tie.spec
+    loan-at-requires
+    returns
+    level-requires
+    cast-level
+    nodes-from-requires
+    add-word
+    word-requires
+    mul-leads-to
+    add-leads-to
+    leads-to-requires
+    returns-2)

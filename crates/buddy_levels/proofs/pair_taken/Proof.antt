@@ -1,0 +1,43 @@
+use Rattle.buddy_levels.proofs.Steps.{spot-read}
+use borrow.Author.Needs.{needs}
+use Rattle.buddy_levels.proofs.pair_taken.Statement.{statement}
+use Rattle.buddy_levels.proofs.pair_taken.Tie as tie
+
+add-word : tie.Need-add-word
+add-word c = search needs
+
+word-requires : tie.Need-word-requires
+word-requires c κs = search needs
+
+add-word-2 : tie.Need-add-word-2
+add-word-2 c = search needs
+
+word-requires-2 : tie.Need-word-requires-2
+word-requires-2 c κs = search needs
+
+add-insert : tie.Need-add-insert
+add-insert c = search needs
+
+add-insert-2 : tie.Need-add-insert-2
+add-insert-2 c = search needs
+
+insert-requires : tie.Need-insert-requires
+insert-requires c κs = search needs
+
+returns : tie.Need-returns
+returns c =
+    let a = c .before .before .before .before .args in
+    spot-read (a .base) (a .tree .now) _ _ _ (c .before .before .word .ensures) (c .before .word2 .ensures) (c .insert .ensures)
+
+pub pair-taken-spec : {M : Type 1} → statement M
+pair-taken-spec =
+    tie.close
+    (tie.spec
+    add-word
+    word-requires
+    add-word-2
+    word-requires-2
+    add-insert
+    add-insert-2
+    insert-requires
+    returns)

@@ -1,0 +1,56 @@
+use native.Mathlib.Omega.{arith}
+use borrow.Author.Needs.{needs}
+use Rattle.buddy_moves.proofs.Moved.{top-place, top-roomy, top-node, top-tree}
+use Rattle.buddy_moves.proofs.split_chunk.Statement.{statement}
+use Rattle.buddy_moves.proofs.split_chunk.Tie as tie
+
+add-level-from : tie.Need-add-level-from
+add-level-from c = search needs
+
+level-from-requires : tie.Need-level-from-requires
+level-from-requires c κs = search needs
+
+add-pair-requires : tie.Need-add-pair-requires
+add-pair-requires c κs = search needs
+
+mul-split-down : tie.Need-mul-split-down
+mul-split-down c =
+    let q = c .before .before .before in
+    let f = q .before in
+    let s = f .before .before .before in
+    let a = s .args in
+    omega (arith, top-place (a .pairs) (a .level) (a .above) (a .chunk) (a .loan) _ _ (a .tree .now) _ (f .level-from .ensures .0) (q .add-pair .ensures .0) (q .add-pair .ensures .1) (s .pre .0 .3))
+
+split-down-requires : tie.Need-split-down-requires
+split-down-requires c κs =
+    let q = c .before .before .before in
+    let f = q .before in
+    let s = f .before .before .before in
+    let a = s .args in
+    ((s .pre .0 .0, omega (arith, s .pre .0 .1), s .pre .0 .2), top-roomy (a .pairs) (a .level) (a .above) (a .chunk) (a .loan) _ _ (a .tree .now) _ (f .level-from .ensures .0) (q .add-pair .ensures .0) (q .add-pair .ensures .1) (s .pre .1))
+
+same-length : tie.Need-same-length
+same-length c = search needs
+
+returns : tie.Need-returns
+returns c =
+    let d = c .before .before in
+    let q = d .before .before .before .before in
+    let f = q .before in
+    let s = f .before .before .before in
+    let a = s .args in (
+      top-node (a .pairs) (a .level) (a .above) (a .chunk) (a .loan) _ _ (a .tree .now) _ (f .level-from .ensures .0) (q .add-pair .ensures .0) (q .add-pair .ensures .1) _ (d .split-down .ensures .0),
+      top-tree (a .pairs) (a .level) (a .above) (a .chunk) (a .loan) _ _ (a .tree .now) _ (f .level-from .ensures .0) (q .add-pair .ensures .0) (q .add-pair .ensures .1) _ (d .split-down .ensures .1),
+    )
+
+pub split-chunk-spec : {M : Type 1} → statement M
+split-chunk-spec =
+    tie.close
+    (tie.spec
+    add-level-from
+    level-from-requires
+    add-pair-requires
+    mul-split-down
+    split-down-requires
+    same-length
+    returns)

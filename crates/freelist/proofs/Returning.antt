@@ -1,0 +1,228 @@
+-- A return's and a clean-up's plan can be carried out, and carried out they leave what is defined.
+use mathlib.Core.Path.{_≡_, refl, sym, ap, subst, _∙_}
+use mathlib.Core.Bool.{Bool, true, false, cond}
+use mathlib.Core.Logic.{⊎-elim}
+use mathlib.Core.List.{List, []}
+use Prim.Native.Nat.{ℕ, _≤_}
+use native.Mathlib.Omega.{arith}
+use lib.ListN.{length, getD}
+use lib.Seq.{sets}
+use borrow.Author.Tests.{leb-true}
+use Rattle.lists.proofs.Bools.{told, true-false}
+use Rattle.counter.specs.Account.{heapAt}
+use Rattle.counter.specs.Gate.{Verdict, pass, refuse, verdictOf, gated}
+use Rattle.counter.specs.declared.refusal.Gate.{Gate}
+use Rattle.counter.specs.declared.refusal.Gate.the-variants as G
+use Rattle.returning.specs.Backs.{backOf}
+use Rattle.returning.specs.declared.Back.{Back}
+use Rattle.returning.specs.declared.Back.the-variants as B
+use Rattle.counter.specs.Limits.{objectsMost}
+use Rattle.counter.specs.Paper as Paper
+use Rattle.counter.specs.declared.account.Account.{Account}
+use Rattle.counter.specs.declared.answers.Block.{Block}
+use Rattle.counter.specs.declared.settings.FreeListSettings.{FreeListSettings}
+use Rattle.store_rules.specs.Outcomes.{Listed, listed, listOk, releasedAccount}
+use Rattle.store_rules.specs.Shares.{releasedShare}
+use Rattle.store_rules.proofs.Holders.{holding, orderBy, holder}
+use Rattle.store_rules.proofs.Shares.{held-released}
+use Rattle.freelist_rules.specs.Release.{memoriesOf, bytesOf}
+use Rattle.book_rules.specs.Ready.{Strikes}
+use Rattle.freelist_rules.specs.Pieces.{total}
+use Rattle.freelist_rules.specs.Tables.{Tables, tables, chunksIn, storeOf}
+use Rattle.store_rules.specs.declared.Chunk.{Chunk}
+use Rattle.store_rules.specs.declared.Share.{Share}
+use Rattle.freelist_outcomes.specs.Gate.{accountOk, gateOf}
+use Rattle.freelist_outcomes.specs.Return.{Plan, deny, back, wordFor, onLoanOk, givenTables, decideReturn, planReturn, goneFrom, releasedTables, releaseOf, carryReturn, returnOf, planCleanUp, carryCleanUp, cleanUpOf}
+use Rattle.freelist_place.specs.Ready.{Backs}
+use Rattle.freelist.proofs.Backing.{backs-ready, strikes-ready}
+use Rattle.freelist.proofs.Releasing.{cleaned-ready, cleaned-bounds, cleaned-objects, returned-ready, returned-bounds, returned-objects}
+use Rattle.freelist_outcomes.proofs.Passing.{Passed, gate-passed}
+use Rattle.freelist_release.specs.Frees.{Frees}
+use Rattle.freelist.specs.Carries.{Releases, joined, TakesBack, ReturnCarries, CleanUpCarries}
+
+-- ---- a plan that carries
+
+abbrev isBack : Plan → Bool
+isBack (deny n) = false
+isBack (back w) = true
+
+not-denied : (w n : ℕ) → back w ≡ deny n → ⊥
+not-denied w n e = true-false true refl (ap isBack e)
+
+same-back : (v w : ℕ) → back v ≡ back w → v ≡ w
+same-back v w e = cc
+
+module _ (s : FreeListSettings) (a : Account) (b : Block) (t : Tables) (list : Bool) (w : ℕ) (e : back w ≡ planReturn s a b t list) where
+  passes : pass ≡ gateOf s a t list
+  unfolding planReturn
+  passes = by (gateOf s a t list) e
+    where
+      by : (v : Verdict) → back w ≡ gated deny v (decideReturn s b t) → pass ≡ v
+      by pass p = refl
+      by (refuse n) p = absurd (not-denied w n p)
+
+  decided : back w ≡ decideReturn s b t
+  unfolding planReturn
+  decided = e ∙ ap (λ (v : Verdict). gated deny v (decideReturn s b t)) (sym passes)
+
+  on-loan : onLoanOk s b t ≡ true
+  unfolding decideReturn
+  on-loan =
+      ⊎-elim (λ o. o)
+      (λ o. absurd (not-denied w 7 (decided ∙ ap (λ (x : Bool). cond x (back (wordFor s b t)) (deny 7)) o)))
+      (told (onLoanOk s b t))
+
+  -- the word is the one that was found
+  word-is : w ≡ wordFor s b t
+  unfolding decideReturn
+  word-is = same-back w (wordFor s b t) (decided ∙ ap (λ (x : Bool). cond x (back (wordFor s b t)) (deny 7)) on-loan)
+
+-- ---- the facts
+
+long-enough : (s : FreeListSettings) (t : Tables) (list : List ℕ) → listOk (s .store) list ≡ true → chunksIn t ≤ s .store .chunks → chunksIn t ≤ length list
+long-enough s t list e h = omega (arith, leb-true (s .store .chunks) (length list) e)
+
+module _ (s : FreeListSettings) (h : Share) (t : Tables) (list : List ℕ) (few : h .objects ≤ objectsMost) where
+  abbrev held : Account
+  held = holder (s .store) h
+
+  cleaned-releases : pass ≡ gateOf s held t (listOk (s .store) list) → Releases s (h .objects) false t list
+  unfolding storeOf accountOk holding
+  cleaned-releases e =
+      let p = gate-passed s held t (listOk (s .store) list) e in
+      let bounds = cleaned-bounds s t (p .settings) (p .sound) (p .lengths) in
+      let frees : Frees s (t .head) (t .chunks) (t .regions) list =
+      record {
+        settings = p .settings;
+        ready = cleaned-ready s t (p .settings) (p .sound);
+        chunks-fit = bounds .0;
+        regions-fit = bounds .1;
+        few = bounds .2;
+        long = long-enough s t list (p .listed) (p .sound .chunks-fit);
+      } in
+      (frees, cleaned-objects s t (p .settings) (p .sound) (heapAt held (s .store .heap)) (h .objects) (total (λ (c : Chunk). c .size) (storeOf s t .chunks)) false few (p .covered))
+
+  pub clean-up-carries : (p : Gate) → verdictOf p ≡ planCleanUp s held t (listOk (s .store) list) → CleanUpCarries s (h .objects) t list p
+  clean-up-carries (G.Shut r) e = tt
+  clean-up-carries G.Go e = cleaned-releases e
+
+  module _ (b : Block) (w : ℕ) (e : back w ≡ planReturn s held b t (listOk (s .store) list)) where
+    abbrev gate : Passed s held t (listOk (s .store) list)
+    gate = gate-passed s held t (listOk (s .store) list) (passes s held b t (listOk (s .store) list) w e)
+
+    abbrev lent : onLoanOk s b t ≡ true
+    lent = on-loan s held b t (listOk (s .store) list) w e
+
+    returned-backs : Backs s b (t .regions)
+    returned-backs = backs-ready s t (gate .settings) (gate .sound) b lent (gate .lengths)
+
+    returned-strikes : Strikes w (getD (t .index) w 0) (t .loans) (t .index)
+    returned-strikes =
+        subst (λ (v : ℕ). Strikes v (getD (t .index) v 0) (t .loans) (t .index)) (sym (word-is s held b t (listOk (s .store) list) w e))
+        (strikes-ready s t (gate .settings) (gate .sound) b lent (gate .lengths))
+
+    returned-releases : Releases s (h .objects) true (tables (t .head) (t .loans) (t .chunks) (joined s b (t .regions)) (t .index)) list
+    unfolding givenTables storeOf accountOk holding
+    returned-releases =
+        let bounds = returned-bounds s t (gate .settings) (gate .sound) b lent (gate .lengths) in
+        let frees : Frees s (t .head) (t .chunks) (joined s b (t .regions)) list =
+        record {
+          settings = gate .settings;
+          ready = returned-ready s t (gate .settings) (gate .sound) b lent (gate .lengths);
+          chunks-fit = bounds .0;
+          regions-fit = bounds .1;
+          few = bounds .2;
+          long = long-enough s t list (gate .listed) (gate .sound .chunks-fit);
+        } in
+        (frees, returned-objects s t (gate .settings) (gate .sound) b lent (gate .lengths) (heapAt held (s .store .heap)) (h .objects) (total (λ (c : Chunk). c .size) (storeOf s t .chunks)) true few (gate .covered))
+
+    takes-back : TakesBack s (h .objects) b w t list
+    takes-back = record { backs = returned-backs; strikes = returned-strikes; releases = returned-releases }
+
+  pub return-carries : (b : Block) (p : Back) → backOf p ≡ planReturn s held b t (listOk (s .store) list) → ReturnCarries s (h .objects) b t list p
+  return-carries b (B.Refuse r) e = tt
+  return-carries b (B.From w) e = takes-back b w e
+
+-- ---- carried out
+
+-- chunks released and counted are what a release is defined to leave
+module _ (s : FreeListSettings) (h : Share) (spare : Bool) (head chunks regions list : List ℕ) where
+  abbrev begun : Tables
+  begun = tables head [] chunks regions []
+
+  pub let-go-done : (count bytes : ℕ) (said : Paper.Said) (share : Share) (h′ c′ r′ l′ : List ℕ)
+      → count ≡ length (goneFrom s spare begun) → bytes ≡ bytesOf (goneFrom s spare begun)
+      → tables h′ [] c′ r′ [] ≡ releasedTables s spare begun
+      → l′ ≡ sets list 0 (memoriesOf (storeOf s begun .chunks) (goneFrom s spare begun))
+      → share ≡ releasedShare h count bytes → said ≡ Paper.released count
+      → listed said (holder (s .store) share) (tables h′ [] c′ r′ []) l′ ≡ releaseOf s (holder (s .store) h) spare begun list
+  unfolding releaseOf
+  let-go-done count bytes said share h′ c′ r′ l′ e b t l x y =
+      let account = holder (s .store) h in
+      let x-is = ap (holder (s .store)) x ∙ sym (held-released (s .store) h (orderBy (h .idle)) count bytes) ∙ (λ j. releasedAccount (s .store) account (e j) (b j)) in
+      let y-is = y ∙ ap Paper.released e in
+      (λ j. listed (y-is j) (x-is j) (t j) (l j))
+
+-- a release looks at neither loans nor index, and leaves them
+pub releases-few : (s : FreeListSettings) (objects : ℕ) (spare : Bool) (t : Tables) (list : List ℕ) → Releases s objects spare t list → Releases s objects spare (tables (t .head) [] (t .chunks) (t .regions) []) list
+unfolding storeOf
+releases-few s objects spare t list r = r
+
+module _ (s : FreeListSettings) (a : Account) (spare : Bool) (said : Paper.Said) (account : Account) (head chunks regions list h′ c′ r′ l′ : List ℕ)
+    (e : listed said account (tables h′ [] c′ r′ []) l′ ≡ releaseOf s a spare (tables head [] chunks regions []) list) where
+  pub beside : (loans index : List ℕ) → listed said account (tables h′ loans c′ r′ index) l′ ≡ releaseOf s a spare (tables head loans chunks regions index) list
+  unfolding releaseOf releasedTables storeOf
+  beside loans index = ap (λ (y : Listed Tables). listed (y .said) (y .account) (tables (y .tables .head) loans (y .tables .chunks) (y .tables .regions) index) (y .list)) e
+
+module _ (s : FreeListSettings) (a : Account) (b : Block) (at : ℕ) (loans regions index l′ r′ i′ : List ℕ)
+    (e : tables [] l′ [] r′ i′ ≡ givenTables s b at (tables [] loans [] regions index)) where
+  pub joined-is : r′ ≡ joined s b regions
+  unfolding givenTables storeOf
+  joined-is = ap (λ (x : Tables). x .regions) e
+
+  -- so what is asked of the joined regions holds of them as they are written
+  pub releases-now : (objects : ℕ) (head chunks list : List ℕ) → Releases s objects true (tables head loans chunks (joined s b regions) index) list → Releases s objects true (tables head [] chunks r′ []) list
+  unfolding storeOf
+  releases-now objects head chunks list r = subst (λ (x : List ℕ). Releases s objects true (tables head [] chunks x []) list) (sym joined-is) r
+
+  pub taken-in : (head chunks list h″ c″ r″ m : List ℕ) (said : Paper.Said) (account : Account)
+      → listed said account (tables h″ [] c″ r″ []) m ≡ releaseOf s a true (tables head [] chunks r′ []) list
+      → listed said account (tables h″ l′ c″ r″ i′) m ≡ releaseOf s a true (givenTables s b at (tables head loans chunks regions index)) list
+  unfolding givenTables storeOf
+  taken-in head chunks list h″ c″ r″ m said account p =
+      beside s a true said account head chunks r′ list h″ c″ r″ m p l′ i′
+      ∙ ap (λ (t : Tables). releaseOf s a true (tables head (t .loans) chunks (t .regions) (t .index)) list) e
+
+module _ (s : FreeListSettings) (h : Share) (t : Tables) (list : List ℕ) where
+  abbrev before : Account
+  before = holder (s .store) h
+
+  pub return-refused : (b : Block) (p q : Back) (n : ℕ) (share : Share) (said : Paper.Said) → p ≡ q → backOf q ≡ deny n → share ≡ h → said ≡ Paper.refusal n []
+      → listed said (holder (s .store) share) t list ≡ carryReturn s before b t list (backOf p)
+  unfolding carryReturn
+  return-refused b p q n share said f e same says =
+      (λ j. listed (says j) (holder (s .store) (same j)) t list) ∙ ap (carryReturn s before b t list) (sym e) ∙ ap (λ (x : Back). carryReturn s before b t list (backOf x)) (sym f)
+
+  pub return-taken : (b : Block) (p q : Back) (w : ℕ) (r : Listed Tables) → p ≡ q → backOf q ≡ back w → r ≡ releaseOf s before true (givenTables s b w t) list → r ≡ carryReturn s before b t list (backOf p)
+  unfolding carryReturn
+  return-taken b p q w r f e d = d ∙ ap (carryReturn s before b t list) (sym e) ∙ ap (λ (x : Back). carryReturn s before b t list (backOf x)) (sym f)
+
+  pub clean-refused : (p q : Gate) (n : ℕ) (share : Share) (said : Paper.Said) → p ≡ q → verdictOf q ≡ refuse n → share ≡ h → said ≡ Paper.refusal n []
+      → listed said (holder (s .store) share) t list ≡ carryCleanUp s before t list (verdictOf p)
+  unfolding carryCleanUp
+  clean-refused p q n share said f e same says =
+      (λ j. listed (says j) (holder (s .store) (same j)) t list) ∙ ap (carryCleanUp s before t list) (sym e) ∙ ap (λ (x : Gate). carryCleanUp s before t list (verdictOf x)) (sym f)
+
+  pub clean-went : (p q : Gate) (r : Listed Tables) → p ≡ q → verdictOf q ≡ pass → r ≡ releaseOf s before false t list → r ≡ carryCleanUp s before t list (verdictOf p)
+  unfolding carryCleanUp
+  clean-went p q r f e d = d ∙ ap (carryCleanUp s before t list) (sym e) ∙ ap (λ (x : Gate). carryCleanUp s before t list (verdictOf x)) (sym f)
+
+  -- ---- the calls
+
+  pub return-done : (b : Block) (p : Back) → backOf p ≡ planReturn s before b t (listOk (s .store) list) → carryReturn s before b t list (backOf p) ≡ returnOf s before b t list
+  unfolding returnOf
+  return-done b p e = ap (carryReturn s before b t list) e
+
+  pub clean-done : (p : Gate) → verdictOf p ≡ planCleanUp s before t (listOk (s .store) list) → carryCleanUp s before t list (verdictOf p) ≡ cleanUpOf s before t list
+  unfolding cleanUpOf
+  clean-done p e = ap (carryCleanUp s before t list) e

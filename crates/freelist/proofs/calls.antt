@@ -1,4 +1,0 @@
-pub mod Arriving
-pub mod Asking
-pub mod Freeing
-pub mod Returning

@@ -1,0 +1,67 @@
+use borrow.Author.Needs.{needs}
+use mathlib.Core.Path.{refl, subst}
+use mathlib.Core.Bool.{false}
+use Rattle.counter.specs.declared.refusal.Gate.{Gate}
+use Rattle.store_rules.proofs.Holders.{holder}
+use Rattle.freelist_rules.specs.Tables.{tables}
+use Rattle.freelist.specs.Carries.{CleanUpCarries}
+use Rattle.freelist.proofs.Returning.{releases-few, clean-refused, clean-went, beside}
+use Rattle.freelist.proofs.carries.carry_clean_up.Statement.{statement}
+use Rattle.freelist.proofs.carries.carry_clean_up.Tie as tie
+
+enum-known-plan : tie.Need-enum-known-plan
+enum-known-plan c = search needs
+
+refuse-return-requires : tie.Need-refuse-return-requires
+refuse-return-requires c κs = search needs
+
+enum-told : tie.Need-enum-told
+enum-told c = search needs
+
+let-go-requires : tie.Need-let-go-requires
+let-go-requires c κs =
+    let e = c .before .before .before .before in
+    let b = e .before .before .before .before .before .before .before .before in
+    let a = b .args in
+    releases-few (a .s) (a .share .objects) false (tables (a .head .now) (a .loans .now) (a .chunks .now) (a .regions .now) (a .index .now)) (a .list .now) (subst (λ (p : Gate). CleanUpCarries (a .s) (a .share .objects) (tables (a .head .now) (a .loans .now) (a .chunks .now) (a .regions .now) (a .index .now)) (a .list .now) p) (e .enum-told .given .1) (b .pre))
+
+returns : tie.Need-returns
+returns c =
+    let i = c .before .before in
+    let a = i .before .before .before .before .before .before .before .before .args in
+    clean-refused (a .s) (a .share) (tables (a .head .now) (a .loans .now) (a .chunks .now) (a .regions .now) (a .index .now)) (a .list .now) (a .plan) _ _ _ _ (i .plan .given .1) refl (c .refuse-return .ensures .0) (c .refuse-return .ensures .1)
+
+same-length : tie.Need-same-length
+same-length c = search needs
+
+same-length-2 : tie.Need-same-length-2
+same-length-2 c = search needs
+
+same-length-3 : tie.Need-same-length-3
+same-length-3 c = search needs
+
+same-length-4 : tie.Need-same-length-4
+same-length-4 c = search needs
+
+returns-2 : tie.Need-returns-2
+returns-2 c =
+    let l = c .before .before .before .before .before .before .before .before in
+    let e = l .before .before .before .before .before in
+    let a = e .before .before .before .before .before .before .before .before .args in
+    clean-went (a .s) (a .share) (tables (a .head .now) (a .loans .now) (a .chunks .now) (a .regions .now) (a .index .now)) (a .list .now) (a .plan) _ _ (e .enum-told .given .1) refl
+    (beside (a .s) (holder (a .s .store) (a .share)) false _ _ (a .head .now) (a .chunks .now) (a .regions .now) (a .list .now) _ _ _ _ (l .let-go .ensures) (a .loans .now) (a .index .now))
+
+pub carry-clean-up-spec : {M : Type 1} → statement M
+carry-clean-up-spec =
+    tie.close
+    (tie.spec
+    enum-known-plan
+    refuse-return-requires
+    enum-told
+    let-go-requires
+    returns
+    same-length
+    same-length-2
+    same-length-3
+    same-length-4
+    returns-2)

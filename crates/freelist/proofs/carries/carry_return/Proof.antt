@@ -1,0 +1,72 @@
+use borrow.Author.Needs.{needs}
+use mathlib.Core.Path.{refl, subst}
+use Rattle.freelist_rules.specs.Tables.{tables}
+use Rattle.returning.specs.declared.Back.{Back}
+use Rattle.freelist.specs.Carries.{ReturnCarries}
+use Rattle.freelist.proofs.Returning.{return-refused, return-taken}
+use Rattle.freelist.proofs.carries.carry_return.Statement.{statement}
+use Rattle.freelist.proofs.carries.carry_return.Tie as tie
+
+enum-known-plan : tie.Need-enum-known-plan
+enum-known-plan c = search needs
+
+refuse-return-requires : tie.Need-refuse-return-requires
+refuse-return-requires c κs = search needs
+
+enum-known-plan-2 : tie.Need-enum-known-plan-2
+enum-known-plan-2 c = search needs
+
+take-in-requires : tie.Need-take-in-requires
+take-in-requires c κs =
+    let i = c .before .before .before .before .before .before .before in
+    let b = i .before .before .before .before .before .before .before .before in
+    let a = b .args in
+    subst (λ (x : Back). ReturnCarries (a .s) (a .share .objects) (a .b) (tables (a .head .now) (a .loans .now) (a .chunks .now) (a .regions .now) (a .index .now)) (a .list .now) x) (i .plan2 .given .1) (b .pre)
+
+returns : tie.Need-returns
+returns c =
+    let i = c .before .before in
+    let a = i .before .before .before .before .before .before .before .before .args in
+    return-refused (a .s) (a .share) (tables (a .head .now) (a .loans .now) (a .chunks .now) (a .regions .now) (a .index .now)) (a .list .now) (a .b) (a .plan) _ _ _ _ (i .plan .given .1) refl (c .refuse-return .ensures .0) (c .refuse-return .ensures .1)
+
+same-length : tie.Need-same-length
+same-length c = search needs
+
+same-length-2 : tie.Need-same-length-2
+same-length-2 c = search needs
+
+same-length-3 : tie.Need-same-length-3
+same-length-3 c = search needs
+
+same-length-4 : tie.Need-same-length-4
+same-length-4 c = search needs
+
+same-length-5 : tie.Need-same-length-5
+same-length-5 c = search needs
+
+same-length-6 : tie.Need-same-length-6
+same-length-6 c = search needs
+
+returns-2 : tie.Need-returns-2
+returns-2 c =
+    let k = c .before .before .before .before .before .before .before .before .before .before .before .before in
+    let i = k .before .before .before .before .before .before .before .before in
+    let a = i .before .before .before .before .before .before .before .before .args in
+    return-taken (a .s) (a .share) (tables (a .head .now) (a .loans .now) (a .chunks .now) (a .regions .now) (a .index .now)) (a .list .now) (a .b) (a .plan) _ _ _ (i .plan2 .given .1) refl (k .take-in .ensures)
+
+pub carry-return-spec : {M : Type 1} → statement M
+carry-return-spec =
+    tie.close
+    (tie.spec
+    enum-known-plan
+    refuse-return-requires
+    enum-known-plan-2
+    take-in-requires
+    returns
+    same-length
+    same-length-2
+    same-length-3
+    same-length-4
+    same-length-5
+    same-length-6
+    returns-2)

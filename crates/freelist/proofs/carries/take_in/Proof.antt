@@ -1,0 +1,56 @@
+use borrow.Author.Needs.{needs}
+use Rattle.store_rules.proofs.Holders.{holder}
+use Rattle.freelist.proofs.Returning.{releases-now, taken-in}
+use Rattle.freelist.proofs.carries.take_in.Statement.{statement}
+use Rattle.freelist.proofs.carries.take_in.Tie as tie
+
+take-back-requires : tie.Need-take-back-requires
+take-back-requires c κs =
+    let b = c .before .before .before .before .before .before .before .before .before in
+    (b .pre .backs, b .pre .strikes)
+
+let-go-requires : tie.Need-let-go-requires
+let-go-requires c κs =
+    let k = c .before .before .before .before .before .before .before .before .before .before in
+    let b = k .before .before .before .before .before .before .before .before .before .before in
+    let a = b .args in
+    releases-now (a .s) (holder (a .s .store) (a .share)) (a .b) (a .at) (a .loans .now) (a .regions .now) (a .index .now) _ _ _ (k .take-back .ensures) (a .share .objects) (a .head .now) (a .chunks .now) (a .list .now) (b .pre .releases)
+
+same-length : tie.Need-same-length
+same-length c = search needs
+
+same-length-2 : tie.Need-same-length-2
+same-length-2 c = search needs
+
+same-length-3 : tie.Need-same-length-3
+same-length-3 c = search needs
+
+same-length-4 : tie.Need-same-length-4
+same-length-4 c = search needs
+
+same-length-5 : tie.Need-same-length-5
+same-length-5 c = search needs
+
+same-length-6 : tie.Need-same-length-6
+same-length-6 c = search needs
+
+returns : tie.Need-returns
+returns c =
+    let g = c .before .before .before .before .before .before .before .before in
+    let k = g .before .before .before .before .before .before .before .before .before .before .before in
+    let a = k .before .before .before .before .before .before .before .before .before .before .args in
+    taken-in (a .s) (holder (a .s .store) (a .share)) (a .b) (a .at) (a .loans .now) (a .regions .now) (a .index .now) _ _ _ (k .take-back .ensures) (a .head .now) (a .chunks .now) (a .list .now) _ _ _ _ _ _ (g .let-go .ensures)
+
+pub take-in-spec : {M : Type 1} → statement M
+take-in-spec =
+    tie.close
+    (tie.spec
+    take-back-requires
+    let-go-requires
+    same-length
+    same-length-2
+    same-length-3
+    same-length-4
+    same-length-5
+    same-length-6
+    returns)

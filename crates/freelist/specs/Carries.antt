@@ -1,0 +1,83 @@
+-- What the code that carries a plan out asks of it and of the tables: a passed gate and the plan give it.
+use mathlib.Core.Path.{_≡_}
+use mathlib.Core.Bool.{Bool, true, false}
+use mathlib.Core.List.{List}
+use Prim.Native.Nat.{ℕ, _+_, _≤_}
+use lib.ListN.{length, getD}
+use Rattle.rounding_rules.specs.Masks.{Ones}
+use Rattle.counter.specs.Limits.{objectsMost}
+use Rattle.counter.specs.declared.account.KeptOrder.{KeptOrder}
+use Rattle.counter.specs.declared.answers.Block.{Block}
+use Rattle.counter.specs.declared.refusal.Gate.{Gate}
+use Rattle.counter.specs.declared.refusal.Gate.the-variants as G
+use Rattle.counter.specs.declared.settings.FreeListSettings.{FreeListSettings}
+use Rattle.book_rules.specs.Ready.{Strikes}
+use Rattle.freelist_rules.specs.Records.{region}
+use Rattle.freelist_rules.specs.Place.{cut}
+use Rattle.freelist_rules.specs.Join.{insert}
+use Rattle.freelist_rules.specs.Tables.{Tables, tables, storeOf, laidRegions, regionsOf}
+use Rattle.freelist_outcomes.specs.Deliver.{deliveredTables}
+use Rattle.freelist_outcomes.specs.Return.{goneFrom}
+use Rattle.freelist_decide.specs.Plans.{Planned}
+use Rattle.freelist_decide.specs.declared.deciding.Buying.{Buying}
+use Rattle.freelist_decide.specs.declared.deciding.Plan.{Plan}
+use Rattle.freelist_decide.specs.declared.deciding.Plan.the-variants.{Refuse, Take, Buy}
+use Rattle.freelist_place.specs.Ready.{Lends, Adds, Backs}
+use Rattle.freelist_release.specs.Frees.{Frees}
+use Rattle.returning.specs.declared.Back.{Back}
+use Rattle.returning.specs.declared.Back.the-variants as B
+use Rattle.store.specs.declared.comings.Coming.{Coming}
+use Rattle.store.specs.declared.comings.Coming.the-variants as C
+
+-- ---- an ask: the region of the plan can be lent from, and its numbers are those of the ask
+
+abbrev pub AskCarries : FreeListSettings → ℕ → ℕ → Tables → Plan → Type 0
+AskCarries s size mask t (Refuse r) = Unit {0}
+AskCarries s size mask t (Take k) =
+    Planned s size mask t (Take k) × Lends s (k .region) (k .start) (k .loan .place) (t .head) (t .loans) (t .regions) (t .index)
+AskCarries s size mask t (Buy b) = Unit {0}
+
+-- ---- a delivery
+
+-- what it carries on: the order is the one that was told, and the numbers are those of the kept ask
+abbrev pub Arrives : FreeListSettings → Tables → Buying → Coming → Type 0
+Arrives s t b (C.Refuse r) = Unit {0}
+Arrives s t b (C.Keep c) = (b .order ≡ c .kept .order .size) × Planned s (c .kept .ask .size) (c .kept .ask .mask) t (Buy b)
+Arrives s t b (C.Lose l) = Unit {0}
+
+-- the chunk of the order k can be added, and its region, the last, lent from
+pub record Keeps (s : FreeListSettings) (k : KeptOrder) (memory : ℕ) (b : Buying) (t : Tables) : Type 0 where
+  pub planned : Planned s (k .ask .size) (k .ask .mask) t (Buy b)
+  pub aligned : Ones 63 (b .mask)
+  pub small : b .size ≤ k .order .size
+  pub adds : Adds s (t .head) (t .chunks) (t .regions)
+  pub lends : Lends s (length (storeOf s t .regions)) (cut (b .mask) (b .size) (region 0 0 (k .order .size))) (b .loan .place) (deliveredTables s memory (k .order .size) t .head) (t .loans) (deliveredTables s memory (k .order .size) t .regions) (t .index)
+
+abbrev pub DeliveryCarries : FreeListSettings → Tables → Buying → Coming → Type 0
+DeliveryCarries s t b (C.Refuse r) = Unit {0}
+DeliveryCarries s t b (C.Keep c) = Keeps s (c .kept) (c .memory) b t
+DeliveryCarries s t b (C.Lose l) = Unit {0}
+
+-- ---- a return and a clean-up
+
+-- the chunks that go can be released, and the device objects allowed again stay within their limit
+abbrev pub Releases : FreeListSettings → ℕ → Bool → Tables → List ℕ → Type 0
+Releases s objects spare t list = Frees s (t .head) (t .chunks) (t .regions) list × (objects + length (goneFrom s spare t) ≤ objectsMost)
+
+-- the table of regions with a block's bytes among them
+abbrev pub joined : FreeListSettings → Block → List ℕ → List ℕ
+joined s b regions = laidRegions s (insert (region (b .chunk) (b .offset) (b .offset + b .size)) (regionsOf s regions)) regions
+
+-- the loan that word w leads to can be struck out, its block go back, and then wholly free chunks go
+pub record TakesBack (s : FreeListSettings) (objects : ℕ) (b : Block) (w : ℕ) (t : Tables) (list : List ℕ) : Type 0 where
+  pub backs : Backs s b (t .regions)
+  pub strikes : Strikes w (getD (t .index) w 0) (t .loans) (t .index)
+  pub releases : Releases s objects true (tables (t .head) (t .loans) (t .chunks) (joined s b (t .regions)) (t .index)) list
+
+abbrev pub ReturnCarries : FreeListSettings → ℕ → Block → Tables → List ℕ → Back → Type 0
+ReturnCarries s objects b t list (B.Refuse r) = Unit {0}
+ReturnCarries s objects b t list (B.From w) = TakesBack s objects b w t list
+
+abbrev pub CleanUpCarries : FreeListSettings → ℕ → Tables → List ℕ → Gate → Type 0
+CleanUpCarries s objects t list (G.Shut r) = Unit {0}
+CleanUpCarries s objects t list G.Go = Releases s objects false t list

@@ -1,0 +1,209 @@
+// Plans carried out: the tables written, and what is answered.
+ghost use mathlib.Core.Path.{_≡_};
+ghost use mathlib.Core.Bool.{true};
+ghost use mathlib.Core.List.{[]};
+ghost use Rattle.counter.specs.Gate.{verdictOf};
+ghost use Rattle.counter.specs.Paper.{askSaid, deliverSaid, releaseSaid};
+ghost use Rattle.counter.specs.declared.account.Account.{Account};
+ghost use Rattle.counter.specs.declared.account.OpenOrder.{OpenOrder};
+ghost use Rattle.store_rules.specs.Delivery as Fates;
+ghost use Rattle.store_rules.specs.Outcomes.{out, listed};
+ghost use Rattle.store_rules.specs.Shares.{askLeft};
+ghost use Rattle.store_rules.proofs.Holders.{holding, holder};
+ghost use Rattle.store.specs.Comings.{comingOf};
+ghost use Rattle.returning.specs.Backs.{backOf};
+ghost use Rattle.freelist_rules.specs.Tables.{tables};
+ghost use Rattle.freelist_outcomes.specs.Ask.{carryAsk};
+ghost use Rattle.freelist_outcomes.specs.Deliver.{carryFate, carryDeliver};
+ghost use Rattle.freelist_outcomes.specs.Return.{givenTables, releaseOf, carryReturn, carryCleanUp};
+ghost use Rattle.freelist_decide.specs.Plans.{planOf};
+ghost use Rattle.freelist.specs.Carries.{AskCarries, Keeps, DeliveryCarries, Releases, TakesBack, ReturnCarries, CleanUpCarries};
+use crate::plans::Delivery;
+use counter::AskAnswer;
+use counter::Block;
+use counter::FreeListSettings;
+use counter::Gate;
+use counter::KeptOrder;
+use counter::OpenOrder;
+use freelist_decide::Buying;
+use freelist_decide::Plan;
+use returning::Back;
+use store::Coming;
+use store_rules::DeliveredShare;
+use store_rules::ReleasedShare;
+use store_rules::Share;
+
+// The plan is that of an ask of this size and mask.
+pub fn carry_ask(
+    s: FreeListSettings,
+    size: u64,
+    mask: u64,
+    plan: Plan,
+    head: &mut [u64],
+    loans: &mut [u64],
+    chunks: &[u64],
+    regions: &mut [u64],
+    index: &mut [u64],
+) -> AskAnswer
+    requires { ⌜ AskCarries s size mask (tables (now head) (now loans) (now chunks) (now regions) (now index)) plan ⌝ }
+    ensures { λ r. ⌜ ((a : Account) → out (askSaid r) (askLeft a size mask (askSaid r)) (tables (now (head .exit)) (now (loans .exit)) (now (chunks .entry)) (now (regions .exit)) (now (index .exit))) ≡ carryAsk s a size mask (tables (now (head .entry)) (now (loans .entry)) (now (chunks .entry)) (now (regions .entry)) (now (index .entry))) (planOf plan)) ⌝ }
+{
+    match plan {
+        Plan::Refuse(refusal) => store::refuse_ask(refusal),
+        Plan::Take(k) => {
+            let loan = k.loan;
+            let l = freelist_place::lend(s, k.region, k.start, loan, head, loans, regions, index);
+            store::answer_block(l)
+        }
+        Plan::Buy(b) => {
+            freelist_place::raise_size(head, b.order);
+            store::answer_order(s.store, b.order)
+        }
+    }
+}
+
+// The memory is a chunk, whose region is the last and serves the kept ask: its block starts at the order's size less the size
+// that is looked for, lowered to the mask.
+fn keep_chunk(
+    s: FreeListSettings,
+    share: Share,
+    k: KeptOrder,
+    memory: u64,
+    b: Buying,
+    head: &mut [u64],
+    loans: &mut [u64],
+    chunks: &mut [u64],
+    regions: &mut [u64],
+    index: &mut [u64],
+) -> DeliveredShare
+    requires { ⌜ Keeps s k memory b (tables (now head) (now loans) (now chunks) (now regions) (now index)) ⌝ }
+    ensures { λ r. ⌜ ((order : OpenOrder) → out (deliverSaid (r .answer)) (holding (s .store) (r .share) (r .order)) (tables (now (head .exit)) (now (loans .exit)) (now (chunks .exit)) (now (regions .exit)) (now (index .exit))) ≡ carryFate s (holding (s .store) share order) k (tables (now (head .entry)) (now (loans .entry)) (now (chunks .entry)) (now (regions .entry)) (now (index .entry))) (Fates.kept memory)) ⌝ }
+{
+    let order = k.order;
+    let loan = b.loan;
+    let i = freelist_regions::region_count(s, regions);
+    let start = rounding::lower_to_unit(order.size - b.size, b.mask);
+    let charged = store_accounts::charged(share, order.size);
+    freelist_place::add_chunk(s, memory, order.size, head, chunks, regions);
+    let l = freelist_place::lend(s, i, start, loan, head, loans, regions, index);
+    store::deliver_block(charged, l)
+}
+
+pub fn carry_deliver(
+    s: FreeListSettings,
+    share: Share,
+    order: OpenOrder,
+    d: Delivery,
+    head: &mut [u64],
+    loans: &mut [u64],
+    chunks: &mut [u64],
+    regions: &mut [u64],
+    index: &mut [u64],
+) -> DeliveredShare
+    requires { ⌜ DeliveryCarries s (tables (now head) (now loans) (now chunks) (now regions) (now index)) (d .buying) (d .coming) ⌝ }
+    ensures { λ r. ⌜ out (deliverSaid (r .answer)) (holding (s .store) (r .share) (r .order)) (tables (now (head .exit)) (now (loans .exit)) (now (chunks .exit)) (now (regions .exit)) (now (index .exit))) ≡ carryDeliver s (holding (s .store) share order) (tables (now (head .entry)) (now (loans .entry)) (now (chunks .entry)) (now (regions .entry)) (now (index .entry))) (comingOf (d .coming)) ⌝ }
+{
+    let coming = d.coming;
+    let b = d.buying;
+    match coming {
+        Coming::Refuse(r) => store::refuse_delivery(share, order, r),
+        Coming::Keep(c) => {
+            let k = c.kept;
+            keep_chunk(
+                s,
+                share,
+                k,
+                c.memory,
+                b,
+                head,
+                loans,
+                chunks,
+                regions,
+                index,
+            )
+        }
+        Coming::Lose(c) => {
+            let k = c.kept;
+            let l = c.loss;
+            store::lose_order(share, k, l)
+        }
+    }
+}
+
+// Wholly free chunks go; `spare` keeps that of the last region.
+fn let_go(
+    s: FreeListSettings,
+    share: Share,
+    spare: bool,
+    head: &mut [u64],
+    chunks: &mut [u64],
+    regions: &mut [u64],
+    list: &mut [u64],
+) -> ReleasedShare
+    requires { ⌜ Releases s (share .objects) spare (tables (now head) [] (now chunks) (now regions) []) (now list) ⌝ }
+    ensures { λ r. ⌜ listed (releaseSaid (r .answer)) (holder (s .store) (r .share)) (tables (now (head .exit)) [] (now (chunks .exit)) (now (regions .exit)) []) (now (list .exit)) ≡ releaseOf s (holder (s .store) share) spare (tables (now (head .entry)) [] (now (chunks .entry)) (now (regions .entry)) []) (now (list .entry)) ⌝ }
+{
+    let gone = freelist_release::release(s, spare, head, chunks, regions, list);
+    store::settle(share, gone.count, gone.bytes)
+}
+
+// The loan that the word at `at` of the index leads to goes back, and then wholly free chunks go.
+fn take_in(
+    s: FreeListSettings,
+    share: Share,
+    b: Block,
+    at: usize,
+    head: &mut [u64],
+    loans: &mut [u64],
+    chunks: &mut [u64],
+    regions: &mut [u64],
+    index: &mut [u64],
+    list: &mut [u64],
+) -> ReleasedShare
+    requires { ⌜ TakesBack s (share .objects) b at (tables (now head) (now loans) (now chunks) (now regions) (now index)) (now list) ⌝ }
+    ensures { λ r. ⌜ listed (releaseSaid (r .answer)) (holder (s .store) (r .share)) (tables (now (head .exit)) (now (loans .exit)) (now (chunks .exit)) (now (regions .exit)) (now (index .exit))) (now (list .exit)) ≡ releaseOf s (holder (s .store) share) true (givenTables s b at (tables (now (head .entry)) (now (loans .entry)) (now (chunks .entry)) (now (regions .entry)) (now (index .entry)))) (now (list .entry)) ⌝ }
+{
+    freelist_place::take_back(s, b, at, loans, regions, index);
+    let_go(s, share, true, head, chunks, regions, list)
+}
+
+pub fn carry_return(
+    s: FreeListSettings,
+    share: Share,
+    b: Block,
+    plan: Back,
+    head: &mut [u64],
+    loans: &mut [u64],
+    chunks: &mut [u64],
+    regions: &mut [u64],
+    index: &mut [u64],
+    list: &mut [u64],
+) -> ReleasedShare
+    requires { ⌜ ReturnCarries s (share .objects) b (tables (now head) (now loans) (now chunks) (now regions) (now index)) (now list) plan ⌝ }
+    ensures { λ r. ⌜ listed (releaseSaid (r .answer)) (holder (s .store) (r .share)) (tables (now (head .exit)) (now (loans .exit)) (now (chunks .exit)) (now (regions .exit)) (now (index .exit))) (now (list .exit)) ≡ carryReturn s (holder (s .store) share) b (tables (now (head .entry)) (now (loans .entry)) (now (chunks .entry)) (now (regions .entry)) (now (index .entry))) (now (list .entry)) (backOf plan) ⌝ }
+{
+    match plan {
+        Back::Refuse(refusal) => store::refuse_return(share, refusal),
+        Back::From(at) => take_in(s, share, b, at, head, loans, chunks, regions, index, list),
+    }
+}
+
+pub fn carry_clean_up(
+    s: FreeListSettings,
+    share: Share,
+    plan: Gate,
+    head: &mut [u64],
+    loans: &[u64],
+    chunks: &mut [u64],
+    regions: &mut [u64],
+    index: &[u64],
+    list: &mut [u64],
+) -> ReleasedShare
+    requires { ⌜ CleanUpCarries s (share .objects) (tables (now head) (now loans) (now chunks) (now regions) (now index)) (now list) plan ⌝ }
+    ensures { λ r. ⌜ listed (releaseSaid (r .answer)) (holder (s .store) (r .share)) (tables (now (head .exit)) (now (loans .entry)) (now (chunks .exit)) (now (regions .exit)) (now (index .entry))) (now (list .exit)) ≡ carryCleanUp s (holder (s .store) share) (tables (now (head .entry)) (now (loans .entry)) (now (chunks .entry)) (now (regions .entry)) (now (index .entry))) (now (list .entry)) (verdictOf plan) ⌝ }
+{
+    match plan {
+        Gate::Shut(refusal) => store::refuse_return(share, refusal),
+        Gate::Go => let_go(s, share, false, head, chunks, regions, list),
+    }
+}

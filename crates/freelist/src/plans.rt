@@ -1,0 +1,144 @@
+// What each call comes to: the gate, and then the tests behind it. Reads only.
+ghost use mathlib.Core.Path.{_≡_};
+ghost use mathlib.Core.Bool.{true};
+ghost use Rattle.counter.specs.Gate.{verdictOf};
+ghost use Rattle.store_rules.proofs.Holders.{holding, holder};
+ghost use Rattle.store.specs.Comings.{comingOf};
+ghost use Rattle.returning.specs.Backs.{backOf};
+ghost use Rattle.freelist_rules.specs.Tables.{tables};
+ghost use Rattle.freelist_outcomes.specs.Ask.{planAsk};
+ghost use Rattle.freelist_outcomes.specs.Deliver.{planDeliver};
+ghost use Rattle.freelist_outcomes.specs.Return.{planReturn, planCleanUp};
+ghost use Rattle.freelist_decide.specs.Plans.{planOf, Planned};
+ghost use Rattle.freelist.specs.Carries.{Arrives};
+use counter::Block;
+use counter::FreeListSettings;
+use counter::Gate;
+use counter::OpenOrder;
+use counter::Outcome;
+use freelist_decide::Buying;
+use freelist_decide::Plan;
+use freelist_gate::Passing;
+use returning::Back;
+use slab::Slab;
+use slab::Taken;
+use store::Coming;
+use store_rules::Share;
+
+// What the outcome leads to, and what the kept ask comes to.
+pub struct Delivery {
+    pub coming: Coming,
+    pub buying: Buying,
+}
+
+pub fn plan_ask(
+    s: FreeListSettings,
+    share: Share,
+    size: u64,
+    mask: u64,
+    head: &[u64],
+    loans: &[u64],
+    chunks: &[u64],
+    regions: &[u64],
+    index: &[u64],
+) -> Plan
+    ensures { λ r. ⌜ planOf r ≡ planAsk s (holder (s .store) share) size mask (tables (now (head .entry)) (now (loans .entry)) (now (chunks .entry)) (now (regions .entry)) (now (index .entry))) ⌝ }
+    ensures { λ r. ⌜ Planned s size mask (tables (now (head .entry)) (now (loans .entry)) (now (chunks .entry)) (now (regions .entry)) (now (index .entry))) r ⌝ }
+{
+    let g = freelist_gate::gate(s, share, true, head, loans, chunks, regions, index);
+    match g {
+        Gate::Shut(refusal) => Plan::Refuse(refusal),
+        Gate::Go => {
+            let heap = share.heap;
+            freelist_decide::decide(s, heap, share.objects, size, mask, head, regions, index)
+        }
+    }
+}
+
+// Beside a refusal nothing is bought.
+fn no_buying() -> Buying
+    ensures { λ r. ⌜ r .order ≡ 0 ⌝ }
+{
+    Buying {
+        order: 0,
+        size: 0,
+        mask: 0,
+        loan: Taken {
+            place: 0,
+            slab: Slab::new(),
+        },
+    }
+}
+
+pub fn plan_deliver(
+    s: FreeListSettings,
+    share: Share,
+    order: OpenOrder,
+    o: Outcome,
+    head: &[u64],
+    loans: &[u64],
+    chunks: &[u64],
+    regions: &[u64],
+    index: &[u64],
+) -> Delivery
+    ensures { λ r. ⌜ comingOf (r .coming) ≡ planDeliver s (holding (s .store) share order) o (tables (now (head .entry)) (now (loans .entry)) (now (chunks .entry)) (now (regions .entry)) (now (index .entry))) ⌝ }
+    ensures { λ r. ⌜ Arrives s (tables (now (head .entry)) (now (loans .entry)) (now (chunks .entry)) (now (regions .entry)) (now (index .entry))) (r .buying) (r .coming) ⌝ }
+{
+    let passing = freelist_gate::gate_delivery(
+        s,
+        share,
+        order,
+        head,
+        loans,
+        chunks,
+        regions,
+        index,
+    );
+    match passing {
+        Passing::Shut(r) => Delivery {
+            coming: Coming::Refuse(r),
+            buying: no_buying(),
+        },
+        Passing::Go(b) => Delivery {
+            coming: freelist_decide::decide_delivery(order, o, head, chunks),
+            buying: b,
+        },
+    }
+}
+
+// `list` says whether the release list is long enough.
+pub fn plan_return(
+    s: FreeListSettings,
+    share: Share,
+    b: Block,
+    list: bool,
+    head: &[u64],
+    loans: &[u64],
+    chunks: &[u64],
+    regions: &[u64],
+    index: &[u64],
+) -> Back
+    ensures { λ r. ⌜ backOf r ≡ planReturn s (holder (s .store) share) b (tables (now (head .entry)) (now (loans .entry)) (now (chunks .entry)) (now (regions .entry)) (now (index .entry))) list ⌝ }
+{
+    let verdict = freelist_gate::gate(s, share, list, head, loans, chunks, regions, index);
+    match verdict {
+        Gate::Go => freelist_decide::decide_return(s, b, head, loans, index),
+        Gate::Shut(refusal) => Back::Refuse(refusal),
+    }
+}
+
+// The same.
+pub fn plan_clean_up(
+    s: FreeListSettings,
+    share: Share,
+    list: bool,
+    head: &[u64],
+    loans: &[u64],
+    chunks: &[u64],
+    regions: &[u64],
+    index: &[u64],
+) -> Gate
+    ensures { λ r. ⌜ verdictOf r ≡ planCleanUp s (holder (s .store) share) (tables (now (head .entry)) (now (loans .entry)) (now (chunks .entry)) (now (regions .entry)) (now (index .entry))) list ⌝ }
+{
+    freelist_gate::gate(s, share, list, head, loans, chunks, regions, index)
+}

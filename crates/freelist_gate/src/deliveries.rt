@@ -1,0 +1,111 @@
+// The gate of a delivery: the tests 1 to 4, of which the third tests the kept ask again.
+ghost use mathlib.Core.Path.{_≡_};
+ghost use mathlib.Core.Bool.{true};
+ghost use Rattle.counter.specs.InTable.{FreeListIn};
+ghost use Rattle.counter.specs.declared.account.KeptOrder.{KeptOrder};
+ghost use Rattle.counter.specs.declared.account.OpenOrder.the-variants.{Kept};
+ghost use Rattle.store_rules.specs.Orders.{orderFrom, sameOrder};
+ghost use Rattle.store_rules.proofs.Holders.{holding};
+ghost use Rattle.freelist_rules.specs.Tables.{tables, lengthsOk};
+ghost use Rattle.freelist_outcomes.specs.Deliver.{deliverGateOf};
+ghost use Rattle.freelist_gate.specs.Gates.{keptGate, passOf, BoughtFor};
+use crate::gating::is_covered;
+use crate::gating::is_in_table;
+use counter::FreeListSettings;
+use counter::Heap;
+use counter::KeptOrder;
+use counter::OpenOrder;
+use counter::Order;
+use counter::Refusal;
+use freelist_decide::Buying;
+use freelist_decide::Plan;
+use store_rules::Share;
+
+// A passed gate tells what the kept ask comes to.
+pub enum Passing {
+    Shut(Refusal),
+    Go(Buying),
+}
+
+// Whether the chunk that the kept ask comes to is still the one that was ordered.
+fn is_still(s: FreeListSettings, order: Order, size: u64) -> bool
+    ensures { λ r. ⌜ r ≡ sameOrder order (orderFrom (s .store) size) ⌝ }
+{
+    let store = s.store;
+    store_accounts::same_order(order, store_accounts::order_from(store, size))
+}
+
+// Tests 3 and 4, where k is the order.
+fn gate_kept(
+    s: FreeListSettings,
+    h: Heap,
+    objects: u32,
+    k: KeptOrder,
+    head: &[u64],
+    loans: &[u64],
+    chunks: &[u64],
+    regions: &[u64],
+    index: &[u64],
+) -> Passing
+    requires { ⌜ FreeListIn s × (lengthsOk s (tables (now head) (now loans) (now chunks) (now regions) (now index)) ≡ true) ⌝ }
+    ensures { λ r. ⌜ passOf r ≡ keptGate s h objects k (tables (now (head .entry)) (now (loans .entry)) (now (chunks .entry)) (now (regions .entry)) (now (index .entry))) ⌝ }
+    ensures { λ r. ⌜ BoughtFor s k (tables (now (head .entry)) (now (loans .entry)) (now (chunks .entry)) (now (regions .entry)) (now (index .entry))) r ⌝ }
+{
+    if !freelist_test::is_sound(s, head, loans, chunks, regions, index) {
+        return Passing::Shut(Refusal::Torn);
+    }
+    let ask = k.ask;
+    let order = k.order;
+    let plan = freelist_decide::decide(s, h, objects, ask.size, ask.mask, head, regions, index);
+    match plan {
+        Plan::Refuse(_) => Passing::Shut(Refusal::Torn),
+        Plan::Take(_) => Passing::Shut(Refusal::Torn),
+        Plan::Buy(b) => {
+            if !is_still(s, order, b.order) {
+                return Passing::Shut(Refusal::Torn);
+            }
+            if !is_covered(h, objects, head, chunks) {
+                return Passing::Shut(Refusal::Account);
+            }
+            Passing::Go(b)
+        }
+    }
+}
+
+// An order has to be open for this store.
+pub fn gate_delivery(
+    s: FreeListSettings,
+    share: Share,
+    order: OpenOrder,
+    head: &[u64],
+    loans: &[u64],
+    chunks: &[u64],
+    regions: &[u64],
+    index: &[u64],
+) -> Passing
+    ensures { λ r. ⌜ passOf r ≡ deliverGateOf s (holding (s .store) share order) (tables (now (head .entry)) (now (loans .entry)) (now (chunks .entry)) (now (regions .entry)) (now (index .entry))) ⌝ }
+    ensures { λ r. ⌜ ((k : KeptOrder) → order ≡ Kept k → BoughtFor s k (tables (now (head .entry)) (now (loans .entry)) (now (chunks .entry)) (now (regions .entry)) (now (index .entry))) r) ⌝ }
+{
+    if !is_in_table(s, share, head, loans, chunks, regions, index) {
+        return Passing::Shut(Refusal::Setup);
+    }
+    let own = s.store;
+    if !store_accounts::is_open_for(own.number, order) {
+        return Passing::Shut(Refusal::Order);
+    }
+    let heap = share.heap;
+    match order {
+        OpenOrder::Nothing => Passing::Shut(Refusal::Order),
+        OpenOrder::Kept(k) => gate_kept(
+            s,
+            heap,
+            share.objects,
+            k,
+            head,
+            loans,
+            chunks,
+            regions,
+            index,
+        ),
+    }
+}

@@ -1,0 +1,41 @@
+-- A region's block lent, where its start and the loan's place in the book are told: a plan carries them.
+use mathlib.Core.List.{List}
+use Prim.Native.Nat.{ℕ, _+_, _%_}
+use lib.ListN.{getD, set}
+use Rattle.words.specs.Rows.{written}
+use Rattle.counter.specs.declared.settings.FreeListSettings.{FreeListSettings}
+use Rattle.slab.specs.declared.Taken.{Taken}
+use Rattle.store_rules.specs.Loans.{loanRow}
+use Rattle.store_rules.specs.declared.Loan.{Loan}
+use Rattle.store_rules.specs.declared.Region.{Region}
+use Rattle.book_rules.specs.Book.{vacatedAt, firstOf, nextOf, firstBefore}
+use Rattle.freelist_rules.specs.Records.{region}
+use Rattle.freelist_rules.specs.Place.{cutOff, lentLoan}
+use Rattle.freelist_rules.specs.Steps.{noRegion}
+use Rattle.freelist_rules.specs.Tables.{Tables, tables, givenAt, placesAt, storeOf, laidRegions}
+
+-- "The block runs from there to the region's end"
+abbrev pub blockFrom : FreeListSettings → ℕ → Tables → ℕ → Region
+blockFrom s start t i = region (getD (storeOf s t .regions) i noRegion .chunk) start (getD (storeOf s t .regions) i noRegion .end)
+
+-- its loan, under the next serial
+abbrev pub lentFrom : FreeListSettings → ℕ → Tables → ℕ → Loan
+lentFrom s start t i = lentLoan (storeOf s t .given + 1) (blockFrom s start t i)
+
+-- the index with a loan of this serial at the place that it takes, the first of its chain
+unfoldable pub enteredAt : ℕ → Taken → ℕ → List ℕ → List ℕ
+enteredAt n k serial index =
+    set
+    (set (set index vacatedAt (k .slab .vacant)) (nextOf (k .place)) (firstBefore n serial index))
+    (firstOf (serial % n))
+    (k .place)
+
+-- the tables that region i's block on loan leaves
+unfoldable pub lentTables : FreeListSettings → ℕ → Taken → Tables → ℕ → Tables
+lentTables s start k t i =
+    tables
+    (set (set (t .head) givenAt (storeOf s t .given + 1)) placesAt (k .slab .places))
+    (written loanRow (k .place) (lentFrom s start t i) (t .loans))
+    (t .chunks)
+    (laidRegions s (cutOff start i (storeOf s t .regions)) (t .regions))
+    (enteredAt (s .store .loans) k (storeOf s t .given + 1) (t .index))

@@ -1,0 +1,52 @@
+// The words of a store with nothing in it.
+ghost use mathlib.Core.Path.{_≡_};
+ghost use mathlib.Core.List.{[]};
+ghost use lib.ListN.{length, set};
+ghost use Rattle.counter.specs.InTable.{FreeListIn};
+ghost use Rattle.freelist_rules.specs.Tables.{tables, mark, markAt, givenAt, madeAt, chunkSizeAt, placesAt, chunksAt, headWords};
+ghost use Rattle.freelist_outcomes.specs.SetUp.{freshHead, freshTables};
+use counter::FreeListSettings;
+use freelist_rules::CHUNK_SIZE_AT;
+use freelist_rules::CHUNKS_AT;
+use freelist_rules::GIVEN_AT;
+use freelist_rules::MADE_AT;
+use freelist_rules::MARK;
+use freelist_rules::MARK_AT;
+use freelist_rules::PLACES_AT;
+
+// The mark, and nothing given.
+fn put_mark(head: &mut [u64])
+    ensures { λ _. ⌜ now (head .exit) ≡ set (set (set (now (head .entry)) markAt mark) givenAt 0) madeAt 0 ⌝ }
+{
+    words::put(head, MARK_AT, MARK);
+    words::put(head, GIVEN_AT, 0);
+    words::put(head, MADE_AT, 0);
+}
+
+// The chunk size at first, and nothing held.
+fn put_none(head: &mut [u64], start: u64)
+    ensures { λ _. ⌜ now (head .exit) ≡ set (set (set (now (head .entry)) chunkSizeAt start) placesAt 0) chunksAt 0 ⌝ }
+{
+    words::put(head, CHUNK_SIZE_AT, start);
+    words::put(head, PLACES_AT, 0);
+    words::put(head, CHUNKS_AT, 0);
+}
+
+fn fresh_head(s: FreeListSettings, head: &mut [u64])
+    requires { ⌜ length (now head) ≡ headWords ⌝ }
+    ensures { λ _. ⌜ now (head .exit) ≡ freshHead s ⌝ }
+{
+    put_mark(head);
+    put_none(head, s.start);
+}
+
+// No region, and no loan in the book.
+pub fn fresh(s: FreeListSettings, head: &mut [u64], regions: &mut [u64], index: &mut [u64])
+    requires { ⌜ FreeListIn s × (length (now head) ≡ headWords) ⌝ }
+    ensures { λ _. ⌜ tables (now (head .exit)) [] [] (now (regions .exit)) (now (index .exit)) ≡ freshTables s (tables (now (head .entry)) [] [] (now (regions .entry)) (now (index .entry))) ⌝ }
+{
+    let at = freelist_regions::count_at(s);
+    fresh_head(s, head);
+    words::put(regions, at, 0);
+    book::fresh_index(index);
+}

@@ -1,0 +1,84 @@
+-- Chunks dropped and counted anew are what a release is defined to leave.
+use mathlib.Core.Path.{_≡_, ap, _∙_}
+use mathlib.Core.Bool.{Bool}
+use mathlib.Core.List.{List, []}
+use Prim.Native.Nat.{ℕ, _+_, _*_, _≤_}
+use native.Mathlib.Omega.{arith}
+use lib.ListN.{length, getD, set}
+use lib.Seq.{sets}
+use Rattle.words.specs.Rows.{rows, laid}
+use Rattle.counter.specs.Limits.{loansMost, chunksMost}
+use Rattle.counter.specs.declared.settings.FreeListSettings.{FreeListSettings}
+use Rattle.freelist_rules.specs.Records.{chunkWords, regionWords, chunkRow, regionRow}
+use Rattle.freelist_rules.specs.Release.{staying, leaving, remaining, memoriesOf, bytesOf}
+use Rattle.freelist_rules.specs.Tables.{Tables, tables, chunksAt, regionCountAt, storeOf, laidRegions}
+use Rattle.store_rules.specs.declared.Chunk.{Chunk}
+use Rattle.store_rules.specs.declared.Region.{Region}
+use Rattle.freelist_marks.specs.Releasable.{Releasable}
+use Rattle.freelist_outcomes.specs.Return.{goneFrom, releasedTables}
+use Rattle.freelist_release.specs.Frees.{Frees}
+
+module _ (s : FreeListSettings) (spare : Bool) (head chunks regions list : List ℕ) where
+  -- the chunks, the regions and those that go, by the counts that the code read
+  abbrev held : ℕ → List Chunk
+  held k = rows chunkRow k chunks
+
+  abbrev free : ℕ → List Region
+  free n = rows regionRow n regions
+
+  abbrev pub gone : ℕ → ℕ → List Region
+  gone k n = leaving (held k) spare [] (free n)
+
+  -- what is left, the count of the regions standing at `at`
+  abbrev leaves : ℕ → ℕ → ℕ → Tables
+  leaves k n at =
+      tables
+      (set head chunksAt (length (remaining (gone k n) (held k))))
+      []
+      (laid chunkRow (remaining (gone k n) (held k)) chunks)
+      (set (laid regionRow (staying (held k) spare (free n)) regions) at (length (staying (held k) spare (free n))))
+      []
+
+  abbrev now : Tables
+  now = tables head [] chunks regions []
+
+  module _ (k n at : ℕ) (a-is : at ≡ regionCountAt s) (k-is : k ≡ getD head chunksAt 0) (n-is : n ≡ getD regions at 0) where
+    count-is : n ≡ getD regions (regionCountAt s) 0
+    count-is = n-is ∙ ap (λ (i : ℕ). getD regions i 0) a-is
+
+    module _ (f : Frees s head chunks regions list) where
+      pub drop-fits : (chunkWords * k ≤ length chunks) × (regionWords * n ≤ length regions) × (k ≤ length list) × (n ≤ loansMost + chunksMost)
+      drop-fits = (
+        omega (arith, k-is, f .chunks-fit),
+        omega (arith, count-is, f .regions-fit),
+        omega (arith, k-is, f .long),
+        omega (arith, count-is, f .few),
+      )
+
+      pub drop-ready : Releasable (held k) (free n)
+      drop-ready = rw (k-is, count-is) (f .ready)
+
+    gone-is : gone k n ≡ goneFrom s spare now
+    unfolding storeOf
+    gone-is = λ j. gone (k-is j) (count-is j)
+
+    pub gone-count : (count : ℕ) → count ≡ length (gone k n) → count ≡ length (goneFrom s spare now)
+    gone-count count e = e ∙ ap length gone-is
+
+    pub gone-bytes : (bytes : ℕ) → bytes ≡ bytesOf (gone k n) → bytes ≡ bytesOf (goneFrom s spare now)
+    gone-bytes bytes e = e ∙ ap bytesOf gone-is
+
+    pub gone-list : (l : List ℕ) → l ≡ sets list 0 (memoriesOf (held k) (gone k n)) → l ≡ sets list 0 (memoriesOf (storeOf s now .chunks) (goneFrom s spare now))
+    unfolding storeOf
+    gone-list l e = e ∙ (λ j. sets list 0 (memoriesOf (held (k-is j)) (gone (k-is j) (count-is j))))
+
+    pub gone-tables : (few left : ℕ) (h′ c′ r r′ : List ℕ)
+        → few ≡ length (remaining (gone k n) (held k)) → left ≡ length (staying (held k) spare (free n))
+        → c′ ≡ laid chunkRow (remaining (gone k n) (held k)) chunks → r ≡ laid regionRow (staying (held k) spare (free n)) regions
+        → h′ ≡ set head chunksAt few → r′ ≡ set r at left
+        → tables h′ [] c′ r′ [] ≡ releasedTables s spare now
+    unfolding releasedTables storeOf laidRegions
+    gone-tables few left h′ c′ r r′ m f c p g q =
+        let h-is = g ∙ ap (λ (v : ℕ). set head chunksAt v) m in
+        let r-is = q ∙ (λ j. set (p j) at (f j)) in
+        (λ j. tables (h-is j) [] (c j) (r-is j) []) ∙ (λ j. leaves (k-is j) (count-is j) (a-is j))

@@ -1,0 +1,24 @@
+-- What the release of a store's chunks asks of its tables and of the list: a passed gate gives it.
+use mathlib.Core.List.{List}
+use Prim.Native.Nat.{ℕ, _+_, _*_, _≤_}
+use lib.ListN.{length, getD}
+use Rattle.words.specs.Rows.{rows}
+use Rattle.counter.specs.InTable.{FreeListIn}
+use Rattle.counter.specs.Limits.{loansMost, chunksMost}
+use Rattle.counter.specs.declared.settings.FreeListSettings.{FreeListSettings}
+use Rattle.freelist_rules.specs.Records.{chunkWords, regionWords, chunkRow}
+use Rattle.freelist_rules.specs.Tables.{chunksAt, regionCountAt, regionsOf}
+use Rattle.store_rules.specs.declared.Chunk.{Chunk}
+use Rattle.freelist_marks.specs.Releasable.{Releasable}
+
+-- the chunks that a head and a table of chunks hold
+abbrev pub chunksOf : List ℕ → List ℕ → List Chunk
+chunksOf head chunks = rows chunkRow (getD head chunksAt 0) chunks
+
+pub record Frees (s : FreeListSettings) (head chunks regions list : List ℕ) : Type 0 where
+  pub settings : FreeListIn s
+  pub ready : Releasable (chunksOf head chunks) (regionsOf s regions)
+  pub chunks-fit : chunkWords * getD head chunksAt 0 ≤ length chunks
+  pub regions-fit : regionWords * getD regions (regionCountAt s) 0 ≤ length regions
+  pub few : getD regions (regionCountAt s) 0 ≤ loansMost + chunksMost
+  pub long : getD head chunksAt 0 ≤ length list
