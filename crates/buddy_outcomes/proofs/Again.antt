@@ -49,7 +49,7 @@ use Rattle.buddy_outcomes.proofs.Taken.{taken-lengths, taken-sound}
 use Rattle.buddy_outcomes.proofs.Given.{given-lengths, given-sound}
 use Rattle.buddy_outcomes.proofs.Returned as Returned
 use Rattle.buddy_outcomes.proofs.Returned.{ReturnComes, return-comes}
-use Rattle.buddy_outcomes.proofs.Delivered.{grown-sound, count, spot, arrived-lengths, arrived-sound, new-memory, held-low, Open, opened}
+use Rattle.buddy_outcomes.proofs.Delivered.{grown-sound, count, chunk-room, arrived-lengths, arrived-sound, new-memory, held-low, Open, opened}
 use Rattle.buddy_outcomes.proofs.Held.{chunksHeld, bytesHeld, Holds, holds-account, account-covers, grown-holds, taken-holds, served-holds, given-places, freed-holds, kept-holds}
 
 -- what tests 1 to 4 ask for
@@ -219,7 +219,7 @@ module _ (s : BuddySettings) (a : Account) (o : Outcome) (t : Tables) (typed : T
         let b = w .buys-it in
         let levels : levelsIn g ≡ n = count s t fit lengths sound size mask z b in
         let h = grown-holds s t n in
-        let r = served-holds s g fit (grown-lengths s t fit lengths sound n) (grown-sound s t fit lengths sound size mask z b) memory z (spot s t fit lengths sound size mask z b) (omega (arith, levels))
+        let r = served-holds s g fit (grown-lengths s t fit lengths sound n) (grown-sound s t fit lengths sound size mask z b) memory z (chunk-room s t fit lengths sound size mask z b) (omega (arith, levels))
         (sym (ap (bytes (s .minimal)) levels ∙ b .order)) size mask in
         (r .0 ∙ ap (λ (x : ℕ). x + 1) (h .0), r .1 ∙ ap (λ (x : ℕ). x + z) (h .1))
 

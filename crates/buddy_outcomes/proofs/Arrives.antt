@@ -35,8 +35,8 @@ use Rattle.buddy_outcomes.specs.Ask.{sizeFor, levelFor, grownTo, chunkTa
 use Rattle.buddy_outcomes.specs.Deliver as Deliver
 use Rattle.buddy_outcomes.specs.Deliver.{chunkTables, loanIn as lentIn, servedTables, asOrdered, carryFate, decideDeliver, deliverGateOf, planDeliver, carryDeliver, deliverOf}
 use Rattle.buddy_outcomes.proofs.Changed.{grown-lengths, grown-held, grown-given}
-use Rattle.buddy_outcomes.proofs.Chunked.{chunked, size-here, held-here, spot-dead}
-use Rattle.buddy_outcomes.proofs.Delivered.{more, most, grown-sound, count, spot, gate-sound, opened}
+use Rattle.buddy_outcomes.proofs.Chunked.{chunked, size-here, held-here, taken-dead}
+use Rattle.buddy_outcomes.proofs.Delivered.{more, most, grown-sound, count, chunk-room, gate-sound, opened}
 use Rattle.buddy_outcomes.proofs.Fitted.{refusal-block, same-block}
 use Rattle.buddy_outcomes.proofs.Passing.{Lent}
 use Rattle.buddy_outcomes.proofs.Plans.{Buys}
@@ -128,13 +128,13 @@ module _ (s : BuddySettings) (t : Tables) (fit : BuddyIn s) (lengths : Lengths s
   g-sound = grown-sound s t fit lengths sound size mask z b
 
   room : chunkTaken s g .place < s .store .chunks
-  room = spot s t fit lengths sound size mask z b
+  room = chunk-room s t fit lengths sound size mask z b
 
   -- it was not there
   not-held : heldIn t c ≡ false
   not-held =
       sym (grown-held s t fit lengths sound n (more s t fit lengths sound size mask z b) (most s t fit lengths sound size mask z b) c)
-      ∙ spot-dead s g fit g-lengths memory z room g-sound tall is-chunk
+      ∙ taken-dead s g fit g-lengths memory z room g-sound tall is-chunk
 
   -- no loan lies in it
   no-loan : (l : Loan) → List·Memᴰ l (loansIn t) → l .chunk ≡ c → ⊥

@@ -16,7 +16,7 @@ use Rattle.buddy_rules.specs.Tables.{Tables, givenIn}
 use Rattle.buddy_rules.specs.Views.{loansIn, chunksIn}
 use Rattle.buddy_outcomes.specs.Ask.{sizeFor, askOf}
 use Rattle.buddy_outcomes.specs.Deliver.{deliverOf}
-use Rattle.buddy_outcomes.proofs.Lendings.{taken-chunks, good-as, ask-served, served-spot, spot-good}
+use Rattle.buddy_outcomes.proofs.Lendings.{taken-chunks, good-as, ask-served, served-stretch, stretch-good}
 use Rattle.buddy_outcomes.proofs.Arrives.{deliver-came, came-good}
 
 -- ---- an ask
@@ -28,9 +28,9 @@ module _ (s : BuddySettings) (a : Account) (size mask : ℕ) (t : Tables) (seria
       let v = ask-served s a size mask t serial chunk offset len q in
       let w = v .taken in
       let fit = v .passed .lent .settings in
-      let f = served-spot s t fit (v .passed .lent .lengths) (v .passed .sound) size mask (v .level) w in
+      let f = served-stretch s t fit (v .passed .lent .lengths) (v .passed .sound) size mask (v .level) w in
       let e : chunksIn (askOf s a size mask t .tables) ≡ chunksIn t = ap (λ (r : Out Tables). chunksIn (r .tables)) (v .left) ∙ taken-chunks s size mask t (v .level) in
-      let g = spot-good s t fit (v .passed .sound) size mask (w .aligned) (w .sized) _ _ f in (
+      let g = stretch-good s t fit (v .passed .sound) size mask (w .aligned) (w .sized) _ _ f in (
         subst (λ (cs : List Chunk). GoodBlock (s .store .atom) size mask (givenIn t) (loansIn t) cs serial chunk offset len) (sym e)
             (good-as _ _ _ _ serial chunk offset len (v .serial-is) (v .chunk-is) (v .offset-is) (v .len-is) g),
         ap (λ (r : Out Tables). r .account) (v .left),
@@ -40,7 +40,7 @@ module _ (s : BuddySettings) (a : Account) (size mask : ℕ) (t : Tables) (seria
   pub ask-own-size : (len ≡ sizeFor s size mask) × (offset % len ≡ 0)
   ask-own-size =
       let v = ask-served s a size mask t serial chunk offset len q in
-      let f = served-spot s t (v .passed .lent .settings) (v .passed .lent .lengths) (v .passed .sound) size mask (v .level) (v .taken) in
+      let f = served-stretch s t (v .passed .lent .settings) (v .passed .lent .lengths) (v .passed .sound) size mask (v .level) (v .taken) in
       (v .len-is, ap₂ (λ (x y : ℕ). x % y) (v .offset-is) (v .len-is) ∙ f .aligned)
 
 -- ---- a delivery

@@ -29,7 +29,7 @@ use Rattle.buddy_rules.specs.Stores.{Store, grownTo}
 use Rattle.buddy_rules.specs.Stores as Stores
 use Rattle.buddy_rules.proofs.Made.{empty-sound, grown-sound}
 use Rattle.buddy_rules.specs.Level.{levelWords, ringHead, pairTaken, freshLevel, part, pairIn}
-use Rattle.buddy_rules.proofs.Fresh.{fresh-length, fresh-head, fresh-spot, fresh-none, fresh-good}
+use Rattle.buddy_rules.proofs.Fresh.{fresh-length, fresh-head, fresh-taken, fresh-none, fresh-good}
 use Rattle.buddy_rules.proofs.Ops.{levelOps}
 use Rattle.buddy_rules.proofs.Parts.{part-length, part-head, part-spot}
 use Rattle.buddy_rules.specs.Tables.{Tables, tables, Lengths, markAt, givenAt, levelsAt, placesAt, chunkPlacesAt, givenIn, levelsIn, placesIn, chunkPlacesIn, levelFrom, chunksFrom, placeAt, topAt, placeWords, nodesFrom, loanIn, liveIn, heldIn, highIn, topIn, vacantChunk, chunkAfter, chunkSlab, vacantLoan, loanAfter, initialLevels}
@@ -272,21 +272,21 @@ module _ (s : BuddySettings) (t : Tables) (fit : BuddyIn s) (lengths : Lengths s
           (λ k. ap (ringHead 0) (made n more most .inside j k (omega arith)) ∙ fresh-head 0 (part (s .pairs) j (t .tree)) (omega (arith, fresh-part j (omega arith))))
           (lt-or-le j (levelsIn t))
 
-      spot-there : (j : ℕ) → j < n → (j < levelsIn t → pairTaken (levelFrom s j) (t .tree) .place < s .pairs) → pairTaken 0 (part (s .pairs) j (grownTables s n t .tree)) .place < s .pairs
+      place-there : (j : ℕ) → j < n → (j < levelsIn t → pairTaken (levelFrom s j) (t .tree) .place < s .pairs) → pairTaken 0 (part (s .pairs) j (grownTables s n t .tree)) .place < s .pairs
       unfolding grownTables
-      spot-there j h f = ⊎-elim
+      place-there j h f = ⊎-elim
           (λ k. let e : pairTaken 0 (part (s .pairs) j (grown n more most .tree)) .place ≡ pairTaken (levelFrom s j) (t .tree) .place =
           ap (λ (x : List ℕ). pairTaken 0 x .place) (made n more most .below j k) ∙ sym (ap (λ (x : Taken). x .place) (part-spot (s .pairs) j (t .tree) (sound .good j k))) in
           omega (arith, e, f k))
           (λ k. let e : pairTaken 0 (part (s .pairs) j (grown n more most .tree)) .place ≡ 0 =
-          ap (λ (x : List ℕ). pairTaken 0 x .place) (made n more most .inside j k (omega arith)) ∙ fresh-spot 0 (part (s .pairs) j (t .tree)) (omega (arith, fresh-part j (omega arith))) in
+          ap (λ (x : List ℕ). pairTaken 0 x .place) (made n more most .inside j k (omega arith)) ∙ fresh-taken 0 (part (s .pairs) j (t .tree)) (omega (arith, fresh-part j (omega arith))) in
           omega (arith, e, fit .pairs-some))
           (lt-or-le j (levelsIn t))
 
       -- and all its pair places
-      pub grown-spot : (j : ℕ) → j < n → (j < levelsIn t → pairTaken (levelFrom s j) (t .tree) .place < s .pairs) → pairTaken (levelFrom s j) (grownTables s n t .tree) .place < s .pairs
-      grown-spot j h f =
+      pub grown-place : (j : ℕ) → j < n → (j < levelsIn t → pairTaken (levelFrom s j) (t .tree) .place < s .pairs) → pairTaken (levelFrom s j) (grownTables s n t .tree) .place < s .pairs
+      grown-place j h f =
           let v = part (s .pairs) j (grownTables s n t .tree) in
           let G = grown-tables-sound n more most .good j (omega (arith, grown-count)) in
           let e : pairTaken (levelFrom s j) (grownTables s n t .tree) .place ≡ pairTaken 0 v .place = ap (λ (x : Taken). x .place) (part-spot (s .pairs) j (grownTables s n t .tree) G) in
-          omega (arith, e, spot-there j h f)
+          omega (arith, e, place-there j h f)

@@ -162,17 +162,17 @@ module _ (s : BuddySettings) (t : Tables) (fit : BuddyIn s) (lengths : Lengths s
       some : z ≡ 0 → ⊥
       some e = omega (arith, bytes-pos (s .minimal) (levelsIn t) (minimal-pos s fit))
 
-      spot : ((p ≡ chunkPlacesIn t) × (q ≡ chunkPlacesIn t + 1)) ⊎ ((p < chunkPlacesIn t) × (vacantChunk t p ≡ true) × (q ≡ chunkPlacesIn t))
-      spot = inserted-where (vacantChunk t) (t .tree) (placeAt s afterAt) placeWords (chunkSlab s t) (s .store .chunks) (sound .chunks-parted) few
+      places-where : ((p ≡ chunkPlacesIn t) × (q ≡ chunkPlacesIn t + 1)) ⊎ ((p < chunkPlacesIn t) × (vacantChunk t p ≡ true) × (q ≡ chunkPlacesIn t))
+      places-where = inserted-where (vacantChunk t) (t .tree) (placeAt s afterAt) placeWords (chunkSlab s t) (s .store .chunks) (sound .chunks-parted) few
 
-      pub spot-low : ((p ≡ chunkPlacesIn t) × (q ≡ chunkPlacesIn t + 1)) ⊎ ((p < chunkPlacesIn t) × (q ≡ chunkPlacesIn t))
-      spot-low = ⊎-elim (λ w. inl w) (λ w. inr (w .0, w .2)) spot
+      pub taken-low : ((p ≡ chunkPlacesIn t) × (q ≡ chunkPlacesIn t + 1)) ⊎ ((p < chunkPlacesIn t) × (q ≡ chunkPlacesIn t))
+      taken-low = ⊎-elim (λ w. inl w) (λ w. inr (w .0, w .2)) places-where
 
       pub within-places : p < q
-      within-places = ⊎-elim (λ w. omega (arith, w .0, w .1)) (λ w. omega (arith, w .0, w .1)) spot-low
+      within-places = ⊎-elim (λ w. omega (arith, w .0, w .1)) (λ w. omega (arith, w .0, w .1)) taken-low
 
-      pub spot-dead : heldIn t (chunkTaken s t .place) ≡ false
-      spot-dead = by spot
+      pub taken-dead : heldIn t (chunkTaken s t .place) ≡ false
+      taken-dead = by places-where
         where
           by : ((p ≡ chunkPlacesIn t) × (q ≡ chunkPlacesIn t + 1)) ⊎ ((p < chunkPlacesIn t) × (vacantChunk t p ≡ true) × (q ≡ chunkPlacesIn t)) → heldIn t p ≡ false
           by (inl w) = rw (le-ltb p (chunkPlacesIn t) (omega (arith, w .0)))
@@ -182,7 +182,7 @@ module _ (s : BuddySettings) (t : Tables) (fit : BuddyIn s) (lengths : Lengths s
       held-here = rw (head-places, size-here, lt-ltb p q within-places, ne-eqb z 0 some)
 
       pub held-other : (b : ℕ) → (b ≡ p → ⊥) → heldIn chunked b ≡ heldIn t b
-      held-other b n = rw (head-places, size-other b n, lower b p (chunkPlacesIn t) q spot-low n)
+      held-other b n = rw (head-places, size-other b n, lower b p (chunkPlacesIn t) q taken-low n)
 
       high-here : highIn s chunked p ≡ levelsIn t
       high-here = rw (held-here) (ap (λ (x : ℕ). levelOf x (s .minimal)) (size-here ∙ is) ∙ level-bytes s fit (levelsIn t) (sound .levels-most))

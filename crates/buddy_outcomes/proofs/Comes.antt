@@ -46,8 +46,8 @@ use Rattle.buddy_outcomes.specs.Deliver as Deliver
 use Rattle.buddy_outcomes.specs.Deliver.{chunkTables, loanIn, servedTables, carryFate, decideDeliver, deliverGateOf, planDeliver, carryDeliver, deliverOf}
 use Rattle.buddy_outcomes.specs.Gate.{gateOf}
 use Rattle.buddy_outcomes.proofs.Changed.{grown-lengths}
-use Rattle.buddy_outcomes.proofs.Chunked.{chunked, head-places, size-here, size-other, memory-here, memory-other, spot-low, within-places, spot-dead, held-here, held-other}
-use Rattle.buddy_outcomes.proofs.Delivered.{grown-sound, count, place, spot, gate-sound, opened}
+use Rattle.buddy_outcomes.proofs.Chunked.{chunked, head-places, size-here, size-other, memory-here, memory-other, taken-low, within-places, taken-dead, held-here, held-other}
+use Rattle.buddy_outcomes.proofs.Delivered.{grown-sound, count, place, chunk-room, gate-sound, opened}
 use Rattle.buddy_outcomes.proofs.Goes.{SameAt, Parts, parts}
 use Rattle.buddy_outcomes.proofs.Heads.{chunk-word, chunk-head, booked-places}
 use Rattle.buddy_outcomes.proofs.Lendings.{grown-view, booked-chunks}
@@ -201,7 +201,7 @@ module _ (s : BuddySettings) (t : Tables) (fit : BuddyIn s) (lengths : Lengths s
   -- ---- the chunks
 
   room : p < s .store .chunks
-  room = spot s t fit lengths sound size mask z b
+  room = chunk-room s t fit lengths sound size mask z b
 
   tall : 0 < levelsIn g
   tall = omega (arith, count s t fit lengths sound size mask z b)
@@ -212,7 +212,7 @@ module _ (s : BuddySettings) (t : Tables) (fit : BuddyIn s) (lengths : Lengths s
   -- the chunks are those before and the new one: its place is vacant or past the last
   pub served-chunks : Amid (chunk (chunkTaken s (grownTables s (grownTo (levelFor s size mask) t) t) .place) memory z) (chunksIn t) (chunksIn (servedTables s (sizeFor s size mask) (levelFor s size mask) memory z (grownTables s (grownTo (levelFor s size mask) t) t)))
   unfolding servedTables chunkTables
-  served-chunks = by-parts (parts u g p q (within-places s g fit g-lengths memory z room g-sound tall is-chunk) (held-here s g fit g-lengths memory z room g-sound tall is-chunk) (spot-dead s g fit g-lengths memory z room g-sound tall is-chunk) same)
+  served-chunks = by-parts (parts u g p q (within-places s g fit g-lengths memory z room g-sound tall is-chunk) (held-here s g fit g-lengths memory z room g-sound tall is-chunk) (taken-dead s g fit g-lengths memory z room g-sound tall is-chunk) same)
     where
       q : ℕ
       q = chunkTaken s g .slab .places
@@ -226,9 +226,9 @@ module _ (s : BuddySettings) (t : Tables) (fit : BuddyIn s) (lengths : Lengths s
       all : chunksOf g (chunkTaken s g .slab .places) ≡ chunksIn g
       all =
           ⊎-elim
-          (λ w. ap (chunksOf g) (omega (arith, w .1)) ∙ past-one g (chunkPlacesIn g) (subst (λ (x : ℕ). heldIn g x ≡ false) (w .0) (spot-dead s g fit g-lengths memory z room g-sound tall is-chunk)))
+          (λ w. ap (chunksOf g) (omega (arith, w .1)) ∙ past-one g (chunkPlacesIn g) (subst (λ (x : ℕ). heldIn g x ≡ false) (w .0) (taken-dead s g fit g-lengths memory z room g-sound tall is-chunk)))
           (λ w. ap (chunksOf g) (w .1))
-          (spot-low s g fit g-lengths memory z room g-sound tall is-chunk)
+          (taken-low s g fit g-lengths memory z room g-sound tall is-chunk)
 
       by-parts : Parts u g p q → Amid (chunk p memory z) (chunksIn t) (chunksIn (servedTables s (sizeFor s size mask) (levelFor s size mask) memory z g))
       by-parts w =

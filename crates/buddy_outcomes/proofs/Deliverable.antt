@@ -39,7 +39,7 @@ use Rattle.buddy_outcomes.specs.Deliver.{stillOk, deliverGateOf}
 use Rattle.buddy_outcomes.specs.Gate.{inTableOk, accountOk}
 use Rattle.buddy_outcomes.proofs.Changed.{grown-lengths, grown-given}
 use Rattle.buddy_outcomes.proofs.Comes.{AskComes, denied, lends, orders, ask-comes}
-use Rattle.buddy_outcomes.proofs.Delivered.{more, most, grown-sound, count, place, spot, empty, pair}
+use Rattle.buddy_outcomes.proofs.Delivered.{more, most, grown-sound, count, place, chunk-room, empty, pair}
 use Rattle.buddy_outcomes.proofs.Held.{chunksHeld, bytesHeld, holds-account, account-covers, grown-holds}
 use Rattle.buddy_outcomes.proofs.Passing.{Passed, are-lengths}
 use Rattle.buddy_outcomes.proofs.Plans.{Buys, buys, buy-bears, planned-buy}
@@ -131,7 +131,7 @@ module _ (s : BuddySettings) (a : Account) (size mask : ℕ) (t : Tables) where
     unfolding roomOk
     room =
         and-both (ltb (takenOf (placesIn g) (g .index) .place) (s .store .loans)) _ (lt-ltb (takenOf (placesIn g) (g .index) .place) (s .store .loans) (place s t fit lengths sound size mask z bought))
-        (and-both (ltb (chunkTaken s g .place) (s .store .chunks)) _ (lt-ltb (chunkTaken s g .place) (s .store .chunks) (spot s t fit lengths sound size mask z bought))
+        (and-both (ltb (chunkTaken s g .place) (s .store .chunks)) _ (lt-ltb (chunkTaken s g .place) (s .store .chunks) (chunk-room s t fit lengths sound size mask z bought))
         (all-room s g (levelFor s size mask) (splitFrom (levelFor s size mask) g nowhere - levelFor s size mask) (λ j h k. pair s t fit lengths sound size mask z bought j h (omega (arith, many)))))
 
     counts : countOk s own (levelFor s size mask) g nowhere ≡ true

@@ -46,16 +46,16 @@ use Rattle.buddy_outcomes.specs.Deliver.{stillOk, deliverGateOf, servedT
 use Rattle.buddy_outcomes.proofs.Passing.{Lent, lent-in}
 use Rattle.buddy_outcomes.proofs.Plans.{Buys, buys, buy-bears}
 use Rattle.buddy_outcomes.proofs.Rounds.{level-low}
-use Rattle.buddy_outcomes.proofs.Changed.{grown-lengths, grown-tables-sound, grown-count, grown-held, grown-places, grown-slab, grown-head, grown-spot}
+use Rattle.buddy_outcomes.proofs.Changed.{grown-lengths, grown-tables-sound, grown-count, grown-held, grown-places, grown-slab, grown-head, grown-place}
 use Rattle.buddy_outcomes.proofs.Searches.{search-none, room-place, room-chunk, room-pair}
 use Rattle.buddy_outcomes.proofs.Served.{served-lengths, served-sound}
 
 -- ---- the chunk arrives
 
 -- which place is taken next hangs on the slab alone
-spot-same : (z : Slab) (x y : List ℕ) (f w : ℕ) → inserted z x f w .place ≡ inserted z y f w .place
+place-same : (z : Slab) (x y : List ℕ) (f w : ℕ) → inserted z x f w .place ≡ inserted z y f w .place
 unfolding inserted
-spot-same z x y f w = ⊎-elim (λ e. rw e refl) (λ e. rw e refl) (told (ltb (z .vacant) (z .places)))
+place-same z x y f w = ⊎-elim (λ e. rw e refl) (λ e. rw e refl) (told (ltb (z .vacant) (z .places)))
 
 module _ (s : BuddySettings) (t : Tables) (fit : BuddyIn s) (lengths : Lengths s t) (sound : Sound s t) (size mask z : ℕ) (b : Buys s size mask t z) where
   abbrev n : ℕ
@@ -80,11 +80,11 @@ module _ (s : BuddySettings) (t : Tables) (fit : BuddyIn s) (lengths : Lengths s
   pub place : takenOf (placesIn (grownTables s n t)) (grownTables s n t .index) .place < s .store .loans
   place = subst (λ (p : ℕ). takenOf p (grownTables s n t .index) .place < s .store .loans) (sym (grown-places s t fit lengths sound n more most)) place-before
 
-  pub spot : chunkTaken s (grownTables s n t) .place < s .store .chunks
-  spot =
+  pub chunk-room : chunkTaken s (grownTables s n t) .place < s .store .chunks
+  chunk-room =
       let e : chunkTaken s (grownTables s n t) .place ≡ chunkTaken s t .place =
       ap (λ (z : Slab). inserted z (grownTables s n t .tree) (placeAt s afterAt) placeWords .place) (grown-slab s t fit lengths sound n more most)
-      ∙ spot-same _ (grownTables s n t .tree) (t .tree) (placeAt s afterAt) placeWords in
+      ∙ place-same _ (grownTables s n t .tree) (t .tree) (placeAt s afterAt) placeWords in
       omega (arith, e, room-chunk s t size mask Ask.nowhere (b .room) refl)
 
   pub empty : (j : ℕ) → levelFor s size mask ≤ j → j < levelsIn (grownTables s n t) → ringHead (levelFrom s j) (grownTables s n t .tree) ≡ Slab.nowhere
@@ -95,7 +95,7 @@ module _ (s : BuddySettings) (t : Tables) (fit : BuddyIn s) (lengths : Lengths s
 
   pub pair : (j : ℕ) → levelFor s size mask ≤ j → j < levelsIn (grownTables s n t) → pairTaken (levelFrom s j) (grownTables s n t .tree) .place < s .pairs
   pair j h g =
-      grown-spot s t fit lengths sound n more most j (omega (arith, count)) (λ k. room-pair s t size mask Ask.nowhere (b .room) j h (omega (arith, count)) k)
+      grown-place s t fit lengths sound n more most j (omega (arith, count)) (λ k. room-pair s t size mask Ask.nowhere (b .room) j h (omega (arith, count)) k)
 
   module _ (memory : ℕ) (new : (c : ℕ) → heldIn t c ≡ true → memoryIn t c ≡ memory → ⊥) where
     new-in : (c : ℕ) → heldIn (grownTables s n t) c ≡ true → memoryIn (grownTables s n t) c ≡ memory → ⊥
@@ -106,13 +106,13 @@ module _ (s : BuddySettings) (t : Tables) (fit : BuddyIn s) (lengths : Lengths s
     arrived-lengths =
         let e : bytes (s .minimal) (levelsIn (grownTables s n t)) ≡ z = ap (bytes (s .minimal)) count ∙ b .order in
         subst (λ (x : ℕ). Lengths s (servedTables s (sizeFor s size mask) (levelFor s size mask) memory x (grownTables s n t))) e
-        (served-lengths s (grownTables s n t) fit (grown-lengths s t fit lengths sound n) grown-sound size mask memory (b .sized) (omega (arith, count)) new-in empty pair place spot)
+        (served-lengths s (grownTables s n t) fit (grown-lengths s t fit lengths sound n) grown-sound size mask memory (b .sized) (omega (arith, count)) new-in empty pair place chunk-room)
 
     pub arrived-sound : Sound s (servedTables s (sizeFor s size mask) (levelFor s size mask) memory z (grownTables s n t))
     arrived-sound =
         let e : bytes (s .minimal) (levelsIn (grownTables s n t)) ≡ z = ap (bytes (s .minimal)) count ∙ b .order in
         subst (λ (x : ℕ). Sound s (servedTables s (sizeFor s size mask) (levelFor s size mask) memory x (grownTables s n t))) e
-        (served-sound s (grownTables s n t) fit (grown-lengths s t fit lengths sound n) grown-sound size mask memory (b .sized) (omega (arith, count)) new-in empty pair place spot)
+        (served-sound s (grownTables s n t) fit (grown-lengths s t fit lengths sound n) grown-sound size mask memory (b .sized) (omega (arith, count)) new-in empty pair place chunk-room)
 
 -- ---- the memory is new
 

@@ -83,7 +83,7 @@ module _ (u : ℕ) where
 -- ---- a fitting free place, as the tables show it
 
 -- z bytes at start, of the chunk at a place
-pub record Spot (z : ℕ) (t : Tables) (chunk start : ℕ) : Type 0 where
+pub record Stretch (z : ℕ) (t : Tables) (chunk start : ℕ) : Type 0 where
   pub held : heldIn t chunk ≡ true
   pub aligned : start % z ≡ 0
   pub inside : start + z ≤ chunkSizeIn t chunk
@@ -91,27 +91,27 @@ pub record Spot (z : ℕ) (t : Tables) (chunk start : ℕ) : Type 0 where
 
 module _ (s : BuddySettings) (t : Tables) (z : ℕ) where
   -- no loan meets it
-  pub spot-apart : (chunk start : ℕ) → Spot z t chunk start → (l : Loan) → List·Memᴰ l (loansIn t) → l .chunk ≡ chunk → (l .offset + l .size ≤ start) ⊎ (start + z ≤ l .offset)
-  spot-apart chunk start f l m e =
+  pub stretch-apart : (chunk start : ℕ) → Stretch z t chunk start → (l : Loan) → List·Memᴰ l (loansIn t) → l .chunk ≡ chunk → (l .offset + l .size ≤ start) ⊎ (start + z ≤ l .offset)
+  stretch-apart chunk start f l m e =
       let w = loan-live t l m in
       let c : loanCell t 1 (w .0) ≡ l .chunk = cell-row (t .loans) 1 loanWords (w .0) ∙ ap (λ (d : Loan). d .chunk) (w .2) in
       let o : loanCell t 2 (w .0) ≡ l .offset = cell-row (t .loans) 2 loanWords (w .0) ∙ ap (λ (d : Loan). d .offset) (w .2) in
       let n : loanCell t sizeAt (w .0) ≡ l .size = cell-row (t .loans) sizeAt loanWords (w .0) ∙ ap (λ (d : Loan). d .size) (w .2) in
       ⊎-elim (λ q. inl (omega (arith, o, n, q))) (λ q. inr (omega (arith, o, q))) (f .quiet (w .0) (w .1) (c ∙ e))
 
-  spot-fits : (chunk start : ℕ) → Spot z t chunk start → Fitting z (viewOf s t)
-  spot-fits chunk start f =
+  stretch-fits : (chunk start : ℕ) → Stretch z t chunk start → Fitting z (viewOf s t)
+  stretch-fits chunk start f =
       record {
         chunk = chunkAt t chunk;
         held = held-seen t chunk (f .held);
         start = start;
         aligned = f .aligned;
         inside = f .inside;
-        quiet = spot-apart chunk start f;
+        quiet = stretch-apart chunk start f;
       }
 
-  fits-spot : (f : Fitting z (viewOf s t)) → Spot z t (f .chunk .number) (f .start)
-  fits-spot f =
+  fits-stretch : (f : Fitting z (viewOf s t)) → Stretch z t (f .chunk .number) (f .start)
+  fits-stretch f =
       let h = seen-held t (f .chunk) (f .held) in
       let n : f .chunk .size ≡ chunkSizeIn t (f .chunk .number) = ap (λ (d : Chunk). d .size) (h .1) in
       record {
@@ -141,7 +141,7 @@ module _ (s : BuddySettings) (t : Tables) (fit : BuddyIn s) (lengths : Lengths s
 
   -- a level with a ready side has a fitting place for every level up to it
   pub found-fits : (z lev d : ℕ) → z ≡ bytes (s .minimal) lev → up d lev < levelsIn t → (ringHead (levelFrom s (up d lev)) (t .tree) ≡ nowhere → ⊥)
-      → Spot z t (headEnt s t (up d lev) .chunk) (baseOf (s .minimal) (headEnt s t (up d lev)) (up d lev))
+      → Stretch z t (headEnt s t (up d lev) .chunk) (baseOf (s .minimal) (headEnt s t (up d lev)) (up d lev))
   found-fits z lev d is below some =
       let u = s .minimal in
       let O = levelOps (s .pairs) (few-pairs s fit) in
@@ -152,7 +152,7 @@ module _ (s : BuddySettings) (t : Tables) (fit : BuddyIn s) (lengths : Lengths s
       let x = cutLoan u O S lev d .at in
       let h = high-held c (up d lev) (lent-held u O pu S T before lev d below sm) in
       let r = lent-aligned u O pu S T before lev d below sm in
-      subst (λ (e : Ent). Spot z t (e .chunk) (baseOf u e (up d lev))) (sym (head-is s (few-pairs s fit) t sound (up d lev) below sm))
+      subst (λ (e : Ent). Stretch z t (e .chunk) (baseOf u e (up d lev))) (sym (head-is s (few-pairs s fit) t sound (up d lev) below sm))
       (record {
         held = h;
         aligned = ap (λ (y : ℕ). y % z) (r .1 ∙ ap (λ (y : ℕ). r .0 * y) (sym is)) ∙ mul-mod-left (r .0) z;
@@ -163,7 +163,7 @@ module _ (s : BuddySettings) (t : Tables) (fit : BuddyIn s) (lengths : Lengths s
       })
 
   -- what no loan of the tables meets no loan of the chunk's tree meets
-  quiet-in : (z lev q c x : ℕ) → Spot z t c x → z ≡ bytes (s .minimal) lev → q * bytes (s .minimal) lev ≡ x
+  quiet-in : (z lev q c x : ℕ) → Stretch z t c x → z ≡ bytes (s .minimal) lev → q * bytes (s .minimal) lev ≡ x
       → Quiet (s .minimal) (highIn s t c) 0 (T c) (q * bytes (s .minimal) lev) lev
   quiet-in z lev q c x f is e y h =
       let u = s .minimal in
@@ -175,7 +175,7 @@ module _ (s : BuddySettings) (t : Tables) (fit : BuddyIn s) (lengths : Lengths s
       ⊎-elim (λ g. inl (omega arith)) (λ g. inr (omega arith)) (f .quiet (w .0) live (i .0))
 
   -- a fitting place shows at a level
-  fits-found : (z lev c x : ℕ) → z ≡ bytes (s .minimal) lev → Spot z t c x → (i : ℕ) × (lev ≤ i) × (i < levelsIn t) × (ringHead (levelFrom s i) (t .tree) ≡ nowhere → ⊥)
+  fits-found : (z lev c x : ℕ) → z ≡ bytes (s .minimal) lev → Stretch z t c x → (i : ℕ) × (lev ≤ i) × (i < levelsIn t) × (ringHead (levelFrom s i) (t .tree) ≡ nowhere → ⊥)
   fits-found z lev c x is f =
       let u = s .minimal in
       let pu = minimal-pos s fit in
@@ -200,7 +200,7 @@ needs-when s t fit lengths sound size mask aligned sized = (none, some (foundFro
 
     none : foundFrom s (levelFor s size mask) t ≡ Ask.nowhere → Needed s size mask t
     none e f =
-        let r = fits-found s t fit lengths sound (sizeFor s size mask) lev (f .chunk .number) (f .start) (size-level s fit size mask sized) (fits-spot s t (sizeFor s size mask) f) in
+        let r = fits-found s t fit lengths sound (sizeFor s size mask) lev (f .chunk .number) (f .start) (size-level s fit size mask sized) (fits-stretch s t (sizeFor s size mask) f) in
         r .3 (search-none s (t .tree) lev (levelsIn t - lev) e (r .0) (r .1) (omega (arith, r .1, r .2)))
 
     some : (g : Found) → foundFrom s (levelFor s size mask) t ≡ g → Needed s size mask t → foundFrom s (levelFor s size mask) t ≡ Ask.nowhere
@@ -208,7 +208,7 @@ needs-when s t fit lengths sound size mask aligned sized = (none, some (foundFro
     some (at i) e n =
         let r = search-at s (t .tree) lev (levelsIn t - lev) i e in
         let h : up (i - lev) lev ≡ i = omega (arith, up-add (i - lev) lev, r .0) in
-        absurd (n (spot-fits s t (sizeFor s size mask) _ _ (found-fits s t fit lengths sound (sizeFor s size mask) lev (i - lev) (size-level s fit size mask sized) (omega (arith, h, r .0, r .1)) (rw h (r .2)))))
+        absurd (n (stretch-fits s t (sizeFor s size mask) _ _ (found-fits s t fit lengths sound (sizeFor s size mask) lev (i - lev) (size-level s fit size mask sized) (omega (arith, h, r .0, r .1)) (rw h (r .2)))))
 
 -- ---- what an ask says
 

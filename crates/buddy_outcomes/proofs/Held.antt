@@ -27,7 +27,7 @@ use Rattle.buddy_outcomes.specs.Gate.{heldCount, heldBytes, accountOk}
 use Rattle.buddy_outcomes.specs.Ask.{chunkTaken, grownTables, bookedTables, takenTables, sizeFor, levelFor}
 use Rattle.buddy_outcomes.specs.Deliver.{chunkTables, servedTables}
 use Rattle.buddy_outcomes.specs.Return.{wordFor, onLoanOk, climbFor, givenTables}
-use Rattle.buddy_outcomes.proofs.Chunked.{chunked, head-places, size-here, size-other, spot-low, within-places, spot-dead, held-here, held-other}
+use Rattle.buddy_outcomes.proofs.Chunked.{chunked, head-places, size-here, size-other, taken-low, within-places, taken-dead, held-here, held-other}
 use Rattle.buddy_outcomes.proofs.Given.{held, place}
 
 -- ---- sums over the first n places
@@ -164,10 +164,10 @@ module _ (s : BuddySettings) (t : Tables) (fit : BuddyIn s) (lengths : Lengths s
   chunked-holds =
       let u = chunked s t fit lengths memory z in
       let low : p < q = within-places s t fit lengths memory z room sound tall is in
-      let after : chunkPlacesIn t ≤ q = ⊎-elim (λ w. omega (arith, w .1)) (λ w. omega (arith, w .1)) (spot-low s t fit lengths memory z room sound tall is) in
+      let after : chunkPlacesIn t ≤ q = ⊎-elim (λ w. omega (arith, w .1)) (λ w. omega (arith, w .1)) (taken-low s t fit lengths memory z room sound tall is) in
       let e : chunkPlacesIn u ≡ q = head-places s t fit lengths memory z in
       let here : chunkSizeIn u p ≡ z = size-here s t fit lengths memory z room in
-      let r = chunk-goes u t p q low (held-here s t fit lengths memory z room sound tall is) (spot-dead s t fit lengths memory z room sound tall is)
+      let r = chunk-goes u t p q low (held-here s t fit lengths memory z room sound tall is) (taken-dead s t fit lengths memory z room sound tall is)
       (λ x o. (sym (held-other s t fit lengths memory z room sound tall is x o), sym (size-other s t fit lengths memory z room x o))) in
       let l = held-past t q after in (
         ap (heldCount u) e ∙ sym (r .0) ∙ ap (λ (n : ℕ). n + 1) (l .0),

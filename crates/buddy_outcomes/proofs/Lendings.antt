@@ -34,7 +34,7 @@ use Rattle.buddy_rules.proofs.Viewed.{loan-live, chunkAt, held-seen}
 use Rattle.buddy_outcomes.specs.Ask as Ask
 use Rattle.buddy_outcomes.specs.Ask.{sizeFor, levelFor, sizeOk, grownTables, bookedTables, headEnt, loanFrom, takenTables, decideAsk, carryAsk, planAsk, askOf}
 use Rattle.buddy_outcomes.specs.Gate.{gateOf}
-use Rattle.buddy_outcomes.proofs.Fitted.{Spot, spot-apart, found-fits, order-block, refusal-block, same-block}
+use Rattle.buddy_outcomes.proofs.Fitted.{Stretch, stretch-apart, found-fits, order-block, refusal-block, same-block}
 use Rattle.buddy_outcomes.proofs.Loaned.{live-given}
 use Rattle.buddy_outcomes.proofs.Passing.{Passed, gate-passed}
 use Rattle.buddy_outcomes.proofs.Plans.{Takes, takes}
@@ -143,24 +143,24 @@ module _ (s : BuddySettings) (a : Account) (size mask : ℕ) (t : Tables) where
             }
 
 -- the stretch that the level found has to give
-pub served-spot : (s : BuddySettings) (t : Tables) → BuddyIn s → Lengths s t → Sound s t → (size mask i : ℕ) → Takes s size mask t i
-    → Spot (sizeFor s size mask) t (headEnt s t i .chunk) (baseOf (s .minimal) (headEnt s t i) i)
-served-spot s t fit lengths sound size mask i w =
+pub served-stretch : (s : BuddySettings) (t : Tables) → BuddyIn s → Lengths s t → Sound s t → (size mask i : ℕ) → Takes s size mask t i
+    → Stretch (sizeFor s size mask) t (headEnt s t i .chunk) (baseOf (s .minimal) (headEnt s t i) i)
+served-stretch s t fit lengths sound size mask i w =
     let lev = levelFor s size mask in
     let f = Taken.first s t fit lengths sound size mask i (w .found) (w .aligned) (w .sized) (w .room) in
     let h = Taken.height s t fit lengths sound size mask i (w .found) (w .aligned) (w .sized) (w .room) in
-    subst (λ (x : ℕ). Spot (sizeFor s size mask) t (headEnt s t x .chunk) (baseOf (s .minimal) (headEnt s t x) x)) h
+    subst (λ (x : ℕ). Stretch (sizeFor s size mask) t (headEnt s t x .chunk) (baseOf (s .minimal) (headEnt s t x) x)) h
     (found-fits s t fit lengths sound (sizeFor s size mask) lev (i - lev) (size-level s fit size mask (w .sized)) (omega (arith, h, f .1)) (rw h (f .2)))
 
 -- a block lent there is good
-pub spot-good : (s : BuddySettings) (t : Tables) → BuddyIn s → Sound s t → (size mask : ℕ) → alignmentOk mask ≡ true → sizeOk s size mask ≡ true
-    → (c x : ℕ) → Spot (sizeFor s size mask) t c x → GoodBlock (s .store .atom) size mask (givenIn t) (loansIn t) (chunksIn t) (givenIn t + 1) c x (sizeFor s size mask)
-spot-good s t fit sound size mask aligned sized c x f = record {
+pub stretch-good : (s : BuddySettings) (t : Tables) → BuddyIn s → Sound s t → (size mask : ℕ) → alignmentOk mask ≡ true → sizeOk s size mask ≡ true
+    → (c x : ℕ) → Stretch (sizeFor s size mask) t c x → GoodBlock (s .store .atom) size mask (givenIn t) (loansIn t) (chunksIn t) (givenIn t + 1) c x (sizeFor s size mask)
+stretch-good s t fit sound size mask aligned sized c x f = record {
   next = refl;
   held = (chunkAt t c, held-seen t c (f .held), refl, f .inside);
   aligned = multiple x (sizeFor s size mask) (mask + 1) (f .aligned) (size-aligned s fit size mask sized aligned);
   atoms = multiple x (sizeFor s size mask) (s .store .atom + 1) (f .aligned) (size-units s fit size mask sized);
   enough = size-enough s fit size mask sized;
-  apart = spot-apart s t (sizeFor s size mask) c x f;
+  apart = stretch-apart s t (sizeFor s size mask) c x f;
   new = λ l m. omega (arith, seen-given s t fit sound l m);
 }

@@ -71,8 +71,8 @@ module _ (s : BuddySettings) (t : Tables) (fit : BuddyIn s) (lengths : Lengths s
   lev = levelFor s size mask
 
   -- where the new pairs stand
-  abbrev spots : ℕ → ℕ
-  spots j = pairTaken (levelFrom s j) (t .tree) .place
+  abbrev newPlaces : ℕ → ℕ
+  newPlaces j = pairTaken (levelFrom s j) (t .tree) .place
 
   abbrev tablesAt : ℕ → ℕ → Tables
   tablesAt x n =
@@ -86,8 +86,8 @@ module _ (s : BuddySettings) (t : Tables) (fit : BuddyIn s) (lengths : Lengths s
       let h = Taken.height s t fit lengths sound size mask i (w .found) (w .aligned) (w .sized) (w .room) in
       let p = Taken.pair s t fit lengths sound size mask i (w .found) (w .aligned) (w .sized) (w .room) in
       let d = i - lev in
-      subst (λ (x : ℕ). Rings s (tablesAt x (i - lev)) (ringsLent spots lev x W)) h
-      (booked-rings s t (sound .levels-most) _ _ (sizeFor s size mask) _ (ringsLent spots lev (up d lev) W)
+      subst (λ (x : ℕ). Rings s (tablesAt x (i - lev)) (ringsLent newPlaces lev x W)) h
+      (booked-rings s t (sound .levels-most) _ _ (sizeFor s size mask) _ (ringsLent newPlaces lev (up d lev) W)
       (lent-rings s (few-pairs s fit) t fit lengths sound W rings lev d (takenOf (placesIn t) (t .index) .place) (omega (arith, h, f .1)) (rw h (f .2)) p))
 
 -- an ask that says a block: the level that the search found gives its head, each level below it down to the block's has a new pair

@@ -147,17 +147,17 @@ module _ (s : BuddySettings) (t : Tables) where
 module _ (s : BuddySettings) (t : Tables) (fit : BuddyIn s) (sound : Sound s t) where
   -- a level has no room exactly when it is there and all its pairs are in use
   pair-off : (l : ℕ) → (pairRoom s t l ≡ false) ↔ ((l < levelsIn t) × (s .pairs ≤ pairCount s t l (s .pairs)))
-  pair-off l = (there, λ w. or-off (leb (levelsIn t) l) (ltb spot (s .pairs)) (lt-leb (levelsIn t) l (w .0)) (full (w .0) .1 (w .1)))
+  pair-off l = (there, λ w. or-off (leb (levelsIn t) l) (ltb taken (s .pairs)) (lt-leb (levelsIn t) l (w .0)) (full (w .0) .1 (w .1)))
     where
-      spot : ℕ
-      spot = pairTaken (levelFrom s l) (t .tree) .place
+      taken : ℕ
+      taken = pairTaken (levelFrom s l) (t .tree) .place
 
-      full : l < levelsIn t → (ltb spot (s .pairs) ≡ false) ↔ (s .pairs ≤ pairCount s t l (s .pairs))
-      full h = off-room spot (pairCount s t l (s .pairs)) (s .pairs) (pair-left s t fit sound l h)
+      full : l < levelsIn t → (ltb taken (s .pairs) ≡ false) ↔ (s .pairs ≤ pairCount s t l (s .pairs))
+      full h = off-room taken (pairCount s t l (s .pairs)) (s .pairs) (pair-left s t fit sound l h)
 
       there : pairRoom s t l ≡ false → (l < levelsIn t) × (s .pairs ≤ pairCount s t l (s .pairs))
       there e =
-          let r = off-or (leb (levelsIn t) l) (ltb spot (s .pairs)) e in
+          let r = off-or (leb (levelsIn t) l) (ltb taken (s .pairs)) e in
           let h : l < levelsIn t = leb-false (levelsIn t) l (r .0) in
           (h, full h .0 (r .1))
 

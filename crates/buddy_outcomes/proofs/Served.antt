@@ -38,11 +38,11 @@ use Rattle.buddy_outcomes.proofs.Changed.{few-pairs}
 use Rattle.buddy_outcomes.proofs.Rounds.{size-level, size-units}
 use Rattle.buddy_outcomes.proofs.Booked.{booked-lengths, booked-sound}
 use Rattle.buddy_outcomes.proofs.Taken.{place-dead, level-empty, level-room}
-use Rattle.buddy_outcomes.proofs.Chunked.{chunked, chunked-lengths, chunked-count, chunked-places, chunked-level, chunked-live, chunked-loan, spot-dead, chunked-high, chunked-top, chunked-kept}
+use Rattle.buddy_outcomes.proofs.Chunked.{chunked, chunked-lengths, chunked-count, chunked-places, chunked-level, chunked-live, chunked-loan, taken-dead, chunked-high, chunked-top, chunked-kept}
 
 module _ (s : BuddySettings) (t : Tables) (fit : BuddyIn s) (lengths : Lengths s t) (sound : Sound s t) (size lev d memory z : ℕ)
     (top : levelsIn t ≡ up (suc d) lev) (is-chunk : z ≡ bytes (s .minimal) (levelsIn t))
-    (spot : chunkTaken s t .place < s .store .chunks)
+    (chunk-room : chunkTaken s t .place < s .store .chunks)
     (none : (j : ℕ) → lev ≤ j → j ≤ up d lev → ringHead (levelFrom s j) (t .tree) ≡ nowhere)
     (room : (j : ℕ) → lev ≤ j → j ≤ up d lev → pairTaken (levelFrom s j) (t .tree) .place < s .pairs) where
   abbrev c : ℕ
@@ -86,7 +86,7 @@ module _ (s : BuddySettings) (t : Tables) (fit : BuddyIn s) (lengths : Lengths s
   T′ = with T c (spine (suc d) k)
 
   dead : heldIn t c ≡ false
-  dead = spot-dead s t fit lengths memory z spot sound tall is-chunk
+  dead = taken-dead s t fit lengths memory z chunk-room sound tall is-chunk
 
   after : Stores.Sound (s .minimal) (levelOps (s .pairs) (few-pairs s fit)) (delivered (s .minimal) (levelOps (s .pairs) (few-pairs s fit)) (storeOf s (few-pairs s fit) t) lev d k c) T′
   after =
@@ -108,13 +108,13 @@ module _ (s : BuddySettings) (t : Tables) (fit : BuddyIn s) (lengths : Lengths s
   loans-as j =
       ap (λ (x : ℕ). with (loanIn s u) x made j) same-place
       ∙ ap (λ (x : Nodes.Loan). cond (eqb j k) x (loanIn s u j)) loan-is
-      ∙ ap (λ (x : Nodes.Loan). cond (eqb j k) (newLoan (s .minimal) (levelOps (s .pairs) (few-pairs s fit)) (storeOf s (few-pairs s fit) t) lev c) x) (chunked-loan s t fit lengths memory z spot j)
+      ∙ ap (λ (x : Nodes.Loan). cond (eqb j k) (newLoan (s .minimal) (levelOps (s .pairs) (few-pairs s fit)) (storeOf s (few-pairs s fit) t) lev c) x) (chunked-loan s t fit lengths memory z chunk-room j)
 
   live-as : (j : ℕ) → with (liveIn u) (takenOf (placesIn u) (u .index) .place) true j ≡ with (liveIn t) k true j
-  live-as j = ap (λ (x : ℕ). with (liveIn u) x true j) same-place ∙ ap (λ (x : Bool). cond (eqb j k) true x) (chunked-live s t fit lengths memory z spot j)
+  live-as j = ap (λ (x : ℕ). with (liveIn u) x true j) same-place ∙ ap (λ (x : Bool). cond (eqb j k) true x) (chunked-live s t fit lengths memory z chunk-room j)
 
   high-as : (b : ℕ) → highIn s u b ≡ with (highIn s t) c (up (suc d) lev) b
-  high-as b = chunked-high s t fit lengths memory z spot sound tall is-chunk b ∙ ap (λ (x : ℕ). with (highIn s t) c x b) top
+  high-as b = chunked-high s t fit lengths memory z chunk-room sound tall is-chunk b ∙ ap (λ (x : ℕ). with (highIn s t) c x b) top
 
   abbrev topWord : ℕ
   topWord = 2 * pairTaken (levelFrom s (levelsIn t - 1)) (t .tree) .place + 2
@@ -127,7 +127,7 @@ module _ (s : BuddySettings) (t : Tables) (fit : BuddyIn s) (lengths : Lengths s
       ∙ ap (λ (x : Taken). 2 * x .place + 2) (part-spot (s .pairs) (up d lev) (t .tree) (sound .good (up d lev) (omega (arith, top))))
 
   top-as : (b : ℕ) → topIn s u b ≡ with (topIn s t) c (grow (s .minimal) (levelOps (s .pairs) (few-pairs s fit)) W lev c 0 k nowhere (suc d) .top) b
-  top-as b = chunked-top s t fit lengths memory z spot sound tall is-chunk b ∙ ap (λ (x : ℕ). with (topIn s t) c x b) word-as
+  top-as b = chunked-top s t fit lengths memory z chunk-room sound tall is-chunk b ∙ ap (λ (x : ℕ). with (topIn s t) c x b) word-as
 
   after-as : Stores.Sound (s .minimal) (levelOps (s .pairs) (few-pairs s fit)) (record {
     count = levelsIn u;
@@ -146,7 +146,7 @@ module _ (s : BuddySettings) (t : Tables) (fit : BuddyIn s) (lengths : Lengths s
       (new : (b : ℕ) → heldIn t b ≡ true → memoryIn t b ≡ memory → ⊥) where
     served-tables-sound : Sound s (bookedTables s c 0 size cut u)
     served-tables-sound =
-        booked-sound s u fit (chunked-lengths s t fit lengths memory z) c 0 size cut (is-cut .3) lev (chunked-kept s t fit lengths memory z spot sound tall is-chunk new) (rw same-place place) level is
+        booked-sound s u fit (chunked-lengths s t fit lengths memory z) c 0 size cut (is-cut .3) lev (chunked-kept s t fit lengths memory z chunk-room sound tall is-chunk new) (rw same-place place) level is
         (zero-mod (s .store .atom + 1)) units (is-cut .2) T′ W′ (is-cut .1) after-as
 
 -- ---- for an ask that no level has a ready side for, and all have a vacant pair place
@@ -155,7 +155,7 @@ module _ (s : BuddySettings) (t : Tables) (fit : BuddyIn s) (lengths : Lengths s
     (size mask memory : ℕ) (sized : sizeOk s size mask ≡ true) (tall : levelFor s size mask < levelsIn t) (new : (c : ℕ) → heldIn t c ≡ true → memoryIn t c ≡ memory → ⊥)
     (empty : (j : ℕ) → levelFor s size mask ≤ j → j < levelsIn t → ringHead (levelFrom s j) (t .tree) ≡ nowhere)
     (pair : (j : ℕ) → levelFor s size mask ≤ j → j < levelsIn t → pairTaken (levelFrom s j) (t .tree) .place < s .pairs)
-    (place : takenOf (placesIn t) (t .index) .place < s .store .loans) (spot : chunkTaken s t .place < s .store .chunks) where
+    (place : takenOf (placesIn t) (t .index) .place < s .store .loans) (chunk-room : chunkTaken s t .place < s .store .chunks) where
   abbrev lev : ℕ
   lev = levelFor s size mask
 
@@ -168,10 +168,10 @@ module _ (s : BuddySettings) (t : Tables) (fit : BuddyIn s) (lengths : Lengths s
   pub served-lengths : Lengths s (servedTables s (sizeFor s size mask) (levelFor s size mask) memory (bytes (s .minimal) (levelsIn t)) t)
   unfolding servedTables chunkTables
   served-lengths =
-      served-long s t fit lengths sound (sizeFor s size mask) lev below memory (bytes (s .minimal) (levelsIn t)) height refl spot (λ j h g. empty j h (omega (arith, height))) (λ j h g. pair j h (omega (arith, height)))
+      served-long s t fit lengths sound (sizeFor s size mask) lev below memory (bytes (s .minimal) (levelsIn t)) height refl chunk-room (λ j h g. empty j h (omega (arith, height))) (λ j h g. pair j h (omega (arith, height)))
 
   pub served-sound : Sound s (servedTables s (sizeFor s size mask) (levelFor s size mask) memory (bytes (s .minimal) (levelsIn t)) t)
   unfolding servedTables chunkTables levelFor
   served-sound =
-      served-tables-sound s t fit lengths sound (sizeFor s size mask) lev below memory (bytes (s .minimal) (levelsIn t)) height refl spot (λ j h g. empty j h (omega (arith, height))) (λ j h g. pair j h (omega (arith, height)))
+      served-tables-sound s t fit lengths sound (sizeFor s size mask) lev below memory (bytes (s .minimal) (levelsIn t)) height refl chunk-room (λ j h g. empty j h (omega (arith, height))) (λ j h g. pair j h (omega (arith, height)))
       place refl (size-level s fit size mask sized) (size-units s fit size mask sized) new

@@ -18,7 +18,7 @@ use Rattle.buddy_rules.proofs.Stores.{puts, length-puts, kept, latest, 
 use Rattle.buddy_rules.proofs.Rows.{addedRow, added-puts}
 use Rattle.buddy_rules.proofs.Cells.{plain-in, ent-same, pair-used, pair-unused}
 use Rattle.buddy_rules.proofs.Rings.{Readies, good-both, no-head}
-use Rattle.buddy_rules.proofs.Spots.{spot-used, spot-more, spot-only}
+use Rattle.buddy_rules.proofs.TakenPairs.{taken-used, taken-more, taken-only}
 
 -- what parts the places parts them by other links too, where the vacant places keep theirs
 parted-vacant : (free free′ : ℕ → Bool) (next next′ : ℕ → ℕ) (s : Slab) (most : ℕ) → ((x : ℕ) → free′ x ≡ free x) → ((x : ℕ) → free x ≡ true → next′ x ≡ next x) → Parted free next s most → Parted free′ next′ s most
@@ -135,7 +135,7 @@ module _ (b c o n w : ℕ) (t : List ℕ) where
 
     none : ringHead b t ≡ nowhere → (x : ℕ) → (x ≡ p → ⊥) → x < getD t′ (b + usedAt) 0 → entOf b t′ x .tag ≤ 1
     none e x ne h =
-        let k : x < getD t (b + usedAt) 0 = spot-only b pairs t few G x ne (rw (used inside) at h) in
+        let k : x < getD t (b + usedAt) 0 = taken-only b pairs t few G x ne (rw (used inside) at h) in
         rw (other x ne tagAt (omega arith)) (no-head b pairs t G few e x k)
 
     readies : ringHead b t ≡ nowhere → Readies b t′
@@ -145,7 +145,7 @@ module _ (b c o n w : ℕ) (t : List ℕ) where
         ring = record { closed = ((now inside 13 (omega arith), now inside 14 (omega arith)), tt); distinct = (tt, tt) };
         first = now inside 0 (omega arith);
       };
-      below = λ x m. ⊎-elim (λ q. omega (arith, q, used inside, spot-used b pairs t few G)) (λ i. absurd i) m;
+      below = λ x m. ⊎-elim (λ q. omega (arith, q, used inside, taken-used b pairs t few G)) (λ i. absurd i) m;
       ready = λ x m. ⊎-elim (λ q. rw (q, now inside 8 (omega arith)) (omega arith)) (λ i. absurd i) m;
       all = λ x h k. ⊎-elim (λ q. inl q) (λ ne. absurd (omega (arith, none e x ne h))) (same? x p);
     }
@@ -161,16 +161,16 @@ module _ (b c o n w : ℕ) (t : List ℕ) where
     added-good e = rw (added-puts b c o n w t) (good-both b pairs t′ (readies e) parted)
 
     pub added-here : pairIn b (added b c o n w t) p ≡ record { tag = 3; chunk = c; off = o; left = w; right = 0; up = n }
-    added-here = rw (added-puts b c o n w t) (pair-used b t′ p (rw (used inside) (spot-used b pairs t few G)) ∙ here inside)
+    added-here = rw (added-puts b c o n w t) (pair-used b t′ p (rw (used inside) (taken-used b pairs t few G)) ∙ here inside)
 
     pub added-other : (x : ℕ) → (x ≡ p → ⊥) → pairIn b (added b c o n w t) x ≡ pairIn b t x
     added-other x ne = rw (added-puts b c o n w t) (by (lt-or-le x (getD t (b + usedAt) 0)))
       where
         by : (x < getD t (b + usedAt) 0) ⊎ (getD t (b + usedAt) 0 ≤ x) → pairIn b t′ x ≡ pairIn b t x
         by (inl h) =
-            pair-used b t′ x (rw (used inside) (spot-more b pairs t few G x h))
+            pair-used b t′ x (rw (used inside) (taken-more b pairs t few G x h))
             ∙ ent-same b b t t′ x (λ f k. other x ne f (plain-in f k))
             ∙ sym (pair-used b t x h)
         by (inr h) =
-            pair-unused b t′ x (⊎-elim (λ k. absurd (omega (arith, spot-only b pairs t few G x ne (rw (used inside) at k)))) (λ k. k) (lt-or-le x (getD t′ (b + usedAt) 0)))
+            pair-unused b t′ x (⊎-elim (λ k. absurd (omega (arith, taken-only b pairs t few G x ne (rw (used inside) at k)))) (λ k. k) (lt-or-le x (getD t′ (b + usedAt) 0)))
             ∙ sym (pair-unused b t x h)

@@ -31,9 +31,9 @@ module _ (b : ℕ) (t : List ℕ) where
     vacated = ap (λ u. getD u (b + vacatedAt) 0) (fresh-puts b t) ∙ found t ((b + ringAt, nowhere) ∷ (b + usedAt, 0) ∷ []) (b + vacatedAt) nowhere [] (omega arith) tt
 
     -- its first place is the next one taken
-    pub fresh-spot : pairTaken b (freshLevel b t) .place ≡ 0
+    pub fresh-taken : pairTaken b (freshLevel b t) .place ≡ 0
     unfolding inserted
-    fresh-spot =
+    fresh-taken =
         let u = freshLevel b t in
         let e : ltb (getD u (b + vacatedAt) 0) (getD u (b + usedAt) 0) ≡ false = le-ltb (getD u (b + vacatedAt) 0) (getD u (b + usedAt) 0) (omega (arith, used, vacated)) in
         rw e used

@@ -46,12 +46,12 @@ module _ (u : ℕ) (E : ℕ → ℕ → Ent) (K : ℕ → Loan) (live : ℕ → 
     abbrev Placed : ℕ → ℕ → ℕ → ℕ → ℕ → Type 0
     Placed c l o n w = (held c ≡ true) × Meets u E (high c) 0 nowhere (top c) (T c) l o n w
 
-    record Spot (l n w : ℕ) : Type 0 where
+    record Led (l n w : ℕ) : Type 0 where
       pub c : ℕ
       pub o : ℕ
       pub at : Placed c l o n w
 
-    lead-up : (l c n w : ℕ) → ((p : ℕ) → l < levels → 0 < E l p .tag → Placed (E l p .chunk) (suc l) (E l p .off) (E l p .up) (2 * p + 2)) → Leads E held high top levels l c n w → Spot l n w
+    lead-up : (l c n w : ℕ) → ((p : ℕ) → l < levels → 0 < E l p .tag → Placed (E l p .chunk) (suc l) (E l p .off) (E l p .up) (2 * p + 2)) → Leads E held high top levels l c n w → Led l n w
     lead-up l c n w f (inl r) =
         record { c = c; o = 0; at = (r .holds, meets-here u E (high c) 0 nowhere (top c) (T c) l 0 n w (sym (r .level), refl, r .node, sym (r .word))) }
     lead-up l c n w f (inr r) =

@@ -33,7 +33,7 @@ pub mod Rows
 pub mod Shapes
 pub mod Sides
 pub mod Splitting
-pub mod Spots
+pub mod TakenPairs
 pub mod Standing
 pub mod Stands
 pub mod Stored

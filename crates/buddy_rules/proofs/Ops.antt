@@ -10,7 +10,7 @@ use Rattle.slab.specs.Slab.{nowhere}
 use Rattle.buddy_rules.specs.Levels.{Ops}
 use Rattle.buddy_rules.specs.Level.{levelWords, pairIn, ringHead, pairTaken, dropped, backed, acquired, added, Good}
 use Rattle.buddy_rules.proofs.Rings.{ready-mem, mem-head}
-use Rattle.buddy_rules.proofs.Spots.{spot-vacant}
+use Rattle.buddy_rules.proofs.TakenPairs.{taken-vacant}
 use Rattle.buddy_rules.proofs.Dropped.{dropped-length, dropped-good, dropped-here, dropped-other}
 use Rattle.buddy_rules.proofs.Backed.{backed-length, backed-good, backed-here, backed-other}
 use Rattle.buddy_rules.proofs.Acquired.{head-ready, acquired-length, acquired-good, acquired-here, acquired-other}
@@ -43,7 +43,7 @@ levelOps pairs few = record {
   take-other = λ v w x G some ne. acquired-other 0 w v pairs (omega (arith, G .0)) (G .1) some x ne;
   Room = λ v. pairTaken 0 v .place < pairs;
   newPlace = λ v. pairTaken 0 v .place;
-  newPlace-vacant = λ v G room. spot-vacant 0 pairs v few (G .1);
+  newPlace-vacant = λ v G room. taken-vacant 0 pairs v few (G .1);
   add = λ v c o n w. added 0 c o n w v;
   add-good = λ v c o n w G room none. (
     added-length 0 c o n w v ∙ G .0,

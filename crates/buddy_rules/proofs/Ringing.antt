@@ -63,18 +63,18 @@ module _ (s : BuddySettings) (t : Tables) where
 -- ---- how to read what becomes of them
 
 -- of a loan
-pub lent-here : (spot : ℕ → ℕ) (lev i : ℕ) (W : ℕ → List ℕ) → ringsLent spot lev i W i ≡ tailOf (W i)
+pub lent-here : (newPlace : ℕ → ℕ) (lev i : ℕ) (W : ℕ → List ℕ) → ringsLent newPlace lev i W i ≡ tailOf (W i)
 unfolding ringsLent
-lent-here spot lev i W = rw (eq-eqb i i refl)
+lent-here newPlace lev i W = rw (eq-eqb i i refl)
 
-pub lent-new : (spot : ℕ → ℕ) (lev i : ℕ) (W : ℕ → List ℕ) (l : ℕ) → lev ≤ l → l < i → ringsLent spot lev i W l ≡ spot l ∷ []
+pub lent-new : (newPlace : ℕ → ℕ) (lev i : ℕ) (W : ℕ → List ℕ) (l : ℕ) → lev ≤ l → l < i → ringsLent newPlace lev i W l ≡ newPlace l ∷ []
 unfolding ringsLent
-lent-new spot lev i W l h k = rw (ne-eqb l i (λ e. omega arith), le-leb lev l h, lt-ltb l i k)
+lent-new newPlace lev i W l h k = rw (ne-eqb l i (λ e. omega arith), le-leb lev l h, lt-ltb l i k)
 
-pub lent-other : (spot : ℕ → ℕ) (lev i : ℕ) (W : ℕ → List ℕ) (l : ℕ) → lev ≤ i → (l < lev) ⊎ (i < l) → ringsLent spot lev i W l ≡ W l
+pub lent-other : (newPlace : ℕ → ℕ) (lev i : ℕ) (W : ℕ → List ℕ) (l : ℕ) → lev ≤ i → (l < lev) ⊎ (i < l) → ringsLent newPlace lev i W l ≡ W l
 unfolding ringsLent
-lent-other spot lev i W l a (inl h) = rw (ne-eqb l i (λ e. omega arith), lt-leb lev l h)
-lent-other spot lev i W l a (inr h) = rw (ne-eqb l i (λ e. omega arith), le-leb lev l (omega arith), le-ltb l i (omega arith))
+lent-other newPlace lev i W l a (inl h) = rw (ne-eqb l i (λ e. omega arith), lt-leb lev l h)
+lent-other newPlace lev i W l a (inr h) = rw (ne-eqb l i (λ e. omega arith), le-leb lev l (omega arith), le-ltb l i (omega arith))
 
 -- of a return: what node n's pair was told by the word of its twin
 module _ (E : ℕ → ℕ → Ent) (W : ℕ → List ℕ) where
@@ -284,15 +284,15 @@ module _ (s : BuddySettings) (small : s .pairs ≤ 2 ^ 32) (t : Tables) (fit : B
   lent-rings lev d k below some room l h =
       let A = sound-store s small t fit len S in
       let U = storeOf s small t .levels in
-      let spot : (i : ℕ) → i < levelsIn t → pairTaken (levelFrom s i) (t .tree) .place ≡ pairTaken 0 (U i) .place = λ i b. ap (λ z. z .place) (part-spot (s .pairs) i (t .tree) (S .good i b)) in
+      let newPlace : (i : ℕ) → i < levelsIn t → pairTaken (levelFrom s i) (t .tree) .place ≡ pairTaken 0 (U i) .place = λ i b. ap (λ z. z .place) (part-spot (s .pairs) i (t .tree) (S .good i b)) in
       let some-in : ringHead 0 (U (up d lev)) ≡ nowhere → ⊥ = λ e. some (part-head (s .pairs) (up d lev) (t .tree) ∙ e) in
-      let room-in : (i : ℕ) → lev ≤ i → i < up d lev → pairTaken 0 (U i) .place < s .pairs = λ i a b. let e = spot i (omega arith) in rw (← e) (room i a b) in
+      let room-in : (i : ℕ) → lev ≤ i → i < up d lev → pairTaken 0 (U i) .place < s .pairs = λ i a b. let e = newPlace i (omega arith) in rw (← e) (room i a b) in
       let r = lend-rings (s .pairs) small (s .minimal) lev d k U W (levelsIn t) below (λ i b. A .good i b) some-in room-in (λ j b. part-ringed (s .pairs) j (t .tree) (W j) (rings j b)) l h in
       let i = up d lev in
       ringed-part (s .pairs) l _ _
       (subst (λ (v : List ℕ). Ringed 0 (s .pairs) v (cond (eqb l i) (tailOf (W l)) (cond (leb lev l && ltb l i) (pairTaken (levelFrom s l) (t .tree) .place ∷ []) (W l))))
       (sym (lent-is s small t fit len S lev d k below some-in room-in .1 l (omega (arith, S .levels-most))))
-      (subst (λ (q : ℕ). Ringed 0 (s .pairs) (lend (s .minimal) (levelOps (s .pairs) small) U lev d k l) (cond (eqb l i) (tailOf (W l)) (cond (leb lev l && ltb l i) (q ∷ []) (W l)))) (sym (spot l h)) r))
+      (subst (λ (q : ℕ). Ringed 0 (s .pairs) (lend (s .minimal) (levelOps (s .pairs) small) U lev d k l) (cond (eqb l i) (tailOf (W l)) (cond (leb lev l && ltb l i) (q ∷ []) (W l)))) (sym (newPlace l h)) r))
 
   -- a new chunk's left end lent: x is the tree with the chunk entered
   pub served-rings : (x : List ℕ) → length x ≡ treeWords s → ((i : ℕ) → i < levelsMost → part (s .pairs) i x ≡ part (s .pairs) i (t .tree)) → (lev d c k : ℕ) → levelsIn t ≡ up (suc d) lev
@@ -303,14 +303,14 @@ module _ (s : BuddySettings) (small : s .pairs ≤ 2 ^ 32) (t : Tables) (fit : B
       let A = sound-store s small t fit len S in
       let U = storeOf s small t .levels in
       let i = levelsIn t in
-      let spot : (j : ℕ) → j < levelsIn t → pairTaken (levelFrom s j) (t .tree) .place ≡ pairTaken 0 (U j) .place = λ j b. ap (λ z. z .place) (part-spot (s .pairs) j (t .tree) (S .good j b)) in
-      let room-in : (j : ℕ) → lev ≤ j → j < levelsIn t → pairTaken 0 (U j) .place < s .pairs = λ j a b. let e = spot j b in rw (← e) (room j a b) in
+      let newPlace : (j : ℕ) → j < levelsIn t → pairTaken (levelFrom s j) (t .tree) .place ≡ pairTaken 0 (U j) .place = λ j b. ap (λ z. z .place) (part-spot (s .pairs) j (t .tree) (S .good j b)) in
+      let room-in : (j : ℕ) → lev ≤ j → j < levelsIn t → pairTaken 0 (U j) .place < s .pairs = λ j a b. let e = newPlace j b in rw (← e) (room j a b) in
       let r = grow-all (s .pairs) small (s .minimal) lev c 0 k nowhere (suc d) U W (levelsIn t) top (λ j b. A .good j b) room-in (λ j b. part-ringed (s .pairs) j (t .tree) (W j) (rings j b)) l h in
       let cut = grown-in s small x U fit long same lev d c k (omega (arith, top, S .levels-most)) (λ j a b. A .good j (omega (arith, top)) .1) (λ j a b. room-in j a (omega (arith, top))) in
       ringed-part (s .pairs) l _ _
       (subst (λ (v : List ℕ). Ringed 0 (s .pairs) v (cond (eqb l i) (tailOf (W l)) (cond (leb lev l && ltb l i) (pairTaken (levelFrom s l) (t .tree) .place ∷ []) (W l))))
       (sym (cut .1 l (omega (arith, S .levels-most))))
-      (subst (λ (q : ℕ). Ringed 0 (s .pairs) (grow (s .minimal) (levelOps (s .pairs) small) U lev c 0 k nowhere (suc d) .levels l) (cond (eqb l i) (tailOf (W l)) (cond (leb lev l && ltb l i) (q ∷ []) (W l)))) (sym (spot l h)) r))
+      (subst (λ (q : ℕ). Ringed 0 (s .pairs) (grow (s .minimal) (levelOps (s .pairs) small) U lev c 0 k nowhere (suc d) .levels l) (cond (eqb l i) (tailOf (W l)) (cond (leb lev l && ltb l i) (q ∷ []) (W l)))) (sym (newPlace l h)) r))
 
 -- a loan whose node is not its chunk's top lies below the top level
 pub loan-under : (s : BuddySettings) (t : Tables) → Sound s t → (k : ℕ) → liveIn t k ≡ true → (loanIn s t k .node ≡ nowhere → ⊥) → loanIn s t k .lev < levelsIn t

@@ -61,11 +61,11 @@ module _ (s : BuddySettings) (small : s .pairs ≤ 2 ^ 32) (lev c o k : ℕ) whe
     good-in : Good (levelFrom s m) (s .pairs) t
     good-in = part-good (s .pairs) m t .1 (rw a g)
 
-    spot-in : pairTaken (levelFrom s m) t .place ≡ pairTaken 0 (W m) .place
-    spot-in = ap (λ z. z .place) (part-spot (s .pairs) m t good-in) ∙ ap (λ (v : List ℕ). pairTaken 0 v .place) a
+    place-in : pairTaken (levelFrom s m) t .place ≡ pairTaken 0 (W m) .place
+    place-in = ap (λ z. z .place) (part-spot (s .pairs) m t good-in) ∙ ap (λ (v : List ℕ). pairTaken 0 v .place) a
 
     add-in : pairTaken 0 (W m) .place < s .pairs → Within (s .pairs) m t (added (levelFrom s m) c o n 0 t) (added 0 c o n 0 (part (s .pairs) m t))
-    add-in h = part-added (s .pairs) m t good-in c o n 0 (rw spot-in h)
+    add-in h = part-added (s .pairs) m t good-in c o n 0 (rw place-in h)
 
     -- the new pair's left node gets its word: t′ is the table with it
     filled-in : (w : ℕ) (t′ : List ℕ) → pairTaken 0 (W m) .place < s .pairs → part (s .pairs) m t′ ≡ part (s .pairs) m (added (levelFrom s m) c o n 0 t)
@@ -88,7 +88,7 @@ module _ (s : BuddySettings) (small : s .pairs ≤ 2 ^ 32) (lev c o k : ℕ) whe
   split-step d n t W r high f h a g room x =
       let q = pairTaken 0 (W (up d lev)) .place in
       let m = up d lev in
-      let e : pairTaken (levelFrom s m) t .place ≡ q = spot-in W m n t low a g in
+      let e : pairTaken (levelFrom s m) t .place ≡ q = place-in W m n t low a g in
       let t₁ : List ℕ = added (levelFrom s m) c o n 0 t in
       let t₂ : List ℕ = worded (s .pairs) (suc m) n (2 * q + 2) t₁ in
       let D = within-left s m t t₁ _ low (add-in W m n t low a g room) in
@@ -133,7 +133,7 @@ module _ (s : BuddySettings) (small : s .pairs ≤ 2 ^ 32) (lev c o k : ℕ) whe
       let am = a m (omega arith) in
       let gm = g m (up-le d lev) (omega arith) in
       let rm = room m (up-le d lev) (omega arith) in
-      let e : q ≡ pairTaken 0 (W m) .place = spot-in W m n t low am gm in
+      let e : q ≡ pairTaken 0 (W m) .place = place-in W m n t low am gm in
       let t₁ : List ℕ = added (levelFrom s m) c o n 0 t in
       let D = within-left s m t t₁ _ low (add-in W m n t low am gm rm) in
       let short : Short s t₁ = omega (arith, D .long) in

@@ -17,7 +17,7 @@ use Rattle.freelist_rules.specs.Walk.{numbersRise}
 use Rattle.store_rules.specs.declared.Chunk.{Chunk}
 use Rattle.freelist_rules.proofs.Decides.{numbers-yes}
 use Rattle.freelist_rules.proofs.Facts.{ChunksRise}
-use Rattle.freelist_regions.specs.Spot.{Parting, Parts}
+use Rattle.freelist_regions.specs.Stand.{Parting, Parts}
 use Rattle.freelist_regions.specs.Seat.{reaches}
 use Rattle.freelist_fills.specs.Keys.{rankOf}
 use Rattle.freelist_fills.proofs.Reading.{noChunk, number-read}

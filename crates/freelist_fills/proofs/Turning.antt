@@ -21,11 +21,11 @@ use Rattle.freelist_rules.specs.Rest.{rest}
 use Rattle.freelist_rules.proofs.Turns.{firstIn, rest-start, rest-done, rest-loan-left, rest-region-left}
 use Rattle.freelist_fills.specs.Keys.{ledTo, led}
 use Rattle.freelist_fills.specs.Turn.{GapPassed, LoanPassed, restAt, Turned}
-use Rattle.freelist_fills.specs.declared.walks.Spot.{Spot}
+use Rattle.freelist_fills.specs.declared.walks.Reached.{Reached}
 use Rattle.freelist_fills.specs.declared.walks.Passed.{Passed}
 use Rattle.freelist_fills.proofs.Passing.{chunk-turn}
 
-module _ (chunks : List ℕ) (k : ℕ) (loans keys : List ℕ) (rs : List Region) (s : Spot) (c : Chunk) (l : Loan) (h : s .chunk < k) (g : s .loan ≤ length keys)
+module _ (chunks : List ℕ) (k : ℕ) (loans keys : List ℕ) (rs : List Region) (s : Reached) (c : Chunk) (l : Loan) (h : s .chunk < k) (g : s .loan ≤ length keys)
     (e : c ≡ row chunkRow (s .chunk) chunks) (a : l ≡ ledTo loans (getD keys (s .loan) 0)) where
   abbrev cs : List Chunk
   cs = rows chunkRow k chunks
@@ -107,7 +107,7 @@ ended p i d ls rs h g = by (same? i (length ls)) (same? d (length rs))
 
 -- ---- the whole walk, by its turns
 
-pub record Going (chunks : List ℕ) (k : ℕ) (loans keys regions : List ℕ) (n : ℕ) (s : Spot) : Type 0 where
+pub record Going (chunks : List ℕ) (k : ℕ) (loans keys regions : List ℕ) (n : ℕ) (s : Reached) : Type 0 where
   pub same : fillsOk (rows chunkRow k chunks) (led loans keys) (rows regionRow n regions) ≡ restAt (rows chunkRow k chunks) (led loans keys) (rows regionRow n regions) s
   pub chunk-most : s .chunk ≤ k
   pub loan-most : s .loan ≤ length keys
@@ -126,8 +126,8 @@ module _ (chunks : List ℕ) (k : ℕ) (loans keys regions : List ℕ) (n : ℕ)
   pub going-starts : Going chunks k loans keys regions n (record { ok = true; chunk = 0; byte = 0; loan = 0; region = 0 })
   going-starts = record { same = rest-start every loaned free; chunk-most = omega arith; loan-most = omega arith; region-most = omega arith }
 
-  module _ (s : Spot) (g : Going chunks k loans keys regions n s) where
-    pub going-on : (r : Spot) → Turned every loaned free s r → r .ok ≡ true → Going chunks k loans keys regions n r
+  module _ (s : Reached) (g : Going chunks k loans keys regions n s) where
+    pub going-on : (r : Reached) → Turned every loaned free s r → r .ok ≡ true → Going chunks k loans keys regions n r
     going-on r t e =
         record {
           same = g .same ∙ t .same ∙ ap (λ (b : Bool). b && restAt every loaned free r) e;
@@ -136,7 +136,7 @@ module _ (chunks : List ℕ) (k : ℕ) (loans keys regions : List ℕ) (n : ℕ)
           region-most = omega (arith, t .region-most, length-rows regionRow n regions);
         }
 
-    pub going-stops : (r : Spot) → Turned every loaned free s r → r .ok ≡ false → false ≡ fillsOk every loaned free
+    pub going-stops : (r : Reached) → Turned every loaned free s r → r .ok ≡ false → false ≡ fillsOk every loaned free
     going-stops r t e = sym (g .same ∙ t .same ∙ ap (λ (b : Bool). b && restAt every loaned free r) e)
 
     pub going-ends : k ≤ s .chunk → (eqb (s .loan) (length keys) && eqb (s .region) n) ≡ fillsOk every loaned free

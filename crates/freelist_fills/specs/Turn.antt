@@ -10,7 +10,7 @@ use Rattle.freelist_rules.specs.Records.{region}
 use Rattle.store_rules.specs.declared.Chunk.{Chunk}
 use Rattle.store_rules.specs.declared.Region.{Region}
 use Rattle.freelist_rules.specs.Rest.{rest, nextIs}
-use Rattle.freelist_fills.specs.declared.walks.Spot.{Spot}
+use Rattle.freelist_fills.specs.declared.walks.Reached.{Reached}
 use Rattle.freelist_fills.specs.declared.walks.Passed.{Passed}
 
 -- what lies from p to x of chunk n is the next region, or nothing; and more holds of the regions after it
@@ -32,15 +32,15 @@ pub record LoanPassed (z p : ℕ) (l : Loan) (rs : List Region) (d : ℕ) (r : P
       → rest (c ∷ cs) p (l ∷ ls) (drop d rs) ≡ (r .ok && rest (c ∷ cs) (r .byte) ls (drop (r .region) rs))
   pub most : r .region ≤ length rs
 
--- what is left to test at a spot
-abbrev pub restAt : List Chunk → List Loan → List Region → Spot → Bool
+-- what is left to test where the walk stands
+abbrev pub restAt : List Chunk → List Loan → List Region → Reached → Bool
 restAt cs ls rs s = rest (drop (s .chunk) cs) (s .byte) (drop (s .loan) ls) (drop (s .region) rs)
 
-abbrev pub leftAt : List Chunk → List Loan → Spot → ℕ
+abbrev pub leftAt : List Chunk → List Loan → Reached → ℕ
 leftAt cs ls s = (length cs - s .chunk) + (length ls - s .loan)
 
 -- one turn made: what was to test before it is what it tested and what is left, which is less
-pub record Turned (cs : List Chunk) (ls : List Loan) (rs : List Region) (s r : Spot) : Type 0 where
+pub record Turned (cs : List Chunk) (ls : List Loan) (rs : List Region) (s r : Reached) : Type 0 where
   pub same : restAt cs ls rs s ≡ (r .ok && restAt cs ls rs r)
   pub less : leftAt cs ls r < leftAt cs ls s
   pub chunk-most : r .chunk ≤ length cs

@@ -15,7 +15,7 @@ use store_rules::Loan;
 use store_rules::Region;
 
 // How far the walk has come: at a byte of a chunk, with the loan and the region that are next. Not ok: it has ended with a no.
-pub struct Spot {
+pub struct Reached {
     pub ok: bool,
     pub chunk: usize,
     pub byte: u64,
@@ -102,8 +102,8 @@ fn turn(
     keys: &[u64],
     regions: &[u64],
     n: usize,
-    s: Spot,
-) -> Spot
+    s: Reached,
+) -> Reached
     requires { ⌜ (s .chunk < k) × (s .loan ≤ length (now keys)) × (s .region ≤ n) ⌝ }
     ensures { λ r. ⌜ Turned (rows chunkRow k (now (chunks .entry))) (led (now (loans .entry)) (now (keys .entry))) (rows regionRow n (now (regions .entry))) s r ⌝ }
 {
@@ -113,7 +113,7 @@ fn turn(
     let l = loan_at(loans, place);
     if (i < keys.len()) & (l.chunk == c.number) {
         let p = pass_loan(regions, n, s.region, c.size, s.byte, l);
-        return Spot {
+        return Reached {
             ok: p.ok,
             chunk: s.chunk,
             byte: p.byte,
@@ -122,7 +122,7 @@ fn turn(
         };
     }
     let p = pass_gap(regions, n, s.region, c.number, s.byte, c.size);
-    Spot {
+    Reached {
         ok: p.ok,
         chunk: s.chunk + 1,
         byte: 0,
@@ -142,7 +142,7 @@ pub fn walk(
 ) -> bool
     ensures { λ r. ⌜ r ≡ fillsOk (rows chunkRow k (now (chunks .entry))) (led (now (loans .entry)) (now (keys .entry))) (rows regionRow n (now (regions .entry))) ⌝ }
 {
-    let mut s = Spot {
+    let mut s = Reached {
         ok: true,
         chunk: 0,
         byte: 0,

@@ -18,7 +18,7 @@ use Rattle.store_rules.specs.declared.Chunk.{Chunk}
 use Rattle.store_rules.specs.declared.Region.{Region}
 use Rattle.freelist_rules.proofs.Base.{rising-low, at-in}
 use Rattle.freelist_rules.proofs.Facts.{ChunksRise}
-use Rattle.freelist_regions.specs.Spot.{Parting, Parts}
+use Rattle.freelist_regions.specs.Stand.{Parting, Parts}
 use Rattle.freelist_regions.specs.Seat.{reaches}
 use Rattle.freelist_marks.specs.Numbered.{noChunk, numbered, fills}
 use Rattle.freelist_marks.specs.Releasable.{NumbersRise}

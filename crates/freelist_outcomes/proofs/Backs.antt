@@ -45,11 +45,11 @@ module _ (s : FreeListSettings) (t : Tables) (fit : FreeListIn s) (sound : Sound
   pub block-back : Back s t b
   block-back =
       record {
-        store = givenBack (stands .spot) before;
-        sound = given-back-sound s before fit (sound .store) (stands .spot) (stands .here);
+        store = givenBack (stands .rank) before;
+        sound = given-back-sound s before fit (sound .store) (stands .rank) (stands .here);
         chunks = refl;
         regions = ap (λ (r : Region). insert r (before .regions)) (block-piece s t b stands);
-        loans = let h = stands .here in omega (arith, length-removeAt (stands .spot) (before .loans) h);
+        loans = let h = stands .here in omega (arith, length-removeAt (stands .rank) (before .loans) h);
       }
 
   pub back-room : length (insert (returning b) (storeOf s t .regions)) ≤ regionsMost s
@@ -68,6 +68,6 @@ module _ (s : FreeListSettings) (t : Tables) (fit : FreeListIn s) (sound : Sound
 
   pub block-low : b .offset + b .size ≤ chunkSizeMost
   block-low =
-      let l = getD (before .loans) (stands .spot) noLoan in
+      let l = getD (before .loans) (stands .rank) noLoan in
       let e = same-loan b l (stands .same) in
-      omega (arith, loan-low s before fit (sound .store) l (at-in (stands .spot) (before .loans) noLoan (stands .here)), e .offset, e .size)
+      omega (arith, loan-low s before fit (sound .store) l (at-in (stands .rank) (before .loans) noLoan (stands .here)), e .offset, e .size)

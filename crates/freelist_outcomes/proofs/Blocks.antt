@@ -85,9 +85,9 @@ pub ask-block : (s : FreeListSettings) (a : Account) (size mask : ℕ) (t : Tabl
     → Good s size mask (storeOf s t) serial chunk offset len × (askOf s a size mask t .account ≡ a)
 ask-block s a size mask t serial chunk offset len q =
     let v = ask-served s a size mask t serial chunk offset len q in
-    let w = take-is s (heapAt a (s .store .heap)) (a .objects) size mask t (v .spot) (v .taken) in
-    let g = lent-good s (v .passed .settings) (storeOf s t) (v .passed .sound .store) size mask (v .spot) (w .1 .0) (size-some s size (w .1 .1 .0)) (w .0) in
-    let l : Loan = loanFrom s size mask t (v .spot) in
+    let w = take-is s (heapAt a (s .store .heap)) (a .objects) size mask t (v .regionAt) (v .taken) in
+    let g = lent-good s (v .passed .settings) (storeOf s t) (v .passed .sound .store) size mask (v .regionAt) (w .1 .0) (size-some s size (w .1 .1 .0)) (w .0) in
+    let l : Loan = loanFrom s size mask t (v .regionAt) in
     (good-as s size mask (storeOf s t) (l .serial) (l .chunk) (l .offset) (l .size) serial chunk offset len (v .serial-is) (v .chunk-is) (v .offset-is) (v .len-is) g, v .account-is)
 
 -- a delivery answered by a block

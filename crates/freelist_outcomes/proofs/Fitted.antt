@@ -35,13 +35,13 @@ use Rattle.freelist_outcomes.proofs.Asked.{ask-buys, ask-takes}
 
 -- the region that served it; the block is the loan of what was cut off there, and the account is as it was
 pub record Served (s : FreeListSettings) (a : Account) (size mask : ℕ) (t : Tables) (serial chunk offset len : ℕ) : Type 0 where
-  pub spot : ℕ
+  pub regionAt : ℕ
   pub passed : Passed s a t true
-  pub taken : decideAsk s (heapAt a (s .store .heap)) (a .objects) size mask t ≡ take spot
-  pub serial-is : loanFrom s size mask t spot .serial ≡ serial
-  pub chunk-is : loanFrom s size mask t spot .chunk ≡ chunk
-  pub offset-is : loanFrom s size mask t spot .offset ≡ offset
-  pub len-is : loanFrom s size mask t spot .size ≡ len
+  pub taken : decideAsk s (heapAt a (s .store .heap)) (a .objects) size mask t ≡ take regionAt
+  pub serial-is : loanFrom s size mask t regionAt .serial ≡ serial
+  pub chunk-is : loanFrom s size mask t regionAt .chunk ≡ chunk
+  pub offset-is : loanFrom s size mask t regionAt .offset ≡ offset
+  pub len-is : loanFrom s size mask t regionAt .size ≡ len
   pub account-is : askOf s a size mask t .account ≡ a
 
 module _ (s : FreeListSettings) (a : Account) (size mask : ℕ) (t : Tables) where
@@ -73,7 +73,7 @@ module _ (s : FreeListSettings) (a : Account) (size mask : ℕ) (t : Tables) whe
           let w = plan-take s a size mask t i e in
           let b = same-block (l .serial) (l .chunk) (l .offset) (l .size) serial chunk offset len (sym (taken-said i e) ∙ q) in
           record {
-            spot = i;
+            regionAt = i;
             passed = w .0;
             taken = w .1;
             serial-is = b .0;
@@ -110,7 +110,7 @@ module _ (s : FreeListSettings) (a : Account) (size mask : ℕ) (t : Tables) whe
       × ((j x : ℕ) → i < j → j < length (storeOf s t .regions) → x % (maskFor s mask + 1) ≡ 0 → getD (storeOf s t .regions) j noRegion .start ≤ x → x + sizeFor s size ≤ getD (storeOf s t .regions) j noRegion .end → ⊥)
   taken-highest serial chunk offset len q =
       let v = ask-served serial chunk offset len q in
-      let i : ℕ = v .spot in
+      let i : ℕ = v .regionAt in
       let m : ℕ = maskFor s mask in
       let n : ℕ = sizeFor s size in
       let rs : List Region = storeOf s t .regions in

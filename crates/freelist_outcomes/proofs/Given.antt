@@ -46,17 +46,17 @@ use Rattle.freelist_outcomes.proofs.Loaned.{block-leads, block-stands}
 
 -- where a loan of the first n places stands, in the book's words
 record Place (n : ℕ) (t : List ℕ) (l : Loan) : Type 0 where
-  spot : ℕ
-  below : spot < n
-  is : row loanRow spot t ≡ l
-  used : freeIn t spot ≡ false
-  serial : serialOf t spot ≡ l .serial
+  loanPlace : ℕ
+  below : loanPlace < n
+  is : row loanRow loanPlace t ≡ l
+  used : freeIn t loanPlace ≡ false
+  serial : serialOf t loanPlace ≡ l .serial
 
 place-of : (n : ℕ) (t : List ℕ) (l : Loan) → List·Memᴰ l (loansOf n t) → Place n t l
 place-of n t l m =
     let w = loan-place n t l m in
     record {
-      spot = w .0;
+      loanPlace = w .0;
       below = w .1;
       is = w .2;
       used = ap (λ (v : ℕ). eqb v 0) (cell-row t sizeAt loanWords (w .0)) ∙ ap (λ (d : Loan). eqb (d .size) 0) (w .2) ∙ w .3;
@@ -70,17 +70,17 @@ module _ (s : FreeListSettings) (t : Tables) (fit : FreeListIn s) (sound : Sound
   on-loan-is e =
       let ls = storeOf s t .loans in
       let w = block-stands s t fit sound b e in
-      let l = getD ls (w .spot) noLoan in
-      (l, at-in (w .spot) ls noLoan (w .here), same-loan b l (w .same))
+      let l = getD ls (w .rank) noLoan in
+      (l, at-in (w .rank) ls noLoan (w .here), same-loan b l (w .same))
 
   pub is-on-loan : OnLoan b (storeOf s t .loans) → onLoanOk s b t ≡ true
   unfolding onLoanOk storeOf
   is-on-loan v =
       let n = s .store .loans in
       let w = place-of (placesIn t) (t .loans) (v .0) (ordered-out (v .0) (loansOf (placesIn t) (t .loans)) (v .1)) in
-      let f = found (t .loans) (t .index) n (placesIn t) (getD (t .head) givenAt 0) (fit .store .loans-some) (sound .parted .limit) (omega (arith, fit .store .loans-most)) (sound .chained) (w .spot) (w .below) (w .used) in
-      let g : (wordFor s b t < indexWords n) × (getD (t .index) (wordFor s b t) 0 ≡ w .spot) =
-      subst (λ (k : ℕ). (wordTo (t .loans) (t .index) n (placesIn t) (getD (t .head) givenAt 0) k < indexWords n) × (getD (t .index) (wordTo (t .loans) (t .index) n (placesIn t) (getD (t .head) givenAt 0) k) 0 ≡ w .spot)) (w .serial ∙ v .2 .serial) f in
+      let f = found (t .loans) (t .index) n (placesIn t) (getD (t .head) givenAt 0) (fit .store .loans-some) (sound .parted .limit) (omega (arith, fit .store .loans-most)) (sound .chained) (w .loanPlace) (w .below) (w .used) in
+      let g : (wordFor s b t < indexWords n) × (getD (t .index) (wordFor s b t) 0 ≡ w .loanPlace) =
+      subst (λ (k : ℕ). (wordTo (t .loans) (t .index) n (placesIn t) (getD (t .head) givenAt 0) k < indexWords n) × (getD (t .index) (wordTo (t .loans) (t .index) n (placesIn t) (getD (t .head) givenAt 0) k) 0 ≡ w .loanPlace)) (w .serial ∙ v .2 .serial) f in
       let there : not (eqb (wordFor s b t) nowhere) ≡ true = ap not (ne-eqb (wordFor s b t) nowhere (λ e. omega (arith, g .0, fit .store .loans-most))) in
       let same : sameLoan b (row loanRow (getD (t .index) (wordFor s b t) 0) (t .loans)) ≡ true =
       ap (λ (p : ℕ). sameLoan b (row loanRow p (t .loans))) (g .1) ∙ ap (sameLoan b) (w .is) ∙ loan-same b (v .0) (v .2) in
@@ -144,11 +144,11 @@ module _ (s : FreeListSettings) (t : Tables) (fit : FreeListIn s) (lengths : Len
   others : All (λ (d : Loan). d .serial ≡ serialOf (t .loans) place → ⊥) (loansOf (placesIn t) after)
   others d m e =
       let w = place-of (placesIn t) after d m in
-      let v : changed (freeIn (t .loans)) place true (w .spot) ≡ false = sym (vacant-now (t .loans) n place (lengths .loans) inside (w .spot)) ∙ w .used in
-      let k : serialOf (t .loans) (w .spot) ≡ serialOf (t .loans) place = sym (serial-kept (t .loans) n place (lengths .loans) inside (w .spot)) ∙ w .serial ∙ e in
-      ⊎-elim (λ q. true-false _ (changed-here (freeIn (t .loans)) place true (w .spot) q) v)
-      (λ q. q (serial-once (freeIn (t .loans)) (firstIn given (t .index)) (nextIn (t .index)) (serialOf (t .loans)) n (placesIn t) given (w .spot) place (fit .store .loans-some) (sound .chained) (w .below) (leads .0) (sym (changed-other (freeIn (t .loans)) place true (w .spot) q) ∙ v) (leads .1) k))
-      (same? (w .spot) place)
+      let v : changed (freeIn (t .loans)) place true (w .loanPlace) ≡ false = sym (vacant-now (t .loans) n place (lengths .loans) inside (w .loanPlace)) ∙ w .used in
+      let k : serialOf (t .loans) (w .loanPlace) ≡ serialOf (t .loans) place = sym (serial-kept (t .loans) n place (lengths .loans) inside (w .loanPlace)) ∙ w .serial ∙ e in
+      ⊎-elim (λ q. true-false _ (changed-here (freeIn (t .loans)) place true (w .loanPlace) q) v)
+      (λ q. q (serial-once (freeIn (t .loans)) (firstIn given (t .index)) (nextIn (t .index)) (serialOf (t .loans)) n (placesIn t) given (w .loanPlace) place (fit .store .loans-some) (sound .chained) (w .below) (leads .0) (sym (changed-other (freeIn (t .loans)) place true (w .loanPlace) q) ∙ v) (leads .1) k))
+      (same? (w .loanPlace) place)
 
   given-loans : ordered (loansOf (placesIn t) after) ≡ without (b .serial) (storeOf s t .loans)
   unfolding storeOf

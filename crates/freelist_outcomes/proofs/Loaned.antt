@@ -45,9 +45,9 @@ module _ (s : FreeListSettings) (t : Tables) where
 
   -- which of the loans it is
   pub record Stands (b : Block) : Type 0 where
-    pub spot : ℕ
-    pub here : spot < length (storeOf s t .loans)
-    pub same : sameLoan b (getD (storeOf s t .loans) spot noLoan) ≡ true
+    pub rank : ℕ
+    pub here : rank < length (storeOf s t .loans)
+    pub same : sameLoan b (getD (storeOf s t .loans) rank noLoan) ≡ true
 
   -- the word that leads to its serial leads to a place in use that has it
   pub block-leads : FreeListIn s → SoundTables s t → (b : Block) → onLoanOk s b t ≡ true
@@ -69,7 +69,7 @@ module _ (s : FreeListSettings) (t : Tables) where
       let l = row loanRow p (t .loans) in
       let u = block-leads fit sound b e in
       let m = mem-at l (storeOf s t .loans) noLoan (used-loan p (u .0) (u .1)) in
-      record { spot = m .0; here = m .1; same = ap (sameLoan b) (m .2) ∙ and-right (not (eqb w nowhere)) (sameLoan b l) e }
+      record { rank = m .0; here = m .1; same = ap (sameLoan b) (m .2) ∙ and-right (not (eqb w nowhere)) (sameLoan b l) e }
 
-  pub block-piece : (b : Block) (w : Stands b) → piece (getD (storeOf s t .loans) (w .spot) noLoan) ≡ region (b .chunk) (b .offset) (b .offset + b .size)
-  block-piece b w = let e = same-loan b (getD (storeOf s t .loans) (w .spot) noLoan) (w .same) in (λ i. region (e .chunk i) (e .offset i) (e .offset i + e .size i))
+  pub block-piece : (b : Block) (w : Stands b) → piece (getD (storeOf s t .loans) (w .rank) noLoan) ≡ region (b .chunk) (b .offset) (b .offset + b .size)
+  block-piece b w = let e = same-loan b (getD (storeOf s t .loans) (w .rank) noLoan) (w .same) in (λ i. region (e .chunk i) (e .offset i) (e .offset i + e .size i))

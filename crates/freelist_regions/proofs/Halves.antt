@@ -5,7 +5,7 @@ use mathlib.Core.Logic.{⊎-elim}
 use Prim.Native.Nat.{ℕ, _+_, _≤_, _<_}
 use native.Mathlib.Omega.{arith}
 use Rattle.lists.proofs.Bools.{told, true-false, same?}
-use Rattle.freelist_regions.specs.Spot.{Parting}
+use Rattle.freelist_regions.specs.Stand.{Parting}
 
 -- what holds at m holds from m on
 pub lowered : (f : ℕ → Bool) (n m : ℕ) → Parting f n → f m ≡ true → (i : ℕ) → m ≤ i → i < n → f i ≡ true

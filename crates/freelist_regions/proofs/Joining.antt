@@ -19,7 +19,7 @@ use Rattle.freelist_rules.proofs.Inserts.{Apart, Ahead, insert-alone, insert-ri
 use Rattle.freelist_regions.specs.Ended.{endedAt}
 use Rattle.freelist_rules.specs.Steps.{noRegion}
 use Rattle.freelist_regions.specs.Order.{LowPlace, RegionsStand}
-use Rattle.freelist_regions.specs.Spot.{after, Parts}
+use Rattle.freelist_regions.specs.Stand.{after, Parts}
 use Rattle.freelist_regions.proofs.Standing.{region-before, region-past}
 
 module _ (t : List ℕ) (n k : ℕ) (b : Region) (room : 3 * n ≤ length t) (rise : Rising lo hi 1 0 (rows regionRow n t)) (stand : RegionsStand (rows regionRow n t)) (low : LowPlace (b .start))

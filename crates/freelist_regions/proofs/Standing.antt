@@ -18,7 +18,7 @@ use Rattle.lists.proofs.Pairs.{earlier-then}
 use Rattle.freelist_rules.proofs.Lines.{line-earlier}
 use Rattle.freelist_rules.specs.Steps.{noRegion}
 use Rattle.freelist_regions.specs.Order.{LowPlace, RegionsStand}
-use Rattle.freelist_regions.specs.Spot.{after, Parting, Parts}
+use Rattle.freelist_regions.specs.Stand.{after, Parting, Parts}
 
 -- records whose chunk and place are read at `at` and the next word, each before those after it
 module _ (t : List ℕ) (at w n : ℕ) (chunk place : ℕ → ℕ)

@@ -2,4 +2,4 @@ pub mod Ended
 pub mod Found
 pub mod Order
 pub mod Seat
-pub mod Spot
+pub mod Stand

@@ -12,7 +12,7 @@ ghost use Rattle.freelist_regions.specs.Order.{RegionsStand, LowPlace};
 use crate::records::end_at;
 use crate::records::put_region;
 use crate::records::region_at;
-use crate::spots::stands_at;
+use crate::stands::stands_at;
 use freelist_rules::REGION_WORDS;
 use store_rules::Region;
 

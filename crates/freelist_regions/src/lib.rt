@@ -7,7 +7,7 @@ mod records;
 mod regions;
 mod search;
 mod seats;
-mod spots;
+mod stands;
 
 pub use asks::mask_for;
 pub use asks::size_for;

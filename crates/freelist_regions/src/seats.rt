@@ -1,6 +1,6 @@
 // Where a number stands among chunks sorted by number, by halves.
 ghost use Rattle.freelist_regions.specs.Seat.{reaches};
-ghost use Rattle.freelist_regions.specs.Spot.{Parting, Parts};
+ghost use Rattle.freelist_regions.specs.Stand.{Parting, Parts};
 use freelist_rules::CHUNK_NUMBER_AT;
 use freelist_rules::CHUNK_WORDS;
 

@@ -2,10 +2,10 @@ use mathlib.Core.Path.{_≡_, sym, _∙_}
 use mathlib.Core.Bool.{true, false}
 use Prim.Native.Nat.{ℕ, _+_, _-_, _/_, _≤_, _<_}
 use native.Mathlib.Omega.{arith}
-use Rattle.freelist_regions.specs.Spot.{after}
+use Rattle.freelist_regions.specs.Stand.{after}
 use Rattle.freelist_regions.proofs.Halves.{lowered, raised}
-use Rattle.freelist_regions.proofs.spots.stands_at.Statement.{statement}
-use Rattle.freelist_regions.proofs.spots.stands_at.Tie as tie
+use Rattle.freelist_regions.proofs.stands.stands_at.Statement.{statement}
+use Rattle.freelist_regions.proofs.stands.stands_at.Tie as tie
 
 abbrev Inv-loop : tie.InvT-loop
 Inv-loop t at w n chunk place lo₀ hi₀ lo hi =

@@ -2,7 +2,7 @@
 ghost use mathlib.Core.Path.{_≡_};
 ghost use Prim.Native.Nat.{_≤_, _<_};
 ghost use Rattle.words.specs.Words.{widest};
-ghost use Rattle.freelist_regions.specs.Spot.{after, Parting, Parts};
+ghost use Rattle.freelist_regions.specs.Stand.{after, Parting, Parts};
 
 // Whether the record at i comes after the place of the chunk: its chunk stands at `at`, its place in the next word.
 fn is_after(t: &[u64], at: usize, w: usize, i: usize, chunk: u64, place: u64) -> bool

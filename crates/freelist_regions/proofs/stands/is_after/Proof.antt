@@ -1,6 +1,6 @@
 use borrow.Author.Needs.{needs}
-use Rattle.freelist_regions.proofs.spots.is_after.Statement.{statement}
-use Rattle.freelist_regions.proofs.spots.is_after.Tie as tie
+use Rattle.freelist_regions.proofs.stands.is_after.Statement.{statement}
+use Rattle.freelist_regions.proofs.stands.is_after.Tie as tie
 
 cell-requires : tie.Need-cell-requires
 cell-requires c κs = search needs

@@ -40,22 +40,22 @@ module _ (b pairs : ℕ) (t : List ℕ) (few : pairs ≤ 2 ^ 32) (G : Good b pai
           inr (insert-next (slabIn b t) t (fieldAt b offAt) pairWords h ∙ rw m)
 
   -- the place is then one ever used, and no other place is that was not
-  pub spot-used : pairTaken b t .place < pairTaken b t .slab .places
-  spot-used = by cases
+  pub taken-used : pairTaken b t .place < pairTaken b t .slab .places
+  taken-used = by cases
     where
       by : Again ⊎ New → pairTaken b t .place < pairTaken b t .slab .places
       by (inl c) = rw (c .1) (c .0)
       by (inr c) = rw c (omega arith)
 
-  pub spot-more : (x : ℕ) → x < used → x < pairTaken b t .slab .places
-  spot-more x h = by cases
+  pub taken-more : (x : ℕ) → x < used → x < pairTaken b t .slab .places
+  taken-more x h = by cases
     where
       by : Again ⊎ New → x < pairTaken b t .slab .places
       by (inl c) = rw (c .1) h
       by (inr c) = rw c (omega arith)
 
-  pub spot-only : (x : ℕ) → (x ≡ pairTaken b t .place → ⊥) → x < pairTaken b t .slab .places → x < used
-  spot-only x ne h = by cases
+  pub taken-only : (x : ℕ) → (x ≡ pairTaken b t .place → ⊥) → x < pairTaken b t .slab .places → x < used
+  taken-only x ne h = by cases
     where
       by : Again ⊎ New → x < used
       by (inl c) = omega (arith, ap (λ (z : Taken). z .slab .places) (c .1))
@@ -69,8 +69,8 @@ module _ (b pairs : ℕ) (t : List ℕ) (few : pairs ≤ 2 ^ 32) (G : Good b pai
       by [] e = absurd (omega (arith, G .parted .limit))
       by (x ∷ l) c = inl (c .0)
 
-  pub spot-vacant : pairIn b t (pairTaken b t .place) .tag ≡ 0
-  spot-vacant = by cases
+  pub taken-vacant : pairIn b t (pairTaken b t .place) .tag ≡ 0
+  taken-vacant = by cases
     where
       by : Again ⊎ New → pairIn b t (pairTaken b t .place) .tag ≡ 0
       by (inl c) = rw (c .1, pair-used b t last (c .0)) (eqb-true (entOf b t last .tag) 0 (first-vacant (c .0)))
