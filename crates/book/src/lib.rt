@@ -16,8 +16,10 @@ ghost use Rattle.book_rules.specs.Book.{entryWords, vacatedAt, vacantAfterAt, i
 use slab::NOWHERE;
 use slab::Slab;
 use slab::Taken;
+use store_rules::CHUNK_AT;
 use store_rules::LOAN_WORDS;
 use store_rules::Loan;
+use store_rules::OFFSET_AT;
 use store_rules::SERIAL_AT;
 use store_rules::SIZE_AT;
 
@@ -58,10 +60,10 @@ pub fn loan_at(loans: &[u64], p: usize) -> Loan
     if p < loans.len() / LOAN_WORDS {
         let at = LOAN_WORDS * p;
         return Loan {
-            serial: loans[at],
-            chunk: loans[at + 1],
-            offset: loans[at + 2],
-            size: loans[at + 3],
+            serial: loans[at + SERIAL_AT],
+            chunk: loans[at + CHUNK_AT],
+            offset: loans[at + OFFSET_AT],
+            size: loans[at + SIZE_AT],
         };
     }
     loan_by_words(loans, p)
@@ -72,10 +74,10 @@ fn loan_by_words(loans: &[u64], p: usize) -> Loan
     ensures { λ r. ⌜ r ≡ row loanRow p (now (loans .entry)) ⌝ }
 {
     Loan {
-        serial: words::cell(loans, 0, LOAN_WORDS, p),
-        chunk: words::cell(loans, 1, LOAN_WORDS, p),
-        offset: words::cell(loans, 2, LOAN_WORDS, p),
-        size: words::cell(loans, 3, LOAN_WORDS, p),
+        serial: words::cell(loans, SERIAL_AT, LOAN_WORDS, p),
+        chunk: words::cell(loans, CHUNK_AT, LOAN_WORDS, p),
+        offset: words::cell(loans, OFFSET_AT, LOAN_WORDS, p),
+        size: words::cell(loans, SIZE_AT, LOAN_WORDS, p),
     }
 }
 
@@ -85,10 +87,10 @@ fn write_loan(loans: &mut [u64], p: usize, l: Loan)
     ensures { λ _. ⌜ now (loans .exit) ≡ written loanRow p l (now (loans .entry)) ⌝ }
 {
     let at = LOAN_WORDS * p;
-    loans[at] = l.serial;
-    loans[at + 1] = l.chunk;
-    loans[at + 2] = l.offset;
-    loans[at + 3] = l.size;
+    loans[at + SERIAL_AT] = l.serial;
+    loans[at + CHUNK_AT] = l.chunk;
+    loans[at + OFFSET_AT] = l.offset;
+    loans[at + SIZE_AT] = l.size;
 }
 
 // The loan takes the next place, and becomes the first of its chain. Answers how many places were ever used.

@@ -9,12 +9,18 @@ use lib.ListN.{length, take, getD}
 use Rattle.words.specs.Rows.{Layout, rows}
 use Rattle.store_rules.specs.declared.Loan.{Loan}
 
--- how many words a loan takes, and where its serial and its size stand
+-- how many words a loan takes, and which is which
 abbrev pub loanWords : ℕ
 loanWords = 4
 
 abbrev pub serialAt : ℕ
 serialAt = 0
+
+abbrev pub chunkAt : ℕ
+chunkAt = 1
+
+abbrev pub offsetAt : ℕ
+offsetAt = 2
 
 abbrev pub sizeAt : ℕ
 sizeAt = 3
@@ -29,7 +35,7 @@ abbrev pub wordsOf : Loan → List ℕ
 wordsOf l = l .serial ∷ l .chunk ∷ l .offset ∷ l .size ∷ []
 
 abbrev pub loanOf : List ℕ → Loan
-loanOf t = loan (getD t 0 0) (getD t 1 0) (getD t 2 0) (getD t 3 0)
+loanOf t = loan (getD t serialAt 0) (getD t chunkAt 0) (getD t offsetAt 0) (getD t sizeAt 0)
 
 -- four words, read and written again
 pub whole : (t : List ℕ) → 4 ≤ length t → wordsOf (loanOf t) ≡ take 4 t

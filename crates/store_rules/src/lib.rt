@@ -4,10 +4,14 @@ use counter::Heap;
 use counter::OpenOrder;
 use counter::ReleaseAnswer;
 
-// How many words a loan takes in a table, and which are its serial and its size; specs/Loans has the same names.
+// How many words a loan takes in a table, and which is which; specs/Loans has the same names.
 pub const LOAN_WORDS: usize = 4;
 
 pub const SERIAL_AT: usize = 0;
+
+pub const CHUNK_AT: usize = 1;
+
+pub const OFFSET_AT: usize = 2;
 
 pub const SIZE_AT: usize = 3;
 

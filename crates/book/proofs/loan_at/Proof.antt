@@ -6,38 +6,41 @@ use Rattle.book.proofs.loan_at.Tie as tie
 mul-at : tie.Need-mul-at
 mul-at c = search needs
 
-mul-t7 : tie.Need-mul-t7
-mul-t7 c = search needs
+add-t7 : tie.Need-add-t7
+add-t7 c = search needs
 
-shared-slice-read-t9 : tie.Need-shared-slice-read-t9
-shared-slice-read-t9 c = search needs
+mul-t8 : tie.Need-mul-t8
+mul-t8 c = search needs
 
-add-t10 : tie.Need-add-t10
-add-t10 c = search needs
+shared-slice-read-t10 : tie.Need-shared-slice-read-t10
+shared-slice-read-t10 c = search needs
 
-mul-t11 : tie.Need-mul-t11
-mul-t11 c = search needs
+add-t11 : tie.Need-add-t11
+add-t11 c = search needs
 
-shared-slice-read-t13 : tie.Need-shared-slice-read-t13
-shared-slice-read-t13 c = search needs
+mul-t12 : tie.Need-mul-t12
+mul-t12 c = search needs
 
-add-t14 : tie.Need-add-t14
-add-t14 c = search needs
+shared-slice-read-t14 : tie.Need-shared-slice-read-t14
+shared-slice-read-t14 c = search needs
 
-mul-t15 : tie.Need-mul-t15
-mul-t15 c = search needs
+add-t15 : tie.Need-add-t15
+add-t15 c = search needs
 
-shared-slice-read-t17 : tie.Need-shared-slice-read-t17
-shared-slice-read-t17 c = search needs
+mul-t16 : tie.Need-mul-t16
+mul-t16 c = search needs
 
-add-t18 : tie.Need-add-t18
-add-t18 c = search needs
+shared-slice-read-t18 : tie.Need-shared-slice-read-t18
+shared-slice-read-t18 c = search needs
 
-mul-t19 : tie.Need-mul-t19
-mul-t19 c = search needs
+add-t19 : tie.Need-add-t19
+add-t19 c = search needs
 
-shared-slice-read-t21 : tie.Need-shared-slice-read-t21
-shared-slice-read-t21 c = search needs
+mul-t20 : tie.Need-mul-t20
+mul-t20 c = search needs
+
+shared-slice-read-t22 : tie.Need-shared-slice-read-t22
+shared-slice-read-t22 c = search needs
 
 returns : tie.Need-returns
 returns c = let a = c .before .before .before .before .before .before .args in loan-along (a .loans .now) (a .p)
@@ -53,17 +56,18 @@ loan-at-spec =
     tie.close
     (tie.spec
     mul-at
-    mul-t7
-    shared-slice-read-t9
-    add-t10
-    mul-t11
-    shared-slice-read-t13
-    add-t14
-    mul-t15
-    shared-slice-read-t17
-    add-t18
-    mul-t19
-    shared-slice-read-t21
+    add-t7
+    mul-t8
+    shared-slice-read-t10
+    add-t11
+    mul-t12
+    shared-slice-read-t14
+    add-t15
+    mul-t16
+    shared-slice-read-t18
+    add-t19
+    mul-t20
+    shared-slice-read-t22
     returns
     loan-by-words-requires
     returns-2)

@@ -8,14 +8,17 @@ use Rattle.book.proofs.write_loan.Tie as tie
 mul-at : tie.Need-mul-at
 mul-at c = search needs
 
+add-loans : tie.Need-add-loans
+add-loans c = search needs
+
 mul-loans : tie.Need-mul-loans
 mul-loans c = search needs
 
 slice-write-loans : tie.Need-slice-write-loans
 slice-write-loans c = search needs
 
-add-loans : tie.Need-add-loans
-add-loans c = search needs
+add-loans-2 : tie.Need-add-loans-2
+add-loans-2 c = search needs
 
 mul-loans-2 : tie.Need-mul-loans-2
 mul-loans-2 c = search needs
@@ -23,8 +26,8 @@ mul-loans-2 c = search needs
 slice-write-loans-2 : tie.Need-slice-write-loans-2
 slice-write-loans-2 c = simp (length-set, length-set, length-set) (omega arith)
 
-add-loans-2 : tie.Need-add-loans-2
-add-loans-2 c = search needs
+add-loans-3 : tie.Need-add-loans-3
+add-loans-3 c = search needs
 
 mul-loans-3 : tie.Need-mul-loans-3
 mul-loans-3 c = search needs
@@ -32,8 +35,8 @@ mul-loans-3 c = search needs
 slice-write-loans-3 : tie.Need-slice-write-loans-3
 slice-write-loans-3 c = simp (length-set, length-set, length-set) (omega arith)
 
-add-loans-3 : tie.Need-add-loans-3
-add-loans-3 c = search needs
+add-loans-4 : tie.Need-add-loans-4
+add-loans-4 c = search needs
 
 mul-loans-4 : tie.Need-mul-loans-4
 mul-loans-4 c = search needs
@@ -52,15 +55,16 @@ write-loan-spec =
     tie.close
     (tie.spec
     mul-at
+    add-loans
     mul-loans
     slice-write-loans
-    add-loans
+    add-loans-2
     mul-loans-2
     slice-write-loans-2
-    add-loans-2
+    add-loans-3
     mul-loans-3
     slice-write-loans-3
-    add-loans-3
+    add-loans-4
     mul-loans-4
     slice-write-loans-4
     same-length
