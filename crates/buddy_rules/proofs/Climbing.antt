@@ -15,7 +15,7 @@ use Rattle.counter.specs.declared.settings.BuddySettings.{BuddySettings}
 use Rattle.slab.specs.Slab.{nowhere}
 use Rattle.buddy_trees.specs.Trees.{Tree, free, loan, split, bytes, Piece, Has}
 use Rattle.buddy_trees.proofs.Fills.{has-in}
-use Rattle.buddy_rules.specs.Nodes.{Ent, Loan, Side, L, R, other, nodeOf, word, place, isFree, Rep}
+use Rattle.buddy_rules.specs.Nodes.{Ent, Loan, Side, L, R, other, nodeOf, word, pairSaid, isFree, Rep}
 use Rattle.buddy_rules.specs.Returns.{entries, put, Out, out, climb}
 use Rattle.buddy_rules.specs.Stores.{piece}
 use Rattle.buddy_rules.proofs.Frames.{rep-taken}
@@ -65,9 +65,9 @@ path-same E E′ (suc f) l n e (inr z) =
     })
 
 module _ (u : ℕ) (E : ℕ → ℕ → Ent) (K : ℕ → Loan) where
-  path-side : (c l o n w f : ℕ) (s : Side) (x y : Tree) → NodeBy u E K c l o n w s x y → isFree x ≡ false → Path E f (suc l) n → Path E (suc f) l (nodeOf (place w) s)
+  path-side : (c l o n w f : ℕ) (s : Side) (x y : Tree) → NodeBy u E K c l o n w s x y → isFree x ≡ false → Path E f (suc l) n → Path E (suc f) l (nodeOf (pairSaid w) s)
   path-side c l o n w f s x y r t p =
-      let q = place w in
+      let q = pairSaid w in
       let i : nodeOf q s / 2 ≡ q = node-pair q s in
       let j : sideIn (nodeOf q s) ≡ s = node-side q s in
       let e : word (other (sideIn (nodeOf q s))) (E l (nodeOf q s / 2)) ≡ word (other s) (E l q) = rw (i, j) in
@@ -79,8 +79,8 @@ module _ (u : ℕ) (E : ℕ → ℕ → Ent) (K : ℕ → Loan) where
         above = rw (i, r .up) p;
       })
     where
-      free-word : word (other s) (E l (place w)) ≡ 0 → isFree y ≡ true
-      free-word z = ⊎-elim (λ a. a) (λ a. absurd (rep-taken u E K c l _ _ (word (other s) (E l (place w))) y (r .twin) a z)) (told (isFree y))
+      free-word : word (other s) (E l (pairSaid w)) ≡ 0 → isFree y ≡ true
+      free-word z = ⊎-elim (λ a. a) (λ a. absurd (rep-taken u E K c l _ _ (word (other s) (E l (pairSaid w))) y (r .twin) a z)) (told (isFree y))
 
   -- from a loan's node up to the tree's own, and on from there
   path-loan : (c l o n w f : ℕ) (t : Tree) (y : Piece) (k F : ℕ) → Rep u E K c l o n w t → Has u l o t y → y .who ≡ k + 1 → y .lev + F ≡ l + f → Path E f l n → Path E F (y .lev) (K k .node)
@@ -92,10 +92,10 @@ module _ (u : ℕ) (E : ℕ → ℕ → Ent) (K : ℕ → Loan) where
       rw (h .1, q, m) p
   path-loan c zero o n w f (split a b) y k F r h e z p = absurd h
   path-loan c (suc l) o n w f (split a b) y k F r (inl h) e z p =
-      path-loan c l o (nodeOf (place w) L) (E l (place w) .left) (suc f) a y k F (r .this) h e (omega arith)
+      path-loan c l o (nodeOf (pairSaid w) L) (E l (pairSaid w) .left) (suc f) a y k F (r .this) h e (omega arith)
       (path-side c l o n w f L a b r (has-taken u l o a y h) p)
   path-loan c (suc l) o n w f (split a b) y k F r (inr h) e z p =
-      path-loan c l (o + bytes u l) (nodeOf (place w) R) (E l (place w) .right) (suc f) b y k F (r .twin) h e (omega arith)
+      path-loan c l (o + bytes u l) (nodeOf (pairSaid w) R) (E l (pairSaid w) .right) (suc f) b y k F (r .twin) h e (omega arith)
       (path-side c l o n w f R b a (to-side u E K c l o n w R b a r) (has-taken u l (o + bytes u l) b y h) p)
 
 -- ---- the climb

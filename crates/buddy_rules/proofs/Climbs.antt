@@ -11,7 +11,7 @@ use Rattle.slab.specs.Slab.{nowhere}
 use Rattle.buddy_trees.specs.Trees.{Tree, free, loan, split, Wf, bytes, Has}
 use Rattle.buddy_trees.proofs.Bytes.{bytes-pos}
 use Rattle.buddy_trees.proofs.Fills.{has-in}
-use Rattle.buddy_rules.specs.Nodes.{Loan, Side, L, R, other, nodeOf, word, place, base, Rep}
+use Rattle.buddy_rules.specs.Nodes.{Loan, Side, L, R, other, nodeOf, word, pairSaid, base, Rep}
 use Rattle.buddy_rules.specs.Levels.{Ops, sideBy}
 use Rattle.buddy_rules.specs.Returns.{entries, put, Out, out, settle, settled, climb, give}
 use Rattle.buddy_rules.proofs.Sides.{tag-any, NodeBy, to-side}
@@ -79,13 +79,13 @@ module _ (u : ℕ) (O : Ops) (K : ℕ → Loan) where
   -- one level up, seen from the half that the loan is in
   reached-side : 0 < u → (W : ℕ → O .Lv) (c l n w o x lev k F f : ℕ) (s : Side) (a b : Tree) → ((i : ℕ) → i < suc l → O .Good (W i)) → ((i p : ℕ) → i < suc l → 0 < entries O W i p .tag → 2 * p + 1 < nowhere)
       → Wf l a → NodeBy u (entries O W) K c l o n w s a b → Has u l (base u s o l) a (record { at = x; lev = lev; who = k + 1 })
-      → climb O W F lev (K k .node) ≡ next O (give u O W l (word s (O .ent (W l) (place w))) (base u s o l) x) (suc f) l (nodeOf (place w) s)
-      → climb O W F lev (K k .node) ≡ next O (settled O l (place w) s (give u O W l (word s (O .ent (W l) (place w))) (base u s o l) x)) f (suc l) n
+      → climb O W F lev (K k .node) ≡ next O (give u O W l (word s (O .ent (W l) (pairSaid w))) (base u s o l) x) (suc f) l (nodeOf (pairSaid w) s)
+      → climb O W F lev (K k .node) ≡ next O (settled O l (pairSaid w) s (give u O W l (word s (O .ent (W l) (pairSaid w))) (base u s o l) x)) f (suc l) n
   reached-side pu W c l n w o x lev k F f s a b g y v r h e =
-      let G = give u O W l (word s (O .ent (W l) (place w))) (base u s o l) x in
-      let d = gave u O K pu W c l (nodeOf (place w) s) (word s (O .ent (W l) (place w))) (base u s o l) x lev k a (λ i z. g i (omega arith)) v (r .this) h in
+      let G = give u O W l (word s (O .ent (W l) (pairSaid w))) (base u s o l) x in
+      let d = gave u O K pu W c l (nodeOf (pairSaid w) s) (word s (O .ent (W l) (pairSaid w))) (base u s o l) x lev k a (λ i z. g i (omega arith)) v (r .this) h in
       let m = mid-entry u O K pu W c l o n w s a b (G .levels) r (d .local) in
-      e ∙ climb-next O G f l (place w) n s (node-some (place w) s (y l (place w) (omega arith) (rw (r .tag) (tag-any s a b)))) (ap (λ z. z .up) m ∙ r .up)
+      e ∙ climb-next O G f l (pairSaid w) n s (node-some (pairSaid w) s (y l (pairSaid w) (omega arith) (rw (r .tag) (tag-any s a b)))) (ap (λ z. z .up) m ∙ r .up)
 
   -- the climb from the loan's node has come to node n of level l, with f levels left
   reached : 0 < u → (W : ℕ → O .Lv) (c l n w o x lev k F f : ℕ) (t : Tree) → ((i : ℕ) → i < l → O .Good (W i)) → ((i p : ℕ) → i < l → 0 < entries O W i p .tag → 2 * p + 1 < nowhere)
@@ -108,13 +108,13 @@ module _ (u : ℕ) (O : Ops) (K : ℕ → Loan) where
       let m : w % 2 ≡ 0 = omega (arith, r .is) in
       let z : ltb x (o + bytes u l) ≡ true = lt-ltb x (o + bytes u l) (omega (arith, bytes-pos u lev pu)) in
       rw (m, z) (reached-side pu W c l n w o x lev k F f L a b g y (v .1) r h
-      (reached pu W c l (nodeOf (place w) L) (O .ent (W l) (place w) .left) o x lev k F (suc f) a (λ i j. g i (omega arith)) (λ i p j. y i p (omega arith)) (v .1) (r .this) h (omega arith)))
+      (reached pu W c l (nodeOf (pairSaid w) L) (O .ent (W l) (pairSaid w) .left) o x lev k F (suc f) a (λ i j. g i (omega arith)) (λ i p j. y i p (omega arith)) (v .1) (r .this) h (omega arith)))
   reached pu W c (suc l) n w o x lev k F f (split a b) g y v r (inr h) e =
       let i = has-in u l (o + bytes u l) b (record { at = x; lev = lev; who = k + 1 }) h in
       let m : w % 2 ≡ 0 = omega (arith, r .is) in
       let z : ltb x (o + bytes u l) ≡ false = le-ltb x (o + bytes u l) (omega arith) in
       rw (m, z) (reached-side pu W c l n w o x lev k F f R b a g y (v .2) (to-side u (entries O W) K c l o n w R b a r) h
-      (reached pu W c l (nodeOf (place w) R) (O .ent (W l) (place w) .right) (o + bytes u l) x lev k F (suc f) b (λ i j. g i (omega arith)) (λ i p j. y i p (omega arith)) (v .2) (r .twin) h (omega arith)))
+      (reached pu W c l (nodeOf (pairSaid w) R) (O .ent (W l) (pairSaid w) .right) (o + bytes u l) x lev k F (suc f) b (λ i j. g i (omega arith)) (λ i p j. y i p (omega arith)) (v .2) (r .twin) h (omega arith)))
 
   -- the two returns are the same
   pub climb-give : 0 < u → (W : ℕ → O .Lv) (c l w x lev k f : ℕ) (t : Tree) → ((i : ℕ) → i < l → O .Good (W i)) → ((i p : ℕ) → i < l → 0 < entries O W i p .tag → 2 * p + 1 < nowhere) → Wf l t → Rep u (entries O W) K c l 0 nowhere w t

@@ -12,7 +12,7 @@ use Rattle.buddy_trees.proofs.Bytes.{bytes-suc, bytes-pos}
 use Rattle.buddy_trees.proofs.Fills.{has-in}
 use Rattle.buddy_trees.proofs.Canon.{canon}
 use Rattle.buddy_trees.proofs.Prunes.{prune-wf, prune-has}
-use Rattle.buddy_rules.specs.Nodes.{Ent, Loan, Side, L, R, other, nodeOf, place, isFree, tagOf, base, Inside, None, Rep, Keep, Loc, Local}
+use Rattle.buddy_rules.specs.Nodes.{Ent, Loan, Side, L, R, other, nodeOf, pairSaid, isFree, tagOf, base, Inside, None, Rep, Keep, Loc, Local}
 
 tag-pos : (a b : Bool) → 0 < tagOf a b
 tag-pos true b = omega arith
@@ -71,7 +71,7 @@ module _ (u : ℕ) where
   frame E E′ K c l o n w (loan j) pu k r = (r .0, r .1, frame-none E E′ c l o k (r .2))
   frame E E′ K c zero o n w (split a b) pu k r = absurd r
   frame E E′ K c (suc l) o n w (split a b) pu k r =
-      let q = place w in
+      let q = pairSaid w in
       let t : 0 < E l q .tag = rw (r .tag) (tag-pos (isFree a) (isFree b)) in
       let e : E′ l q ≡ E l q = k l q (omega arith) .0 t (inside-own (E l q) c o (suc l) pu (r .chunk) (r .off)) in
       record {
@@ -149,10 +149,10 @@ module _ (u : ℕ) where
       (ap (λ d. d .chunk) f, ap (λ d. d .at) f ∙ sym (h .0), ap (λ d. d .lev) f ∙ sym (h .1), (λ z. ap (λ d. d .node) f))
   rep-loan E K c zero o n w (split a b) y k r h e = absurd h
   rep-loan E K c (suc l) o n w (split a b) y k r (inl h) e =
-      let i = rep-loan E K c l o (nodeOf (place w) L) (E l (place w) .left) a y k (r .this) h e in
+      let i = rep-loan E K c l o (nodeOf (pairSaid w) L) (E l (pairSaid w) .left) a y k (r .this) h e in
       (i .0, i .1, i .2, (λ z. absurd (omega (arith, has-in u l o a y h .2))))
   rep-loan E K c (suc l) o n w (split a b) y k r (inr h) e =
-      let i = rep-loan E K c l (o + bytes u l) (nodeOf (place w) R) (E l (place w) .right) b y k (r .twin) h e in
+      let i = rep-loan E K c l (o + bytes u l) (nodeOf (pairSaid w) R) (E l (pairSaid w) .right) b y k (r .twin) h e in
       (i .0, i .1, i .2, (λ z. absurd (omega (arith, has-in u l (o + bytes u l) b y h .2))))
 
   -- a loan that is not there is removed by doing nothing

@@ -23,7 +23,7 @@ use Rattle.buddy_trees.specs.Chunks.{freeOf, highOf, treeIn, freeIn}
 use Rattle.buddy_trees.proofs.Filling.{freeFor}
 use Rattle.buddy_trees.proofs.Onces.{Once}
 use Rattle.buddy_trees.proofs.Serving.{region-free, free-region, free-where, where-free}
-use Rattle.buddy_rules.specs.Nodes.{Ent, Side, L, R, nodeOf, word, place, isFree, tagOf, base, Inside, Rep}
+use Rattle.buddy_rules.specs.Nodes.{Ent, Side, L, R, nodeOf, word, pairSaid, isFree, tagOf, base, Inside, Rep}
 use Rattle.buddy_rules.specs.Nodes as Nodes
 use Rattle.buddy_rules.specs.Levels.{sideOf, baseOf}
 use Rattle.buddy_rules.proofs.Frames.{inside-cases, rep-taken}
@@ -108,16 +108,16 @@ module _ (u : ℕ) where
     ready-same E K c zero o n w i p q (split f g) v r h x y a b e = absurd r
     ready-same E K c (suc l) o n w i p q (split f g) v r h x y a b e =
         go (same? i l)
-        (λ k j z. ready-same E K c l o (nodeOf (place w) L) (E l (place w) .left) i p q f (v .1) (r .this) k x y j z e)
-        (λ k j z. ready-same E K c l (o + bytes u l) (nodeOf (place w) R) (E l (place w) .right) i p q g (v .2) (r .twin) k x y j z e)
+        (λ k j z. ready-same E K c l o (nodeOf (pairSaid w) L) (E l (pairSaid w) .left) i p q f (v .1) (r .this) k x y j z e)
+        (λ k j z. ready-same E K c l (o + bytes u l) (nodeOf (pairSaid w) R) (E l (pairSaid w) .right) i p q g (v .2) (r .twin) k x y j z e)
       where
         left : (z : ℕ) → i < l → 1 < E i z .tag → Inside u (E i z) c o l → baseOf u (E i z) i < o + bytes u l
         left z k t j =
-            let m = free-in u l o f (baseOf u (E i z) i) i (ready-free u E K c l o (nodeOf (place w) L) (E l (place w) .left) i z f (v .1) (r .this) k t j) in
+            let m = free-in u l o f (baseOf u (E i z) i) i (ready-free u E K c l o (nodeOf (pairSaid w) L) (E l (pairSaid w) .left) i z f (v .1) (r .this) k t j) in
             omega (arith, m .1, bytes-pos u i pos)
 
         right : (z : ℕ) → i < l → 1 < E i z .tag → Inside u (E i z) c (o + bytes u l) l → o + bytes u l ≤ baseOf u (E i z) i
-        right z k t j = free-in u l (o + bytes u l) g (baseOf u (E i z) i) i (ready-free u E K c l (o + bytes u l) (nodeOf (place w) R) (E l (place w) .right) i z g (v .2) (r .twin) k t j) .0
+        right z k t j = free-in u l (o + bytes u l) g (baseOf u (E i z) i) i (ready-free u E K c l (o + bytes u l) (nodeOf (pairSaid w) R) (E l (pairSaid w) .right) i z g (v .2) (r .twin) k t j) .0
 
         go : (i ≡ l) ⊎ (i ≡ l → ⊥) → (i < l → Inside u (E i p) c o l → Inside u (E i q) c o l → p ≡ q)
             → (i < l → Inside u (E i p) c (o + bytes u l) l → Inside u (E i q) c (o + bytes u l) l → p ≡ q) → p ≡ q
@@ -158,18 +158,18 @@ module _ (u : ℕ) (E : ℕ → ℕ → Ent) (K : ℕ → Nodes.Loan) where
   pair-sided c zero o n w i p (split a b) v r h t j = absurd r
   pair-sided c (suc l) o n w i p (split a b) v r h t j =
       go (same? i l)
-      (λ g z. pair-sided c l o (nodeOf (place w) L) (E l (place w) .left) i p a (v .1) (r .this) g t z)
-      (λ g z. pair-sided c l (o + bytes u l) (nodeOf (place w) R) (E l (place w) .right) i p b (v .2) (r .twin) g t z)
+      (λ g z. pair-sided c l o (nodeOf (pairSaid w) L) (E l (pairSaid w) .left) i p a (v .1) (r .this) g t z)
+      (λ g z. pair-sided c l (o + bytes u l) (nodeOf (pairSaid w) R) (E l (pairSaid w) .right) i p b (v .2) (r .twin) g t z)
     where
-      own : Sided (E l (place w))
+      own : Sided (E l (pairSaid w))
       own =
-          let x = word-free c l o (nodeOf (place w) L) (E l (place w) .left) a (r .this) in
-          let y = word-free c l (o + bytes u l) (nodeOf (place w) R) (E l (place w) .right) b (r .twin) in
+          let x = word-free c l o (nodeOf (pairSaid w) L) (E l (pairSaid w) .left) a (r .this) in
+          let y = word-free c l (o + bytes u l) (nodeOf (pairSaid w) R) (E l (pairSaid w) .right) b (r .twin) in
           (r .tag ∙ ap₂ tagOf x y, λ e f. not-both a b (v .0) (x ∙ eq-eqb _ 0 e) (y ∙ eq-eqb _ 0 f))
 
       go : (i ≡ l) ⊎ (i ≡ l → ⊥) → (i < l → Inside u (E i p) c o l → Sided (E i p)) → (i < l → Inside u (E i p) c (o + bytes u l) l → Sided (E i p)) → Sided (E i p)
       go (inl e) f g =
-          let q : p ≡ place w = r .only p (rw e at t) (rw e at j) in
+          let q : p ≡ pairSaid w = r .only p (rw e at t) (rw e at j) in
           rw (e, q) own
       go (inr z) f g = ⊎-elim (λ k. f (omega arith) k) (λ k. g (omega arith) k) (inside-cases u L (E i p) c o l j)
 

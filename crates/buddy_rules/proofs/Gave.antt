@@ -10,7 +10,7 @@ use Rattle.lists.proofs.Bools.{same?, told}
 use Rattle.buddy_trees.specs.Trees.{Tree, free, loan, split, Wf, bytes, Has, remove}
 use Rattle.buddy_trees.proofs.Bytes.{bytes-pos}
 use Rattle.buddy_trees.proofs.Fills.{has-in}
-use Rattle.buddy_rules.specs.Nodes.{Ent, Loan, Side, L, R, other, nodeOf, word, place, isFree, splitBy, base, Inside, None, Rep, Local}
+use Rattle.buddy_rules.specs.Nodes.{Ent, Loan, Side, L, R, other, nodeOf, word, pairSaid, isFree, splitBy, base, Inside, None, Rep, Local}
 use Rattle.buddy_rules.specs.Levels.{readied, Ops}
 use Rattle.buddy_rules.specs.Returns.{entries, put, settle, give}
 use Rattle.buddy_rules.proofs.Frames.{inside-same, inside-own, inside-cases, halves, frame-none, frame, local-keep, local-up, local-trans, local-here, local-there, rep-zero, rep-free, rep-taken, rep-loan, remove-absent}
@@ -27,28 +27,28 @@ module _ (u : ℕ) (O : Ops) (K : ℕ → Loan) where
   -- ---- after a half is done, its pair's entry, its twin and the rest of the level are as before
 
   module _ (pu : 0 < u) (W : ℕ → O .Lv) (c l o n w : ℕ) (s : Side) (x y : Tree) (W₁ : ℕ → O .Lv) (r : NodeBy u (entries O W) K c l o n w s x y) (loc : Local u (entries O W) (entries O W₁) c (base u s o l) l) where
-    pub mid-entry : O .ent (W₁ l) (place w) ≡ O .ent (W l) (place w)
-    mid-entry = local-here u (entries O W) (entries O W₁) c (base u s o l) l (place w) loc (rw (r .tag) (tag-any s x y))
+    pub mid-entry : O .ent (W₁ l) (pairSaid w) ≡ O .ent (W l) (pairSaid w)
+    mid-entry = local-here u (entries O W) (entries O W₁) c (base u s o l) l (pairSaid w) loc (rw (r .tag) (tag-any s x y))
 
-    pub mid-twin : Rep u (entries O W₁) K c l (base u (other s) o l) (nodeOf (place w) (other s)) (word (other s) (O .ent (W l) (place w))) y
+    pub mid-twin : Rep u (entries O W₁) K c l (base u (other s) o l) (nodeOf (pairSaid w) (other s)) (word (other s) (O .ent (W l) (pairSaid w))) y
     mid-twin =
-        frame u (entries O W) (entries O W₁) K c l (base u (other s) o l) (nodeOf (place w) (other s)) (word (other s) (O .ent (W l) (place w))) y pu
+        frame u (entries O W) (entries O W₁) K c l (base u (other s) o l) (nodeOf (pairSaid w) (other s)) (word (other s) (O .ent (W l) (pairSaid w))) y pu
         (local-keep u (entries O W) (entries O W₁) c (base u s o l) l c (base u (other s) o l) l (halves u s c o l) loc) (r .twin)
 
-    pub mid-only : (p : ℕ) → 0 < O .ent (W₁ l) p .tag → Inside u (O .ent (W₁ l) p) c o (suc l) → p ≡ place w
+    pub mid-only : (p : ℕ) → 0 < O .ent (W₁ l) p .tag → Inside u (O .ent (W₁ l) p) c o (suc l) → p ≡ pairSaid w
     mid-only p h i =
         let f : O .ent (W₁ l) p ≡ O .ent (W l) p = local-there u (entries O W) (entries O W₁) c (base u s o l) l p loc h in
         r .only p (rw f at h) (inside-same u (O .ent (W₁ l) p) (O .ent (W l) p) c o (suc l) f i)
 
-    pub mid-own : Inside u (O .ent (W₁ l) (place w)) c o (suc l)
-    mid-own = rw mid-entry (inside-own u (O .ent (W l) (place w)) c o (suc l) pu (r .chunk) (r .off))
+    pub mid-own : Inside u (O .ent (W₁ l) (pairSaid w)) c o (suc l)
+    mid-own = rw mid-entry (inside-own u (O .ent (W l) (pairSaid w)) c o (suc l) pu (r .chunk) (r .off))
 
   -- ---- one level up
 
   -- the node below stays taken
   pub step-same : 0 < u → (W : ℕ → O .Lv) (c l o n w : ℕ) (s : Side) (x y x′ : Tree) (W₁ : ℕ → O .Lv)
       → NodeBy u (entries O W) K c l o n w s x y → isFree x ≡ false
-      → Done W W₁ c l (base u s o l) (nodeOf (place w) s) (word s (O .ent (W l) (place w))) x′
+      → Done W W₁ c l (base u s o l) (nodeOf (pairSaid w) s) (word s (O .ent (W l) (pairSaid w))) x′
       → Done W W₁ c (suc l) o n w (mergeBy s x′ y)
   step-same pu W c l o n w s x y x′ W₁ r h d =
       let nf : isFree x′ ≡ false = not-free u (entries O W₁) K c l (base u s o l) _ _ x′ (d .rep) (rep-taken u (entries O W) K c l (base u s o l) _ _ x (r .this) h) in
@@ -69,8 +69,8 @@ module _ (u : ℕ) (O : Ops) (K : ℕ → Loan) where
       }
 
   -- nothing is left of the node once its pair is vacant
-  gone : 0 < u → (W : ℕ → O .Lv) (c l o n w : ℕ) (s : Side) (x : Tree) (W₁ : ℕ → O .Lv) (r : NodeBy u (entries O W) K c l o n w s x free) (d : Done W W₁ c l (base u s o l) (nodeOf (place w) s) 0 free) (v : O .Lv)
-      → O .ent v (place w) .tag ≡ 0 → ((p : ℕ) → (p ≡ place w → ⊥) → O .ent v p ≡ O .ent (W₁ l) p) → None u (entries O (put O W₁ l v)) c (suc l) o
+  gone : 0 < u → (W : ℕ → O .Lv) (c l o n w : ℕ) (s : Side) (x : Tree) (W₁ : ℕ → O .Lv) (r : NodeBy u (entries O W) K c l o n w s x free) (d : Done W W₁ c l (base u s o l) (nodeOf (pairSaid w) s) 0 free) (v : O .Lv)
+      → O .ent v (pairSaid w) .tag ≡ 0 → ((p : ℕ) → (p ≡ pairSaid w → ⊥) → O .ent v p ≡ O .ent (W₁ l) p) → None u (entries O (put O W₁ l v)) c (suc l) o
   gone pu W c l o n w s x W₁ r d v h f i p b t m = ⊎-elim here below (same? i l)
     where
       here : i ≡ l → ⊥
@@ -79,7 +79,7 @@ module _ (u : ℕ) (O : Ops) (K : ℕ → Loan) where
           ⊎-elim
           (λ k. let z : O .ent (put O W₁ l v i) p .tag ≡ 0 = ap (λ d. d .tag) g ∙ ap (λ j. O .ent v j .tag) k ∙ h in omega arith)
           (λ a. let k : O .ent (put O W₁ l v i) p ≡ O .ent (W₁ l) p = g ∙ f p a in a (mid-only pu W c l o n w s x free W₁ r (d .local) p (rw k at t) (inside-same u _ _ c o (suc l) k m)))
-          (same? p (place w))
+          (same? p (pairSaid w))
 
       below : (i ≡ l → ⊥) → ⊥
       below a =
@@ -94,10 +94,10 @@ module _ (u : ℕ) (O : Ops) (K : ℕ → Loan) where
   -- both halves are free: the pair goes
   step-drop : 0 < u → (W : ℕ → O .Lv) (c l o n w : ℕ) (s : Side) (x : Tree) (W₁ : ℕ → O .Lv) → O .Good (W l)
       → NodeBy u (entries O W) K c l o n w s x free
-      → Done W W₁ c l (base u s o l) (nodeOf (place w) s) 0 free
-      → Done W (put O W₁ l (O .drop (W₁ l) (place w))) c (suc l) o n 0 free
+      → Done W W₁ c l (base u s o l) (nodeOf (pairSaid w) s) 0 free
+      → Done W (put O W₁ l (O .drop (W₁ l) (pairSaid w))) c (suc l) o n 0 free
   step-drop pu W c l o n w s x W₁ gl r d =
-      let q = place w in
+      let q = pairSaid w in
       let e = mid-entry pu W c l o n w s x free W₁ r (d .local) in
       let t : 1 < O .ent (W₁ l) q .tag = rw (e, r .tag) (tag-ready s x free refl) in
       let v = O .drop (W₁ l) q in
@@ -114,10 +114,10 @@ module _ (u : ℕ) (O : Ops) (K : ℕ → Loan) where
   -- the twin is taken: the pair is ready
   step-back : 0 < u → (W : ℕ → O .Lv) (c l o n w : ℕ) (s : Side) (x y : Tree) (W₁ : ℕ → O .Lv) → O .Good (W l)
       → NodeBy u (entries O W) K c l o n w s x y → isFree x ≡ false → isFree y ≡ false
-      → Done W W₁ c l (base u s o l) (nodeOf (place w) s) 0 free
-      → Done W (put O W₁ l (O .back (W₁ l) (place w) s)) c (suc l) o n w (splitBy s free y)
+      → Done W W₁ c l (base u s o l) (nodeOf (pairSaid w) s) 0 free
+      → Done W (put O W₁ l (O .back (W₁ l) (pairSaid w) s)) c (suc l) o n w (splitBy s free y)
   step-back pu W c l o n w s x y W₁ gl r hx hy d =
-      let q = place w in
+      let q = pairSaid w in
       let e = mid-entry pu W c l o n w s x y W₁ r (d .local) in
       let t : O .ent (W₁ l) q .tag ≡ 1 = ap (λ d. d .tag) e ∙ r .tag ∙ tag-one s x y hx hy in
       let v = O .back (W₁ l) q s in
@@ -148,26 +148,26 @@ module _ (u : ℕ) (O : Ops) (K : ℕ → Loan) where
 
   step-true : 0 < u → (W : ℕ → O .Lv) (c l o n w : ℕ) (s : Side) (x y : Tree) (W₁ : ℕ → O .Lv) → O .Good (W l)
       → NodeBy u (entries O W) K c l o n w s x y → isFree x ≡ false
-      → Done W W₁ c l (base u s o l) (nodeOf (place w) s) 0 free
-      → Done W (settle O l (place w) s true W₁ .levels) c (suc l) o n (cond (settle O l (place w) s true W₁ .freed) 0 w) (mergeBy s free y)
+      → Done W W₁ c l (base u s o l) (nodeOf (pairSaid w) s) 0 free
+      → Done W (settle O l (pairSaid w) s true W₁ .levels) c (suc l) o n (cond (settle O l (pairSaid w) s true W₁ .freed) 0 w) (mergeBy s free y)
   step-true pu W c l o n w s x y W₁ gl r h d = go (told (isFree y))
     where
-      at : word (other s) (O .ent (W₁ l) (place w)) ≡ word (other s) (O .ent (W l) (place w))
+      at : word (other s) (O .ent (W₁ l) (pairSaid w)) ≡ word (other s) (O .ent (W l) (pairSaid w))
       at = ap (word (other s)) (mid-entry pu W c l o n w s x y W₁ r (d .local))
 
-      go : (isFree y ≡ true) ⊎ (isFree y ≡ false) → Done W (settle O l (place w) s true W₁ .levels) c (suc l) o n (cond (settle O l (place w) s true W₁ .freed) 0 w) (mergeBy s free y)
+      go : (isFree y ≡ true) ⊎ (isFree y ≡ false) → Done W (settle O l (pairSaid w) s true W₁ .levels) c (suc l) o n (cond (settle O l (pairSaid w) s true W₁ .freed) 0 w) (mergeBy s free y)
       go (inl f) =
           let z = rep-free u (entries O W) K c l (base u (other s) o l) _ _ y (r .twin) f in
-          rw (eq-eqb (word (other s) (O .ent (W₁ l) (place w))) 0 (at ∙ z .1), z .0, merge-both s) (step-drop pu W c l o n w s x W₁ gl (rw (z .0) at r) d)
+          rw (eq-eqb (word (other s) (O .ent (W₁ l) (pairSaid w))) 0 (at ∙ z .1), z .0, merge-both s) (step-drop pu W c l o n w s x W₁ gl (rw (z .0) at r) d)
       go (inr f) =
-          rw (ne-eqb (word (other s) (O .ent (W₁ l) (place w))) 0 (λ z. rep-taken u (entries O W) K c l (base u (other s) o l) _ _ y (r .twin) f (sym at ∙ z)), merge-free s y f)
+          rw (ne-eqb (word (other s) (O .ent (W₁ l) (pairSaid w))) 0 (λ z. rep-taken u (entries O W) K c l (base u (other s) o l) _ _ y (r .twin) f (sym at ∙ z)), merge-free s y f)
           (step-back pu W c l o n w s x y W₁ gl r h f d)
 
   -- side s, whose node stood for x, was given back and stands for x′
   step : 0 < u → (W : ℕ → O .Lv) (c l o n w : ℕ) (s : Side) (x y x′ : Tree) (b : Bool) (W₁ : ℕ → O .Lv) → O .Good (W l)
       → NodeBy u (entries O W) K c l o n w s x y → isFree x ≡ false
-      → Done W W₁ c l (base u s o l) (nodeOf (place w) s) (cond b 0 (word s (O .ent (W l) (place w)))) x′
-      → Done W (settle O l (place w) s b W₁ .levels) c (suc l) o n (cond (settle O l (place w) s b W₁ .freed) 0 w) (mergeBy s x′ y)
+      → Done W W₁ c l (base u s o l) (nodeOf (pairSaid w) s) (cond b 0 (word s (O .ent (W l) (pairSaid w)))) x′
+      → Done W (settle O l (pairSaid w) s b W₁ .levels) c (suc l) o n (cond (settle O l (pairSaid w) s b W₁ .freed) 0 w) (mergeBy s x′ y)
   step pu W c l o n w s x y x′ false W₁ gl r h d = step-same pu W c l o n w s x y x′ W₁ r h d
   step pu W c l o n w s x y x′ true W₁ gl r h d =
       let e : x′ ≡ free = rep-zero u (entries O W₁) K c l (base u s o l) _ x′ (d .rep) in
@@ -202,14 +202,14 @@ module _ (u : ℕ) (O : Ops) (K : ℕ → Loan) where
       let i = has-in u l o a (record { at = x; lev = lev; who = k + 1 }) h in
       let m : w % 2 ≡ 0 = omega (arith, r .is) in
       let f : ltb x (o + bytes u l) ≡ true = lt-ltb x (o + bytes u l) (omega (arith, bytes-pos u lev pu)) in
-      let d = gave pu W c l (nodeOf (place w) L) (O .ent (W l) (place w) .left) o x lev k a (λ i h. g i (omega arith)) (v .1) (r .this) h in
+      let d = gave pu W c l (nodeOf (pairSaid w) L) (O .ent (W l) (pairSaid w) .left) o x lev k a (λ i h. g i (omega arith)) (v .1) (r .this) h in
       rw (m, f, lone pu (entries O W) c l o n w x lev k L a b r (v .2) h)
-      (step pu W c l o n w L a b (remove k a) (give u O W l (O .ent (W l) (place w) .left) o x .freed) (give u O W l (O .ent (W l) (place w) .left) o x .levels) (g l (omega arith)) r (has-taken u l o a _ h) d)
+      (step pu W c l o n w L a b (remove k a) (give u O W l (O .ent (W l) (pairSaid w) .left) o x .freed) (give u O W l (O .ent (W l) (pairSaid w) .left) o x .levels) (g l (omega arith)) r (has-taken u l o a _ h) d)
   gave pu W c (suc l) n w o x lev k (split a b) g v r (inr h) =
       let i = has-in u l (o + bytes u l) b (record { at = x; lev = lev; who = k + 1 }) h in
       let m : w % 2 ≡ 0 = omega (arith, r .is) in
       let f : ltb x (o + bytes u l) ≡ false = le-ltb x (o + bytes u l) (omega arith) in
-      let d = gave pu W c l (nodeOf (place w) R) (O .ent (W l) (place w) .right) (o + bytes u l) x lev k b (λ i h. g i (omega arith)) (v .2) (r .twin) h in
+      let d = gave pu W c l (nodeOf (pairSaid w) R) (O .ent (W l) (pairSaid w) .right) (o + bytes u l) x lev k b (λ i h. g i (omega arith)) (v .2) (r .twin) h in
       let z = to-side u (entries O W) K c l o n w R b a r in
       rw (m, f, lone pu (entries O W) c l o n w x lev k R b a z (v .1) h)
-      (step pu W c l o n w R b a (remove k b) (give u O W l (O .ent (W l) (place w) .right) (o + bytes u l) x .freed) (give u O W l (O .ent (W l) (place w) .right) (o + bytes u l) x .levels) (g l (omega arith)) z (has-taken u l (o + bytes u l) b _ h) d)
+      (step pu W c l o n w R b a (remove k b) (give u O W l (O .ent (W l) (pairSaid w) .right) (o + bytes u l) x .freed) (give u O W l (O .ent (W l) (pairSaid w) .right) (o + bytes u l) x .levels) (g l (omega arith)) z (has-taken u l (o + bytes u l) b _ h) d)

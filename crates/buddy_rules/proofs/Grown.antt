@@ -9,7 +9,7 @@ use Rattle.slab.specs.Slab.{nowhere}
 use Rattle.buddy_trees.specs.Trees.{Tree, free, split, bytes, spine, up}
 use Rattle.buddy_trees.proofs.Bytes.{up-le}
 use Rattle.buddy_trees.proofs.Plants.{spine-taken}
-use Rattle.buddy_rules.specs.Nodes.{Ent, Loan, L, nodeOf, place, isFree, None}
+use Rattle.buddy_rules.specs.Nodes.{Ent, Loan, L, nodeOf, pairSaid, isFree, None}
 use Rattle.buddy_rules.specs.Levels.{Ops}
 use Rattle.buddy_rules.specs.Returns.{entries, put}
 use Rattle.buddy_rules.specs.Lends.{grow, loanNode}
@@ -45,7 +45,7 @@ module _ (u : ℕ) (O : Ops) (K : ℕ → Loan) where
       let E₁ = entries O W₁ in
       let E₂ = entries O (put O W₁ m v) in
       let gd = d .good m gm in
-      let pl : place (2 * q + 2) ≡ q = omega arith in
+      let pl : pairSaid (2 * q + 2) ≡ q = omega arith in
       let h : O .ent v q ≡ record { tag = 3; chunk = c; off = o; left = w; right = 0; up = n } = ap (O .ent v) (sym e) ∙ O .add-here (W₁ m) c o n w gd rm sm in
       let a : E₂ m q ≡ record { tag = 3; chunk = c; off = o; left = w; right = 0; up = n } = put-at O W₁ m v q ∙ h in
       let g : (p : ℕ) → (p ≡ q → ⊥) → O .ent v p ≡ O .ent (W₁ m) p = λ p k. O .add-other (W₁ m) c o n w p gd rm sm (λ z. k (z ∙ e)) in

@@ -8,7 +8,7 @@ use native.Mathlib.Omega.{arith}
 use Rattle.slab.specs.Slab.{nowhere}
 use Rattle.buddy_trees.specs.Trees.{Tree, free, loan, split, bytes, Has}
 use Rattle.buddy_trees.proofs.Bytes.{bytes-pos}
-use Rattle.buddy_rules.specs.Nodes.{Ent, Loan, word, place, base, Rep}
+use Rattle.buddy_rules.specs.Nodes.{Ent, Loan, word, pairSaid, base, Rep}
 use Rattle.buddy_rules.specs.Stores.{piece}
 use Rattle.buddy_rules.proofs.Shapes.{LoanAt, Shape, Meets, meets-here, meets-in, part-of, meets-half}
 use Rattle.buddy_rules.proofs.Stands.{SideOf, shape-rep}
@@ -30,7 +30,7 @@ module _ (u : ℕ) (E : ℕ → ℕ → Ent) (K : ℕ → Loan) (live : ℕ → 
   shape-pair : (c l o n p : ℕ) (t : Tree) → Shape u E K live size c (suc l) o n (2 * p + 2) t → (E l p .chunk ≡ c) × (E l p .off ≡ o)
   shape-pair c l o n p free r = absurd (omega (arith, r))
   shape-pair c l o n p (loan k) r = absurd (omega (arith, r .0))
-  shape-pair c l o n p (split a b) r = let e : p ≡ place (2 * p + 2) = omega arith in (ap (λ q. E l q .chunk) e ∙ r .chunk, ap (λ q. E l q .off) e ∙ r .off)
+  shape-pair c l o n p (split a b) r = let e : p ≡ pairSaid (2 * p + 2) = omega arith in (ap (λ q. E l q .chunk) e ∙ r .chunk, ap (λ q. E l q .off) e ∙ r .off)
 
   -- and a loan's word is the loan
   shape-leaf : (c l o n k : ℕ) (t : Tree) → Shape u E K live size c l o n (2 * k + 1) t

@@ -12,7 +12,7 @@ use Rattle.buddy_trees.specs.Trees.{Tree, free, loan, split, Wf, up, bytes, spi
 use Rattle.buddy_trees.proofs.Bytes.{bytes-pos}
 use Rattle.buddy_trees.proofs.Fills.{free-in}
 use Rattle.buddy_trees.proofs.Plants.{spine-taken, plant-taken}
-use Rattle.buddy_rules.specs.Nodes.{Ent, Loan, Side, L, R, other, nodeOf, word, place, isFree, splitBy, base, Inside, Rep}
+use Rattle.buddy_rules.specs.Nodes.{Ent, Loan, Side, L, R, other, nodeOf, word, pairSaid, isFree, splitBy, base, Inside, Rep}
 use Rattle.buddy_rules.specs.Levels.{filled, sideOf, baseOf, Ops}
 use Rattle.buddy_rules.specs.Returns.{entries, put}
 use Rattle.buddy_rules.specs.Lends.{grow, loanNode, headNode, lend}
@@ -34,10 +34,10 @@ module _ (u : ℕ) (O : Ops) (K : ℕ → Loan) where
     pub others : (x : ℕ) → (x ≡ q → ⊥) → O .ent v x ≡ O .ent (W₁ i) x
 
   fill-side : 0 < u → (W W₁ : ℕ → O .Lv) (c i o n w w′ : ℕ) (t : Tree) (v : O .Lv) (s : Side) (x y : Tree)
-      → NodeBy u (entries O W) K c i o n w s x y → sideOf (O .ent (W i) (place w) .tag) ≡ s → isFree y ≡ false → baseOf u (O .ent (W i) (place w)) i ≡ base u s o i
-      → Fill W W₁ c i (place w) w′ t v → Done u O K W (put O W₁ i v) c (suc i) o n w (splitBy s t y)
+      → NodeBy u (entries O W) K c i o n w s x y → sideOf (O .ent (W i) (pairSaid w) .tag) ≡ s → isFree y ≡ false → baseOf u (O .ent (W i) (pairSaid w)) i ≡ base u s o i
+      → Fill W W₁ c i (pairSaid w) w′ t v → Done u O K W (put O W₁ i v) c (suc i) o n w (splitBy s t y)
   fill-side pu W W₁ c i o n w w′ t v s x y r es ty eb f =
-      let q = place w in
+      let q = pairSaid w in
       let E = entries O W in
       let E₁ = entries O W₁ in
       let E₂ = entries O (put O W₁ i v) in
@@ -67,11 +67,11 @@ module _ (u : ℕ) (O : Ops) (K : ℕ → Loan) where
 
   -- the node whose own pair is filled
   fill-node : 0 < u → (W W₁ : ℕ → O .Lv) (c i o n w w′ q : ℕ) (t : Tree) (v : O .Lv) (a b : Tree)
-      → Wf (suc i) (split a b) → Rep u (entries O W) K c (suc i) o n w (split a b) → q ≡ place w → Fill W W₁ c i q w′ t v
+      → Wf (suc i) (split a b) → Rep u (entries O W) K c (suc i) o n w (split a b) → q ≡ pairSaid w → Fill W W₁ c i q w′ t v
       → Done u O K W (put O W₁ i v) c (suc i) o n w (plant u (suc i) o (baseOf u (O .ent (W i) q) i) t (split a b))
   fill-node pu W W₁ c i o n w w′ q t v a b k r e f = rw e (at (rw e at f))
     where
-      at : Fill W W₁ c i (place w) w′ t v → Done u O K W (put O W₁ i v) c (suc i) o n w (plant u (suc i) o (baseOf u (O .ent (W i) (place w)) i) t (split a b))
+      at : Fill W W₁ c i (pairSaid w) w′ t v → Done u O K W (put O W₁ i v) c (suc i) o n w (plant u (suc i) o (baseOf u (O .ent (W i) (pairSaid w)) i) t (split a b))
       at f = ⊎-elim
           (λ z.
           let eb = base-is u (entries O W) K c i o n w a b L r (z .2) in
@@ -92,8 +92,8 @@ module _ (u : ℕ) (O : Ops) (K : ℕ → Loan) where
   placed pu W W₁ c zero o n w i w′ q t v (split a b) k r h s f = absurd r
   placed pu W W₁ c (suc l) o n w i w′ q t v (split a b) k r h s f =
       go (same? i l)
-      (λ g j. placed pu W W₁ c l o (nodeOf (place w) L) (O .ent (W l) (place w) .left) i w′ q t v a (k .1) (r .this) g j f)
-      (λ g j. placed pu W W₁ c l (o + bytes u l) (nodeOf (place w) R) (O .ent (W l) (place w) .right) i w′ q t v b (k .2) (r .twin) g j f)
+      (λ g j. placed pu W W₁ c l o (nodeOf (pairSaid w) L) (O .ent (W l) (pairSaid w) .left) i w′ q t v a (k .1) (r .this) g j f)
+      (λ g j. placed pu W W₁ c l (o + bytes u l) (nodeOf (pairSaid w) R) (O .ent (W l) (pairSaid w) .right) i w′ q t v b (k .2) (r .twin) g j f)
     where
       x : ℕ
       x = baseOf u (O .ent (W i) q) i
@@ -102,8 +102,8 @@ module _ (u : ℕ) (O : Ops) (K : ℕ → Loan) where
       taken o z = taken-not (plant u l o x t z) (plant-taken u l o x t z (not-taken t (f .taken)))
 
       go : (i ≡ l) ⊎ (i ≡ l → ⊥)
-          → (i < l → Inside u (O .ent (W i) q) c o l → Done u O K W (put O W₁ i v) c l o (nodeOf (place w) L) (O .ent (W l) (place w) .left) (plant u l o x t a))
-          → (i < l → Inside u (O .ent (W i) q) c (o + bytes u l) l → Done u O K W (put O W₁ i v) c l (o + bytes u l) (nodeOf (place w) R) (O .ent (W l) (place w) .right) (plant u l (o + bytes u l) x t b))
+          → (i < l → Inside u (O .ent (W i) q) c o l → Done u O K W (put O W₁ i v) c l o (nodeOf (pairSaid w) L) (O .ent (W l) (pairSaid w) .left) (plant u l o x t a))
+          → (i < l → Inside u (O .ent (W i) q) c (o + bytes u l) l → Done u O K W (put O W₁ i v) c l (o + bytes u l) (nodeOf (pairSaid w) R) (O .ent (W l) (pairSaid w) .right) (plant u l (o + bytes u l) x t b))
           → Done u O K W (put O W₁ i v) c (suc l) o n w (plant u (suc l) o x t (split a b))
       go (inl e) fa fb =
           let r′ : Rep u (entries O W) K c (suc i) o n w (split a b) = rw (← e) at r in
@@ -113,12 +113,12 @@ module _ (u : ℕ) (O : Ops) (K : ℕ → Loan) where
           let g : i < l = omega arith in
           ⊎-elim
           (λ j.
-          let fr = free-in u l o a x i (ready-free u (entries O W) K c l o _ (O .ent (W l) (place w) .left) i q a (k .1) (r .this) g (f .ready) j) in
+          let fr = free-in u l o a x i (ready-free u (entries O W) K c l o _ (O .ent (W l) (pairSaid w) .left) i q a (k .1) (r .this) g (f .ready) j) in
           let lt : ltb x (o + bytes u l) ≡ true = lt-ltb x (o + bytes u l) (omega (arith, fr .1, bytes-pos u i pu)) in
           rw lt (rw (merge-split L (plant u l o x t a) b (taken o a)) at
           (step-same u O K pu W c l o n w L a b (plant u l o x t a) (put O W₁ i v) r (occupied u (entries O W) K c l o _ _ i q a (r .this) g (omega (arith, f .ready)) j) (fa g j))))
           (λ j.
-          let fr = free-in u l (o + bytes u l) b x i (ready-free u (entries O W) K c l (o + bytes u l) _ (O .ent (W l) (place w) .right) i q b (k .2) (r .twin) g (f .ready) j) in
+          let fr = free-in u l (o + bytes u l) b x i (ready-free u (entries O W) K c l (o + bytes u l) _ (O .ent (W l) (pairSaid w) .right) i q b (k .2) (r .twin) g (f .ready) j) in
           let lt : ltb x (o + bytes u l) ≡ false = le-ltb x (o + bytes u l) (fr .0) in
           rw lt (rw (merge-split R (plant u l (o + bytes u l) x t b) a (taken (o + bytes u l) b)) at
           (step-same u O K pu W c l o n w R b a (plant u l (o + bytes u l) x t b) (put O W₁ i v) (to-side u (entries O W) K c l o n w R b a r) (occupied u (entries O W) K c l (o + bytes u l) _ _ i q b (r .twin) g (omega (arith, f .ready)) j) (fb g j))))

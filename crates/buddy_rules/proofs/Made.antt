@@ -11,7 +11,7 @@ use Rattle.lists.proofs.Bools.{same?, lt-or-le, true-false}
 use Rattle.slab.specs.Slab.{nowhere}
 use Rattle.buddy_trees.specs.Trees.{Tree, free, loan, split, Piece, Taken, Wf, Has, up, bytes, spine, plant}
 use Rattle.buddy_trees.proofs.Plants.{plant-taken, planted, spine-wf, spine-taken, spine-has}
-use Rattle.buddy_rules.specs.Nodes.{Ent, Loan, L, R, nodeOf, place, Rep}
+use Rattle.buddy_rules.specs.Nodes.{Ent, Loan, L, R, nodeOf, pairSaid, Rep}
 use Rattle.buddy_rules.specs.Levels.{Ops, baseOf}
 use Rattle.buddy_rules.specs.Returns.{entries}
 use Rattle.buddy_rules.specs.Lends.{grow, lend}
@@ -39,8 +39,8 @@ module _ (u : ℕ) where
     off = r .off;
     up = r .up;
     only = r .only;
-    this = rep-loans E K K′ c l o (nodeOf (place w) L) (E l (place w) .left) a (λ y j h e. f y j (inl h) e) (r .this);
-    twin = rep-loans E K K′ c l (o + bytes u l) (nodeOf (place w) R) (E l (place w) .right) b (λ y j h e. f y j (inr h) e) (r .twin);
+    this = rep-loans E K K′ c l o (nodeOf (pairSaid w) L) (E l (pairSaid w) .left) a (λ y j h e. f y j (inl h) e) (r .this);
+    twin = rep-loans E K K′ c l (o + bytes u l) (nodeOf (pairSaid w) R) (E l (pairSaid w) .right) b (λ y j h e. f y j (inr h) e) (r .twin);
   }
 
 module _ (u : ℕ) (O : Ops) (some : 0 < u) where

@@ -7,7 +7,7 @@ use native.Mathlib.Omega.{arith}
 use Rattle.lists.proofs.Bools.{same?}
 use Rattle.buddy_trees.specs.Trees.{Tree, free, loan, split, Apart, Wf, bytes, Free}
 use Rattle.buddy_trees.proofs.Fills.{free-in}
-use Rattle.buddy_rules.specs.Nodes.{Ent, Loan, Side, L, R, nodeOf, place, isFree, tagOf, base, Inside, None, Rep}
+use Rattle.buddy_rules.specs.Nodes.{Ent, Loan, Side, L, R, nodeOf, pairSaid, isFree, tagOf, base, Inside, None, Rep}
 use Rattle.buddy_rules.specs.Levels.{sideOf, baseOf}
 use Rattle.buddy_rules.proofs.Frames.{inside-cases}
 
@@ -34,7 +34,7 @@ right-tag (split c d) b p e = rw e (omega arith, refl)
 
 module _ (u : ℕ) where
   -- where the ready side of a node's pair is
-  pub base-is : (E : ℕ → ℕ → Ent) (K : ℕ → Loan) (c l o n w : ℕ) (a b : Tree) (s : Side) → Rep u E K c (suc l) o n w (split a b) → sideOf (tagOf (isFree a) (isFree b)) ≡ s → baseOf u (E l (place w)) l ≡ base u s o l
+  pub base-is : (E : ℕ → ℕ → Ent) (K : ℕ → Loan) (c l o n w : ℕ) (a b : Tree) (s : Side) → Rep u E K c (suc l) o n w (split a b) → sideOf (tagOf (isFree a) (isFree b)) ≡ s → baseOf u (E l (pairSaid w)) l ≡ base u s o l
   base-is E K c l o n w a b s r e = ap₂ (λ t z. base u (sideOf t) z l) (r .tag) (r .off) ∙ ap (λ z. base u z o l) e
 
   -- a ready pair in the stretch is a node's, and its ready side is a free node
@@ -44,13 +44,13 @@ module _ (u : ℕ) where
   ready-free E K c zero o n w i q (split a b) v r h t s = absurd r
   ready-free E K c (suc l) o n w i q (split a b) v r h t s =
       go (same? i l)
-      (λ g j. ready-free E K c l o (nodeOf (place w) L) (E l (place w) .left) i q a (v .1) (r .this) g t j)
-      (λ g j. ready-free E K c l (o + bytes u l) (nodeOf (place w) R) (E l (place w) .right) i q b (v .2) (r .twin) g t j)
+      (λ g j. ready-free E K c l o (nodeOf (pairSaid w) L) (E l (pairSaid w) .left) i q a (v .1) (r .this) g t j)
+      (λ g j. ready-free E K c l (o + bytes u l) (nodeOf (pairSaid w) R) (E l (pairSaid w) .right) i q b (v .2) (r .twin) g t j)
     where
       at : 1 < E l q .tag → Inside u (E l q) c o (suc l) → Free u l o a (baseOf u (E l q) l) l ⊎ Free u l (o + bytes u l) b (baseOf u (E l q) l) l
       at t s =
-          let e : q ≡ place w = r .only q (omega arith) s in
-          let f : 1 < E l (place w) .tag = rw e at t in
+          let e : q ≡ pairSaid w = r .only q (omega arith) s in
+          let f : 1 < E l (pairSaid w) .tag = rw e at t in
           rw e (⊎-elim
           (λ z. inl (rw (z .0) (base-is E K c l o n w a b L r (z .2), refl)))
           (λ z. inr (rw (z .0) (base-is E K c l o n w a b R r (z .2), refl)))
@@ -84,19 +84,19 @@ module _ (u : ℕ) where
   free-ready E K c zero o n w x m (split a b) v r f h = absurd r
   free-ready E K c (suc l) o n w x m (split a b) v r f h =
       go (same? m l)
-      (λ g j. free-ready E K c l o (nodeOf (place w) L) (E l (place w) .left) x m a (v .1) (r .this) j g)
-      (λ g j. free-ready E K c l (o + bytes u l) (nodeOf (place w) R) (E l (place w) .right) x m b (v .2) (r .twin) j g)
+      (λ g j. free-ready E K c l o (nodeOf (pairSaid w) L) (E l (pairSaid w) .left) x m a (v .1) (r .this) j g)
+      (λ g j. free-ready E K c l (o + bytes u l) (nodeOf (pairSaid w) R) (E l (pairSaid w) .right) x m b (v .2) (r .twin) j g)
     where
       go : (m ≡ l) ⊎ (m ≡ l → ⊥) → (m < l → Free u l o a x m → Ready E c x m) → (m < l → Free u l (o + bytes u l) b x m → Ready E c x m) → Ready E c x m
       go (inl e) fa fb = rw e (⊎-elim
           (λ g.
           let z = free-whole l o x m a e g in
           let y = left-tag a b (z .0) in
-          record { p = place w; tag = rw (r .tag) (y .0); chunk = r .chunk; at = z .1 ∙ sym (base-is E K c l o n w a b L r (y .1)) })
+          record { p = pairSaid w; tag = rw (r .tag) (y .0); chunk = r .chunk; at = z .1 ∙ sym (base-is E K c l o n w a b L r (y .1)) })
           (λ g.
           let z = free-whole l (o + bytes u l) x m b e g in
           let y = right-tag a b (v .0) (z .0) in
-          record { p = place w; tag = rw (r .tag) (y .0); chunk = r .chunk; at = z .1 ∙ sym (base-is E K c l o n w a b R r (y .1)) })
+          record { p = pairSaid w; tag = rw (r .tag) (y .0); chunk = r .chunk; at = z .1 ∙ sym (base-is E K c l o n w a b R r (y .1)) })
           f)
       go (inr d) fa fb = ⊎-elim (fa (omega arith)) (fb (omega arith)) f
 
@@ -105,5 +105,5 @@ module _ (u : ℕ) where
   free-none E K c l o n w x m free r f = rw (f .0, f .1) (r .1)
   free-none E K c l o n w x m (loan k) r f = absurd f
   free-none E K c zero o n w x m (split a b) r f = absurd f
-  free-none E K c (suc l) o n w x m (split a b) r (inl f) = free-none E K c l o (nodeOf (place w) L) (E l (place w) .left) x m a (r .this) f
-  free-none E K c (suc l) o n w x m (split a b) r (inr f) = free-none E K c l (o + bytes u l) (nodeOf (place w) R) (E l (place w) .right) x m b (r .twin) f
+  free-none E K c (suc l) o n w x m (split a b) r (inl f) = free-none E K c l o (nodeOf (pairSaid w) L) (E l (pairSaid w) .left) x m a (r .this) f
+  free-none E K c (suc l) o n w x m (split a b) r (inr f) = free-none E K c l (o + bytes u l) (nodeOf (pairSaid w) R) (E l (pairSaid w) .right) x m b (r .twin) f

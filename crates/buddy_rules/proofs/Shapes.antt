@@ -6,7 +6,7 @@ use Prim.Native.Nat.{ℕ, zero, suc, _+_, _*_, _≤_}
 use native.Mathlib.Omega.{arith}
 use Rattle.buddy_trees.specs.Trees.{Tree, free, loan, split, Apart, Wf, bytes, Piece, Has}
 use Rattle.buddy_trees.proofs.Bytes.{bytes-suc}
-use Rattle.buddy_rules.specs.Nodes.{Ent, Loan, Side, L, R, nodeOf, word, place, isFree, tagOf, base}
+use Rattle.buddy_rules.specs.Nodes.{Ent, Loan, Side, L, R, nodeOf, word, pairSaid, isFree, tagOf, base}
 
 -- ---- the nodes that a walk meets
 
@@ -21,8 +21,8 @@ module _ (u : ℕ) (E : ℕ → ℕ → Ent) where
   Meets zero o n w (split a b) i x m v = Here zero o n w i x m v
   Meets (suc l) o n w (split a b) i x m v =
       Here (suc l) o n w i x m v
-      ⊎ (Meets l o (nodeOf (place w) L) (E l (place w) .left) a i x m v
-      ⊎ Meets l (o + bytes u l) (nodeOf (place w) R) (E l (place w) .right) b i x m v)
+      ⊎ (Meets l o (nodeOf (pairSaid w) L) (E l (pairSaid w) .left) a i x m v
+      ⊎ Meets l (o + bytes u l) (nodeOf (pairSaid w) R) (E l (pairSaid w) .right) b i x m v)
 
   pub meets-here : (l o n w : ℕ) (t : Tree) (i x m v : ℕ) → Here l o n w i x m v → Meets l o n w t i x m v
   meets-here l o n w free i x m v h = h
@@ -40,10 +40,10 @@ module _ (u : ℕ) (E : ℕ → ℕ → Ent) where
   meets-in zero o n w (split a b) i x m v h = here-in zero o n w i x m v h
   meets-in (suc l) o n w (split a b) i x m v (inl h) = here-in (suc l) o n w i x m v h
   meets-in (suc l) o n w (split a b) i x m v (inr (inl h)) =
-      let j = meets-in l o (nodeOf (place w) L) (E l (place w) .left) a i x m v h in
+      let j = meets-in l o (nodeOf (pairSaid w) L) (E l (pairSaid w) .left) a i x m v h in
       omega (arith, bytes-suc u l)
   meets-in (suc l) o n w (split a b) i x m v (inr (inr h)) =
-      let j = meets-in l (o + bytes u l) (nodeOf (place w) R) (E l (place w) .right) b i x m v h in
+      let j = meets-in l (o + bytes u l) (nodeOf (pairSaid w) R) (E l (pairSaid w) .right) b i x m v h in
       omega (arith, bytes-suc u l)
 
 -- ---- what it sees
@@ -59,12 +59,12 @@ module _ (u : ℕ) (K : ℕ → Loan) (live : ℕ → Bool) (size : ℕ → ℕ)
 module _ (u : ℕ) (E : ℕ → ℕ → Ent) (K : ℕ → Loan) (live : ℕ → Bool) (size : ℕ → ℕ) where
   -- node n is split into the pair of its word, whose halves are a and b
   pub record Pair (c l o n w : ℕ) (a b : Tree) (A B : Type 0) : Type 0 where
-    pub is : w ≡ 2 * place w + 2
+    pub is : w ≡ 2 * pairSaid w + 2
     pub apart : Apart a b
-    pub tag : E l (place w) .tag ≡ tagOf (isFree a) (isFree b)
-    pub chunk : E l (place w) .chunk ≡ c
-    pub off : E l (place w) .off ≡ o
-    pub up : E l (place w) .up ≡ n
+    pub tag : E l (pairSaid w) .tag ≡ tagOf (isFree a) (isFree b)
+    pub chunk : E l (pairSaid w) .chunk ≡ c
+    pub off : E l (pairSaid w) .off ≡ o
+    pub up : E l (pairSaid w) .up ≡ n
     pub this : A
     pub twin : B
 
@@ -75,8 +75,8 @@ module _ (u : ℕ) (E : ℕ → ℕ → Ent) (K : ℕ → Loan) (live : ℕ → 
   Shape c zero o n w (split a b) = ⊥
   Shape c (suc l) o n w (split a b) =
       Pair c l o n w a b
-      (Shape c l o (nodeOf (place w) L) (E l (place w) .left) a)
-      (Shape c l (o + bytes u l) (nodeOf (place w) R) (E l (place w) .right) b)
+      (Shape c l o (nodeOf (pairSaid w) L) (E l (pairSaid w) .left) a)
+      (Shape c l (o + bytes u l) (nodeOf (pairSaid w) R) (E l (pairSaid w) .right) b)
 
   pub shape-wf : (c l o n w : ℕ) (t : Tree) → Shape c l o n w t → Wf l t
   shape-wf c l o n w free r = tt
@@ -84,8 +84,8 @@ module _ (u : ℕ) (E : ℕ → ℕ → Ent) (K : ℕ → Loan) (live : ℕ → 
   shape-wf c zero o n w (split a b) r = absurd r
   shape-wf c (suc l) o n w (split a b) r = (
     r .apart,
-    shape-wf c l o (nodeOf (place w) L) (E l (place w) .left) a (r .this),
-    shape-wf c l (o + bytes u l) (nodeOf (place w) R) (E l (place w) .right) b (r .twin),
+    shape-wf c l o (nodeOf (pairSaid w) L) (E l (pairSaid w) .left) a (r .this),
+    shape-wf c l (o + bytes u l) (nodeOf (pairSaid w) R) (E l (pairSaid w) .right) b (r .twin),
   )
 
   -- a loan of the tree is one
@@ -93,8 +93,8 @@ module _ (u : ℕ) (E : ℕ → ℕ → Ent) (K : ℕ → Loan) (live : ℕ → 
   shape-loan c l o n w free y k r h e = absurd h
   shape-loan c l o n w (loan j) y k r h e = let i : k ≡ j = omega (arith, h .2) in rw i (r .1 .lives)
   shape-loan c zero o n w (split a b) y k r h e = absurd h
-  shape-loan c (suc l) o n w (split a b) y k r (inl h) e = shape-loan c l o (nodeOf (place w) L) (E l (place w) .left) a y k (r .this) h e
-  shape-loan c (suc l) o n w (split a b) y k r (inr h) e = shape-loan c l (o + bytes u l) (nodeOf (place w) R) (E l (place w) .right) b y k (r .twin) h e
+  shape-loan c (suc l) o n w (split a b) y k r (inl h) e = shape-loan c l o (nodeOf (pairSaid w) L) (E l (pairSaid w) .left) a y k (r .this) h e
+  shape-loan c (suc l) o n w (split a b) y k r (inr h) e = shape-loan c l (o + bytes u l) (nodeOf (pairSaid w) R) (E l (pairSaid w) .right) b y k (r .twin) h e
 
   -- ---- what it sees where it meets a node
 
@@ -110,10 +110,10 @@ module _ (u : ℕ) (E : ℕ → ℕ → Ent) (K : ℕ → Loan) (live : ℕ → 
   part-of c zero o n w (split a b) i x m v r h = absurd r
   part-of c (suc l) o n w (split a b) i x m v r (inl h) = rw (h .0, h .1, h .2, h .3) (record { tree = split a b; shape = r; has = λ y z. z })
   part-of c (suc l) o n w (split a b) i x m v r (inr (inl h)) =
-      let j = part-of c l o (nodeOf (place w) L) (E l (place w) .left) a i x m v (r .this) h in
+      let j = part-of c l o (nodeOf (pairSaid w) L) (E l (pairSaid w) .left) a i x m v (r .this) h in
       record { tree = j .tree; shape = j .shape; has = λ y z. inl (j .has y z) }
   part-of c (suc l) o n w (split a b) i x m v r (inr (inr h)) =
-      let j = part-of c l (o + bytes u l) (nodeOf (place w) R) (E l (place w) .right) b i x m v (r .twin) h in
+      let j = part-of c l (o + bytes u l) (nodeOf (pairSaid w) R) (E l (pairSaid w) .right) b i x m v (r .twin) h in
       record { tree = j .tree; shape = j .shape; has = λ y z. inr (j .has y z) }
 
   -- where it meets a split node it meets that node's halves
@@ -124,15 +124,15 @@ module _ (u : ℕ) (E : ℕ → ℕ → Ent) (K : ℕ → Loan) (live : ℕ → 
   meets-half c zero o n w (split a b) i x m q s r h = absurd r
   meets-half c (suc l) o n w (split a b) i x m q s r (inl h) =
       let f : i ≡ l = omega (arith, h .0) in
-      let e : q ≡ place w = omega (arith, h .3) in
+      let e : q ≡ pairSaid w = omega (arith, h .3) in
       rw (f, e, h .1) (inr (go s))
     where
       go : (s : Side)
-          → Meets u E l o (nodeOf (place w) L) (E l (place w) .left) a l (base u s o l) (nodeOf (place w) s) (word s (E l (place w)))
-          ⊎ Meets u E l (o + bytes u l) (nodeOf (place w) R) (E l (place w) .right) b l (base u s o l) (nodeOf (place w) s) (word s (E l (place w)))
-      go L = inl (meets-here u E l o (nodeOf (place w) L) (E l (place w) .left) a l o (nodeOf (place w) L) (E l (place w) .left) (refl, refl, refl, refl))
-      go R = inr (meets-here u E l (o + bytes u l) (nodeOf (place w) R) (E l (place w) .right) b l (o + bytes u l) (nodeOf (place w) R) (E l (place w) .right) (refl, refl, refl, refl))
+          → Meets u E l o (nodeOf (pairSaid w) L) (E l (pairSaid w) .left) a l (base u s o l) (nodeOf (pairSaid w) s) (word s (E l (pairSaid w)))
+          ⊎ Meets u E l (o + bytes u l) (nodeOf (pairSaid w) R) (E l (pairSaid w) .right) b l (base u s o l) (nodeOf (pairSaid w) s) (word s (E l (pairSaid w)))
+      go L = inl (meets-here u E l o (nodeOf (pairSaid w) L) (E l (pairSaid w) .left) a l o (nodeOf (pairSaid w) L) (E l (pairSaid w) .left) (refl, refl, refl, refl))
+      go R = inr (meets-here u E l (o + bytes u l) (nodeOf (pairSaid w) R) (E l (pairSaid w) .right) b l (o + bytes u l) (nodeOf (pairSaid w) R) (E l (pairSaid w) .right) (refl, refl, refl, refl))
   meets-half c (suc l) o n w (split a b) i x m q s r (inr (inl h)) =
-      inr (inl (meets-half c l o (nodeOf (place w) L) (E l (place w) .left) a i x m q s (r .this) h))
+      inr (inl (meets-half c l o (nodeOf (pairSaid w) L) (E l (pairSaid w) .left) a i x m q s (r .this) h))
   meets-half c (suc l) o n w (split a b) i x m q s r (inr (inr h)) =
-      inr (inr (meets-half c l (o + bytes u l) (nodeOf (place w) R) (E l (place w) .right) b i x m q s (r .twin) h))
+      inr (inr (meets-half c l (o + bytes u l) (nodeOf (pairSaid w) R) (E l (pairSaid w) .right) b i x m q s (r .twin) h))

@@ -6,7 +6,7 @@ use Prim.Native.Nat.{ℕ, suc, _<_}
 use native.Mathlib.Omega.{arith}
 use Rattle.lists.proofs.Bools.{true-false, told}
 use Rattle.buddy_trees.specs.Trees.{Tree, free, loan, split, Taken, Piece, Has, merge}
-use Rattle.buddy_rules.specs.Nodes.{Ent, Loan, Side, L, R, other, nodeOf, word, place, isFree, tagOf, splitBy, base, Inside, Node, Rep}
+use Rattle.buddy_rules.specs.Nodes.{Ent, Loan, Side, L, R, other, nodeOf, word, pairSaid, isFree, tagOf, splitBy, base, Inside, Node, Rep}
 use Rattle.buddy_rules.specs.Levels.{readied, filled}
 use Rattle.buddy_rules.proofs.Frames.{rep-free}
 
@@ -143,8 +143,8 @@ module _ (u : ℕ) where
   abbrev pub NodeBy : (ℕ → ℕ → Ent) → (ℕ → Loan) → ℕ → ℕ → ℕ → ℕ → ℕ → Side → Tree → Tree → Type 0
   NodeBy E K c l o n w s x y =
       Node u E c l o n w (tagBy s x y)
-      (Rep u E K c l (base u s o l) (nodeOf (place w) s) (word s (E l (place w))) x)
-      (Rep u E K c l (base u (other s) o l) (nodeOf (place w) (other s)) (word (other s) (E l (place w))) y)
+      (Rep u E K c l (base u s o l) (nodeOf (pairSaid w) s) (word s (E l (pairSaid w))) x)
+      (Rep u E K c l (base u (other s) o l) (nodeOf (pairSaid w) (other s)) (word (other s) (E l (pairSaid w))) y)
 
   pub from-side : (E : ℕ → ℕ → Ent) (K : ℕ → Loan) (c l o n w : ℕ) (s : Side) (x y : Tree) → NodeBy E K c l o n w s x y → Rep u E K c (suc l) o n w (splitBy s x y)
   from-side E K c l o n w L x y r = r

@@ -8,7 +8,7 @@ use native.Mathlib.Omega.{arith}
 use Rattle.lists.proofs.Bools.{same?}
 use Rattle.buddy_trees.specs.Trees.{Tree, free, loan, split, Wf, bytes, Piece, Has}
 use Rattle.buddy_trees.proofs.Bytes.{bytes-pos}
-use Rattle.buddy_rules.specs.Nodes.{Ent, Loan, Side, L, R, nodeOf, word, place, base, Inside, Rep}
+use Rattle.buddy_rules.specs.Nodes.{Ent, Loan, Side, L, R, nodeOf, word, pairSaid, base, Inside, Rep}
 use Rattle.buddy_rules.proofs.Frames.{inside-half, inside-cases}
 use Rattle.buddy_rules.proofs.Sides.{tag-any}
 use Rattle.buddy_rules.proofs.Shapes.{Shape, Here, Meets, meets-in}
@@ -32,30 +32,30 @@ module _ (u : ℕ) (E : ℕ → ℕ → Ent) where
   abbrev pub AllMet : ℕ → ℕ → ℕ → ℕ → ℕ → Tree → Type 0
   AllMet c l o n w t = (i p : ℕ) → i < l → 0 < E i p .tag → Inside u (E i p) c o l → Met l o n w t i p
 
-  met-left : (c l o n w : ℕ) (a b : Tree) → AllMet c (suc l) o n w (split a b) → AllMet c l o (nodeOf (place w) L) (E l (place w) .left) a
+  met-left : (c l o n w : ℕ) (a b : Tree) → AllMet c (suc l) o n w (split a b) → AllMet c l o (nodeOf (pairSaid w) L) (E l (pairSaid w) .left) a
   met-left c l o n w a b f i p h t j = go (f i p (omega arith) t (inside-half u L (E i p) c o l j))
     where
-      go : Met (suc l) o n w (split a b) i p → Met l o (nodeOf (place w) L) (E l (place w) .left) a i p
+      go : Met (suc l) o n w (split a b) i p → Met l o (nodeOf (pairSaid w) L) (E l (pairSaid w) .left) a i p
       go (inl z) = absurd (omega (arith, z .0))
       go (inr (inl z)) = z
-      go (inr (inr z)) = absurd (omega (arith, j .2, meets-in u E l (o + bytes u l) (nodeOf (place w) R) (E l (place w) .right) b (suc i) (E i p .off) (E i p .up) (2 * p + 2) z .0))
+      go (inr (inr z)) = absurd (omega (arith, j .2, meets-in u E l (o + bytes u l) (nodeOf (pairSaid w) R) (E l (pairSaid w) .right) b (suc i) (E i p .off) (E i p .up) (2 * p + 2) z .0))
 
-  met-right : 0 < u → (c l o n w : ℕ) (a b : Tree) → AllMet c (suc l) o n w (split a b) → AllMet c l (o + bytes u l) (nodeOf (place w) R) (E l (place w) .right) b
+  met-right : 0 < u → (c l o n w : ℕ) (a b : Tree) → AllMet c (suc l) o n w (split a b) → AllMet c l (o + bytes u l) (nodeOf (pairSaid w) R) (E l (pairSaid w) .right) b
   met-right pu c l o n w a b f i p h t j = go (f i p (omega arith) t (inside-half u R (E i p) c o l j))
     where
-      go : Met (suc l) o n w (split a b) i p → Met l (o + bytes u l) (nodeOf (place w) R) (E l (place w) .right) b i p
+      go : Met (suc l) o n w (split a b) i p → Met l (o + bytes u l) (nodeOf (pairSaid w) R) (E l (pairSaid w) .right) b i p
       go (inl z) = absurd (omega (arith, z .0))
       go (inr (inl z)) =
-          absurd (omega (arith, j .1, bytes-pos u (suc i) pu, meets-in u E l o (nodeOf (place w) L) (E l (place w) .left) a (suc i) (E i p .off) (E i p .up) (2 * p + 2) z .1))
+          absurd (omega (arith, j .1, bytes-pos u (suc i) pu, meets-in u E l o (nodeOf (pairSaid w) L) (E l (pairSaid w) .left) a (suc i) (E i p .off) (E i p .up) (2 * p + 2) z .1))
       go (inr (inr z)) = z
 
   -- at its own level it is the node's pair
-  met-own : (l o n w p : ℕ) (a b : Tree) → Met (suc l) o n w (split a b) l p → p ≡ place w
+  met-own : (l o n w p : ℕ) (a b : Tree) → Met (suc l) o n w (split a b) l p → p ≡ pairSaid w
   met-own l o n w p a b (inl z) = omega (arith, z .3)
   met-own l o n w p a b (inr (inl z)) =
-      absurd (omega (arith, meets-in u E l o (nodeOf (place w) L) (E l (place w) .left) a (suc l) (E l p .off) (E l p .up) (2 * p + 2) z .2))
+      absurd (omega (arith, meets-in u E l o (nodeOf (pairSaid w) L) (E l (pairSaid w) .left) a (suc l) (E l p .off) (E l p .up) (2 * p + 2) z .2))
   met-own l o n w p a b (inr (inr z)) =
-      absurd (omega (arith, meets-in u E l (o + bytes u l) (nodeOf (place w) R) (E l (place w) .right) b (suc l) (E l p .off) (E l p .up) (2 * p + 2) z .2))
+      absurd (omega (arith, meets-in u E l (o + bytes u l) (nodeOf (pairSaid w) R) (E l (pairSaid w) .right) b (suc l) (E l p .off) (E l p .up) (2 * p + 2) z .2))
 
 module _ (u : ℕ) (E : ℕ → ℕ → Ent) (K : ℕ → Loan) where
   -- ---- a node that stands for a tree
@@ -67,14 +67,14 @@ module _ (u : ℕ) (E : ℕ → ℕ → Ent) (K : ℕ → Loan) where
   rep-met c zero o n w (split a b) r i p h t j = absurd r
   rep-met c (suc l) o n w (split a b) r i p h t j =
       go (same? i l)
-      (λ g z. rep-met c l o (nodeOf (place w) L) (E l (place w) .left) a (r .this) i p g t z)
-      (λ g z. rep-met c l (o + bytes u l) (nodeOf (place w) R) (E l (place w) .right) b (r .twin) i p g t z)
+      (λ g z. rep-met c l o (nodeOf (pairSaid w) L) (E l (pairSaid w) .left) a (r .this) i p g t z)
+      (λ g z. rep-met c l (o + bytes u l) (nodeOf (pairSaid w) R) (E l (pairSaid w) .right) b (r .twin) i p g t z)
     where
-      go : (i ≡ l) ⊎ (i ≡ l → ⊥) → (i < l → Inside u (E i p) c o l → Met u E l o (nodeOf (place w) L) (E l (place w) .left) a i p)
-          → (i < l → Inside u (E i p) c (o + bytes u l) l → Met u E l (o + bytes u l) (nodeOf (place w) R) (E l (place w) .right) b i p)
+      go : (i ≡ l) ⊎ (i ≡ l → ⊥) → (i < l → Inside u (E i p) c o l → Met u E l o (nodeOf (pairSaid w) L) (E l (pairSaid w) .left) a i p)
+          → (i < l → Inside u (E i p) c (o + bytes u l) l → Met u E l (o + bytes u l) (nodeOf (pairSaid w) R) (E l (pairSaid w) .right) b i p)
           → Met u E (suc l) o n w (split a b) i p
       go (inl e) f g =
-          let q : p ≡ place w = r .only p (rw e at t) (rw e at j) in
+          let q : p ≡ pairSaid w = r .only p (rw e at t) (rw e at j) in
           inl (ap suc e, rw (e, q) (r .off), rw (e, q) (r .up), omega (arith, r .is))
       go (inr z) f g = inr (⊎-elim (λ k. inl (f (omega arith) k)) (λ k. inr (g (omega arith) k)) (inside-cases u L (E i p) c o l j))
 
@@ -86,14 +86,14 @@ module _ (u : ℕ) (E : ℕ → ℕ → Ent) (K : ℕ → Loan) where
       let i : k ≡ j = omega (arith, h .2) in
       (h .1, h .0, ap (λ z. K z .node) i ∙ ap (λ d. d .node) (r .1), omega (arith, r .0))
   has-met c zero o n w (split a b) y k r h e = absurd h
-  has-met c (suc l) o n w (split a b) y k r (inl h) e = inr (inl (has-met c l o (nodeOf (place w) L) (E l (place w) .left) a y k (r .this) h e))
-  has-met c (suc l) o n w (split a b) y k r (inr h) e = inr (inr (has-met c l (o + bytes u l) (nodeOf (place w) R) (E l (place w) .right) b y k (r .twin) h e))
+  has-met c (suc l) o n w (split a b) y k r (inl h) e = inr (inl (has-met c l o (nodeOf (pairSaid w) L) (E l (pairSaid w) .left) a y k (r .this) h e))
+  has-met c (suc l) o n w (split a b) y k r (inr h) e = inr (inr (has-met c l (o + bytes u l) (nodeOf (pairSaid w) R) (E l (pairSaid w) .right) b y k (r .twin) h e))
 
   -- a node that is met is the tree's own, or a side of a pair in use
-  met-side : (l o w i x m v : ℕ) (s : Side) → 0 < E l (place w) .tag
-      → Here l (base u s o l) (nodeOf (place w) s) (word s (E l (place w))) i x m v ⊎ SideOf E l i m v → SideOf E (suc l) i m v
+  met-side : (l o w i x m v : ℕ) (s : Side) → 0 < E l (pairSaid w) .tag
+      → Here l (base u s o l) (nodeOf (pairSaid w) s) (word s (E l (pairSaid w))) i x m v ⊎ SideOf E l i m v → SideOf E (suc l) i m v
   met-side l o w i x m v s t (inl h) =
-      rw (h .0) (record { pair = place w; side = s; low = omega arith; node = h .2; used = t; holds = sym (h .3) })
+      rw (h .0) (record { pair = pairSaid w; side = s; low = omega arith; node = h .2; used = t; holds = sym (h .3) })
   met-side l o w i x m v s t (inr h) = record { pair = h .pair; side = h .side; low = omega (arith, h .low); node = h .node; used = h .used; holds = h .holds }
 
   pub meets-side : (c l o n w : ℕ) (t : Tree) (i x m v : ℕ) → Rep u E K c l o n w t → Meets u E l o n w t i x m v
@@ -103,9 +103,9 @@ module _ (u : ℕ) (E : ℕ → ℕ → Ent) (K : ℕ → Loan) where
   meets-side c zero o n w (split a b) i x m v r h = absurd r
   meets-side c (suc l) o n w (split a b) i x m v r (inl h) = inl h
   meets-side c (suc l) o n w (split a b) i x m v r (inr (inl h)) =
-      inr (met-side l o w i x m v L (rw (r .tag) (tag-any L a b)) (meets-side c l o (nodeOf (place w) L) (E l (place w) .left) a i x m v (r .this) h))
+      inr (met-side l o w i x m v L (rw (r .tag) (tag-any L a b)) (meets-side c l o (nodeOf (pairSaid w) L) (E l (pairSaid w) .left) a i x m v (r .this) h))
   meets-side c (suc l) o n w (split a b) i x m v r (inr (inr h)) =
-      inr (met-side l o w i x m v R (rw (r .tag) (tag-any L a b)) (meets-side c l (o + bytes u l) (nodeOf (place w) R) (E l (place w) .right) b i x m v (r .twin) h))
+      inr (met-side l o w i x m v R (rw (r .tag) (tag-any L a b)) (meets-side c l (o + bytes u l) (nodeOf (pairSaid w) R) (E l (pairSaid w) .right) b i x m v (r .twin) h))
 
   -- ---- what the walk sees and what the node stands for
 
@@ -122,8 +122,8 @@ module _ (u : ℕ) (E : ℕ → ℕ → Ent) (K : ℕ → Loan) where
           off = r .off;
           up = r .up;
           only = λ p t j. met-own u E l o n w p a b (f l p (omega arith) t j);
-          this = shape-rep pu c l o (nodeOf (place w) L) (E l (place w) .left) a (r .this) (met-left u E c l o n w a b f);
-          twin = shape-rep pu c l (o + bytes u l) (nodeOf (place w) R) (E l (place w) .right) b (r .twin) (met-right u E pu c l o n w a b f);
+          this = shape-rep pu c l o (nodeOf (pairSaid w) L) (E l (pairSaid w) .left) a (r .this) (met-left u E c l o n w a b f);
+          twin = shape-rep pu c l (o + bytes u l) (nodeOf (pairSaid w) R) (E l (pairSaid w) .right) b (r .twin) (met-right u E pu c l o n w a b f);
         }
 
     -- the loans of the tree are loans of its length
@@ -143,6 +143,6 @@ module _ (u : ℕ) (E : ℕ → ℕ → Ent) (K : ℕ → Loan) where
           chunk = r .chunk;
           off = r .off;
           up = r .up;
-          this = rep-shape c l o (nodeOf (place w) L) (E l (place w) .left) a (v .1) (r .this) (λ y k h. f y k (inl h));
-          twin = rep-shape c l (o + bytes u l) (nodeOf (place w) R) (E l (place w) .right) b (v .2) (r .twin) (λ y k h. f y k (inr h));
+          this = rep-shape c l o (nodeOf (pairSaid w) L) (E l (pairSaid w) .left) a (v .1) (r .this) (λ y k h. f y k (inl h));
+          twin = rep-shape c l (o + bytes u l) (nodeOf (pairSaid w) R) (E l (pairSaid w) .right) b (v .2) (r .twin) (λ y k h. f y k (inr h));
         }

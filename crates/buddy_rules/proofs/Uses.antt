@@ -10,7 +10,7 @@ use Rattle.lists.proofs.Bools.{same?, told}
 use Rattle.buddy_trees.specs.Trees.{Tree, free, loan, split, Wf, up, bytes, Has}
 use Rattle.buddy_trees.proofs.Bytes.{bytes-pos, up-le}
 use Rattle.buddy_trees.proofs.Fills.{has-in}
-use Rattle.buddy_rules.specs.Nodes.{Loan, Side, L, R, other, nodeOf, word, place, isFree, base, Rep, Local}
+use Rattle.buddy_rules.specs.Nodes.{Loan, Side, L, R, other, nodeOf, word, pairSaid, isFree, base, Rep, Local}
 use Rattle.buddy_rules.specs.Levels.{Ops, baseOf}
 use Rattle.buddy_rules.specs.Returns.{entries, put, settle, give}
 use Rattle.buddy_rules.specs.Lends.{grow, headNode, lend}
@@ -45,29 +45,29 @@ module _ (u : ℕ) (O : Ops) (K : ℕ → Loan) where
 
   settle-old : 0 < u → (W : ℕ → O .Lv) (c l o n w : ℕ) (s : Side) (x y : Tree) (b : Bool) (W₁ : ℕ → O .Lv) → O .Good (W₁ l)
       → NodeBy u (entries O W) K c l o n w s x y → isFree x ≡ false → Local u (entries O W) (entries O W₁) c (base u s o l) l
-      → Old O W₁ (settle O l (place w) s b W₁ .levels)
+      → Old O W₁ (settle O l (pairSaid w) s b W₁ .levels)
   settle-old pu W c l o n w s x y false W₁ g r h m = λ i p t. t
   settle-old pu W c l o n w s x y true W₁ g r h m = go (told (isFree y))
     where
-      e : O .ent (W₁ l) (place w) ≡ O .ent (W l) (place w)
+      e : O .ent (W₁ l) (pairSaid w) ≡ O .ent (W l) (pairSaid w)
       e = mid-entry u O K pu W c l o n w s x y W₁ r m
 
-      used : 0 < O .ent (W₁ l) (place w) .tag
+      used : 0 < O .ent (W₁ l) (pairSaid w) .tag
       used = rw (e, r .tag) (tag-any s x y)
 
-      at : word (other s) (O .ent (W₁ l) (place w)) ≡ word (other s) (O .ent (W l) (place w))
+      at : word (other s) (O .ent (W₁ l) (pairSaid w)) ≡ word (other s) (O .ent (W l) (pairSaid w))
       at = ap (word (other s)) e
 
-      go : (isFree y ≡ true) ⊎ (isFree y ≡ false) → Old O W₁ (settle O l (place w) s true W₁ .levels)
+      go : (isFree y ≡ true) ⊎ (isFree y ≡ false) → Old O W₁ (settle O l (pairSaid w) s true W₁ .levels)
       go (inl f) =
           let z = rep-free u (entries O W) K c l (base u (other s) o l) _ _ y (r .twin) f in
-          let t : 1 < O .ent (W₁ l) (place w) .tag = rw (e, r .tag) (tag-ready s x y f) in
-          rw (eq-eqb (word (other s) (O .ent (W₁ l) (place w))) 0 (at ∙ z .1))
-          (put-old O W₁ l (O .drop (W₁ l) (place w)) (place w) used (λ j a. O .drop-other (W₁ l) (place w) j g t a))
+          let t : 1 < O .ent (W₁ l) (pairSaid w) .tag = rw (e, r .tag) (tag-ready s x y f) in
+          rw (eq-eqb (word (other s) (O .ent (W₁ l) (pairSaid w))) 0 (at ∙ z .1))
+          (put-old O W₁ l (O .drop (W₁ l) (pairSaid w)) (pairSaid w) used (λ j a. O .drop-other (W₁ l) (pairSaid w) j g t a))
       go (inr f) =
-          let t : O .ent (W₁ l) (place w) .tag ≡ 1 = ap (λ d. d .tag) e ∙ r .tag ∙ tag-one s x y h f in
-          rw (ne-eqb (word (other s) (O .ent (W₁ l) (place w))) 0 (λ z. rep-taken u (entries O W) K c l (base u (other s) o l) _ _ y (r .twin) f (sym at ∙ z)))
-          (put-old O W₁ l (O .back (W₁ l) (place w) s) (place w) used (λ j a. O .back-other (W₁ l) (place w) s j g t a))
+          let t : O .ent (W₁ l) (pairSaid w) .tag ≡ 1 = ap (λ d. d .tag) e ∙ r .tag ∙ tag-one s x y h f in
+          rw (ne-eqb (word (other s) (O .ent (W₁ l) (pairSaid w))) 0 (λ z. rep-taken u (entries O W) K c l (base u (other s) o l) _ _ y (r .twin) f (sym at ∙ z)))
+          (put-old O W₁ l (O .back (W₁ l) (pairSaid w) s) (pairSaid w) used (λ j a. O .back-other (W₁ l) (pairSaid w) s j g t a))
 
   pub gave-old : 0 < u → (W : ℕ → O .Lv) (c l n w o x lev k : ℕ) (t : Tree) → ((i : ℕ) → i < l → O .Good (W i)) → Wf l t → Rep u (entries O W) K c l o n w t → Has u l o t (record { at = x; lev = lev; who = k + 1 })
       → (i p : ℕ) → 0 < O .ent (give u O W l w o x .levels i) p .tag → 0 < O .ent (W i) p .tag
@@ -80,20 +80,20 @@ module _ (u : ℕ) (O : Ops) (K : ℕ → Loan) where
       let i = has-in u l o a (record { at = x; lev = lev; who = k + 1 }) h in
       let m : w % 2 ≡ 0 = omega (arith, r .is) in
       let f : ltb x (o + bytes u l) ≡ true = lt-ltb x (o + bytes u l) (omega (arith, bytes-pos u lev pu)) in
-      let z = O .ent (W l) (place w) .left in
+      let z = O .ent (W l) (pairSaid w) .left in
       let G = give u O W l z o x in
-      let d = gave u O K pu W c l (nodeOf (place w) L) z o x lev k a (λ i h. g i (omega arith)) (v .1) (r .this) h in
-      let b₀ = gave-old pu W c l (nodeOf (place w) L) z o x lev k a (λ i h. g i (omega arith)) (v .1) (r .this) h in
+      let d = gave u O K pu W c l (nodeOf (pairSaid w) L) z o x lev k a (λ i h. g i (omega arith)) (v .1) (r .this) h in
+      let b₀ = gave-old pu W c l (nodeOf (pairSaid w) L) z o x lev k a (λ i h. g i (omega arith)) (v .1) (r .this) h in
       let s = settle-old pu W c l o n w L a b (G .freed) (G .levels) (d .good l (g l (omega arith))) r (has-taken u l o a _ h) (d .local) in
       rw (m, f) (λ i p t. b₀ i p (s i p t))
   gave-old pu W c (suc l) n w o x lev k (split a b) g v r (inr h) =
       let i = has-in u l (o + bytes u l) b (record { at = x; lev = lev; who = k + 1 }) h in
       let m : w % 2 ≡ 0 = omega (arith, r .is) in
       let f : ltb x (o + bytes u l) ≡ false = le-ltb x (o + bytes u l) (omega arith) in
-      let z = O .ent (W l) (place w) .right in
+      let z = O .ent (W l) (pairSaid w) .right in
       let G = give u O W l z (o + bytes u l) x in
-      let d = gave u O K pu W c l (nodeOf (place w) R) z (o + bytes u l) x lev k b (λ i h. g i (omega arith)) (v .2) (r .twin) h in
-      let b₀ = gave-old pu W c l (nodeOf (place w) R) z (o + bytes u l) x lev k b (λ i h. g i (omega arith)) (v .2) (r .twin) h in
+      let d = gave u O K pu W c l (nodeOf (pairSaid w) R) z (o + bytes u l) x lev k b (λ i h. g i (omega arith)) (v .2) (r .twin) h in
+      let b₀ = gave-old pu W c l (nodeOf (pairSaid w) R) z (o + bytes u l) x lev k b (λ i h. g i (omega arith)) (v .2) (r .twin) h in
       let s = settle-old pu W c l o n w R b a (G .freed) (G .levels) (d .good l (g l (omega arith))) (to-side u (entries O W) K c l o n w R b a r) (has-taken u l (o + bytes u l) b _ h) (d .local) in
       rw (m, f) (λ i p t. b₀ i p (s i p t))
 

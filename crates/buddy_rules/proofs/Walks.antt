@@ -16,7 +16,7 @@ use Rattle.counter.specs.InTable.{BuddyIn}
 use Rattle.counter.specs.declared.settings.BuddySettings.{BuddySettings}
 use Rattle.store_rules.specs.Loans.{sizeAt}
 use Rattle.buddy_trees.specs.Trees.{Tree, free, loan, split, Apart, bytes}
-use Rattle.buddy_rules.specs.Nodes.{Ent, L, R, nodeOf, place, isFree, tagOf}
+use Rattle.buddy_rules.specs.Nodes.{Ent, L, R, nodeOf, pairSaid, isFree, tagOf}
 use Rattle.buddy_rules.specs.Tables.{Tables, pairsIn, loanCell, loanIn, liveIn}
 use Rattle.buddy_rules.specs.Test.{leafOk, entryOk, nodeOk}
 use Rattle.buddy_rules.proofs.Shapes.{LoanAt, Shape}
@@ -27,7 +27,7 @@ unfoldable pub treeOf : (ℕ → ℕ → Ent) → ℕ → ℕ → Tree
 treeOf E zero w = cond (eqb w 0) free (loan (w / 2))
 treeOf E (suc l) w =
     cond (eqb w 0) free
-    (cond (eqb (w % 2) 1) (loan (w / 2)) (split (treeOf E l (E l (place w) .left)) (treeOf E l (E l (place w) .right))))
+    (cond (eqb (w % 2) 1) (loan (w / 2)) (split (treeOf E l (E l (pairSaid w) .left)) (treeOf E l (E l (pairSaid w) .right))))
 
 module _ (E : ℕ → ℕ → Ent) where
   tree-free : (l w : ℕ) → w ≡ 0 → treeOf E l w ≡ free
@@ -40,7 +40,7 @@ module _ (E : ℕ → ℕ → Ent) where
   tree-loan zero w e = rw (ne-eqb w 0 (λ z. omega arith))
   tree-loan (suc l) w e = rw (ne-eqb w 0 (λ z. omega arith), eq-eqb (w % 2) 1 e)
 
-  tree-split : (l w : ℕ) → (w ≡ 0 → ⊥) → (w % 2 ≡ 1 → ⊥) → treeOf E (suc l) w ≡ split (treeOf E l (E l (place w) .left)) (treeOf E l (E l (place w) .right))
+  tree-split : (l w : ℕ) → (w ≡ 0 → ⊥) → (w % 2 ≡ 1 → ⊥) → treeOf E (suc l) w ≡ split (treeOf E l (E l (pairSaid w) .left)) (treeOf E l (E l (pairSaid w) .right))
   unfolding treeOf
   tree-split l w n m = rw (ne-eqb w 0 n, ne-eqb (w % 2) 1 m)
 
@@ -54,7 +54,7 @@ module _ (E : ℕ → ℕ → Ent) where
       go false = refl
   tree-word (suc l) w = go (eqb w 0) (eqb (w % 2) 1)
     where
-      go : (b d : Bool) → isFree (cond b free (cond d (loan (w / 2)) (split (treeOf E l (E l (place w) .left)) (treeOf E l (E l (place w) .right))))) ≡ b
+      go : (b d : Bool) → isFree (cond b free (cond d (loan (w / 2)) (split (treeOf E l (E l (pairSaid w) .left)) (treeOf E l (E l (pairSaid w) .right))))) ≡ b
       go true d = refl
       go false true = refl
       go false false = refl
@@ -77,7 +77,7 @@ apart-all (split c d) b h = refl
 wordCase : (w : ℕ) → (w ≡ 0) ⊎ ((w % 2 ≡ 1) ⊎ ((w ≡ 0 → ⊥) × (w % 2 ≡ 1 → ⊥)))
 wordCase w = ⊎-elim (λ e. inl e) (λ n. ⊎-elim (λ e. inr (inl e)) (λ m. inr (inr (n, m))) (same? (w % 2) 1)) (same? w 0)
 
-even : (w : ℕ) → (w ≡ 0 → ⊥) → (w % 2 ≡ 1 → ⊥) → w ≡ 2 * place w + 2
+even : (w : ℕ) → (w ≡ 0 → ⊥) → (w % 2 ≡ 1 → ⊥) → w ≡ 2 * pairSaid w + 2
 even w n m = omega arith
 
 -- ---- the levels of the walk
@@ -173,9 +173,9 @@ module _ (s : BuddySettings) (t : Tables) where
 
   node-split : (l c o n w : ℕ) → (w ≡ 0 → ⊥) → (w % 2 ≡ 1 → ⊥)
       → nodeOk s t (suc l) c o n w
-      ≡ (entryOk s t (pairsIn s t l (place w)) c o n
-      && (nodeOk s t l c o (nodeOf (place w) L) (pairsIn s t l (place w) .left)
-      && nodeOk s t l c (o + bytes (s .minimal) l) (nodeOf (place w) R) (pairsIn s t l (place w) .right)))
+      ≡ (entryOk s t (pairsIn s t l (pairSaid w)) c o n
+      && (nodeOk s t l c o (nodeOf (pairSaid w) L) (pairsIn s t l (pairSaid w) .left)
+      && nodeOk s t l c (o + bytes (s .minimal) l) (nodeOf (pairSaid w) R) (pairsIn s t l (pairSaid w) .right)))
   unfolding nodeOk
   node-split l c o n w f g = rw (ne-eqb w 0 f, ne-eqb (w % 2) 1 g)
 
@@ -193,10 +193,10 @@ module _ (s : BuddySettings) (t : Tables) where
       rw (tree-loan (pairsIn s t) l w e) (omega arith, leaf-yes (w / 2) c l o n fit h (sym (node-loan l c o n w e) ∙ b))
 
   pass-split : (l c o n w : ℕ) → (w ≡ 0 → ⊥) → (w % 2 ≡ 1 → ⊥)
-      → Passes l c o (nodeOf (place w) L) (pairsIn s t l (place w) .left)
-      → Passes l c (o + bytes (s .minimal) l) (nodeOf (place w) R) (pairsIn s t l (place w) .right) → Passes (suc l) c o n w
+      → Passes l c o (nodeOf (pairSaid w) L) (pairsIn s t l (pairSaid w) .left)
+      → Passes l c (o + bytes (s .minimal) l) (nodeOf (pairSaid w) R) (pairsIn s t l (pairSaid w) .right) → Passes (suc l) c o n w
   pass-split l c o n w f g this twin b =
-      let e = pairsIn s t l (place w) in
+      let e = pairsIn s t l (pairSaid w) in
       let x = treeOf (pairsIn s t) l (e .left) in
       let y = treeOf (pairsIn s t) l (e .right) in
       let b0 = sym (node-split l c o n w f g) ∙ b in
@@ -204,7 +204,7 @@ module _ (s : BuddySettings) (t : Tables) where
       let r = entry-yes e c o n (and-left (entryOk s t e c o n) _ b0) in
       let fx : isFree x ≡ eqb (e .left) 0 = tree-word (pairsIn s t) l (e .left) in
       let fy : isFree y ≡ eqb (e .right) 0 = tree-word (pairsIn s t) l (e .right) in
-      let p = nodeOk s t l c o (nodeOf (place w) L) (e .left) in
+      let p = nodeOk s t l c o (nodeOf (pairSaid w) L) (e .left) in
       rw (tree-split (pairsIn s t) l w f g) (record {
         is = even w f g;
         apart = apart-yes x y (ap₂ _&&_ fx fy ∙ r .apart);
@@ -221,12 +221,12 @@ module _ (s : BuddySettings) (t : Tables) where
       ⊎-elim (pass-free zero c o n w) (⊎-elim (λ e. pass-loan zero c o n w fit h e b) (λ z. absurd (true-false _ b (node-low c o n w (z .0) (z .1))))) (wordCase w)
   walk-yes (suc l) c o n w fit h b =
       go (wordCase w)
-      (walk-yes l c o (nodeOf (place w) L) (pairsIn s t l (place w) .left) fit (omega arith))
-      (walk-yes l c (o + bytes (s .minimal) l) (nodeOf (place w) R) (pairsIn s t l (place w) .right) fit (omega arith))
+      (walk-yes l c o (nodeOf (pairSaid w) L) (pairsIn s t l (pairSaid w) .left) fit (omega arith))
+      (walk-yes l c (o + bytes (s .minimal) l) (nodeOf (pairSaid w) R) (pairsIn s t l (pairSaid w) .right) fit (omega arith))
     where
       go : (w ≡ 0) ⊎ ((w % 2 ≡ 1) ⊎ ((w ≡ 0 → ⊥) × (w % 2 ≡ 1 → ⊥)))
-          → Passes l c o (nodeOf (place w) L) (pairsIn s t l (place w) .left)
-          → Passes l c (o + bytes (s .minimal) l) (nodeOf (place w) R) (pairsIn s t l (place w) .right)
+          → Passes l c o (nodeOf (pairSaid w) L) (pairsIn s t l (pairSaid w) .left)
+          → Passes l c (o + bytes (s .minimal) l) (nodeOf (pairSaid w) R) (pairsIn s t l (pairSaid w) .right)
           → Sees c (suc l) o n w (treeOf (pairsIn s t) (suc l) w)
       go (inl e) f g = pass-free (suc l) c o n w e
       go (inr (inl e)) f g = pass-loan (suc l) c o n w fit h e b
@@ -247,10 +247,10 @@ module _ (s : BuddySettings) (t : Tables) where
       node-loan l c o n w e ∙ rw i (leaf-all k c l o n (h .1))
   walk-all zero c o n w (split a b) h = absurd h
   walk-all (suc l) c o n w (split a b) h =
-      let e = pairsIn s t l (place w) in
+      let e = pairsIn s t l (pairSaid w) in
       let m = o + bytes (s .minimal) l in
-      let fa : isFree a ≡ eqb (e .left) 0 = sees-word l c o (nodeOf (place w) L) (e .left) a (h .this) in
-      let fb : isFree b ≡ eqb (e .right) 0 = sees-word l c m (nodeOf (place w) R) (e .right) b (h .twin) in
+      let fa : isFree a ≡ eqb (e .left) 0 = sees-word l c o (nodeOf (pairSaid w) L) (e .left) a (h .this) in
+      let fb : isFree b ≡ eqb (e .right) 0 = sees-word l c m (nodeOf (pairSaid w) R) (e .right) b (h .twin) in
       node-split l c o n w (λ z. omega (arith, h .is)) (λ z. omega (arith, h .is))
       ∙ and-both _ _
       (entry-all e c o n (record {
@@ -260,4 +260,4 @@ module _ (s : BuddySettings) (t : Tables) where
         off = h .off;
         up = h .up;
       }))
-      (and-both _ _ (walk-all l c o (nodeOf (place w) L) (e .left) a (h .this)) (walk-all l c m (nodeOf (place w) R) (e .right) b (h .twin)))
+      (and-both _ _ (walk-all l c o (nodeOf (pairSaid w) L) (e .left) a (h .this)) (walk-all l c m (nodeOf (pairSaid w) R) (e .right) b (h .twin)))

@@ -27,8 +27,8 @@ saysLoan w = eqb (w % 2) 1
 abbrev pub loanSaid : ℕ → ℕ
 loanSaid w = w / 2
 
-abbrev pub place : ℕ → ℕ
-place w = w / 2 - 1
+abbrev pub pairSaid : ℕ → ℕ
+pairSaid w = w / 2 - 1
 
 -- ---- the tag of a pair: its place is vacant, both its nodes are taken, or which of them is ready
 
@@ -115,12 +115,12 @@ module _ (u : ℕ) where
 
   -- a split node n: its pair, which alone of its level lies there, and its two halves
   pub record Node (E : ℕ → ℕ → Ent) (c l o n w t : ℕ) (A B : Type 0) : Type 0 where
-    pub is : w ≡ splitWord (place w)
-    pub tag : E l (place w) .tag ≡ t
-    pub chunk : E l (place w) .chunk ≡ c
-    pub off : E l (place w) .off ≡ o
-    pub up : E l (place w) .up ≡ n
-    pub only : (p : ℕ) → 0 < E l p .tag → Inside (E l p) c o (suc l) → p ≡ place w
+    pub is : w ≡ splitWord (pairSaid w)
+    pub tag : E l (pairSaid w) .tag ≡ t
+    pub chunk : E l (pairSaid w) .chunk ≡ c
+    pub off : E l (pairSaid w) .off ≡ o
+    pub up : E l (pairSaid w) .up ≡ n
+    pub only : (p : ℕ) → 0 < E l p .tag → Inside (E l p) c o (suc l) → p ≡ pairSaid w
     pub this : A
     pub twin : B
 
@@ -131,8 +131,8 @@ module _ (u : ℕ) where
   Rep E K c zero o n w (split a b) = ⊥
   Rep E K c (suc l) o n w (split a b) =
       Node E c l o n w (tagOf (isFree a) (isFree b))
-      (Rep E K c l o (nodeOf (place w) L) (E l (place w) .left) a)
-      (Rep E K c l (o + bytes u l) (nodeOf (place w) R) (E l (place w) .right) b)
+      (Rep E K c l o (nodeOf (pairSaid w) L) (E l (pairSaid w) .left) a)
+      (Rep E K c l (o + bytes u l) (nodeOf (pairSaid w) R) (E l (pairSaid w) .right) b)
 
   -- ---- when entries change
 

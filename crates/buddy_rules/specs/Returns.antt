@@ -5,7 +5,7 @@ use Prim.Native.Nat.{ℕ, zero, suc, _+_}
 use lib.Dec.{eqb, ltb}
 use Rattle.slab.specs.Slab.{nowhere}
 use Rattle.buddy_trees.specs.Trees.{bytes}
-use Rattle.buddy_rules.specs.Nodes.{freeWord, saysLoan, place, Ent, Side, L, R, other, pairOf, word}
+use Rattle.buddy_rules.specs.Nodes.{freeWord, saysLoan, pairSaid, Ent, Side, L, R, other, pairOf, word}
 use Rattle.buddy_rules.specs.Levels.{Ops, sideIn}
 
 module _ (O : Ops) where
@@ -48,5 +48,5 @@ module _ (u : ℕ) (O : Ops) where
   give W (suc l) w o x =
       cond (saysLoan w) (out O true W)
       (cond (ltb x (o + bytes u l))
-      (settled O l (place w) L (give W l (O .ent (W l) (place w) .left) o x))
-      (settled O l (place w) R (give W l (O .ent (W l) (place w) .right) (o + bytes u l) x)))
+      (settled O l (pairSaid w) L (give W l (O .ent (W l) (pairSaid w) .left) o x))
+      (settled O l (pairSaid w) R (give W l (O .ent (W l) (pairSaid w) .right) (o + bytes u l) x)))

@@ -13,7 +13,7 @@ use Rattle.counter.specs.Limits.{levelsMost}
 use Rattle.counter.specs.declared.settings.BuddySettings.{BuddySettings}
 use Rattle.slab.specs.Slab.{vacantAt, linkAt}
 use Rattle.slab.specs.declared.Slab.{Slab}
-use Rattle.store_rules.specs.Loans.{loanWords, sizeAt}
+use Rattle.store_rules.specs.Loans.{loanWords, chunkAt, offsetAt, sizeAt}
 use Rattle.book_rules.specs.Book.{indexWords, entryWords, vacantAfterAt, nextOf, slabOf, firstIn}
 use Rattle.buddy_rules.specs.Nodes.{Ent, Loan}
 use Rattle.buddy_rules.specs.Level.{levelWords, pairIn}
@@ -149,8 +149,8 @@ nodeOfLoan s t k = getD (t .tree) (nodesFrom s + k) 0
 abbrev pub loanIn : BuddySettings → Tables → ℕ → Loan
 loanIn s t k =
     record {
-      chunk = loanCell t 1 k;
-      at = loanCell t 2 k;
+      chunk = loanCell t chunkAt k;
+      at = loanCell t offsetAt k;
       lev = levelOf (loanCell t sizeAt k) (s .minimal);
       node = nodeOfLoan s t k;
     }

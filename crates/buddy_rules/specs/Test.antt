@@ -8,7 +8,7 @@ use Rattle.counter.specs.declared.settings.BuddySettings.{BuddySettings}
 use Rattle.slab.specs.Slab.{nowhere}
 use Rattle.store_rules.specs.Loans.{sizeAt}
 use Rattle.buddy_trees.specs.Trees.{bytes}
-use Rattle.buddy_rules.specs.Nodes.{freeWord, loanWord, splitWord, saysLoan, loanSaid, place, vacant, Ent, L, R, nodeOf, pairOf, word, tagOf}
+use Rattle.buddy_rules.specs.Nodes.{freeWord, loanWord, splitWord, saysLoan, loanSaid, pairSaid, vacant, Ent, L, R, nodeOf, pairOf, word, tagOf}
 use Rattle.buddy_rules.specs.Levels.{sideIn}
 use Rattle.buddy_rules.specs.Level.{usedAt}
 use Rattle.buddy_rules.specs.Tables.{Tables, mark, markAt, givenIn, memoryIn, vacantLoan, loanAfter, loanSlab, chainStart, chainNext, vacantChunk, chunkAfter, chunkSlab, levelsIn, placesIn, chunkPlacesIn, chunkSizeIn, levelFrom, pairsIn, loanCell, loanIn, liveIn, heldIn, highIn, topIn, initialLevels}
@@ -47,9 +47,9 @@ module _ (s : BuddySettings) (t : Tables) where
   nodeOk (suc l) c o n w =
       cond (eqb w freeWord) true
       (cond (saysLoan w) (leafOk (loanSaid w) c (suc l) o n)
-      (entryOk (pairsIn s t l (place w)) c o n
-      && (nodeOk l c o (nodeOf (place w) L) (pairsIn s t l (place w) .left)
-      && nodeOk l c (o + bytes (s .minimal) l) (nodeOf (place w) R) (pairsIn s t l (place w) .right))))
+      (entryOk (pairsIn s t l (pairSaid w)) c o n
+      && (nodeOk l c o (nodeOf (pairSaid w) L) (pairsIn s t l (pairSaid w) .left)
+      && nodeOk l c (o + bytes (s .minimal) l) (nodeOf (pairSaid w) R) (pairsIn s t l (pairSaid w) .right))))
 
   -- the chunk at place c, where there is one: its size, and its nodes; "a buddy store holds no wholly free chunk"
   unfoldable pub chunkOk : ℕ → Bool

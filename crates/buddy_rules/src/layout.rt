@@ -24,3 +24,13 @@ pub const PLACE_WORDS: usize = 2;
 pub const TOP_AT: usize = 0;
 
 pub const AFTER_AT: usize = 1;
+// The tag of a pair: its place is vacant, both its nodes are taken, or which of them is ready; specs/Nodes has the same names.
+pub const VACANT: u64 = 0;
+
+pub const EXHAUSTED: u64 = 1;
+
+pub const LEFT_READY: u64 = 2;
+
+pub const RIGHT_READY: u64 = 3;
+// The word of a node that is free.
+pub const FREE_WORD: u64 = 0;

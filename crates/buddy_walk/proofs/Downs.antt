@@ -14,7 +14,7 @@ use Rattle.store_rules.specs.Loans.{loanWords, sizeAt, loanRow}
 use Rattle.store_rules.specs.declared.Loan.{Loan}
 use Rattle.buddy_trees.specs.Trees.{bytes}
 use Rattle.buddy_trees.proofs.Bytes.{bytes-suc}
-use Rattle.buddy_rules.specs.Nodes.{Ent, L, R, nodeOf, tagOf, place}
+use Rattle.buddy_rules.specs.Nodes.{Ent, L, R, nodeOf, tagOf, pairSaid}
 use Rattle.buddy_rules.specs.Level.{pairIn}
 use Rattle.buddy_levels.specs.Seen.{partSettings, loanPart}
 use Rattle.buddy_rules.specs.Tables.{Tables, placesIn, levelFrom, nodesFrom, loanCell}
@@ -85,7 +85,7 @@ module _ (s : BuddySettings) (t : Tables) where
   node-low (suc l) c o n w f g e = absurd (omega arith)
 
   pub node-split : (l c o n w : ℕ) (r : Bool) → (w ≡ 0 → ⊥) → (w % 2 ≡ 1 → ⊥) → (l ≡ 0 → ⊥)
-      → r ≡ halvesOk s t (l - 1) c o n (place w) → r ≡ nodeOk s t l c o n w
+      → r ≡ halvesOk s t (l - 1) c o n (pairSaid w) → r ≡ nodeOk s t l c o n w
   unfolding nodeOk
   node-split zero c o n w r f g h e = absurd (h refl)
   node-split (suc l) c o n w r f g h e = let k : l ≡ suc l - 1 = omega arith in rw (k, ne-eqb w 0 f, ne-eqb (w % 2) 1 g) e

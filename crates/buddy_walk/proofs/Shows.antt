@@ -6,7 +6,7 @@ use lib.Dec.{eqb}
 use borrow.Author.Tests.{lt-ltb}
 use Rattle.counter.specs.declared.settings.BuddySettings.{BuddySettings}
 use Rattle.buddy_trees.specs.Trees.{bytes}
-use Rattle.buddy_rules.specs.Nodes.{Ent, L, R, nodeOf, place}
+use Rattle.buddy_rules.specs.Nodes.{Ent, L, R, nodeOf, pairSaid}
 use Rattle.buddy_levels.specs.Seen.{partSettings, partTables, loanPart}
 use Rattle.buddy_rules.specs.Tables.{Tables, levelsIn, placesIn, chunkPlacesIn, pairsIn}
 use Rattle.buddy_rules.specs.Test.{leafOk, entryOk, nodeOk, chunkOk}
@@ -31,11 +31,11 @@ module _ (s : BuddySettings) (t : Tables) where
   unfolding nodeOk
   node-shows zero c o n w = λ i. cond (eqb w 0) true (cond (eqb (w % 2) 1) (leaf-shows (w / 2) c zero o n i) false)
   node-shows (suc l) c o n w =
-      let e = pairsIn s t l (place w) in
+      let e = pairsIn s t l (pairSaid w) in
       λ i. cond (eqb w 0) true
       (cond (eqb (w % 2) 1) (leaf-shows (w / 2) c (suc l) o n i)
       (entry-shows numbers shown e c o n i
-      && (node-shows l c o (nodeOf (place w) L) (e .left) i && node-shows l c (o + bytes (s .minimal) l) (nodeOf (place w) R) (e .right) i)))
+      && (node-shows l c o (nodeOf (pairSaid w) L) (e .left) i && node-shows l c (o + bytes (s .minimal) l) (nodeOf (pairSaid w) R) (e .right) i)))
 
 -- how many chunk places there are matters to a chunk no more than that its own is one of them
 module _ (s : BuddySettings) (t : Tables) (n c : ℕ) (used : c < chunkPlacesIn t) (within : c < n) where
