@@ -7,6 +7,7 @@ use lib.ListN.{getD, set}
 use Rattle.slab.specs.Slab.{nowhere, inserted}
 use Rattle.slab.specs.declared.Taken.{Taken}
 use Rattle.ring_rules.specs.Ring.{alone}
+use Rattle.buddy_rules.specs.Nodes.{freeWord, vacant, exhausted, leftReady, rightReady}
 use Rattle.buddy_rules.specs.Levels.{sideBy, sideOf}
 use Rattle.buddy_rules.specs.Level.{
   ringAt,
@@ -43,20 +44,20 @@ module _ (b : ℕ) (t : List ℕ) where
   unfolding freshLevel
   level-fresh x y z e f g = g ∙ rw (f, e)
 
-  pub pair-dropped : (p v : ℕ) (w x y z : List ℕ) → v ≡ getD t (b + vacatedAt) 0 → w ≡ leaves b p t → x ≡ set w (pairCell b tagAt p) 0 → y ≡ set x (pairCell b offAt p) v → z ≡ set y (b + vacatedAt) p → z ≡ dropped b p t
+  pub pair-dropped : (p v : ℕ) (w x y z : List ℕ) → v ≡ getD t (b + vacatedAt) 0 → w ≡ leaves b p t → x ≡ set w (pairCell b tagAt p) vacant → y ≡ set x (pairCell b offAt p) v → z ≡ set y (b + vacatedAt) p → z ≡ dropped b p t
   unfolding dropped
   pair-dropped p v w x y z d e f g h = h ∙ rw (g, f, e, d)
 
   module _ (p : ℕ) (x y z : List ℕ) (s : Bool) (e : x ≡ joins b p t) where
-    pub left-backed : s ≡ true → y ≡ set x (pairCell b tagAt p) 2 → z ≡ set y (pairCell b leftAt p) 0 → z ≡ backed b p (sideBy s) t
+    pub left-backed : s ≡ true → y ≡ set x (pairCell b tagAt p) leftReady → z ≡ set y (pairCell b leftAt p) freeWord → z ≡ backed b p (sideBy s) t
     unfolding backed
     left-backed d f g = g ∙ rw (f, e, d)
 
-    pub right-backed : s ≡ false → y ≡ set x (pairCell b tagAt p) 3 → z ≡ set y (pairCell b rightAt p) 0 → z ≡ backed b p (sideBy s) t
+    pub right-backed : s ≡ false → y ≡ set x (pairCell b tagAt p) rightReady → z ≡ set y (pairCell b rightAt p) freeWord → z ≡ backed b p (sideBy s) t
     unfolding backed
     right-backed d f g = g ∙ rw (f, e, d)
 
-  module _ (w h : ℕ) (x y z : List ℕ) (l : Bool) (c : h ≡ ringHead b t) (s : sideBy l ≡ sideOf (getD t (pairCell b tagAt h) 0)) (e : x ≡ leaves b h t) (f : y ≡ set x (pairCell b tagAt h) 1) where
+  module _ (w h : ℕ) (x y z : List ℕ) (l : Bool) (c : h ≡ ringHead b t) (s : sideBy l ≡ sideOf (getD t (pairCell b tagAt h) 0)) (e : x ≡ leaves b h t) (f : y ≡ set x (pairCell b tagAt h) exhausted) where
     head-acquired : z ≡ set y (pairCell b (sideAt (sideBy l)) h) w → z ≡ acquired b w t
     unfolding acquired
     head-acquired g = g ∙ rw (f, e, s, c)
@@ -71,23 +72,23 @@ module _ (b : ℕ) (t : List ℕ) where
   alone-stood p x y z e f g = g ∙ rw (f, e)
 
   module _ (p c o n w : ℕ) where
-    pub pair-written : (u v x y z r : List ℕ) → u ≡ set t (pairCell b tagAt p) 3 → v ≡ set u (pairCell b chunkAt p) c → x ≡ set v (pairCell b offAt p) o → y ≡ set x (pairCell b leftAt p) w → z ≡ set y (pairCell b rightAt p) 0 → r ≡ set z (pairCell b upAt p) n
-        → r ≡ set (set (set (set (set (set t (pairCell b tagAt p) 3) (pairCell b chunkAt p) c) (pairCell b offAt p) o) (pairCell b leftAt p) w) (pairCell b rightAt p) 0) (pairCell b upAt p) n
+    pub pair-written : (u v x y z r : List ℕ) → u ≡ set t (pairCell b tagAt p) rightReady → v ≡ set u (pairCell b chunkAt p) c → x ≡ set v (pairCell b offAt p) o → y ≡ set x (pairCell b leftAt p) w → z ≡ set y (pairCell b rightAt p) freeWord → r ≡ set z (pairCell b upAt p) n
+        → r ≡ set (set (set (set (set (set t (pairCell b tagAt p) rightReady) (pairCell b chunkAt p) c) (pairCell b offAt p) o) (pairCell b leftAt p) w) (pairCell b rightAt p) freeWord) (pairCell b upAt p) n
     pair-written u v x y z r d e f g h k = k ∙ rw (h, g, f, e, d)
 
-    pub pair-entered : (x y : List ℕ) → x ≡ set (set (set (set (set (set t (pairCell b tagAt p) 3) (pairCell b chunkAt p) c) (pairCell b offAt p) o) (pairCell b leftAt p) w) (pairCell b rightAt p) 0) (pairCell b upAt p) n
+    pub pair-entered : (x y : List ℕ) → x ≡ set (set (set (set (set (set t (pairCell b tagAt p) rightReady) (pairCell b chunkAt p) c) (pairCell b offAt p) o) (pairCell b leftAt p) w) (pairCell b rightAt p) freeWord) (pairCell b upAt p) n
         → y ≡ alone (b + ringAt) (fieldAt b nextAt) (fieldAt b prevAt) pairWords p x → y ≡ entered b p c o n w t
     unfolding entered
     pair-entered x y e f = f ∙ ap (alone (b + ringAt) (fieldAt b nextAt) (fieldAt b prevAt) pairWords p) e
 
   -- ---- the place that a new pair takes
 
-  pub spot-read : (u v : ℕ) (k : Taken) → u ≡ getD t (b + usedAt) 0 → v ≡ getD t (b + vacatedAt) 0 → k ≡ inserted (record { places = u; vacant = v }) t (fieldAt b offAt) pairWords → k ≡ pairTaken b t
-  spot-read u v k d e f = f ∙ (λ j. inserted (record { places = d j; vacant = e j }) t (fieldAt b offAt) pairWords)
+  pub taken-read : (u v : ℕ) (k : Taken) → u ≡ getD t (b + usedAt) 0 → v ≡ getD t (b + vacatedAt) 0 → k ≡ inserted (record { places = u; vacant = v }) t (fieldAt b offAt) pairWords → k ≡ pairTaken b t
+  taken-read u v k d e f = f ∙ (λ j. inserted (record { places = d j; vacant = e j }) t (fieldAt b offAt) pairWords)
 
   module _ (k : Taken) (s : k ≡ pairTaken b t) where
-    pub spot-place : k .place ≡ pairTaken b t .place
-    spot-place = ap (λ (u : Taken). u .place) s
+    pub taken-place : k .place ≡ pairTaken b t .place
+    taken-place = ap (λ (u : Taken). u .place) s
 
     pub pair-added : (c o n w : ℕ) (x y z : List ℕ) → x ≡ set t (b + usedAt) (k .slab .places) → y ≡ set x (b + vacatedAt) (k .slab .vacant) → z ≡ entered b (k .place) c o n w y → z ≡ added b c o n w t
     unfolding added

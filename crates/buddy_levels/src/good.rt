@@ -14,6 +14,7 @@ use crate::TAG_AT;
 use crate::USED_AT;
 use crate::VACATED_AT;
 use crate::field;
+use buddy_rules::EXHAUSTED;
 use slab::Slab;
 
 // Whether the ring has exactly the ready pairs, and used and vacant places part, of which there are at most `pairs`.
@@ -62,7 +63,7 @@ fn count_ready(tree: &[u64], base: usize, n: u64) -> u64
     let mut count = 0;
     let mut p = 0;
     while p < n {
-        if 1 < field(tree, base, TAG_AT, p) {
+        if EXHAUSTED < field(tree, base, TAG_AT, p) {
             count += 1;
         }
         p += 1;
@@ -78,7 +79,7 @@ fn all_ready(tree: &[u64], base: usize, h: u64, k: u64) -> bool
     let mut p = h;
     let mut left = k;
     while 0 < left {
-        if field(tree, base, TAG_AT, p) <= 1 {
+        if field(tree, base, TAG_AT, p) <= EXHAUSTED {
             return false;
         }
         p = field(tree, base, NEXT_AT, p);

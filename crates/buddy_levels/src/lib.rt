@@ -1,10 +1,20 @@
 // A level of a buddy store's pairs in words, which begin at `base` of a lent table: its ring of ready pairs and its vacant
 // places. What is done to it is defined for all words, so none that the table holds can make any of these fail.
 mod good;
+mod nodes;
 mod pairs;
 mod shape;
 
 pub use good::is_good;
+pub use nodes::is_left;
+pub use nodes::left_node;
+pub use nodes::loan_said;
+pub use nodes::loan_word;
+pub use nodes::pair_of;
+pub use nodes::pair_said;
+pub use nodes::right_node;
+pub use nodes::says_loan;
+pub use nodes::split_word;
 pub use pairs::Pair;
 pub use pairs::pair_at;
 pub use pairs::pair_in;
@@ -15,9 +25,15 @@ pub use shape::nodes_from;
 ghost use mathlib.Core.Path.{_≡_};
 ghost use Prim.Native.Nat.{_+_, _≤_, _<_};
 ghost use lib.ListN.{getD, set};
+ghost use Rattle.buddy_rules.specs.Nodes.{freeWord, rightReady};
 ghost use Rattle.buddy_rules.specs.Levels.{sideBy, sideOf};
 ghost use Rattle.ring_rules.specs.Ring.{alone};
 ghost use Rattle.buddy_rules.specs.Level.{baseMost, pairWords, tagAt, chunkAt, offAt, leftAt, rightAt, nextAt, prevAt, upAt, ringAt, fieldAt, pairCell, ringHead, leaves, joins, pairTaken, dropped, backed, acquired, entered, added, freshLevel};
+use buddy_rules::EXHAUSTED;
+use buddy_rules::FREE_WORD;
+use buddy_rules::LEFT_READY;
+use buddy_rules::RIGHT_READY;
+use buddy_rules::VACANT;
 use slab::NOWHERE;
 use slab::Slab;
 use slab::Taken;
@@ -106,7 +122,7 @@ pub fn drop_pair(tree: &mut [u64], base: usize, p: u64)
 {
     let vacated = words::word(tree, base + VACATED_AT);
     leave(tree, base, p);
-    put_field(tree, base, TAG_AT, p, 0);
+    put_field(tree, base, TAG_AT, p, VACANT);
     put_field(tree, base, OFF_AT, p, vacated);
     words::put(tree, base + VACATED_AT, p);
 }
@@ -118,11 +134,11 @@ pub fn ready_pair(tree: &mut [u64], base: usize, p: u64, left: bool)
 {
     join(tree, base, p);
     if left {
-        put_field(tree, base, TAG_AT, p, 2);
-        put_field(tree, base, LEFT_AT, p, 0);
+        put_field(tree, base, TAG_AT, p, LEFT_READY);
+        put_field(tree, base, LEFT_AT, p, FREE_WORD);
     } else {
-        put_field(tree, base, TAG_AT, p, 3);
-        put_field(tree, base, RIGHT_AT, p, 0);
+        put_field(tree, base, TAG_AT, p, RIGHT_READY);
+        put_field(tree, base, RIGHT_AT, p, FREE_WORD);
     }
 }
 
@@ -133,7 +149,7 @@ pub fn acquire(tree: &mut [u64], base: usize, h: u64, left: bool, w: u64)
     ensures { λ _. ⌜ now (tree .exit) ≡ acquired base w (now (tree .entry)) ⌝ }
 {
     leave(tree, base, h);
-    put_field(tree, base, TAG_AT, h, 1);
+    put_field(tree, base, TAG_AT, h, EXHAUSTED);
     if left {
         put_field(tree, base, LEFT_AT, h, w);
     } else {
@@ -179,13 +195,13 @@ fn enter_pair(tree: &mut [u64], base: usize, p: u64, chunk: u64, offset: u64, no
 // The words of a new pair but for its links.
 fn write_pair(tree: &mut [u64], base: usize, p: u64, chunk: u64, offset: u64, node: u64, left: u64)
     requires { ⌜ base ≤ baseMost ⌝ }
-    ensures { λ _. ⌜ now (tree .exit) ≡ set (set (set (set (set (set (now (tree .entry)) (pairCell base tagAt p) 3) (pairCell base chunkAt p) chunk) (pairCell base offAt p) offset) (pairCell base leftAt p) left) (pairCell base rightAt p) 0) (pairCell base upAt p) node ⌝ }
+    ensures { λ _. ⌜ now (tree .exit) ≡ set (set (set (set (set (set (now (tree .entry)) (pairCell base tagAt p) rightReady) (pairCell base chunkAt p) chunk) (pairCell base offAt p) offset) (pairCell base leftAt p) left) (pairCell base rightAt p) freeWord) (pairCell base upAt p) node ⌝ }
 {
-    put_field(tree, base, TAG_AT, p, 3);
+    put_field(tree, base, TAG_AT, p, RIGHT_READY);
     put_field(tree, base, CHUNK_AT, p, chunk);
     put_field(tree, base, OFF_AT, p, offset);
     put_field(tree, base, LEFT_AT, p, left);
-    put_field(tree, base, RIGHT_AT, p, 0);
+    put_field(tree, base, RIGHT_AT, p, FREE_WORD);
     put_field(tree, base, UP_AT, p, node);
 }
 

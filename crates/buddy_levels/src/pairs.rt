@@ -13,6 +13,8 @@ use crate::TAG_AT;
 use crate::UP_AT;
 use crate::USED_AT;
 use crate::field;
+use buddy_rules::FREE_WORD;
+use buddy_rules::VACANT;
 
 pub struct Pair {
     pub tag: u64,
@@ -69,11 +71,11 @@ pub fn pair_in(tree: &[u64], base: usize, p: u64) -> Pair
         return pair_at(tree, base, p);
     }
     Pair {
-        tag: 0,
+        tag: VACANT,
         chunk: 0,
         off: 0,
-        left: 0,
-        right: 0,
+        left: FREE_WORD,
+        right: FREE_WORD,
         up: 0,
     }
 }

@@ -1,4 +1,4 @@
-use Rattle.buddy_levels.proofs.Steps.{spot-place, pair-added}
+use Rattle.buddy_levels.proofs.Steps.{taken-place, pair-added}
 use borrow.Author.Needs.{needs}
 use Rattle.buddy_levels.proofs.add_pair.Statement.{statement}
 use Rattle.buddy_levels.proofs.add_pair.Tie as tie
@@ -32,7 +32,7 @@ returns c =
     let g = f .before .before .before in
     let a = g .before .before .before .args in
     let taken = g .pair-taken .ensures in
-    (spot-place (a .base) (a .tree .now) _ taken, pair-added (a .base) (a .tree .now) _ taken (a .chunk) (a .offset) (a .node) (a .left) _ _ _ (f .put .ensures) (e .put2 .ensures) (d .enter-pair .ensures))
+    (taken-place (a .base) (a .tree .now) _ taken, pair-added (a .base) (a .tree .now) _ taken (a .chunk) (a .offset) (a .node) (a .left) _ _ _ (f .put .ensures) (e .put2 .ensures) (d .enter-pair .ensures))
 
 pub add-pair-spec : {M : Type 1} → statement M
 add-pair-spec =

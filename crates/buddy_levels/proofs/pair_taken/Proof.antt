@@ -1,4 +1,4 @@
-use Rattle.buddy_levels.proofs.Steps.{spot-read}
+use Rattle.buddy_levels.proofs.Steps.{taken-read}
 use borrow.Author.Needs.{needs}
 use Rattle.buddy_levels.proofs.pair_taken.Statement.{statement}
 use Rattle.buddy_levels.proofs.pair_taken.Tie as tie
@@ -27,7 +27,7 @@ insert-requires c κs = search needs
 returns : tie.Need-returns
 returns c =
     let a = c .before .before .before .before .args in
-    spot-read (a .base) (a .tree .now) _ _ _ (c .before .before .word .ensures) (c .before .word2 .ensures) (c .insert .ensures)
+    taken-read (a .base) (a .tree .now) _ _ _ (c .before .before .word .ensures) (c .before .word2 .ensures) (c .insert .ensures)
 
 pub pair-taken-spec : {M : Type 1} → statement M
 pair-taken-spec =

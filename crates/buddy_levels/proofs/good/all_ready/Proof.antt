@@ -2,6 +2,7 @@ use mathlib.Core.Path.{_≡_, refl, sym, ap, _∙_}
 use lib.Dec.{ltb}
 use borrow.Author.Needs.{needs}
 use borrow.Author.Tests.{lt-ltb, le-ltb}
+use Rattle.buddy_rules.specs.Nodes.{exhausted}
 use Rattle.buddy_rules.specs.LevelTest.{along, readyIn, readyAfter}
 use Rattle.buddy_levels.proofs.Turns.{along-none, along-on, along-done}
 use Rattle.buddy_levels.proofs.good.all_ready.Statement.{statement}
@@ -23,7 +24,7 @@ returns : tie.Need-returns Inv-loop μ-loop
 returns c =
     let d = c .before .before in
     let a = d .before .before .before .args in
-    let no = sym (ap (ltb 1) (c .before .field .ensures)) ∙ le-ltb 1 _ (c .if1 .taken) in
+    let no = sym (ap (ltb exhausted) (c .before .field .ensures)) ∙ le-ltb exhausted _ (c .if1 .taken) in
     sym (d .before .loop .inv ∙ along-none (readyIn (a .base) (a .tree .now)) (readyAfter (a .base) (a .tree .now)) _ _ (d .loop-test .taken) no)
 
 field-requires-2 : tie.Need-field-requires-2 Inv-loop μ-loop
@@ -40,7 +41,7 @@ loop-again c =
     let b = c .before in
     let d = b .before .before in
     let a = d .before .before .before .args in
-    let yes = sym (ap (ltb 1) (b .before .field .ensures)) ∙ lt-ltb 1 _ (b .if1 .left) in
+    let yes = sym (ap (ltb exhausted) (b .before .field .ensures)) ∙ lt-ltb exhausted _ (b .if1 .left) in
     d .before .loop .inv ∙ along-on (readyIn (a .base) (a .tree .now)) (readyAfter (a .base) (a .tree .now)) _ _ _ (d .loop-test .taken) yes (c .field2 .ensures)
 
 returns-2 : tie.Need-returns-2 Inv-loop μ-loop

@@ -6,6 +6,7 @@ use native.Mathlib.Omega.{arith}
 use borrow.Author.Needs.{needs}
 use borrow.Author.Tests.{lt-ltb, le-ltb}
 use Rattle.slab.proofs.Steps.{vacancies-none, vacancies-more, vacancies-same}
+use Rattle.buddy_rules.specs.Nodes.{exhausted}
 use Rattle.buddy_rules.specs.LevelTest.{readyIn, readies}
 use Rattle.buddy_levels.proofs.good.count_ready.Statement.{statement}
 use Rattle.buddy_levels.proofs.good.count_ready.Tie as tie
@@ -36,9 +37,9 @@ loop-again c =
     let i = c .before .before .before .loop .inv .2 in
     let a = c .before .before .before .before .before .args in
     let free = readyIn (a .base) (a .tree .now) in
-    let e = sym (ap (ltb 1) (c .before .field .ensures)) in
-    ⊎-elim (λ w. (omega arith, omega arith, w .1 ∙ ap (λ x. x + 1) i ∙ sym (vacancies-more free _ (e ∙ lt-ltb 1 _ (w .0 .taken)))))
-    (λ w. (omega arith, omega arith, w .1 ∙ i ∙ sym (vacancies-same free _ (e ∙ le-ltb 1 _ (w .0 .left))))) (c .if1 .came)
+    let e = sym (ap (ltb exhausted) (c .before .field .ensures)) in
+    ⊎-elim (λ w. (omega arith, omega arith, w .1 ∙ ap (λ x. x + 1) i ∙ sym (vacancies-more free _ (e ∙ lt-ltb exhausted _ (w .0 .taken)))))
+    (λ w. (omega arith, omega arith, w .1 ∙ i ∙ sym (vacancies-same free _ (e ∙ le-ltb exhausted _ (w .0 .left))))) (c .if1 .came)
 
 returns : tie.Need-returns Inv-loop μ-loop
 returns c =
