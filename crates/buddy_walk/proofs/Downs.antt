@@ -2,19 +2,19 @@
 use mathlib.Core.Path.{_≡_, refl, sym, ap, _∙_}
 use mathlib.Core.List.{[]}
 use mathlib.Core.Bool.{Bool, true, false, _&&_, not, and-assoc}
-use Prim.Native.Nat.{ℕ, zero, suc, _+_, _*_, _-_, _/_, _%_, _≤_, _<_}
+use Prim.Native.Nat.{ℕ, zero, suc, _+_, _*_, _-_, _%_, _≤_, _<_}
 use native.Mathlib.Omega.{arith}
 use lib.Dec.{eqb}
 use lib.ListN.{getD, drop}
-use borrow.Author.Tests.{eq-eqb, ne-eqb, lt-ltb, le-ltb}
+use borrow.Author.Tests.{eqb-false, eq-eqb, ne-eqb, lt-ltb, le-ltb}
 use Rattle.counter.specs.declared.settings.BuddySettings.{BuddySettings}
 use Rattle.words.specs.Rows.{row}
 use Rattle.words.proofs.Records.{cell-row}
-use Rattle.store_rules.specs.Loans.{loanWords, sizeAt, loanRow}
+use Rattle.store_rules.specs.Loans.{loanWords, chunkAt, offsetAt, sizeAt, loanRow}
 use Rattle.store_rules.specs.declared.Loan.{Loan}
 use Rattle.buddy_trees.specs.Trees.{bytes}
 use Rattle.buddy_trees.proofs.Bytes.{bytes-suc}
-use Rattle.buddy_rules.specs.Nodes.{Ent, L, R, nodeOf, tagOf, pairSaid}
+use Rattle.buddy_rules.specs.Nodes.{freeWord, saysLoan, loanSaid, pairSaid, exhausted, leftReady, rightReady, Ent, L, R, nodeOf, tagOf}
 use Rattle.buddy_rules.specs.Level.{pairIn}
 use Rattle.buddy_levels.specs.Seen.{partSettings, loanPart}
 use Rattle.buddy_rules.specs.Tables.{Tables, placesIn, levelFrom, nodesFrom, loanCell}
@@ -24,20 +24,20 @@ use Rattle.buddy_walk.proofs.Shows.{entry-shows}
 
 -- ---- the tag
 
-pub tag-left : (l r : ℕ) → l ≡ 0 → 2 ≡ tagOf (eqb l 0) (eqb r 0)
-tag-left l r e = rw (eq-eqb l 0 e)
+pub tag-left : (l r : ℕ) → l ≡ freeWord → leftReady ≡ tagOf (eqb l freeWord) (eqb r freeWord)
+tag-left l r e = rw (eq-eqb l freeWord e)
 
-pub tag-right : (l r : ℕ) → (l ≡ 0 → ⊥) → r ≡ 0 → 3 ≡ tagOf (eqb l 0) (eqb r 0)
-tag-right l r f e = rw (ne-eqb l 0 f, eq-eqb r 0 e)
+pub tag-right : (l r : ℕ) → (l ≡ freeWord → ⊥) → r ≡ freeWord → rightReady ≡ tagOf (eqb l freeWord) (eqb r freeWord)
+tag-right l r f e = rw (ne-eqb l freeWord f, eq-eqb r freeWord e)
 
-pub tag-none : (l r : ℕ) → (l ≡ 0 → ⊥) → (r ≡ 0 → ⊥) → 1 ≡ tagOf (eqb l 0) (eqb r 0)
-tag-none l r f g = rw (ne-eqb l 0 f, ne-eqb r 0 g)
+pub tag-none : (l r : ℕ) → (l ≡ freeWord → ⊥) → (r ≡ freeWord → ⊥) → exhausted ≡ tagOf (eqb l freeWord) (eqb r freeWord)
+tag-none l r f g = rw (ne-eqb l freeWord f, ne-eqb r freeWord g)
 
 module _ (s : BuddySettings) (t : Tables) where
   -- ---- an entry
 
-  pub entry-is : (e : Ent) (c o n g : ℕ) → g ≡ tagOf (eqb (e .left) 0) (eqb (e .right) 0)
-      → (not (eqb (e .left) 0 && eqb (e .right) 0) && (eqb (e .tag) g && (eqb (e .chunk) c && (eqb (e .off) o && eqb (e .up) n)))) ≡ entryOk s t e c o n
+  pub entry-is : (e : Ent) (c o n g : ℕ) → g ≡ tagOf (eqb (e .left) freeWord) (eqb (e .right) freeWord)
+      → (not (eqb (e .left) freeWord && eqb (e .right) freeWord) && (eqb (e .tag) g && (eqb (e .chunk) c && (eqb (e .off) o && eqb (e .up) n)))) ≡ entryOk s t e c o n
   unfolding entryOk
   entry-is e c o n g h = rw h
 
@@ -53,11 +53,11 @@ module _ (s : BuddySettings) (t : Tables) where
     cell : (f : ℕ) → getD (drop (loanWords * k) (t .loans)) f 0 ≡ loanCell t f k
     cell f = sym (cell-row (t .loans) f loanWords k)
 
-    chunk : r .chunk ≡ loanCell t 1 k
-    chunk = ap (λ (x : Loan). x .chunk) is ∙ cell 1
+    chunk : r .chunk ≡ loanCell t chunkAt k
+    chunk = ap (λ (x : Loan). x .chunk) is ∙ cell chunkAt
 
-    offset : r .offset ≡ loanCell t 2 k
-    offset = ap (λ (x : Loan). x .offset) is ∙ cell 2
+    offset : r .offset ≡ loanCell t offsetAt k
+    offset = ap (λ (x : Loan). x .offset) is ∙ cell offsetAt
 
     long : r .size ≡ loanCell t sizeAt k
     long = ap (λ (x : Loan). x .size) is ∙ cell sizeAt
@@ -69,26 +69,32 @@ module _ (s : BuddySettings) (t : Tables) where
 
   -- ---- a node
 
-  pub node-free : (l c o n w : ℕ) → w ≡ 0 → true ≡ nodeOk s t l c o n w
+  pub node-free : (l c o n w : ℕ) → w ≡ freeWord → true ≡ nodeOk s t l c o n w
   unfolding nodeOk
-  node-free zero c o n w e = rw (eq-eqb w 0 e)
-  node-free (suc l) c o n w e = rw (eq-eqb w 0 e)
+  node-free zero c o n w e = rw (eq-eqb w freeWord e)
+  node-free (suc l) c o n w e = rw (eq-eqb w freeWord e)
 
-  pub node-loan : (l c o n w : ℕ) (r : Bool) → (w ≡ 0 → ⊥) → w % 2 ≡ 1 → r ≡ leafOk s t (w / 2) c l o n → r ≡ nodeOk s t l c o n w
-  unfolding nodeOk
-  node-loan zero c o n w r f e h = rw (ne-eqb w 0 f, eq-eqb (w % 2) 1 e) h
-  node-loan (suc l) c o n w r f e h = rw (ne-eqb w 0 f, eq-eqb (w % 2) 1 e) h
+  -- its word w says something: q that it is a loan, and which
+  module _ (c o n w : ℕ) (some : w ≡ freeWord → ⊥) (q : Bool) (says : q ≡ saysLoan w) where
+    told : (x : Bool) → q ≡ x → saysLoan w ≡ x
+    told x e = sym says ∙ e
 
-  pub node-low : (l c o n w : ℕ) → (w ≡ 0 → ⊥) → (w % 2 ≡ 1 → ⊥) → l ≡ 0 → false ≡ nodeOk s t l c o n w
-  unfolding nodeOk
-  node-low zero c o n w f g e = rw (ne-eqb w 0 f, ne-eqb (w % 2) 1 g)
-  node-low (suc l) c o n w f g e = absurd (omega arith)
+    pub node-loan : (l k : ℕ) (r : Bool) → q ≡ true → k ≡ loanSaid w → r ≡ leafOk s t k c l o n → r ≡ nodeOk s t l c o n w
+    unfolding nodeOk
+    node-loan zero k r e j h = rw (ne-eqb w freeWord some, told true e, ← j) h
+    node-loan (suc l) k r e j h = rw (ne-eqb w freeWord some, told true e, ← j) h
 
-  pub node-split : (l c o n w : ℕ) (r : Bool) → (w ≡ 0 → ⊥) → (w % 2 ≡ 1 → ⊥) → (l ≡ 0 → ⊥)
-      → r ≡ halvesOk s t (l - 1) c o n (pairSaid w) → r ≡ nodeOk s t l c o n w
-  unfolding nodeOk
-  node-split zero c o n w r f g h e = absurd (h refl)
-  node-split (suc l) c o n w r f g h e = let k : l ≡ suc l - 1 = omega arith in rw (k, ne-eqb w 0 f, ne-eqb (w % 2) 1 g) e
+    pub node-low : (l : ℕ) → q ≡ false → l ≡ 0 → false ≡ nodeOk s t l c o n w
+    unfolding nodeOk
+    node-low zero g e = rw (ne-eqb w freeWord some, told false g)
+    node-low (suc l) g e = absurd (omega arith)
+
+    pub node-split : (l p : ℕ) (r : Bool) → q ≡ false → (l ≡ 0 → ⊥) → p ≡ pairSaid w → r ≡ halvesOk s t (l - 1) c o n p → r ≡ nodeOk s t l c o n w
+    unfolding nodeOk
+    node-split zero p r g h i e = absurd (h refl)
+    node-split (suc l) p r g h i e =
+        let k : l ≡ suc l - 1 = omega arith in
+        rw (k, ne-eqb w freeWord some, told false g) (e ∙ ap (halvesOk s t (suc l - 1) c o n) i)
 
   -- ---- a pair, whose level begins at b and whose entry is e; r is what the entry's test says, which reads only the entry
 
@@ -108,15 +114,23 @@ module _ (s : BuddySettings) (t : Tables) where
     pub halves-entry : r ≡ false → false ≡ halvesOk s t l c o n p
     halves-entry h = let g : (r && (leftOk && rightOk)) ≡ false = rw h in sym g ∙ halves-of
 
-    pub halves-left : (x : Bool) → r ≡ true → x ≡ leftOk → x ≡ false → false ≡ halvesOk s t l c o n p
-    halves-left x h i j = let k : leftOk ≡ false = sym i ∙ j in let g : (r && (leftOk && rightOk)) ≡ false = rw (h, k) in sym g ∙ halves-of
+    -- a is its left node, and x what the walk says of it
+    module _ (a : ℕ) (x : Bool) (yes : r ≡ true) (left : a ≡ nodeOf p L) (went : x ≡ nodeOk s t l c o a (e .left)) where
+      left-told : (z : Bool) → x ≡ z → leftOk ≡ z
+      left-told z j = sym (ap (λ (k : ℕ). nodeOk s t l c o k (e .left)) left) ∙ sym went ∙ j
 
-    pub halves-right : (x y : Bool) (z : ℕ) → r ≡ true → x ≡ leftOk → x ≡ true → z ≡ bytes (s .minimal) l
-        → y ≡ nodeOk s t l c (o + z) (nodeOf p R) (e .right) → y ≡ halvesOk s t l c o n p
-    halves-right x y z h i j m k =
-        let f : leftOk ≡ true = sym i ∙ j in
-        let g : (r && (leftOk && rightOk)) ≡ rightOk = rw (h, f) in
-        k ∙ ap (λ (w : ℕ). nodeOk s t l c (o + w) (nodeOf p R) (e .right)) m ∙ sym g ∙ halves-of
+      pub halves-left : x ≡ false → false ≡ halvesOk s t l c o n p
+      halves-left j = let g : (r && (leftOk && rightOk)) ≡ false = rw (yes, left-told false j) in sym g ∙ halves-of
+
+      pub halves-right : (b z : ℕ) (y : Bool) → x ≡ true → b ≡ nodeOf p R → z ≡ bytes (s .minimal) l → y ≡ nodeOk s t l c (o + z) b (e .right)
+          → y ≡ halvesOk s t l c o n p
+      halves-right b z y j i m k =
+          let g : (r && (leftOk && rightOk)) ≡ rightOk = rw (yes, left-told true j) in
+          k ∙ (λ v. nodeOk s t l c (o + m v) (i v) (e .right)) ∙ sym g ∙ halves-of
+
+-- the word of a split node is no small one
+pub split-some : (w : ℕ) (q : Bool) → (w ≡ freeWord → ⊥) → q ≡ saysLoan w → q ≡ false → 1 < w
+split-some w q some says e = let f = eqb-false (w % 2) 1 (sym says ∙ e) in omega arith
 
 -- a node's two halves are no longer than it is
 pub halves-room : (u l o m : ℕ) → (l ≡ 0 → ⊥) → o + bytes u l ≤ m → o + 2 * bytes u (l - 1) ≤ m

@@ -1,12 +1,12 @@
 -- What the walk down a chunk, and the test of a chunk, read: no more than their numbers and lists.
 use mathlib.Core.Path.{_≡_, refl, sym, _∙_}
 use mathlib.Core.Bool.{Bool, true, false, cond, _&&_}
-use Prim.Native.Nat.{ℕ, zero, suc, _+_, _/_, _%_, _<_}
+use Prim.Native.Nat.{ℕ, zero, suc, _+_, _<_}
 use lib.Dec.{eqb}
 use borrow.Author.Tests.{lt-ltb}
 use Rattle.counter.specs.declared.settings.BuddySettings.{BuddySettings}
 use Rattle.buddy_trees.specs.Trees.{bytes}
-use Rattle.buddy_rules.specs.Nodes.{Ent, L, R, nodeOf, pairSaid}
+use Rattle.buddy_rules.specs.Nodes.{freeWord, saysLoan, loanSaid, pairSaid, Ent, L, R, nodeOf}
 use Rattle.buddy_levels.specs.Seen.{partSettings, partTables, loanPart}
 use Rattle.buddy_rules.specs.Tables.{Tables, levelsIn, placesIn, chunkPlacesIn, pairsIn}
 use Rattle.buddy_rules.specs.Test.{leafOk, entryOk, nodeOk, chunkOk}
@@ -29,11 +29,11 @@ module _ (s : BuddySettings) (t : Tables) where
 
   pub node-shows : (l c o n w : ℕ) → nodeOk s t l c o n w ≡ nodeOk numbers shown l c o n w
   unfolding nodeOk
-  node-shows zero c o n w = λ i. cond (eqb w 0) true (cond (eqb (w % 2) 1) (leaf-shows (w / 2) c zero o n i) false)
+  node-shows zero c o n w = λ i. cond (eqb w freeWord) true (cond (saysLoan w) (leaf-shows (loanSaid w) c zero o n i) false)
   node-shows (suc l) c o n w =
       let e = pairsIn s t l (pairSaid w) in
-      λ i. cond (eqb w 0) true
-      (cond (eqb (w % 2) 1) (leaf-shows (w / 2) c (suc l) o n i)
+      λ i. cond (eqb w freeWord) true
+      (cond (saysLoan w) (leaf-shows (loanSaid w) c (suc l) o n i)
       (entry-shows numbers shown e c o n i
       && (node-shows l c o (nodeOf (pairSaid w) L) (e .left) i && node-shows l c (o + bytes (s .minimal) l) (nodeOf (pairSaid w) R) (e .right) i)))
 

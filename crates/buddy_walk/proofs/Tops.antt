@@ -16,8 +16,9 @@ use Rattle.counter.specs.Limits.{levelsMost, loansMost}
 use Rattle.counter.specs.declared.settings.BuddySettings.{BuddySettings}
 use Rattle.slab.specs.Slab.{nowhere}
 use Rattle.buddy_trees.specs.Trees.{bytes}
+use Rattle.buddy_rules.specs.Nodes.{freeWord}
 use Rattle.buddy_levels.specs.Seen.{partSettings, loanPart}
-use Rattle.buddy_rules.specs.Tables.{Tables, placeWords, chunksFrom, placesIn, levelsIn, chunkPlacesIn, chunkSizeIn, heldIn, highIn, topIn, initialLevels}
+use Rattle.buddy_rules.specs.Tables.{Tables, placeWords, topAt, chunksFrom, placeAt, placesIn, levelsIn, chunkPlacesIn, chunkSizeIn, heldIn, highIn, topIn, initialLevels}
 use Rattle.buddy_rules.specs.Test.{nodeOk, chunkOk}
 use Rattle.buddy_walk.specs.Walks.{Small}
 use Rattle.buddy_walk.proofs.Shows.{node-shows}
@@ -62,14 +63,14 @@ module _ (s : BuddySettings) (t : Tables) (c z : ℕ) (used : c < chunkPlacesIn 
     high-is : highIn s t c ≡ h
     high-is = rw holds (ap (λ (x : ℕ). levelOf x (s .minimal)) (sym size) ∙ sym high)
 
-    top-is : topIn s t c ≡ getD (t .tree) (cellOf (chunksFrom s + 1) placeWords c) 0
+    top-is : topIn s t c ≡ getD (t .tree) (cellOf (placeAt s topAt) placeWords c) 0
     top-is = rw holds
 
     abbrev levelOk : Bool
     levelOk = ltb 0 h && (leb f h && leb h (levelsIn t))
 
     chunk-is : (w : ℕ) → w ≡ topIn s t c
-        → (eqb z (bytes (s .minimal) h) && (ltb 0 h && (leb f h && (leb h (levelsIn t) && (not (eqb w 0) && nodeOk s t h c 0 nowhere w))))) ≡ chunkOk s t c
+        → (eqb z (bytes (s .minimal) h) && (ltb 0 h && (leb f h && (leb h (levelsIn t) && (not (eqb w freeWord) && nodeOk s t h c 0 nowhere w))))) ≡ chunkOk s t c
     unfolding chunkOk
     chunk-is w e = rw (e, size, first, sym high-is, holds)
 
@@ -77,22 +78,22 @@ module _ (s : BuddySettings) (t : Tables) (c z : ℕ) (used : c < chunkPlacesIn 
     chunk-high e = middle-no (eqb z (bytes (s .minimal) h)) (ltb 0 h) (leb f h) (leb h (levelsIn t)) _ e ∙ chunk-is (topIn s t c) refl
 
     -- b is where the chunk places' words begin, w the word of its top node, y the length of a node of its level
-    module _ (b w y : ℕ) (from : b ≡ chunksFrom s) (top : w ≡ getD (t .tree) (cellOf (b + 1) placeWords c) 0) (long : y ≡ bytes (s .minimal) h) where
+    module _ (b w y : ℕ) (from : b ≡ chunksFrom s) (top : w ≡ getD (t .tree) (cellOf (b + (1 + topAt)) placeWords c) 0) (long : y ≡ bytes (s .minimal) h) where
       word : w ≡ topIn s t c
-      word = top ∙ ap (λ (x : ℕ). getD (t .tree) (cellOf (x + 1) placeWords c) 0) from ∙ sym top-is
+      word = top ∙ ap (λ (x : ℕ). getD (t .tree) (cellOf (x + (1 + topAt)) placeWords c) 0) from ∙ sym top-is
 
       abbrev wrong : Bool
-      wrong = not (eqb z y) || eqb w 0
+      wrong = not (eqb z y) || eqb w freeWord
 
-      row : (eqb z y && (ltb 0 h && (leb f h && (leb h (levelsIn t) && (not (eqb w 0) && nodeOk s t h c 0 nowhere w))))) ≡ chunkOk s t c
-      row = ap (λ (x : ℕ). eqb z x && (ltb 0 h && (leb f h && (leb h (levelsIn t) && (not (eqb w 0) && nodeOk s t h c 0 nowhere w))))) long ∙ chunk-is w word
+      row : (eqb z y && (ltb 0 h && (leb f h && (leb h (levelsIn t) && (not (eqb w freeWord) && nodeOk s t h c 0 nowhere w))))) ≡ chunkOk s t c
+      row = ap (λ (x : ℕ). eqb z x && (ltb 0 h && (leb f h && (leb h (levelsIn t) && (not (eqb w freeWord) && nodeOk s t h c 0 nowhere w))))) long ∙ chunk-is w word
 
       pub chunk-off : wrong ≡ true → false ≡ chunkOk s t c
-      chunk-off e = ends-no (eqb z y) (ltb 0 h) (leb f h) (leb h (levelsIn t)) (eqb w 0) _ e ∙ row
+      chunk-off e = ends-no (eqb z y) (ltb 0 h) (leb f h) (leb h (levelsIn t)) (eqb w freeWord) _ e ∙ row
 
       pub chunk-walk : (r : Bool) → levelOk ≡ true → wrong ≡ false
           → r ≡ nodeOk (partSettings (s .minimal) (s .pairs) (s .store .chunks)) (loanPart (placesIn t) (t .loans) (t .tree)) h c 0 nowhere w → r ≡ chunkOk s t c
-      chunk-walk r e g k = k ∙ sym (node-shows s t h c 0 nowhere w) ∙ last-is (eqb z y) (ltb 0 h) (leb f h) (leb h (levelsIn t)) (eqb w 0) _ e g ∙ row
+      chunk-walk r e g k = k ∙ sym (node-shows s t h c 0 nowhere w) ∙ last-is (eqb z y) (ltb 0 h) (leb f h) (leb h (levelsIn t)) (eqb w freeWord) _ e g ∙ row
 
 -- ---- what the calls ask for
 

@@ -9,7 +9,9 @@ ghost use Rattle.buddy_levels.specs.Seen.{partTables};
 ghost use Rattle.buddy_rules.specs.Test.{every, chunkOk};
 use buddy_rules::CHUNK_SIZE_AT;
 use buddy_rules::CHUNK_WORDS;
+use buddy_rules::FREE_WORD;
 use buddy_rules::PLACE_WORDS;
+use buddy_rules::TOP_AT;
 use counter::BuddySettings;
 use slab::NOWHERE;
 
@@ -38,11 +40,11 @@ fn is_chunk(
     }
     let top = words::cell(
         tree,
-        buddy_levels::chunks_from(s.pairs) + 1,
+        buddy_levels::chunks_from(s.pairs) + (1 + TOP_AT),
         PLACE_WORDS,
         c as usize,
     );
-    if (size != buddy_levels::node_bytes(s.minimal, high)) | (top == 0) {
+    if (size != buddy_levels::node_bytes(s.minimal, high)) | (top == FREE_WORD) {
         return false;
     }
     let own = s.store;

@@ -5,12 +5,16 @@ ghost use Prim.Native.Nat.{_+_, _*_, _^_, _≤_, _<_};
 ghost use lib.Dec.{eqb};
 ghost use Rattle.counter.specs.Limits.{levelsMost};
 ghost use Rattle.buddy_trees.specs.Trees.{bytes};
-ghost use Rattle.buddy_rules.specs.Nodes.{tagOf};
+ghost use Rattle.buddy_rules.specs.Nodes.{freeWord, tagOf};
 ghost use Rattle.buddy_levels.specs.Pairs.{entFrom};
 ghost use Rattle.buddy_rules.specs.Test.{leafOk, entryOk, nodeOk};
 ghost use Rattle.buddy_levels.specs.Seen.{partSettings, loanPart};
 ghost use Rattle.buddy_walk.specs.Walks.{Small, halvesOk};
 use buddy_levels::Pair;
+use buddy_rules::EXHAUSTED;
+use buddy_rules::FREE_WORD;
+use buddy_rules::LEFT_READY;
+use buddy_rules::RIGHT_READY;
 
 // Whether a loan place has the loan of this node.
 fn is_leaf(
@@ -41,19 +45,23 @@ fn is_leaf(
 
 // The tag of a pair whose left and right nodes have these words.
 fn tag_of(left: u64, right: u64) -> u64
-    ensures { λ r. ⌜ r ≡ tagOf (eqb left 0) (eqb right 0) ⌝ }
+    ensures { λ r. ⌜ r ≡ tagOf (eqb left freeWord) (eqb right freeWord) ⌝ }
 {
-    if left == 0 {
-        return 2;
+    if left == FREE_WORD {
+        return LEFT_READY;
     }
-    if right == 0 { 3 } else { 1 }
+    if right == FREE_WORD {
+        RIGHT_READY
+    } else {
+        EXHAUSTED
+    }
 }
 
 // Whether a pair is that of this node, and ready where one of its nodes is free; not both, since they would be joined.
 fn is_entry(e: Pair, chunk: u64, offset: u64, node: u64) -> bool
     ensures { λ r. ⌜ r ≡ entryOk (partSettings 0 0 0) (loanPart 0 [] []) (entFrom e) chunk offset node ⌝ }
 {
-    let free = (e.left == 0) & (e.right == 0);
+    let free = (e.left == FREE_WORD) & (e.right == FREE_WORD);
     let stands = (e.chunk == chunk) & ((e.off == offset) & (e.up == node));
     !free & ((e.tag == tag_of(e.left, e.right)) & stands)
 }
@@ -75,11 +83,10 @@ pub fn is_node(
     requires { ⌜ Small minimal pairs chunks places × (level ≤ levelsMost) × (offset + bytes minimal level ≤ bytes minimal levelsMost) ⌝ }
     ensures { λ r. ⌜ r ≡ nodeOk (partSettings minimal pairs chunks) (loanPart places (now (loans .entry)) (now (tree .entry))) level chunk offset node word ⌝ }
 {
-    if word == 0 {
+    if word == FREE_WORD {
         return true;
     }
-    let half = word / 2;
-    if word % 2 == 1 {
+    if buddy_levels::says_loan(word) {
         return is_leaf(
             minimal,
             pairs,
@@ -89,7 +96,7 @@ pub fn is_node(
             chunk,
             offset,
             node,
-            half,
+            buddy_levels::loan_said(word),
             loans,
             tree,
         );
@@ -106,7 +113,7 @@ pub fn is_node(
         chunk,
         offset,
         node,
-        half - 1,
+        buddy_levels::pair_said(word),
         loans,
         tree,
     )
@@ -134,7 +141,6 @@ fn is_pair(
     if !is_entry(e, chunk, offset, node) {
         return false;
     }
-    let l = 2 * p;
     if !is_node(
         minimal,
         pairs,
@@ -143,7 +149,7 @@ fn is_pair(
         level,
         chunk,
         offset,
-        l,
+        buddy_levels::left_node(p),
         e.left,
         loans,
         tree,
@@ -159,7 +165,7 @@ fn is_pair(
         level,
         chunk,
         right,
-        l + 1,
+        buddy_levels::right_node(p),
         e.right,
         loans,
         tree,

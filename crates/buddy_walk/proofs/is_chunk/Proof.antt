@@ -46,6 +46,9 @@ chunks-from-requires c κs = search needs
 add-cell : tie.Need-add-cell
 add-cell c = search needs
 
+add-cell-2 : tie.Need-add-cell-2
+add-cell-2 c = search needs
+
 cell-requires-2 : tie.Need-cell-requires-2
 cell-requires-2 c κs = search needs
 
@@ -113,6 +116,7 @@ is-chunk-spec =
     returns-2
     chunks-from-requires
     add-cell
+    add-cell-2
     cell-requires-2
     node-bytes-requires
     returns-3
