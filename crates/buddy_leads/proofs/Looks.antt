@@ -2,7 +2,7 @@
 use mathlib.Core.Path.{_≡_, refl, sym, ap, _∙_}
 use mathlib.Core.Bool.{Bool, true, false, _&&_, _||_, not}
 use mathlib.Core.List.{List}
-use Prim.Native.Nat.{ℕ, suc, _+_, _*_, _/_, _%_, _≤_, _<_}
+use Prim.Native.Nat.{ℕ, suc, _+_, _*_, _≤_, _<_}
 use native.Mathlib.Omega.{arith}
 use lib.Dec.{eqb, ltb}
 use lib.ListN.{getD}
@@ -14,11 +14,11 @@ use Rattle.words.proofs.Records.{cell-row}
 use Rattle.rounding_rules.specs.Raising.{levelOf}
 use Rattle.counter.specs.Limits.{levelsMost}
 use Rattle.slab.specs.Slab.{nowhere}
-use Rattle.store_rules.specs.Loans.{loanWords, sizeAt, loanRow}
+use Rattle.store_rules.specs.Loans.{loanWords, chunkAt, sizeAt, loanRow}
 use Rattle.store_rules.specs.declared.Loan.{Loan}
-use Rattle.buddy_rules.specs.Nodes.{Ent}
+use Rattle.buddy_rules.specs.Nodes.{loanWord, splitWord, vacant, Ent, pairOf, isLeft}
 use Rattle.buddy_rules.specs.Level.{levelWords, usedAt, pairIn}
-use Rattle.buddy_rules.specs.Tables.{chunkWords, chunkSizeAt, placeWords, levelStart}
+use Rattle.buddy_rules.specs.Tables.{chunkWords, chunkSizeAt, placeWords, topAt, levelStart}
 use Rattle.buddy_rules.specs.Test.{every, leadsOk, pairOk, loanOk}
 use Rattle.buddy_rules.proofs.Tests.{every-stop, every-next}
 use Rattle.buddy_levels.specs.Seen.{partSettings, partTables, levelPart}
@@ -47,7 +47,7 @@ module _ (minimal pairs held level chunk w : ℕ) (chunks tree : List ℕ) where
   top-vacant size e h z = rw (lt-ltb chunk held h, sym e, z) refl
 
   pub top-is : (size at top high : ℕ) → size ≡ getD chunks (cellOf chunkSizeAt chunkWords chunk) 0 → chunk < held → (size ≡ 0 → ⊥) → at ≡ levelWords pairs * levelsMost
-      → top ≡ getD tree (cellOf (at + 1) placeWords chunk) 0 → high ≡ levelOf size minimal
+      → top ≡ getD tree (cellOf (at + (1 + topAt)) placeWords chunk) 0 → high ≡ levelOf size minimal
       → (eqb high level && eqb top w) ≡ topOk
   unfolding leadsOk
   top-is size at top high e h z a t l = rw (lt-ltb chunk held h, sym e, ne-eqb size 0 z, sym l, sym a, sym t) refl
@@ -66,21 +66,26 @@ module _ (minimal pairs levels held level chunk node w : ℕ) (chunks tree : Lis
   unfolding leadsOk
   lead-high z h = rw (ne-eqb node nowhere z, le-ltb level levels h) refl
 
-  module _ (e : Ent) (base : ℕ) (some : node ≡ nowhere → ⊥) (low : level < levels) (at : base ≡ levelStart pairs level) (is : e ≡ pairIn base tree (node / 2)) where
-    from : e ≡ pairIn (levelStart pairs level) tree (node / 2)
-    from = is ∙ ap (λ (b : ℕ). pairIn b tree (node / 2)) at
+  -- e is its pair's entry, and q says whether it is the left one
+  module _ (e : Ent) (base p : ℕ) (q : Bool) (some : node ≡ nowhere → ⊥) (low : level < levels) (at : base ≡ levelStart pairs level) (of : p ≡ pairOf node)
+      (is : e ≡ pairIn base tree p) (side : q ≡ isLeft node) where
+    from : e ≡ pairIn (levelStart pairs level) tree (pairOf node)
+    from = is ∙ (λ j. pairIn (at j) tree (of j))
 
-    pub lead-left : node % 2 ≡ 0 → (ltb 0 (e .tag) && eqb (e .left) w) ≡ leadOk
+    told : (x : Bool) → q ≡ x → isLeft node ≡ x
+    told x s = sym side ∙ s
+
+    pub lead-left : q ≡ true → (ltb vacant (e .tag) && eqb (e .left) w) ≡ leadOk
     unfolding leadsOk
     lead-left s =
-        ap (λ (x : Ent). ltb 0 (x .tag) && eqb (x .left) w) from
-        ∙ rw (ne-eqb node nowhere some, lt-ltb level levels low, eq-eqb (node % 2) 0 s) refl
+        ap (λ (x : Ent). ltb vacant (x .tag) && eqb (x .left) w) from
+        ∙ rw (ne-eqb node nowhere some, lt-ltb level levels low, told true s) refl
 
-    pub lead-right : (node % 2 ≡ 0 → ⊥) → (ltb 0 (e .tag) && eqb (e .right) w) ≡ leadOk
+    pub lead-right : q ≡ false → (ltb vacant (e .tag) && eqb (e .right) w) ≡ leadOk
     unfolding leadsOk
     lead-right s =
-        ap (λ (x : Ent). ltb 0 (x .tag) && eqb (x .right) w) from
-        ∙ rw (ne-eqb node nowhere some, lt-ltb level levels low, ne-eqb (node % 2) 0 s) refl
+        ap (λ (x : Ent). ltb vacant (x .tag) && eqb (x .right) w) from
+        ∙ rw (ne-eqb node nowhere some, lt-ltb level levels low, told false s) refl
 
 -- ---- a pair
 
@@ -90,19 +95,19 @@ module _ (minimal pairs levels held level p : ℕ) (chunks tree : List ℕ) (e :
 
   -- the same, of the entry x
   abbrev ledBy : Ent → Bool
-  ledBy x = eqb (x .tag) 0 || leadsOk (partSettings minimal pairs 0) (levelPart levels held chunks tree) (suc level) (x .chunk) (x .up) (2 * p + 2)
+  ledBy x = eqb (x .tag) vacant || leadsOk (partSettings minimal pairs 0) (levelPart levels held chunks tree) (suc level) (x .chunk) (x .up) (splitWord p)
 
   led-by : ledBy e ≡ ledOk
   unfolding pairOk
   led-by = ap ledBy (is ∙ ap (λ (b : ℕ). pairIn b tree p) at)
 
-  pub led-none : e .tag ≡ 0 → true ≡ ledOk
-  led-none z = sym (or-left (eqb (e .tag) 0) _ (eq-eqb (e .tag) 0 z)) ∙ led-by
+  pub led-none : e .tag ≡ vacant → true ≡ ledOk
+  led-none z = sym (or-left (eqb (e .tag) vacant) _ (eq-eqb (e .tag) vacant z)) ∙ led-by
 
-  pub led-is : (r : Bool) → (e .tag ≡ 0 → ⊥) → r ≡ leadsOk (partSettings minimal pairs 0) (levelPart levels held chunks tree) (level + 1) (e .chunk) (e .up) (2 * p + 2) → r ≡ ledOk
-  led-is r z f =
+  pub led-is : (w : ℕ) (r : Bool) → (e .tag ≡ vacant → ⊥) → w ≡ splitWord p → r ≡ leadsOk (partSettings minimal pairs 0) (levelPart levels held chunks tree) (level + 1) (e .chunk) (e .up) w → r ≡ ledOk
+  led-is w r z g f =
       let up : level + 1 ≡ suc level = omega arith in
-      let by : leadsOk (partSettings minimal pairs 0) (levelPart levels held chunks tree) (level + 1) (e .chunk) (e .up) (2 * p + 2) ≡ ledBy e = rw (up, ne-eqb (e .tag) 0 z) refl in
+      let by : leadsOk (partSettings minimal pairs 0) (levelPart levels held chunks tree) (level + 1) (e .chunk) (e .up) w ≡ ledBy e = rw (up, g, ne-eqb (e .tag) vacant z) refl in
       f ∙ by ∙ led-by
 
 -- ---- the pairs of a level
@@ -140,15 +145,15 @@ module _ (minimal pairs most levels held place : ℕ) (loans chunks tree : List 
     size-is : l .size ≡ getD loans (cellOf sizeAt loanWords place) 0
     size-is = ap (λ (x : Loan). x .size) is ∙ sym (cell-row loans sizeAt loanWords place)
 
-    chunk-is : l .chunk ≡ getD loans (cellOf 1 loanWords place) 0
-    chunk-is = ap (λ (x : Loan). x .chunk) is ∙ sym (cell-row loans 1 loanWords place)
+    chunk-is : l .chunk ≡ getD loans (cellOf chunkAt loanWords place) 0
+    chunk-is = ap (λ (x : Loan). x .chunk) is ∙ sym (cell-row loans chunkAt loanWords place)
 
     pub lent-none : l .size ≡ 0 → true ≡ lentOk (place + 1)
     unfolding loanOk
     lent-none z = rw (in-place, sym size-is, eq-eqb (l .size) 0 z) refl
 
-    pub lent-is : (r : Bool) (level from node : ℕ) → (l .size ≡ 0 → ⊥) → level ≡ levelOf (l .size) minimal → from ≡ levelWords pairs * levelsMost + (1 + placeWords * most)
-        → node ≡ getD tree (from + place) 0 → r ≡ leadsOk (partSettings minimal pairs 0) (levelPart levels held chunks tree) level (l .chunk) node (2 * place + 1) → r ≡ lentOk (place + 1)
+    pub lent-is : (r : Bool) (level from node w : ℕ) → (l .size ≡ 0 → ⊥) → level ≡ levelOf (l .size) minimal → from ≡ levelWords pairs * levelsMost + (1 + placeWords * most)
+        → node ≡ getD tree (from + place) 0 → w ≡ loanWord place → r ≡ leadsOk (partSettings minimal pairs 0) (levelPart levels held chunks tree) level (l .chunk) node w → r ≡ lentOk (place + 1)
     unfolding loanOk
-    lent-is r level from node z e f g h =
-        rw (in-place, sym size-is, ne-eqb (l .size) 0 z, sym e, sym chunk-is, sym f, sym g) (h ∙ lead-same level (l .chunk) node (2 * place + 1))
+    lent-is r level from node w z e f g k h =
+        rw (in-place, sym size-is, ne-eqb (l .size) 0 z, sym e, sym chunk-is, sym f, sym g, sym k) (h ∙ lead-same level (l .chunk) node w)

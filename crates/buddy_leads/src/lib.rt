@@ -12,6 +12,8 @@ use buddy_levels::USED_AT;
 use buddy_rules::CHUNK_SIZE_AT;
 use buddy_rules::CHUNK_WORDS;
 use buddy_rules::PLACE_WORDS;
+use buddy_rules::TOP_AT;
+use buddy_rules::VACANT;
 use slab::NOWHERE;
 
 // Whether the top node of a chunk has this level and this word.
@@ -35,7 +37,7 @@ fn is_top(
     if size == 0 {
         return false;
     }
-    let at = buddy_levels::chunks_from(pairs) + 1;
+    let at = buddy_levels::chunks_from(pairs) + (1 + TOP_AT);
     let top = words::cell(tree, at, PLACE_WORDS, chunk as usize);
     (rounding::level(size, minimal) as u64 == level) & (top == word)
 }
@@ -62,13 +64,11 @@ fn leads_to(
     if levels <= level {
         return false;
     }
-    let e = buddy_levels::pair_in(
-        tree,
-        buddy_levels::level_from(pairs, level as usize),
-        node / 2,
-    );
-    let side = if node % 2 == 0 { e.left } else { e.right };
-    (0 < e.tag) & (side == word)
+    let base = buddy_levels::level_from(pairs, level as usize);
+    let e = buddy_levels::pair_in(tree, base, buddy_levels::pair_of(node));
+    let left = buddy_levels::is_left(node);
+    let side = if left { e.left } else { e.right };
+    (VACANT < e.tag) & (side == word)
 }
 
 // Whether a pair that is in use is what its node is split into.
@@ -86,7 +86,7 @@ fn is_led(
     ensures { λ r. ⌜ r ≡ pairOk (partSettings minimal pairs 0) (levelPart levels held (now (chunks .entry)) (now (tree .entry))) level p ⌝ }
 {
     let e = buddy_levels::pair_in(tree, buddy_levels::level_from(pairs, level as usize), p);
-    if e.tag == 0 {
+    if e.tag == VACANT {
         return true;
     }
     leads_to(
@@ -97,7 +97,7 @@ fn is_led(
         level + 1,
         e.chunk,
         e.up,
-        2 * p + 2,
+        buddy_levels::split_word(p),
         chunks,
         tree,
     )
@@ -179,7 +179,7 @@ fn is_loan_led(
         level,
         l.chunk,
         node,
-        2 * place + 1,
+        buddy_levels::loan_word(place),
         chunks,
         tree,
     )

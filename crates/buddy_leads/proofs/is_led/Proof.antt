@@ -20,21 +20,20 @@ returns c =
 add-leads-to : tie.Need-add-leads-to
 add-leads-to c = search needs
 
-mul-leads-to : tie.Need-mul-leads-to
-mul-leads-to c = search needs
-
-add-leads-to-2 : tie.Need-add-leads-to-2
-add-leads-to-2 c = search needs
+split-word-requires : tie.Need-split-word-requires
+split-word-requires c κs = search needs
 
 leads-to-requires : tie.Need-leads-to-requires
 leads-to-requires c κs = search needs
 
 returns-2 : tie.Need-returns-2
 returns-2 c =
-    let p = c .before .before .before in
+    let w = c .before in
+    let i = w .before in
+    let p = i .before .before in
     let f = p .before in
     let a = f .before .before .before .args in
-    led-is (a .minimal) (a .pairs) (a .levels) (a .held) (a .level) (a .p) (a .chunks .now) (a .tree .now) (entFrom (p .pair-in .result)) _ (f .level-from .ensures .0) (p .pair-in .ensures) _ (c .before .if1 .left) (c .leads-to .ensures)
+    led-is (a .minimal) (a .pairs) (a .levels) (a .held) (a .level) (a .p) (a .chunks .now) (a .tree .now) (entFrom (p .pair-in .result)) _ (f .level-from .ensures .0) (p .pair-in .ensures) _ _ (i .if1 .left) (w .split-word .ensures) (c .leads-to .ensures)
 
 pub is-led-spec : {M : Type 1} → statement M
 is-led-spec =
@@ -44,7 +43,6 @@ is-led-spec =
     pair-in-requires
     returns
     add-leads-to
-    mul-leads-to
-    add-leads-to-2
+    split-word-requires
     leads-to-requires
     returns-2)

@@ -27,24 +27,22 @@ add-word c = search needs
 word-requires : tie.Need-word-requires
 word-requires c κs = search needs
 
-mul-leads-to : tie.Need-mul-leads-to
-mul-leads-to c = search needs
-
-add-leads-to : tie.Need-add-leads-to
-add-leads-to c = search needs
+loan-word-requires : tie.Need-loan-word-requires
+loan-word-requires c κs = search needs
 
 leads-to-requires : tie.Need-leads-to-requires
 leads-to-requires c κs = search needs
 
 returns-2 : tie.Need-returns-2
 returns-2 c =
-    let w = c .before in
+    let k = c .before in
+    let w = k .before in
     let n = w .before in
     let v = n .before in
     let i = v .before in
     let l = i .before .before in
     let a = l .before .before .before .before .args in
-    lent-is (a .minimal) (a .pairs) (a .most) (a .levels) (a .held) (a .place) (a .loans .now) (a .chunks .now) (a .tree .now) (l .loan-at .result) (l .loan-at .ensures) _ _ _ _ (i .if1 .left) (v .level .ensures) (n .nodes-from .ensures .0) (w .word .ensures) (c .leads-to .ensures)
+    lent-is (a .minimal) (a .pairs) (a .most) (a .levels) (a .held) (a .place) (a .loans .now) (a .chunks .now) (a .tree .now) (l .loan-at .result) (l .loan-at .ensures) _ _ _ _ _ (i .if1 .left) (v .level .ensures) (n .nodes-from .ensures .0) (w .word .ensures) (k .loan-word .ensures) (c .leads-to .ensures)
 
 pub is-loan-led-spec : {M : Type 1} → statement M
 is-loan-led-spec =
@@ -57,7 +55,6 @@ is-loan-led-spec =
     nodes-from-requires
     add-word
     word-requires
-    mul-leads-to
-    add-leads-to
+    loan-word-requires
     leads-to-requires
     returns-2)

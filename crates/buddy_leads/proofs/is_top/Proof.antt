@@ -24,6 +24,9 @@ chunks-from-requires c κs = search needs
 add-at : tie.Need-add-at
 add-at c = search needs
 
+add-at-2 : tie.Need-add-at-2
+add-at-2 c = search needs
+
 cell-requires-2 : tie.Need-cell-requires-2
 cell-requires-2 c κs = search needs
 
@@ -51,6 +54,7 @@ is-top-spec =
     returns-2
     chunks-from-requires
     add-at
+    add-at-2
     cell-requires-2
     level-requires
     cast-result
