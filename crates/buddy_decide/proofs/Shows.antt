@@ -27,9 +27,9 @@ use Rattle.buddy_decide.specs.declared.seeking.Found.the-variants.{At, O
 
 -- ---- the chunk place that is taken next
 
-pub spot-is : (pairs places : ℕ) (tree : List ℕ) (b v : ℕ) (r : Taken) → b ≡ levelWords pairs * levelsMost → v ≡ getD tree b 0
+pub taken-is : (pairs places : ℕ) (tree : List ℕ) (b v : ℕ) (r : Taken) → b ≡ levelWords pairs * levelsMost → v ≡ getD tree b 0
     → r ≡ inserted (record { places = places; vacant = v }) tree (b + (1 + afterAt)) placeWords → r ≡ chunkTaken (partSettings 0 pairs 0) (levelPart 0 places [] tree)
-spot-is pairs places tree b v r d e f =
+taken-is pairs places tree b v r d e f =
     let g : v ≡ getD tree (levelWords pairs * levelsMost) 0 = e ∙ ap (λ (x : ℕ). getD tree x 0) d in
     f ∙ (λ j. inserted (record { places = places; vacant = g j }) tree (d j + (1 + afterAt)) placeWords)
 

@@ -61,8 +61,8 @@ pub fn has_pairs(pairs: usize, level: u64, n: u64, levels: u64, tree: &[u64]) ->
     while i < n {
         let l = level + i;
         if l < levels {
-            let spot = buddy_levels::pair_taken(tree, level_from(pairs, l as usize));
-            if pairs as u64 <= spot.place {
+            let taken = buddy_levels::pair_taken(tree, level_from(pairs, l as usize));
+            if pairs as u64 <= taken.place {
                 return false;
             }
         }

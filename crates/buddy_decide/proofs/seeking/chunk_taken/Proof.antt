@@ -1,5 +1,5 @@
 use borrow.Author.Needs.{needs}
-use Rattle.buddy_decide.proofs.Shows.{spot-is}
+use Rattle.buddy_decide.proofs.Shows.{taken-is}
 use Rattle.buddy_decide.proofs.seeking.chunk_taken.Statement.{statement}
 use Rattle.buddy_decide.proofs.seeking.chunk_taken.Tie as tie
 
@@ -23,7 +23,7 @@ returns c =
     let w = c .before in
     let b = w .before in
     let a = b .before .before .args in
-    spot-is (a .pairs) (a .places) (a .tree .now) _ _ _ (b .chunks-from .ensures .0) (w .word .ensures) (c .insert .ensures)
+    taken-is (a .pairs) (a .places) (a .tree .now) _ _ _ (b .chunks-from .ensures .0) (w .word .ensures) (c .insert .ensures)
 
 pub chunk-taken-spec : {M : Type 1} → statement M
 chunk-taken-spec =
