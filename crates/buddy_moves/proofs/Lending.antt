@@ -14,7 +14,7 @@ use Rattle.store_rules.specs.Orders.{take}
 use Rattle.book_rules.specs.Book.{takenOf}
 use Rattle.book_rules.specs.Ready.{Opens}
 use Rattle.buddy_trees.specs.Trees.{up}
-use Rattle.buddy_rules.specs.Nodes.{Ent}
+use Rattle.buddy_rules.specs.Nodes.{freeWord, Ent}
 use Rattle.buddy_rules.specs.Levels.{sideOf}
 use Rattle.buddy_rules.proofs.Climbs.{node-pair}
 use Rattle.buddy_rules.specs.Level.{ringHead, acquired, part}
@@ -79,7 +79,7 @@ module _ (s : BuddySettings) (t : Tables) (fit : BuddyIn s) (lengths : Lengths s
   -- ---- its ready side can be split down
 
   abbrev taken : List ℕ
-  taken = acquired (levelFrom s i) 0 (t .tree)
+  taken = acquired (levelFrom s i) freeWord (t .tree)
 
   abbrev node : ℕ
   node = readyNode (s .pairs) i (t .tree)

@@ -1,9 +1,9 @@
 -- What each turn of the climb and of the split comes to.
 use mathlib.Core.Path.{_≡_, refl, sym, ap, _∙_}
-use mathlib.Core.Bool.{true, false, cond, _&&_, not}
+use mathlib.Core.Bool.{Bool, true, false, cond, _&&_, not}
 use mathlib.Core.Logic.{_⊎_, ⊎-elim}
 use mathlib.Core.List.{List}
-use Prim.Native.Nat.{ℕ, zero, suc, _+_, _-_, _*_, _/_, _%_, _≤_, _<_}
+use Prim.Native.Nat.{ℕ, zero, suc, _+_, _-_, _≤_, _<_}
 use native.Mathlib.Omega.{arith}
 use lib.Dec.{eqb, ltb}
 use lib.ListN.{getD, set}
@@ -11,7 +11,8 @@ use borrow.Author.Tests.{eqb-false, eq-eqb, ne-eqb, ltb-true, ltb-false}
 use Rattle.lists.proofs.Bools.{and-left, and-right, not-yes, not-no, told}
 use Rattle.counter.specs.Limits.{pairsMost}
 use Rattle.slab.specs.Slab.{nowhere}
-use Rattle.buddy_rules.specs.Nodes.{other, word}
+use Rattle.buddy_rules.specs.Nodes.{freeWord, loanWord, splitWord, L, nodeOf, pairOf, isLeft, other, word}
+use Rattle.buddy_rules.specs.Levels.{sideBy}
 use Rattle.buddy_rules.specs.Level.{entOf, pairCell, sideAt, leftAt, rightAt, upAt, pairTaken, dropped, backed, added}
 use Rattle.buddy_rules.specs.Tables.{levelStart}
 use Rattle.buddy_rules.specs.Moves.{Cut, sideIn, climbed, worded, leftNext, splitInto, splitDown, splitChunk}
@@ -21,18 +22,22 @@ use Rattle.buddy_moves.specs.Roomy.{Roomy}
 
 -- ---- the two nodes of a pair
 
-module _ (b n : ℕ) (t : List ℕ) where
-  pub left-twin : (x : ℕ) → n % 2 ≡ 0 → x ≡ getD t (pairCell b rightAt (n / 2)) 0 → x ≡ word (other (sideIn n)) (entOf b t (n / 2))
-  left-twin x e h = h ∙ sym (simp (eq-eqb (n % 2) 0 e))
+-- of node n: p is its pair, and q says whether it is the left one
+module _ (b n p : ℕ) (q : Bool) (t : List ℕ) (of : p ≡ pairOf n) (side : q ≡ isLeft n) where
+  side-told : (x : Bool) → q ≡ x → isLeft n ≡ x
+  side-told x e = sym side ∙ e
 
-  pub right-twin : (x : ℕ) → (n % 2 ≡ 0 → ⊥) → x ≡ getD t (pairCell b leftAt (n / 2)) 0 → x ≡ word (other (sideIn n)) (entOf b t (n / 2))
-  right-twin x e h = h ∙ sym (simp (ne-eqb (n % 2) 0 e))
+  pub left-twin : (x : ℕ) → q ≡ true → x ≡ getD t (pairCell b rightAt p) 0 → x ≡ word (other (sideIn n)) (entOf b t (pairOf n))
+  left-twin x e h = h ∙ ap (λ (z : ℕ). getD t (pairCell b rightAt z) 0) of ∙ sym (simp (side-told true e))
 
-  pub left-put : (w : ℕ) (t′ : List ℕ) → n % 2 ≡ 0 → t′ ≡ set t (pairCell b leftAt (n / 2)) w → t′ ≡ set t (pairCell b (sideAt (sideIn n)) (n / 2)) w
-  left-put w t′ e h = h ∙ sym (simp (eq-eqb (n % 2) 0 e))
+  pub right-twin : (x : ℕ) → q ≡ false → x ≡ getD t (pairCell b leftAt p) 0 → x ≡ word (other (sideIn n)) (entOf b t (pairOf n))
+  right-twin x e h = h ∙ ap (λ (z : ℕ). getD t (pairCell b leftAt z) 0) of ∙ sym (simp (side-told false e))
 
-  pub right-put : (w : ℕ) (t′ : List ℕ) → (n % 2 ≡ 0 → ⊥) → t′ ≡ set t (pairCell b rightAt (n / 2)) w → t′ ≡ set t (pairCell b (sideAt (sideIn n)) (n / 2)) w
-  right-put w t′ e h = h ∙ sym (simp (ne-eqb (n % 2) 0 e))
+  pub left-put : (w : ℕ) (t′ : List ℕ) → q ≡ true → t′ ≡ set t (pairCell b leftAt p) w → t′ ≡ set t (pairCell b (sideAt (sideIn n)) (pairOf n)) w
+  left-put w t′ e h = h ∙ ap (λ (z : ℕ). set t (pairCell b leftAt z) w) of ∙ sym (simp (side-told true e))
+
+  pub right-put : (w : ℕ) (t′ : List ℕ) → q ≡ false → t′ ≡ set t (pairCell b rightAt p) w → t′ ≡ set t (pairCell b (sideAt (sideIn n)) (pairOf n)) w
+  right-put w t′ e h = h ∙ ap (λ (z : ℕ). set t (pairCell b rightAt z) w) of ∙ sym (simp (side-told false e))
 
 -- ---- the climb
 
@@ -55,31 +60,33 @@ module _ (pairs f l n : ℕ) (t : List ℕ) where
           lt-one : 0 < f → ltb 0 f ≡ true
           lt-one o = ⊎-elim (λ a. a) (λ a. absurd (omega (arith, ltb-false 0 f a))) (told (ltb 0 f))
 
-  module _ (o : 0 < f) (top : n ≡ nowhere → ⊥) (b : ℕ) (at : b ≡ levelStart pairs l) (w : ℕ) (twin : w ≡ word (other (sideIn n)) (entOf b t (n / 2))) where
-    twin-is : w ≡ word (other (sideIn n)) (entOf (levelStart pairs l) t (n / 2))
-    twin-is = twin ∙ ap (λ (d : ℕ). word (other (sideIn n)) (entOf d t (n / 2))) at
+  module _ (o : 0 < f) (top : n ≡ nowhere → ⊥) (b : ℕ) (at : b ≡ levelStart pairs l) (w : ℕ) (twin : w ≡ word (other (sideIn n)) (entOf b t (pairOf n)))
+      (p : ℕ) (of : p ≡ pairOf n) where
+    twin-is : w ≡ word (other (sideIn n)) (entOf (levelStart pairs l) t (pairOf n))
+    twin-is = twin ∙ ap (λ (d : ℕ). word (other (sideIn n)) (entOf d t (pairOf n))) at
 
     step : climbed pairs f l n t
-        ≡ cond (eqb w 0) (climbed pairs (f - 1) (l + 1) (getD t (pairCell b upAt (n / 2)) 0) (dropped b (n / 2) t))
-        (record { freed = false; tree = backed b (n / 2) (sideIn n) t })
+        ≡ cond (eqb w freeWord) (climbed pairs (f - 1) (l + 1) (getD t (pairCell b upAt p) 0) (dropped b p t))
+        (record { freed = false; tree = backed b p (sideIn n) t })
     unfolding climbed
     step = by f o
       where
         by : (f : ℕ) → 0 < f → climbed pairs f l n t
-            ≡ cond (eqb w 0) (climbed pairs (f - 1) (l + 1) (getD t (pairCell b upAt (n / 2)) 0) (dropped b (n / 2) t))
-            (record { freed = false; tree = backed b (n / 2) (sideIn n) t })
+            ≡ cond (eqb w freeWord) (climbed pairs (f - 1) (l + 1) (getD t (pairCell b upAt p) 0) (dropped b p t))
+            (record { freed = false; tree = backed b p (sideIn n) t })
         by zero o = absurd (omega arith)
         by (suc g) o =
-            let p : suc g - 1 ≡ g = omega arith in
-            let q : l + 1 ≡ suc l = omega arith in
-            rw (p, q, at, twin-is, ne-eqb n nowhere top) refl
+            let i : suc g - 1 ≡ g = omega arith in
+            let j : l + 1 ≡ suc l = omega arith in
+            rw (i, j, at, of, twin-is, ne-eqb n nowhere top) refl
 
-    pub climb-on : w ≡ 0 → (m : ℕ) → m ≡ getD t (pairCell b upAt (n / 2)) 0 → (t′ : List ℕ) → t′ ≡ dropped b (n / 2) t
+    pub climb-on : w ≡ freeWord → (m : ℕ) → m ≡ getD t (pairCell b upAt p) 0 → (t′ : List ℕ) → t′ ≡ dropped b p t
         → climbed pairs f l n t ≡ climbed pairs (f - 1) (l + 1) m t′
-    climb-on z m e t′ d = step ∙ simp (eq-eqb w 0 z, e, d)
+    climb-on z m e t′ d = step ∙ simp (eq-eqb w freeWord z, e, d)
 
-    pub climb-stays : (w ≡ 0 → ⊥) → (t′ : List ℕ) → t′ ≡ backed b (n / 2) (sideIn n) t → climbed pairs f l n t ≡ record { freed = false; tree = t′ }
-    climb-stays z t′ d = step ∙ simp (ne-eqb w 0 z, d)
+    pub climb-stays : (w ≡ freeWord → ⊥) → (q : Bool) → q ≡ isLeft n → (t′ : List ℕ) → t′ ≡ backed b p (sideBy q) t
+        → climbed pairs f l n t ≡ record { freed = false; tree = t′ }
+    climb-stays z q s t′ d = step ∙ simp (ne-eqb w freeWord z, d, s)
 
 -- ---- the split
 
@@ -88,11 +95,11 @@ up-sum zero lev = omega arith
 up-sum (suc d) lev = omega (arith, up-sum d lev)
 
 module _ (pairs lev c o k n : ℕ) (t : List ℕ) where
-  pub split-done : (d : ℕ) → d ≤ 0 → (b : ℕ) → b ≡ levelStart pairs lev → (t′ : List ℕ) → t′ ≡ set t (pairCell b (sideAt (sideIn n)) (n / 2)) (2 * k + 1)
-      → splitDown pairs lev c o k n d t ≡ record { node = n; tree = t′ }
+  pub split-done : (d : ℕ) → d ≤ 0 → (b : ℕ) → b ≡ levelStart pairs lev → (w : ℕ) → w ≡ loanWord k
+      → (t′ : List ℕ) → t′ ≡ set t (pairCell b (sideAt (sideIn n)) (pairOf n)) w → splitDown pairs lev c o k n d t ≡ record { node = n; tree = t′ }
   unfolding splitDown worded
-  split-done zero h b e t′ f = rw (f, e) refl
-  split-done (suc d) h b e t′ f = absurd (omega arith)
+  split-done zero h b e w i t′ f = rw (f, e, i) refl
+  split-done (suc d) h b e w i t′ f = absurd (omega arith)
 
   -- one level, from d levels above
   module _ (b p : ℕ) (place : p ≡ pairTaken b t .place) where
@@ -104,13 +111,15 @@ module _ (pairs lev c o k n : ℕ) (t : List ℕ) where
         let i : p ≡ pairTaken (levelStart pairs (up d lev)) t .place = place ∙ ap (λ (z : ℕ). pairTaken z t .place) (e ∙ ap (levelStart pairs) q) in
         rw i (r .0)
 
-    module _ (t₁ t₂ : List ℕ) (g : ℕ) (more : t₁ ≡ added b c o n 0 t) (cut : t₂ ≡ set t₁ (pairCell g (sideAt (sideIn n)) (n / 2)) (2 * p + 2)) where
+    -- w is the word of the node that is split, m the half that is kept
+    module _ (t₁ t₂ : List ℕ) (g w m : ℕ) (more : t₁ ≡ added b c o n freeWord t) (word-is : w ≡ splitWord p)
+        (cut : t₂ ≡ set t₁ (pairCell g (sideAt (sideIn n)) (pairOf n)) w) (half : m ≡ nodeOf p L) where
       into-is : (l : ℕ) → b ≡ levelStart pairs l → g ≡ levelStart pairs (suc l) → t₂ ≡ splitInto pairs l c o n t
       unfolding worded
-      into-is l e f = rw (cut, more, place, e, f) refl
+      into-is l e f = rw (cut, word-is, more, place, e, f) refl
 
       pub split-roomy : (d : ℕ) → 0 < d → b ≡ levelStart pairs (lev + (d - 1)) → g ≡ levelStart pairs (lev + (d - 1) + 1) → Roomy pairs lev c o n d t
-          → Roomy pairs lev c o (2 * p) (d - 1) t₂
+          → Roomy pairs lev c o m (d - 1) t₂
       unfolding Roomy
       split-roomy zero h e f r = absurd (omega arith)
       split-roomy (suc d) h e f r =
@@ -120,10 +129,10 @@ module _ (pairs lev c o k n : ℕ) (t : List ℕ) where
           let e′ : b ≡ levelStart pairs (up d lev) = e ∙ ap (levelStart pairs) q in
           let x : t₂ ≡ splitInto pairs (up d lev) c o n t = into-is (up d lev) e′ (f ∙ ap (levelStart pairs) j) in
           let y : p ≡ pairTaken (levelStart pairs (up d lev)) t .place = place ∙ ap (λ (z : ℕ). pairTaken z t .place) e′ in
-          rw (i, x, y) (r .1)
+          rw (i, x, half, y) (r .1)
 
       pub split-on : (d : ℕ) → 0 < d → b ≡ levelStart pairs (lev + (d - 1)) → g ≡ levelStart pairs (lev + (d - 1) + 1)
-          → splitDown pairs lev c o k n d t ≡ splitDown pairs lev c o k (2 * p) (d - 1) t₂
+          → splitDown pairs lev c o k n d t ≡ splitDown pairs lev c o k m (d - 1) t₂
       unfolding splitDown
       split-on zero h e f = absurd (omega arith)
       split-on (suc d) h e f =
@@ -133,26 +142,27 @@ module _ (pairs lev c o k n : ℕ) (t : List ℕ) where
           let e′ : b ≡ levelStart pairs (up d lev) = e ∙ ap (levelStart pairs) q in
           let x : t₂ ≡ splitInto pairs (up d lev) c o n t = into-is (up d lev) e′ (f ∙ ap (levelStart pairs) j) in
           let y : p ≡ pairTaken (levelStart pairs (up d lev)) t .place = place ∙ ap (λ (z : ℕ). pairTaken z t .place) e′ in
-          rw (i, x, y) refl
+          rw (i, x, half, y) refl
 
 -- ---- a new chunk: its own pair p entered in the level that begins at b, and its left node split down
 
-module _ (pairs level above c k b p : ℕ) (t t₁ : List ℕ) (at : b ≡ levelStart pairs (level + above)) (place : p ≡ pairTaken b t .place) (entered : t₁ ≡ added b c 0 nowhere 0 t) where
+module _ (pairs level above c k b p : ℕ) (t t₁ : List ℕ) (at : b ≡ levelStart pairs (level + above)) (place : p ≡ pairTaken b t .place) (entered : t₁ ≡ added b c 0 nowhere freeWord t) where
   top-at : b ≡ levelStart pairs (up above level)
   top-at = at ∙ ap (levelStart pairs) (omega (arith, up-add above level))
 
   pub top-place : pairTaken (levelStart pairs (up above level)) t .place < pairsMost → p < pairsMost
   top-place h = let e = top-at in rw (place, e) h
 
-  pub top-roomy : Roomy pairs level c 0 (leftNext pairs (up above level) t) above (added (levelStart pairs (up above level)) c 0 nowhere 0 t) → Roomy pairs level c 0 (2 * p) above t₁
-  top-roomy h = let e = top-at in rw (entered, place, e) h
+  module _ (m : ℕ) (half : m ≡ nodeOf p L) where
+    pub top-roomy : Roomy pairs level c 0 (leftNext pairs (up above level) t) above (added (levelStart pairs (up above level)) c 0 nowhere freeWord t) → Roomy pairs level c 0 m above t₁
+    top-roomy h = let e = top-at in rw (entered, half, place, e) h
 
-  top-split : splitDown pairs level c 0 k (2 * p) above t₁ ≡ splitChunk pairs level c k above t
-  unfolding splitChunk
-  top-split = let e = top-at in rw (entered, place, e) refl
+    top-split : splitDown pairs level c 0 k m above t₁ ≡ splitChunk pairs level c k above t
+    unfolding splitChunk
+    top-split = let e = top-at in rw (entered, half, place, e) refl
 
-  pub top-node : (n : ℕ) → n ≡ splitDown pairs level c 0 k (2 * p) above t₁ .node → n ≡ splitChunk pairs level c k above t .node
-  top-node n e = e ∙ ap (λ (r : Cut). r .node) top-split
+    pub top-node : (n : ℕ) → n ≡ splitDown pairs level c 0 k m above t₁ .node → n ≡ splitChunk pairs level c k above t .node
+    top-node n e = e ∙ ap (λ (r : Cut). r .node) top-split
 
-  pub top-tree : (t₂ : List ℕ) → t₂ ≡ splitDown pairs level c 0 k (2 * p) above t₁ .tree → t₂ ≡ splitChunk pairs level c k above t .tree
-  top-tree t₂ e = e ∙ ap (λ (r : Cut). r .tree) top-split
+    pub top-tree : (t₂ : List ℕ) → t₂ ≡ splitDown pairs level c 0 k m above t₁ .tree → t₂ ≡ splitChunk pairs level c k above t .tree
+    top-tree t₂ e = e ∙ ap (λ (r : Cut). r .tree) top-split

@@ -3,14 +3,14 @@
 use mathlib.Core.Path.{_≡_, sym, ap, _∙_}
 use mathlib.Core.Logic.{inl}
 use mathlib.Core.List.{List}
-use Prim.Native.Nat.{ℕ, zero, suc, _+_, _*_, _/_, _≤_, _<_}
+use Prim.Native.Nat.{ℕ, zero, suc, _≤_, _<_}
 use native.Mathlib.Omega.{arith}
 use Rattle.counter.specs.Limits.{levelsMost}
 use Rattle.counter.specs.declared.settings.BuddySettings.{BuddySettings}
 use Rattle.slab.specs.declared.Taken.{Taken}
 use Rattle.buddy_trees.specs.Trees.{up}
 use Rattle.buddy_trees.proofs.Bytes.{up-le}
-use Rattle.buddy_rules.specs.Nodes.{L, nodeOf}
+use Rattle.buddy_rules.specs.Nodes.{freeWord, splitWord, L, nodeOf, pairOf}
 use Rattle.buddy_rules.proofs.Climbs.{node-pair}
 use Rattle.buddy_rules.specs.Level.{pairTaken, added, Good, part}
 use Rattle.buddy_rules.proofs.Parts.{part-good, part-spot, part-added}
@@ -26,8 +26,8 @@ module _ (s : BuddySettings) (tree : List ℕ) where
     good-too : Good (levelFrom s m) (s .pairs) t
     good-too = part-good (s .pairs) m t .1 (rw same (part-good (s .pairs) m tree .0 good))
 
-    spot-too : pairTaken (levelFrom s m) t .place ≡ pairTaken (levelFrom s m) tree .place
-    spot-too =
+    taken-too : pairTaken (levelFrom s m) t .place ≡ pairTaken (levelFrom s m) tree .place
+    taken-too =
         ap (λ (z : Taken). z .place) (part-spot (s .pairs) m t good-too)
         ∙ ap (λ (v : List ℕ). pairTaken 0 v .place) same
         ∙ sym (ap (λ (z : Taken). z .place) (part-spot (s .pairs) m tree good))
@@ -47,14 +47,14 @@ module _ (s : BuddySettings) (tree : List ℕ) where
         let am = a m (up-le d lev) (omega arith) in
         let gm = g m (up-le d lev) (omega arith) in
         let q = pairTaken (levelFrom s m) t .place in
-        let e : q ≡ pairTaken (levelFrom s m) tree .place = spot-too m t am gm in
+        let e : q ≡ pairTaken (levelFrom s m) tree .place = taken-too m t am gm in
         let r : q < s .pairs = rw e (room m (up-le d lev) (omega arith)) in
-        let t₁ : List ℕ = added (levelFrom s m) c o n 0 t in
-        let D = within-left s m t t₁ _ low (part-added (s .pairs) m t (good-too m t am gm) c o n 0 r) in
-        let B = worded-left s (suc m) n (2 * q + 2) t₁ f (omega (arith, D .long)) in
-        let k : nodeOf q L / 2 < s .pairs = rw (node-pair q L) r in (
+        let t₁ : List ℕ = added (levelFrom s m) c o n freeWord t in
+        let D = within-left s m t t₁ _ low (part-added (s .pairs) m t (good-too m t am gm) c o n freeWord r) in
+        let B = worded-left s (suc m) n (splitWord q) t₁ f (omega (arith, D .long)) in
+        let k : pairOf (nodeOf q L) < s .pairs = rw (node-pair q L) r in (
           r,
-          roomy d (nodeOf q L) (worded (s .pairs) (suc m) n (2 * q + 2) t₁) (omega arith) (inl (low, k)) (omega (arith, B .long, D .long))
+          roomy d (nodeOf q L) (worded (s .pairs) (suc m) n (splitWord q) t₁) (omega arith) (inl (low, k)) (omega (arith, B .long, D .long))
               (λ i j b. B .others i (λ x. omega arith) ∙ D .others i (λ x. omega arith) ∙ a i j (omega arith))
               (λ i j b. g i j (omega arith)) (λ i j b. room i j (omega arith)),
         )

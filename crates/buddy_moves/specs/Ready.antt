@@ -32,7 +32,7 @@ pub record Lends (s : BuddySettings) (z l i : ℕ) (t : Tables) : Type 0 where
   pub low : i < levelsMost
   pub pair : ringHead (levelFrom s i) (t .tree) < pairsMost
   pub offset : headEnt s t i .off ≤ 2 ^ 62
-  pub roomy : Roomy (s .pairs) l (loanFrom s z t i .chunk) (loanFrom s z t i .offset) (readyNode (s .pairs) i (t .tree)) (i - l) (acquired (levelFrom s i) 0 (t .tree))
+  pub roomy : Roomy (s .pairs) l (loanFrom s z t i .chunk) (loanFrom s z t i .offset) (readyNode (s .pairs) i (t .tree)) (i - l) (acquired (levelFrom s i) freeWord (t .tree))
 
 -- a chunk can be added, and serve as much
 pub record Serves (s : BuddySettings) (l memory bytes : ℕ) (t : Tables) : Type 0 where

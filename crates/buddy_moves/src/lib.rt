@@ -2,11 +2,11 @@
 // ask of its tables a passed gate and a decided call give: proofs/ shows it.
 ghost use mathlib.Core.Path.{_≡_};
 ghost use lib.ListN.{set};
-ghost use Prim.Native.Nat.{_+_, _*_, _/_, _≤_, _<_};
+ghost use Prim.Native.Nat.{_+_, _≤_, _<_};
 ghost use Rattle.counter.specs.Limits.{levelsMost, pairsMost, loansMost};
 ghost use Rattle.slab.specs.Slab.{nowhere};
 ghost use Rattle.buddy_trees.specs.Trees.{up};
-ghost use Rattle.buddy_rules.specs.Nodes.{freeWord, other, word};
+ghost use Rattle.buddy_rules.specs.Nodes.{freeWord, other, pairOf, word};
 ghost use Rattle.buddy_rules.specs.Level.{baseMost, entOf, pairCell, sideAt, pairTaken, added};
 ghost use Rattle.buddy_rules.specs.Tables.{levelStart};
 ghost use Rattle.buddy_rules.specs.Moves.{sideIn, climbed, leftNext, splitDown, splitChunk};
@@ -15,17 +15,19 @@ use buddy_levels::LEFT_AT;
 use buddy_levels::RIGHT_AT;
 use buddy_levels::UP_AT;
 use buddy_levels::level_from;
+use buddy_rules::FREE_WORD;
 use slab::NOWHERE;
 
 // The word of node n's twin.
 fn twin_word(tree: &[u64], base: usize, n: u64) -> u64
     requires { ⌜ base ≤ baseMost ⌝ }
-    ensures { λ r. ⌜ r ≡ word (other (sideIn n)) (entOf base (now (tree .entry)) (n / 2)) ⌝ }
+    ensures { λ r. ⌜ r ≡ word (other (sideIn n)) (entOf base (now (tree .entry)) (pairOf n)) ⌝ }
 {
-    if n % 2 == 0 {
-        buddy_levels::field(tree, base, RIGHT_AT, n / 2)
+    let p = buddy_levels::pair_of(n);
+    if buddy_levels::is_left(n) {
+        buddy_levels::field(tree, base, RIGHT_AT, p)
     } else {
-        buddy_levels::field(tree, base, LEFT_AT, n / 2)
+        buddy_levels::field(tree, base, LEFT_AT, p)
     }
 }
 
@@ -41,9 +43,9 @@ pub fn climb(tree: &mut [u64], pairs: usize, level: usize, levels: usize, node: 
     let mut n = node;
     while (0 < left) & (n != NOWHERE) {
         let base = level_from(pairs, l);
-        let p = n / 2;
-        if twin_word(tree, base, n) != 0 {
-            buddy_levels::ready_pair(tree, base, p, n % 2 == 0);
+        let p = buddy_levels::pair_of(n);
+        if twin_word(tree, base, n) != FREE_WORD {
+            buddy_levels::ready_pair(tree, base, p, buddy_levels::is_left(n));
             return false;
         }
         n = buddy_levels::field(tree, base, UP_AT, p);
@@ -57,12 +59,13 @@ pub fn climb(tree: &mut [u64], pairs: usize, level: usize, levels: usize, node: 
 // Node n of the level at `base` has the word w from now on.
 fn put_word(tree: &mut [u64], base: usize, n: u64, w: u64)
     requires { ⌜ base ≤ baseMost ⌝ }
-    ensures { λ _. ⌜ now (tree .exit) ≡ set (now (tree .entry)) (pairCell base (sideAt (sideIn n)) (n / 2)) w ⌝ }
+    ensures { λ _. ⌜ now (tree .exit) ≡ set (now (tree .entry)) (pairCell base (sideAt (sideIn n)) (pairOf n)) w ⌝ }
 {
-    if n % 2 == 0 {
-        buddy_levels::put_field(tree, base, LEFT_AT, n / 2, w);
+    let p = buddy_levels::pair_of(n);
+    if buddy_levels::is_left(n) {
+        buddy_levels::put_field(tree, base, LEFT_AT, p, w);
     } else {
-        buddy_levels::put_field(tree, base, RIGHT_AT, n / 2, w);
+        buddy_levels::put_field(tree, base, RIGHT_AT, p, w);
     }
 }
 
@@ -88,11 +91,21 @@ pub fn split_down(
     while 0 < d {
         d -= 1;
         let base = level_from(pairs, level + d);
-        let p = buddy_levels::add_pair(tree, base, chunk, offset, n, 0);
-        put_word(tree, level_from(pairs, level + d + 1), n, 2 * p + 2);
-        n = 2 * p;
+        let p = buddy_levels::add_pair(tree, base, chunk, offset, n, FREE_WORD);
+        put_word(
+            tree,
+            level_from(pairs, level + d + 1),
+            n,
+            buddy_levels::split_word(p),
+        );
+        n = buddy_levels::left_node(p);
     }
-    put_word(tree, level_from(pairs, level), n, 2 * loan + 1);
+    put_word(
+        tree,
+        level_from(pairs, level),
+        n,
+        buddy_levels::loan_word(loan),
+    );
     n
 }
 
@@ -110,6 +123,16 @@ pub fn split_chunk(
     ensures { λ r. ⌜ r ≡ splitChunk pairs level chunk loan above (now (tree .entry)) .node ⌝ }
     ensures { λ _. ⌜ now (tree .exit) ≡ splitChunk pairs level chunk loan above (now (tree .entry)) .tree ⌝ }
 {
-    let p = buddy_levels::add_pair(tree, level_from(pairs, level + above), chunk, 0, NOWHERE, 0);
-    split_down(tree, pairs, level, above, chunk, 0, loan, 2 * p)
+    let base = level_from(pairs, level + above);
+    let p = buddy_levels::add_pair(tree, base, chunk, 0, NOWHERE, FREE_WORD);
+    split_down(
+        tree,
+        pairs,
+        level,
+        above,
+        chunk,
+        0,
+        loan,
+        buddy_levels::left_node(p),
+    )
 }

@@ -21,8 +21,14 @@ loop-holds c = let s = c .before in (s .pre .1, refl, refl)
 level-from-requires : tie.Need-level-from-requires Inv-loop μ-loop
 level-from-requires c κs = search needs
 
+pair-of-requires : tie.Need-pair-of-requires Inv-loop μ-loop
+pair-of-requires c κs = search needs
+
 twin-word-requires : tie.Need-twin-word-requires Inv-loop μ-loop
 twin-word-requires c κs = search needs
+
+is-left-requires : tie.Need-is-left-requires Inv-loop μ-loop
+is-left-requires c κs = search needs
 
 ready-pair-requires : tie.Need-ready-pair-requires Inv-loop μ-loop
 ready-pair-requires c κs = search needs
@@ -33,13 +39,15 @@ same-length c = search needs
 returns : tie.Need-returns Inv-loop μ-loop
 returns c =
     let r = c .before .before in
-    let i = r .before .before in
+    let s = r .before in
+    let i = s .before .before in
     let w = i .before in
-    let v = w .before .before in
+    let p = w .before .before in
+    let v = p .before in
     let b = v .before .before in
     let a = b .before .before .args in
     let on = goes-on (b .loop .left) (b .loop .n) (v .before .loop-test .taken) in
-    let e = b .loop .inv .2 ∙ climb-stays (a .pairs) (b .loop .left) (b .loop .l) (b .loop .n) (b .loop .tree) (on .0) (on .1) _ (v .level-from .ensures .0) _ (w .twin-word .ensures) (i .if1 .taken) _ (r .ready-pair .ensures) in
+    let e = b .loop .inv .2 ∙ climb-stays (a .pairs) (b .loop .left) (b .loop .l) (b .loop .n) (b .loop .tree) (on .0) (on .1) _ (v .level-from .ensures .0) _ (w .twin-word .ensures) _ (p .pair-of .ensures) (i .if1 .taken) _ (s .is-left .ensures) _ (r .ready-pair .ensures) in
     (sym (ap (λ (z : Climbed). z .freed) e), sym (ap (λ (z : Climbed). z .tree) e))
 
 field-requires : tie.Need-field-requires Inv-loop μ-loop
@@ -53,13 +61,13 @@ add-l c = search needs
 
 sub-left : tie.Need-sub-left Inv-loop μ-loop
 sub-left c =
-    let v = c .before .before .before .before .before .before .before .before .before .before in
+    let v = c .before .before .before .before .before .before .before .before .before .before .before in
     let b = v .before .loop in
     omega (arith, goes-on (b .left) (b .n) (v .loop-test .taken) .0)
 
 loop-less : tie.Need-loop-less Inv-loop μ-loop
 loop-less c =
-    let v = c .before .before .before .before .before .before .before .before .before .before in
+    let v = c .before .before .before .before .before .before .before .before .before .before .before in
     let b = v .before .loop in
     omega (arith, goes-on (b .left) (b .n) (v .loop-test .taken) .0)
 
@@ -69,13 +77,14 @@ loop-again c =
     let u = d .before .before in
     let i = u .before .before in
     let w = i .before in
-    let v = w .before .before in
+    let p = w .before .before in
+    let v = p .before in
     let b = v .before .before in
     let a = b .before .before .args in
     let on = goes-on (b .loop .left) (b .loop .n) (v .before .loop-test .taken) in (
       omega (arith, on .0, b .loop .inv .0),
       search needs,
-      b .loop .inv .2 ∙ climb-on (a .pairs) (b .loop .left) (b .loop .l) (b .loop .n) (b .loop .tree) (on .0) (on .1) _ (v .level-from .ensures .0) _ (w .twin-word .ensures) (i .if1 .left) _ (u .field .ensures) _ (d .drop-pair .ensures),
+      b .loop .inv .2 ∙ climb-on (a .pairs) (b .loop .left) (b .loop .l) (b .loop .n) (b .loop .tree) (on .0) (on .1) _ (v .level-from .ensures .0) _ (w .twin-word .ensures) _ (p .pair-of .ensures) (i .if1 .left) _ (u .field .ensures) _ (d .drop-pair .ensures),
     )
 
 same-length-2 : tie.Need-same-length-2 Inv-loop μ-loop
@@ -96,7 +105,9 @@ climb-spec =
     μ-loop
     loop-holds
     level-from-requires
+    pair-of-requires
     twin-word-requires
+    is-left-requires
     ready-pair-requires
     same-length
     returns

@@ -3,6 +3,12 @@ use borrow.Author.Needs.{needs}
 use Rattle.buddy_moves.proofs.put_word.Statement.{statement}
 use Rattle.buddy_moves.proofs.put_word.Tie as tie
 
+pair-of-requires : tie.Need-pair-of-requires
+pair-of-requires c κs = search needs
+
+is-left-requires : tie.Need-is-left-requires
+is-left-requires c κs = search needs
+
 put-field-requires : tie.Need-put-field-requires
 put-field-requires c κs = search needs
 
@@ -16,8 +22,10 @@ returns : tie.Need-returns
 returns c =
     let f = c .before .before in
     let i = f .before .before in
-    let a = i .before .before .args in
-    left-put (a .base) (a .n) (a .tree .now) (a .w) _ (i .if1 .taken) (f .put-field .ensures)
+    let l = i .before in
+    let p = l .before in
+    let a = p .before .before .args in
+    left-put (a .base) (a .n) _ _ (a .tree .now) (p .pair-of .ensures) (l .is-left .ensures) (a .w) _ (i .if1 .taken) (f .put-field .ensures)
 
 same-length-2 : tie.Need-same-length-2
 same-length-2 c = search needs
@@ -26,10 +34,20 @@ returns-2 : tie.Need-returns-2
 returns-2 c =
     let f = c .before .before in
     let i = f .before .before in
-    let a = i .before .before .args in
-    right-put (a .base) (a .n) (a .tree .now) (a .w) _ (i .if1 .left) (f .put-field2 .ensures)
+    let l = i .before in
+    let p = l .before in
+    let a = p .before .before .args in
+    right-put (a .base) (a .n) _ _ (a .tree .now) (p .pair-of .ensures) (l .is-left .ensures) (a .w) _ (i .if1 .left) (f .put-field2 .ensures)
 
 pub put-word-spec : {M : Type 1} → statement M
 put-word-spec =
     tie.close
-    (tie.spec put-field-requires put-field-requires-2 same-length returns same-length-2 returns-2)
+    (tie.spec
+    pair-of-requires
+    is-left-requires
+    put-field-requires
+    put-field-requires-2
+    same-length
+    returns
+    same-length-2
+    returns-2)

@@ -13,21 +13,21 @@ level-from-requires c κs = search needs
 add-pair-requires : tie.Need-add-pair-requires
 add-pair-requires c κs = search needs
 
-mul-split-down : tie.Need-mul-split-down
-mul-split-down c =
+left-node-requires : tie.Need-left-node-requires
+left-node-requires c κs =
     let q = c .before .before .before in
-    let f = q .before in
-    let s = f .before .before .before in
+    let f = q .before .before in
+    let s = f .before .before in
     let a = s .args in
     omega (arith, top-place (a .pairs) (a .level) (a .above) (a .chunk) (a .loan) _ _ (a .tree .now) _ (f .level-from .ensures .0) (q .add-pair .ensures .0) (q .add-pair .ensures .1) (s .pre .0 .3))
 
 split-down-requires : tie.Need-split-down-requires
 split-down-requires c κs =
-    let q = c .before .before .before in
-    let f = q .before in
-    let s = f .before .before .before in
+    let q = c .before .before .before .before in
+    let f = q .before .before in
+    let s = f .before .before in
     let a = s .args in
-    ((s .pre .0 .0, omega (arith, s .pre .0 .1), s .pre .0 .2), top-roomy (a .pairs) (a .level) (a .above) (a .chunk) (a .loan) _ _ (a .tree .now) _ (f .level-from .ensures .0) (q .add-pair .ensures .0) (q .add-pair .ensures .1) (s .pre .1))
+    ((s .pre .0 .0, omega (arith, s .pre .0 .1), s .pre .0 .2), top-roomy (a .pairs) (a .level) (a .above) (a .chunk) (a .loan) _ _ (a .tree .now) _ (f .level-from .ensures .0) (q .add-pair .ensures .0) (q .add-pair .ensures .1) _ (c .left-node .ensures) (s .pre .1))
 
 same-length : tie.Need-same-length
 same-length c = search needs
@@ -35,12 +35,13 @@ same-length c = search needs
 returns : tie.Need-returns
 returns c =
     let d = c .before .before in
-    let q = d .before .before .before .before in
-    let f = q .before in
-    let s = f .before .before .before in
+    let n = d .before in
+    let q = n .before .before .before .before in
+    let f = q .before .before in
+    let s = f .before .before in
     let a = s .args in (
-      top-node (a .pairs) (a .level) (a .above) (a .chunk) (a .loan) _ _ (a .tree .now) _ (f .level-from .ensures .0) (q .add-pair .ensures .0) (q .add-pair .ensures .1) _ (d .split-down .ensures .0),
-      top-tree (a .pairs) (a .level) (a .above) (a .chunk) (a .loan) _ _ (a .tree .now) _ (f .level-from .ensures .0) (q .add-pair .ensures .0) (q .add-pair .ensures .1) _ (d .split-down .ensures .1),
+      top-node (a .pairs) (a .level) (a .above) (a .chunk) (a .loan) _ _ (a .tree .now) _ (f .level-from .ensures .0) (q .add-pair .ensures .0) (q .add-pair .ensures .1) _ (n .left-node .ensures) _ (d .split-down .ensures .0),
+      top-tree (a .pairs) (a .level) (a .above) (a .chunk) (a .loan) _ _ (a .tree .now) _ (f .level-from .ensures .0) (q .add-pair .ensures .0) (q .add-pair .ensures .1) _ (n .left-node .ensures) _ (d .split-down .ensures .1),
     )
 
 pub split-chunk-spec : {M : Type 1} → statement M
@@ -50,7 +51,7 @@ split-chunk-spec =
     add-level-from
     level-from-requires
     add-pair-requires
-    mul-split-down
+    left-node-requires
     split-down-requires
     same-length
     returns)

@@ -40,16 +40,8 @@ add-level-from-3 c = search needs
 level-from-requires-2 : tie.Need-level-from-requires-2 Inv-loop μ-loop
 level-from-requires-2 c κs = search needs
 
-mul-put-word : tie.Need-mul-put-word Inv-loop μ-loop
-mul-put-word c =
-    let q = c .before .before .before .before in
-    let f = q .before .before in
-    let b = f .before .before .loop in
-    let a = f .before .before .before .before .args in
-    omega (arith, f .before .before .before .before .pre .0 .0, roomy-place (a .pairs) (a .level) (a .chunk) (a .offset) (a .loan) (b .n) (b .tree) _ _ (q .add-pair .ensures .0) (b .d) (search needs) (f .level-from .ensures .0) (b .inv .2))
-
-add-put-word : tie.Need-add-put-word Inv-loop μ-loop
-add-put-word c =
+split-word-requires : tie.Need-split-word-requires Inv-loop μ-loop
+split-word-requires c κs =
     let q = c .before .before .before .before in
     let f = q .before .before in
     let b = f .before .before .loop in
@@ -59,9 +51,9 @@ add-put-word c =
 put-word-requires : tie.Need-put-word-requires Inv-loop μ-loop
 put-word-requires c κs = search needs
 
-mul-n : tie.Need-mul-n Inv-loop μ-loop
-mul-n c =
-    let q = c .before .before .before .before .before .before .before in
+left-node-requires : tie.Need-left-node-requires Inv-loop μ-loop
+left-node-requires c κs =
+    let q = c .before .before .before .before .before .before .before .before in
     let f = q .before .before in
     let b = f .before .before .loop in
     let a = f .before .before .before .before .args in
@@ -72,8 +64,9 @@ loop-less c = search needs
 
 loop-again : tie.Need-loop-again Inv-loop μ-loop
 loop-again c =
-    let w = c .before .before in
-    let g = w .before in
+    let w = c .before .before .before in
+    let s = w .before in
+    let g = s .before in
     let q = g .before .before .before .before in
     let f = q .before .before in
     let l = f .before .before in
@@ -81,19 +74,16 @@ loop-again c =
     let a = l .before .before .args in (
       omega (arith, b .inv .0),
       search needs,
-      split-roomy (a .pairs) (a .level) (a .chunk) (a .offset) (a .loan) (b .n) (b .tree) _ _ (q .add-pair .ensures .0) _ _ _ (q .add-pair .ensures .1) (w .put-word .ensures) (b .d) (search needs) (f .level-from .ensures .0) (g .level-from2 .ensures .0) (b .inv .2),
+      split-roomy (a .pairs) (a .level) (a .chunk) (a .offset) (a .loan) (b .n) (b .tree) _ _ (q .add-pair .ensures .0) _ _ _ _ _ (q .add-pair .ensures .1) (s .split-word .ensures) (w .put-word .ensures) (c .left-node .ensures) (b .d) (search needs) (f .level-from .ensures .0) (g .level-from2 .ensures .0) (b .inv .2),
       b .inv .3
-          ∙ split-on (a .pairs) (a .level) (a .chunk) (a .offset) (a .loan) (b .n) (b .tree) _ _ (q .add-pair .ensures .0) _ _ _ (q .add-pair .ensures .1) (w .put-word .ensures) (b .d) (search needs) (f .level-from .ensures .0) (g .level-from2 .ensures .0),
+          ∙ split-on (a .pairs) (a .level) (a .chunk) (a .offset) (a .loan) (b .n) (b .tree) _ _ (q .add-pair .ensures .0) _ _ _ _ _ (q .add-pair .ensures .1) (s .split-word .ensures) (w .put-word .ensures) (c .left-node .ensures) (b .d) (search needs) (f .level-from .ensures .0) (g .level-from2 .ensures .0),
     )
 
 level-from-requires-3 : tie.Need-level-from-requires-3 Inv-loop μ-loop
 level-from-requires-3 c κs = search needs
 
-mul-put-word-2 : tie.Need-mul-put-word-2 Inv-loop μ-loop
-mul-put-word-2 c = search needs
-
-add-put-word-2 : tie.Need-add-put-word-2 Inv-loop μ-loop
-add-put-word-2 c = search needs
+loan-word-requires : tie.Need-loan-word-requires Inv-loop μ-loop
+loan-word-requires c κs = search needs
 
 put-word-requires-2 : tie.Need-put-word-requires-2 Inv-loop μ-loop
 put-word-requires-2 c κs = search needs
@@ -104,11 +94,12 @@ same-length c = search needs
 returns : tie.Need-returns Inv-loop μ-loop
 returns c =
     let w = c .before .before in
-    let g = w .before in
+    let k = w .before in
+    let g = k .before in
     let l = g .before .before in
     let b = l .before .loop in
     let a = l .before .before .before .args in
-    let e = b .inv .3 ∙ split-done (a .pairs) (a .level) (a .chunk) (a .offset) (a .loan) (b .n) (b .tree) (b .d) (search needs) _ (g .level-from3 .ensures .0) _ (w .put-word2 .ensures) in
+    let e = b .inv .3 ∙ split-done (a .pairs) (a .level) (a .chunk) (a .offset) (a .loan) (b .n) (b .tree) (b .d) (search needs) _ (g .level-from3 .ensures .0) _ (k .loan-word .ensures) _ (w .put-word2 .ensures) in
     (sym (ap (λ (z : Cut). z .node) e), sym (ap (λ (z : Cut). z .tree) e))
 
 pub split-down-spec : {M : Type 1} → statement M
@@ -125,15 +116,13 @@ split-down-spec =
     add-level-from-2
     add-level-from-3
     level-from-requires-2
-    mul-put-word
-    add-put-word
+    split-word-requires
     put-word-requires
-    mul-n
+    left-node-requires
     loop-less
     loop-again
     level-from-requires-3
-    mul-put-word-2
-    add-put-word-2
+    loan-word-requires
     put-word-requires-2
     same-length
     returns)

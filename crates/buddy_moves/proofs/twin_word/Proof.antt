@@ -3,6 +3,12 @@ use borrow.Author.Needs.{needs}
 use Rattle.buddy_moves.proofs.twin_word.Statement.{statement}
 use Rattle.buddy_moves.proofs.twin_word.Tie as tie
 
+pair-of-requires : tie.Need-pair-of-requires
+pair-of-requires c κs = search needs
+
+is-left-requires : tie.Need-is-left-requires
+is-left-requires c κs = search needs
+
 field-requires : tie.Need-field-requires
 field-requires c κs = search needs
 
@@ -12,14 +18,20 @@ field-requires-2 c κs = search needs
 returns : tie.Need-returns
 returns c =
     let i = c .before in
-    let a = i .before .before .args in
-    left-twin (a .base) (a .n) (a .tree .now) _ (i .if1 .taken) (c .field .ensures)
+    let l = i .before in
+    let p = l .before in
+    let a = p .before .before .args in
+    left-twin (a .base) (a .n) _ _ (a .tree .now) (p .pair-of .ensures) (l .is-left .ensures) _ (i .if1 .taken) (c .field .ensures)
 
 returns-2 : tie.Need-returns-2
 returns-2 c =
     let i = c .before in
-    let a = i .before .before .args in
-    right-twin (a .base) (a .n) (a .tree .now) _ (i .if1 .left) (c .field2 .ensures)
+    let l = i .before in
+    let p = l .before in
+    let a = p .before .before .args in
+    right-twin (a .base) (a .n) _ _ (a .tree .now) (p .pair-of .ensures) (l .is-left .ensures) _ (i .if1 .left) (c .field2 .ensures)
 
 pub twin-word-spec : {M : Type 1} → statement M
-twin-word-spec = tie.close (tie.spec field-requires field-requires-2 returns returns-2)
+twin-word-spec =
+    tie.close
+    (tie.spec pair-of-requires is-left-requires field-requires field-requires-2 returns returns-2)
