@@ -11,7 +11,7 @@ use Rattle.store_rules.specs.Loans.{loan}
 use Rattle.store_rules.specs.declared.Loan.{Loan}
 use Rattle.book_rules.specs.Book.{takenOf}
 use Rattle.buddy_trees.specs.Trees.{bytes}
-use Rattle.buddy_rules.specs.Nodes.{Ent}
+use Rattle.buddy_rules.specs.Nodes.{freeWord, leftReady, Ent}
 use Rattle.buddy_rules.specs.Levels.{sideOf, baseOf}
 use Rattle.buddy_rules.specs.Level.{tagAt, pairCell, entOf, ringHead, acquired}
 use Rattle.buddy_levels.specs.Pairs.{entFrom}
@@ -23,11 +23,11 @@ use Rattle.buddy_outcomes.specs.Ask.{loanFrom, takenTables, bookedTables}
 
 -- where the ready side begins
 module _ (u : ℕ) (e : Pair) (l : ℕ) where
-  pub left-from : e .tag ≡ 2 → e .off ≡ baseOf u (entFrom e) l
-  left-from h = sym (simp (eq-eqb (e .tag) 2 h))
+  pub left-from : e .tag ≡ leftReady → e .off ≡ baseOf u (entFrom e) l
+  left-from h = sym (simp (eq-eqb (e .tag) leftReady h))
 
-  pub right-from : (e .tag ≡ 2 → ⊥) → (b : ℕ) → b ≡ bytes u l → e .off + b ≡ baseOf u (entFrom e) l
-  right-from h b q = ap (λ (x : ℕ). e .off + x) q ∙ sym (simp (ne-eqb (e .tag) 2 h))
+  pub right-from : (e .tag ≡ leftReady → ⊥) → (b : ℕ) → b ≡ bytes u l → e .off + b ≡ baseOf u (entFrom e) l
+  right-from h b q = ap (λ (x : ℕ). e .off + x) q ∙ sym (simp (ne-eqb (e .tag) leftReady h))
 
 module _ (s : BuddySettings) (i : ℕ) (tree : List ℕ) (base : ℕ) (at : base ≡ levelStart (s .pairs) i) (h : ℕ) (ring : h ≡ ringHead (levelFrom s i) tree) (e : Pair) (reads : entFrom e ≡ entOf base tree h) where
   -- the head pair's entry
@@ -54,7 +54,7 @@ module _ (s : BuddySettings) (i : ℕ) (tree : List ℕ) (base : ℕ) (at : base
 
     module _ (level : ℕ) where
       abbrev RoomyAt : Loan → Type 0
-      RoomyAt l = Roomy (s .pairs) level (l .chunk) (l .offset) (readyNode (s .pairs) i tree) (i - level) (acquired (levelFrom s i) 0 tree)
+      RoomyAt l = Roomy (s .pairs) level (l .chunk) (l .offset) (readyNode (s .pairs) i tree) (i - level) (acquired (levelFrom s i) freeWord tree)
 
       pub lends-roomy : RoomyAt Served → RoomyAt (loan (g + 1) (e .chunk) o size)
       lends-roomy r = subst RoomyAt (sym loan-is) r
@@ -62,7 +62,7 @@ module _ (s : BuddySettings) (i : ℕ) (tree : List ℕ) (base : ℕ) (at : base
       module _ (loans index : List ℕ) (k : Taken) (next : k ≡ takenOf (getD head placesAt 0) index) where
         -- the split from the ready side
         abbrev cutBy : Loan → ℕ → Cut
-        cutBy l p = splitDown (s .pairs) level (l .chunk) (l .offset) p (readyNode (s .pairs) i tree) (i - level) (acquired (levelFrom s i) 0 tree)
+        cutBy l p = splitDown (s .pairs) level (l .chunk) (l .offset) p (readyNode (s .pairs) i tree) (i - level) (acquired (levelFrom s i) freeWord tree)
 
         abbrev bookedBy : Loan → Cut → Tables
         bookedBy l c = bookedTables s (l .chunk) (l .offset) size c (tables head loans [] index [])

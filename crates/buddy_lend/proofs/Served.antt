@@ -11,6 +11,7 @@ use Rattle.counter.specs.declared.settings.BuddySettings.{BuddySettings}
 use Rattle.slab.specs.declared.Taken.{Taken}
 use Rattle.store_rules.specs.Loans.{loan}
 use Rattle.book_rules.specs.Book.{takenOf}
+use Rattle.buddy_rules.specs.Nodes.{splitWord}
 use Rattle.buddy_rules.specs.Level.{levelWords, pairTaken}
 use Rattle.buddy_rules.specs.Tables.{Tables, tables, givenAt, levelsAt, placesAt, chunkPlacesAt, chunkWords, memoryAt, chunkSizeAt, levelStart, levelFrom, chunksFrom, placeAt, topAt, placeWords}
 use Rattle.buddy_rules.specs.Moves.{Cut, splitChunk}
@@ -20,15 +21,12 @@ use Rattle.buddy_outcomes.specs.Deliver.{chunkTables, servedTables}
 
 module _ (pairs at : ℕ) (e : at ≡ levelWords pairs * levelsMost) (tree : List ℕ) where
   -- the words of a chunk place in the tree
-  pub top-done : (c p vacant : ℕ) (t₁ t′ : List ℕ) → t₁ ≡ set tree at vacant → t′ ≡ set t₁ (cellOf (at + (1 + topAt)) placeWords c) (2 * p + 2)
-      → t′ ≡ set (set tree (chunksFrom (partSettings 0 pairs 0)) vacant) (cellOf (placeAt (partSettings 0 pairs 0) topAt) placeWords c) (2 * p + 2)
-  top-done c p vacant t₁ t′ f g =
-      g ∙ ap (λ (t : List ℕ). set t (cellOf (at + (1 + topAt)) placeWords c) (2 * p + 2)) f ∙ (λ j. set (set tree (e j) vacant) (cellOf (e j + (1 + topAt)) placeWords c) (2 * p + 2))
+  pub top-done : (c p w vacant : ℕ) (t₁ t′ : List ℕ) → t₁ ≡ set tree at vacant → w ≡ splitWord p → t′ ≡ set t₁ (cellOf (at + (1 + topAt)) placeWords c) w
+      → t′ ≡ set (set tree (chunksFrom (partSettings 0 pairs 0)) vacant) (cellOf (placeAt (partSettings 0 pairs 0) topAt) placeWords c) (splitWord p)
+  top-done c p w vacant t₁ t′ f h g =
+      g ∙ (λ j. set (f j) (cellOf (at + (1 + topAt)) placeWords c) (h j)) ∙ (λ j. set (set tree (e j) vacant) (cellOf (e j + (1 + topAt)) placeWords c) (splitWord p))
 
 module _ (s : BuddySettings) (head tree : List ℕ) where
-  abbrev Spot : Taken
-  Spot = chunkTaken s (tables head [] [] [] tree)
-
   module _ (levels : ℕ) (top : levels ≡ getD head levelsAt 0) (b : ℕ) (at : b ≡ levelStart (s .pairs) (levels - 1)) (p : Taken) (next : p ≡ pairTaken b tree) where
     top-is : p ≡ pairTaken (levelFrom s (getD head levelsAt 0 - 1)) tree
     top-is = next ∙ ap (λ (x : ℕ). pairTaken x tree) (at ∙ ap (λ (x : ℕ). levelStart (s .pairs) (x - 1)) top)
@@ -36,7 +34,7 @@ module _ (s : BuddySettings) (head tree : List ℕ) where
     pub top-low : pairTaken (levelFrom s (getD head levelsAt 0 - 1)) tree .place < pairsMost → p .place < pairsMost
     top-low h = let q : p .place ≡ pairTaken (levelFrom s (getD head levelsAt 0 - 1)) tree .place = ap (λ (x : Taken). x .place) top-is in rw q h
 
-    module _ (c : Taken) (spot-is : c ≡ Spot) where
+    module _ (c : Taken) (taken : c ≡ chunkTaken s (tables head [] [] [] tree)) where
       abbrev after : ℕ → ℕ → List ℕ → Taken → Taken → Tables
       after memory bytes chunks c p =
           tables
@@ -44,16 +42,16 @@ module _ (s : BuddySettings) (head tree : List ℕ) where
           []
           (set (set chunks (cellOf memoryAt chunkWords (c .place)) memory) (cellOf chunkSizeAt chunkWords (c .place)) bytes)
           []
-          (set (set tree (chunksFrom s) (c .slab .vacant)) (cellOf (placeAt s topAt) placeWords (c .place)) (2 * p .place + 2))
+          (set (set tree (chunksFrom s) (c .slab .vacant)) (cellOf (placeAt s topAt) placeWords (c .place)) (splitWord (p .place)))
 
       pub chunk-done : (memory bytes : ℕ) (chunks h′ c′ t′ : List ℕ)
           → c′ ≡ set (set chunks (cellOf memoryAt chunkWords (c .place)) memory) (cellOf chunkSizeAt chunkWords (c .place)) bytes
-          → t′ ≡ set (set tree (chunksFrom (partSettings 0 (s .pairs) 0)) (c .slab .vacant)) (cellOf (placeAt (partSettings 0 (s .pairs) 0) topAt) placeWords (c .place)) (2 * p .place + 2)
+          → t′ ≡ set (set tree (chunksFrom (partSettings 0 (s .pairs) 0)) (c .slab .vacant)) (cellOf (placeAt (partSettings 0 (s .pairs) 0) topAt) placeWords (c .place)) (splitWord (p .place))
           → h′ ≡ set head chunkPlacesAt (c .slab .places)
           → tables h′ [] c′ [] t′ ≡ chunkTables s memory bytes (tables head [] chunks [] tree)
       unfolding chunkTables
       chunk-done memory bytes chunks h′ c′ t′ f g h =
-          (λ j. tables (h j) [] (f j) [] (g j)) ∙ (λ j. after memory bytes chunks (spot-is j) (top-is j))
+          (λ j. tables (h j) [] (f j) [] (g j)) ∙ (λ j. after memory bytes chunks (taken j) (top-is j))
 
 -- ---- when the chunk is there
 
@@ -79,17 +77,17 @@ module _ (s : BuddySettings) (memory bytes : ℕ) (head loans chunks index tree 
   unfolding chunkTables
   now-is = λ j. tables (more j .head) loans (more j .chunks) index (more j .tree)
 
-  module _ (levels : ℕ) (top : levels ≡ getD head levelsAt 0) (c : ℕ) (spot : c ≡ chunkTaken s (tables head [] [] [] tree) .place) (level : ℕ) where
+  module _ (levels : ℕ) (top : levels ≡ getD head levelsAt 0) (c : ℕ) (taken : c ≡ chunkTaken s (tables head [] [] [] tree) .place) (level : ℕ) where
     -- what was shown of the tables with the chunk holds of what the code has
     pub still : (P : ℕ → ℕ → List ℕ → Type 0) → P (chunkTaken s Before .place) (getD head levelsAt 0) (chunkTables s memory bytes Before .tree) → P c levels t₁
     still P r =
-        subst (λ (x : ℕ). P x levels t₁) (sym spot)
+        subst (λ (x : ℕ). P x levels t₁) (sym taken)
         (subst (λ (n : ℕ). P (chunkTaken s Before .place) n t₁) (sym top)
         (subst (λ (t : Tables). P (chunkTaken s Before .place) (getD head levelsAt 0) (t .tree)) (sym now-is) r))
 
     -- the loan of its left end
     pub loan-done : (size g : ℕ) → g ≡ getD h₁ givenAt 0 → loan (g + 1) c 0 size ≡ loan (getD head givenAt 0 + 1) (chunkTaken s (tables head [] [] [] tree) .place) 0 size
-    loan-done size g e = let f = e ∙ same-given in (λ j. loan (f j + 1) (spot j) 0 size)
+    loan-done size g e = let f = e ∙ same-given in (λ j. loan (f j + 1) (taken j) 0 size)
 
     module _ (k : Taken) (next : k ≡ takenOf (getD head placesAt 0) index) where
       abbrev cutBy : ℕ → ℕ → ℕ → List ℕ → Cut
@@ -102,4 +100,4 @@ module _ (s : BuddySettings) (memory bytes : ℕ) (head loans chunks index tree 
       served-done size n t₂ h′ l′ i′ t′ a b d =
           (λ j. tables (d j .head) (d j .loans) c₁ (d j .index) (d j .tree))
           ∙ (λ j. bookedTables s c 0 size (record { node = a j; tree = b j }) (tables h₁ loans c₁ index t₁))
-          ∙ (λ j. bookedTables s (spot j) 0 size (cutBy (spot j) (next j .place) (top j) (now-is j .tree)) (now-is j))
+          ∙ (λ j. bookedTables s (taken j) 0 size (cutBy (taken j) (next j .place) (top j) (now-is j .tree)) (now-is j))

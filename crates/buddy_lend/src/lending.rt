@@ -14,6 +14,7 @@ ghost use Rattle.buddy_outcomes.specs.Ask.{loanFrom, takenTables};
 ghost use Rattle.buddy_moves.specs.Ready.{Lends};
 use buddy_levels::Pair;
 use buddy_rules::GIVEN_AT;
+use buddy_rules::LEFT_READY;
 use counter::BuddySettings;
 use slab::Taken;
 use store_rules::Loan;
@@ -23,7 +24,7 @@ fn side_from(s: BuddySettings, e: Pair, level: u64) -> u64
     requires { ⌜ BuddyIn s × (level ≤ levelsMost) × (e .off ≤ 2 ^ 62) ⌝ }
     ensures { λ r. ⌜ r ≡ baseOf (s .minimal) (entFrom e) level ⌝ }
 {
-    if e.tag == 2 {
+    if e.tag == LEFT_READY {
         return e.off;
     }
     e.off + buddy_levels::node_bytes(s.minimal, level)
@@ -61,7 +62,7 @@ pub fn lend(
         level,
         from,
         pair,
-        e.tag == 2,
+        e.tag == LEFT_READY,
         l.chunk,
         l.offset,
         loan.place,

@@ -1,11 +1,12 @@
 // A chunk added at the place that is taken next, and a block lent from its left end.
 ghost use mathlib.Core.Path.{_≡_};
 ghost use mathlib.Core.List.{[]};
-ghost use Prim.Native.Nat.{_+_, _*_, _-_, _≤_, _<_};
+ghost use Prim.Native.Nat.{_+_, _-_, _≤_, _<_};
 ghost use lib.ListN.{getD, set};
 ghost use Rattle.counter.specs.InTable.{BuddyIn};
 ghost use Rattle.counter.specs.Limits.{levelsMost, pairsMost};
 ghost use Rattle.words.specs.Words.{cellOf};
+ghost use Rattle.buddy_rules.specs.Nodes.{splitWord};
 ghost use Rattle.buddy_rules.specs.Level.{pairTaken};
 ghost use Rattle.buddy_rules.specs.Tables.{tables, givenAt, levelsAt, placesAt, levelFrom, chunksFrom, placeAt, topAt, placeWords, chunkWords, memoryAt, chunkSizeAt};
 ghost use Rattle.buddy_levels.specs.Seen.{partSettings};
@@ -37,11 +38,17 @@ fn put_chunk(chunks: &mut [u64], c: u64, memory: u64, bytes: u64)
 // The top node of the chunk at c is split into the pair p from now on, and the place vacated last is this.
 fn put_top(pairs: usize, c: u64, p: u64, vacant: u64, tree: &mut [u64])
     requires { ⌜ (pairs ≤ pairsMost) × (p < pairsMost) ⌝ }
-    ensures { λ _. ⌜ now (tree .exit) ≡ set (set (now (tree .entry)) (chunksFrom (partSettings 0 pairs 0)) vacant) (cellOf (placeAt (partSettings 0 pairs 0) topAt) placeWords c) (2 * p + 2) ⌝ }
+    ensures { λ _. ⌜ now (tree .exit) ≡ set (set (now (tree .entry)) (chunksFrom (partSettings 0 pairs 0)) vacant) (cellOf (placeAt (partSettings 0 pairs 0) topAt) placeWords c) (splitWord p) ⌝ }
 {
     let at = buddy_levels::chunks_from(pairs);
     words::put(tree, at, vacant);
-    words::put_cell(tree, at + (1 + TOP_AT), PLACE_WORDS, c as usize, 2 * p + 2);
+    words::put_cell(
+        tree,
+        at + (1 + TOP_AT),
+        PLACE_WORDS,
+        c as usize,
+        buddy_levels::split_word(p),
+    );
 }
 
 // Memory of so many bytes is the chunk at this place; its top node is split into the pair that the top level takes next.

@@ -15,11 +15,8 @@ add-put-cell c = search needs
 add-put-cell-2 : tie.Need-add-put-cell-2
 add-put-cell-2 c = search needs
 
-mul-put-cell : tie.Need-mul-put-cell
-mul-put-cell c = search needs
-
-add-put-cell-3 : tie.Need-add-put-cell-3
-add-put-cell-3 c = search needs
+split-word-requires : tie.Need-split-word-requires
+split-word-requires c κs = search needs
 
 put-cell-requires : tie.Need-put-cell-requires
 put-cell-requires c κs = search needs
@@ -30,10 +27,11 @@ same-length c = search needs
 returns : tie.Need-returns
 returns c =
     let q = c .before .before in
-    let p = q .before .before .before .before in
+    let w = q .before in
+    let p = w .before .before .before .before in
     let f = p .before .before in
     let a = f .before .before .args in
-    top-done (a .pairs) _ (f .chunks-from .ensures .0) (a .tree .now) (a .c) (a .p) (a .vacant) _ _ (p .put .ensures) (q .put-cell .ensures)
+    top-done (a .pairs) _ (f .chunks-from .ensures .0) (a .tree .now) (a .c) (a .p) _ (a .vacant) _ _ (p .put .ensures) (w .split-word .ensures) (q .put-cell .ensures)
 
 pub put-top-spec : {M : Type 1} → statement M
 put-top-spec =
@@ -43,8 +41,7 @@ put-top-spec =
     put-requires
     add-put-cell
     add-put-cell-2
-    mul-put-cell
-    add-put-cell-3
+    split-word-requires
     put-cell-requires
     same-length
     returns)

@@ -13,24 +13,18 @@ use Rattle.buddy_lend.proofs.taking.take_side.Tie as tie
 level-from-requires : tie.Need-level-from-requires
 level-from-requires c κs = search needs
 
-mul-node : tie.Need-mul-node
-mul-node c = search needs
+left-node-requires : tie.Need-left-node-requires
+left-node-requires c κs = search needs
 
-mul-node-2 : tie.Need-mul-node-2
-mul-node-2 c = search needs
+right-node-requires : tie.Need-right-node-requires
+right-node-requires c κs = search needs
 
-add-node : tie.Need-add-node
-add-node c = search needs
-
-mul-acquire : tie.Need-mul-acquire
-mul-acquire c = search needs
-
-add-acquire : tie.Need-add-acquire
-add-acquire c = search needs
+loan-word-requires : tie.Need-loan-word-requires
+loan-word-requires c κs = search needs
 
 acquire-requires : tie.Need-acquire-requires
 acquire-requires c κs =
-    let f = c .before .before .before in
+    let f = c .before .before .before .before in
     let b = f .before .before in
     let a = b .args in
     let at = sym (f .level-from .ensures .0) in
@@ -54,7 +48,7 @@ split-down-requires c κs =
     let f = i .before in
     let b = f .before .before in
     let a = b .args in
-    let node = ⊎-elim (λ x. node-left (a .pairs) (a .from) (a .tree .now) (a .h) (a .left) (b .pre .1 .0 .0) (b .pre .1 .0 .1) _ (x .0 .taken) (x .1)) (λ x. node-right (a .pairs) (a .from) (a .tree .now) (a .h) (a .left) (b .pre .1 .0 .0) (b .pre .1 .0 .1) _ (x .0 .left) (x .1)) (i .if1 .came) in
+    let node = ⊎-elim (λ x. node-left (a .pairs) (a .from) (a .tree .now) (a .h) (a .left) (b .pre .1 .0 .0) (b .pre .1 .0 .1) _ (x .0 .taken) (x .2 ∙ x .1 .ensures)) (λ x. node-right (a .pairs) (a .from) (a .tree .now) (a .h) (a .left) (b .pre .1 .0 .0) (b .pre .1 .0 .1) _ (x .0 .left) (x .2 ∙ x .1 .ensures)) (i .if1 .came) in
     (search needs, still-roomy (a .pairs) (a .from) (a .tree .now) (a .level) (a .chunk) (a .offset) (a .loan) _ _ node (f .level-from .ensures .0) _ (q .acquire2 .ensures) (b .pre .1 .1))
 
 same-length : tie.Need-same-length
@@ -63,12 +57,13 @@ same-length c = search needs
 returns : tie.Need-returns
 returns c =
     let q = c .before .before in
-    let i = q .before .before .before in
+    let w = q .before in
+    let i = w .before .before .before in
     let f = i .before in
     let b = f .before .before in
     let a = b .args in
-    let node = ⊎-elim (λ x. node-left (a .pairs) (a .from) (a .tree .now) (a .h) (a .left) (b .pre .1 .0 .0) (b .pre .1 .0 .1) _ (x .0 .taken) (x .1)) (λ x. node-right (a .pairs) (a .from) (a .tree .now) (a .h) (a .left) (b .pre .1 .0 .0) (b .pre .1 .0 .1) _ (x .0 .left) (x .1)) (i .if1 .came) in
-    let whole = took-whole (a .pairs) (a .from) (a .tree .now) (a .level) (a .chunk) (a .offset) (a .loan) _ _ node (f .level-from .ensures .0) _ (q .before .before .if2 .taken) (q .acquire .ensures) in
+    let node = ⊎-elim (λ x. node-left (a .pairs) (a .from) (a .tree .now) (a .h) (a .left) (b .pre .1 .0 .0) (b .pre .1 .0 .1) _ (x .0 .taken) (x .2 ∙ x .1 .ensures)) (λ x. node-right (a .pairs) (a .from) (a .tree .now) (a .h) (a .left) (b .pre .1 .0 .0) (b .pre .1 .0 .1) _ (x .0 .left) (x .2 ∙ x .1 .ensures)) (i .if1 .came) in
+    let whole = took-whole (a .pairs) (a .from) (a .tree .now) (a .level) (a .chunk) (a .offset) (a .loan) _ _ node (f .level-from .ensures .0) _ _ (w .before .before .if2 .taken) (w .loan-word .ensures) (q .acquire .ensures) in
     (sym (ap (λ (x : Cut). x .node) whole), sym (ap (λ (x : Cut). x .tree) whole))
 
 same-length-2 : tie.Need-same-length-2
@@ -82,7 +77,7 @@ returns-2 c =
     let f = i .before in
     let b = f .before .before in
     let a = b .args in
-    let node = ⊎-elim (λ x. node-left (a .pairs) (a .from) (a .tree .now) (a .h) (a .left) (b .pre .1 .0 .0) (b .pre .1 .0 .1) _ (x .0 .taken) (x .1)) (λ x. node-right (a .pairs) (a .from) (a .tree .now) (a .h) (a .left) (b .pre .1 .0 .0) (b .pre .1 .0 .1) _ (x .0 .left) (x .1)) (i .if1 .came) in
+    let node = ⊎-elim (λ x. node-left (a .pairs) (a .from) (a .tree .now) (a .h) (a .left) (b .pre .1 .0 .0) (b .pre .1 .0 .1) _ (x .0 .taken) (x .2 ∙ x .1 .ensures)) (λ x. node-right (a .pairs) (a .from) (a .tree .now) (a .h) (a .left) (b .pre .1 .0 .0) (b .pre .1 .0 .1) _ (x .0 .left) (x .2 ∙ x .1 .ensures)) (i .if1 .came) in
     let split = took-split (a .pairs) (a .from) (a .tree .now) (a .level) (a .chunk) (a .offset) (a .loan) _ _ node (f .level-from .ensures .0) _ (q .acquire2 .ensures) in
     (d .split-down .ensures .0 ∙ ap (λ (x : Cut). x .node) split, d .split-down .ensures .1 ∙ ap (λ (x : Cut). x .tree) split)
 
@@ -91,11 +86,9 @@ take-side-spec =
     tie.close
     (tie.spec
     level-from-requires
-    mul-node
-    mul-node-2
-    add-node
-    mul-acquire
-    add-acquire
+    left-node-requires
+    right-node-requires
+    loan-word-requires
     acquire-requires
     acquire-requires-2
     sub-split-down
