@@ -13,6 +13,7 @@ use crate::records::end_at;
 use crate::records::put_region;
 use crate::records::region_at;
 use crate::stands::stands_at;
+use freelist_rules::REGION_CHUNK_AT;
 use freelist_rules::REGION_WORDS;
 use store_rules::Region;
 
@@ -52,7 +53,7 @@ pub fn join_region(t: &mut [u64], n: usize, b: Region) -> usize
     ensures { λ r. ⌜ r ≡ length (insert b (rows regionRow n (now (t .entry)))) ⌝ }
     ensures { λ _. ⌜ now (t .exit) ≡ laid regionRow (insert b (rows regionRow n (now (t .entry)))) (now (t .entry)) ⌝ }
 {
-    let k = stands_at(t, 0, REGION_WORDS, n, b.chunk, b.start);
+    let k = stands_at(t, REGION_CHUNK_AT, REGION_WORDS, n, b.chunk, b.start);
     let before = touches_before(t, k, b);
     let next = touches_next(t, n, k, b);
     if next {

@@ -3,7 +3,13 @@ ghost use mathlib.Core.Path.{_≡_};
 ghost use Rattle.words.specs.Rows.{row, written};
 ghost use Rattle.freelist_rules.specs.Records.{chunkRow, regionRow};
 ghost use Rattle.freelist_regions.specs.Ended.{endedAt};
+use freelist_rules::CHUNK_BYTES_AT;
+use freelist_rules::CHUNK_MEMORY_AT;
+use freelist_rules::CHUNK_NUMBER_AT;
 use freelist_rules::CHUNK_WORDS;
+use freelist_rules::REGION_CHUNK_AT;
+use freelist_rules::REGION_END_AT;
+use freelist_rules::REGION_START_AT;
 use freelist_rules::REGION_WORDS;
 use store_rules::Chunk;
 use store_rules::Region;
@@ -12,18 +18,18 @@ pub fn region_at(t: &[u64], i: usize) -> Region
     ensures { λ r. ⌜ r ≡ row regionRow i (now (t .entry)) ⌝ }
 {
     Region {
-        chunk: words::cell(t, 0, REGION_WORDS, i),
-        start: words::cell(t, 1, REGION_WORDS, i),
-        end: words::cell(t, 2, REGION_WORDS, i),
+        chunk: words::cell(t, REGION_CHUNK_AT, REGION_WORDS, i),
+        start: words::cell(t, REGION_START_AT, REGION_WORDS, i),
+        end: words::cell(t, REGION_END_AT, REGION_WORDS, i),
     }
 }
 
 pub fn put_region(t: &mut [u64], i: usize, r: Region)
     ensures { λ _. ⌜ now (t .exit) ≡ written regionRow i r (now (t .entry)) ⌝ }
 {
-    words::put_cell(t, 0, REGION_WORDS, i, r.chunk);
-    words::put_cell(t, 1, REGION_WORDS, i, r.start);
-    words::put_cell(t, 2, REGION_WORDS, i, r.end);
+    words::put_cell(t, REGION_CHUNK_AT, REGION_WORDS, i, r.chunk);
+    words::put_cell(t, REGION_START_AT, REGION_WORDS, i, r.start);
+    words::put_cell(t, REGION_END_AT, REGION_WORDS, i, r.end);
 }
 
 // Region i ends at `place` from now on.
@@ -46,16 +52,16 @@ pub fn chunk_at(t: &[u64], i: usize) -> Chunk
     ensures { λ r. ⌜ r ≡ row chunkRow i (now (t .entry)) ⌝ }
 {
     Chunk {
-        number: words::cell(t, 0, CHUNK_WORDS, i),
-        memory: words::cell(t, 1, CHUNK_WORDS, i),
-        size: words::cell(t, 2, CHUNK_WORDS, i),
+        number: words::cell(t, CHUNK_NUMBER_AT, CHUNK_WORDS, i),
+        memory: words::cell(t, CHUNK_MEMORY_AT, CHUNK_WORDS, i),
+        size: words::cell(t, CHUNK_BYTES_AT, CHUNK_WORDS, i),
     }
 }
 
 pub fn put_chunk(t: &mut [u64], i: usize, c: Chunk)
     ensures { λ _. ⌜ now (t .exit) ≡ written chunkRow i c (now (t .entry)) ⌝ }
 {
-    words::put_cell(t, 0, CHUNK_WORDS, i, c.number);
-    words::put_cell(t, 1, CHUNK_WORDS, i, c.memory);
-    words::put_cell(t, 2, CHUNK_WORDS, i, c.size);
+    words::put_cell(t, CHUNK_NUMBER_AT, CHUNK_WORDS, i, c.number);
+    words::put_cell(t, CHUNK_MEMORY_AT, CHUNK_WORDS, i, c.memory);
+    words::put_cell(t, CHUNK_BYTES_AT, CHUNK_WORDS, i, c.size);
 }
