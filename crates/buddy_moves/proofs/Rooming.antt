@@ -13,7 +13,7 @@ use Rattle.buddy_trees.proofs.Bytes.{up-le}
 use Rattle.buddy_rules.specs.Nodes.{freeWord, splitWord, L, nodeOf, pairOf}
 use Rattle.buddy_rules.proofs.Climbs.{node-pair}
 use Rattle.buddy_rules.specs.Level.{pairTaken, added, Good, part}
-use Rattle.buddy_rules.proofs.Parts.{part-good, part-spot, part-added}
+use Rattle.buddy_rules.proofs.Parts.{part-good, part-taken, part-added}
 use Rattle.buddy_rules.specs.Tables.{levelFrom}
 use Rattle.buddy_rules.specs.Moves.{worded}
 use Rattle.buddy_rules.proofs.Worded.{Short, Fits, within-left, worded-left}
@@ -28,9 +28,9 @@ module _ (s : BuddySettings) (tree : List ℕ) where
 
     taken-too : pairTaken (levelFrom s m) t .place ≡ pairTaken (levelFrom s m) tree .place
     taken-too =
-        ap (λ (z : Taken). z .place) (part-spot (s .pairs) m t good-too)
+        ap (λ (z : Taken). z .place) (part-taken (s .pairs) m t good-too)
         ∙ ap (λ (v : List ℕ). pairTaken 0 v .place) same
-        ∙ sym (ap (λ (z : Taken). z .place) (part-spot (s .pairs) m tree good))
+        ∙ sym (ap (λ (z : Taken). z .place) (part-taken (s .pairs) m tree good))
 
   -- ---- down to level lev, in any tree with the words of the levels below
 

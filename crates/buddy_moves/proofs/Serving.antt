@@ -24,7 +24,7 @@ use Rattle.buddy_outcomes.specs.Ask.{levelFor, grownTo, chunkTaken, decideAsk, 
 use Rattle.buddy_outcomes.specs.Deliver.{chunkTables}
 use Rattle.buddy_outcomes.proofs.Changed.{few-pairs, grown-lengths, grown-given}
 use Rattle.buddy_outcomes.proofs.Chunked.{chunked, chunked-lengths, chunked-level}
-use Rattle.buddy_outcomes.proofs.Delivered.{more, most, grown-sound, count, place, spot, pair}
+use Rattle.buddy_outcomes.proofs.Delivered.{more, most, grown-sound, count, place, chunk-room, pair}
 use Rattle.buddy_outcomes.proofs.Plans.{Buys, buys}
 use Rattle.buddy_moves.specs.Ready.{Serves}
 use Rattle.buddy_moves.proofs.Lending.{opens}
@@ -90,7 +90,7 @@ module _ (s : BuddySettings) (t : Tables) (fit : BuddyIn s) (lengths : Lengths s
           enters = record { fit = fit; serial = serial; opens = opens s grown fit (grown-lengths s t fit lengths sound (grownTo (levelFor s size mask) t)) (place s t fit lengths sound size mask z b) };
           below = tall;
           low = low;
-          chunk = omega (arith, spot s t fit lengths sound size mask z b, fit .store .chunks-most);
+          chunk = omega (arith, chunk-room s t fit lengths sound size mask z b, fit .store .chunks-most);
           pair = omega (arith, pair s t fit lengths sound size mask z b (levelsIn grown - 1) (omega (arith, tall)) (omega (arith, tall)), fit .pairs-most);
           own = own-room;
           roomy = split-room;

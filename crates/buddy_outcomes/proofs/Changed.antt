@@ -31,7 +31,7 @@ use Rattle.buddy_rules.proofs.Made.{empty-sound, grown-sound}
 use Rattle.buddy_rules.specs.Level.{levelWords, ringHead, pairTaken, freshLevel, part, pairIn}
 use Rattle.buddy_rules.proofs.Fresh.{fresh-length, fresh-head, fresh-taken, fresh-none, fresh-good}
 use Rattle.buddy_rules.proofs.Ops.{levelOps}
-use Rattle.buddy_rules.proofs.Parts.{part-length, part-head, part-spot}
+use Rattle.buddy_rules.proofs.Parts.{part-length, part-head, part-taken}
 use Rattle.buddy_rules.specs.Tables.{Tables, tables, Lengths, markAt, givenAt, levelsAt, placesAt, chunkPlacesAt, givenIn, levelsIn, placesIn, chunkPlacesIn, levelFrom, chunksFrom, placeAt, topAt, placeWords, nodesFrom, loanIn, liveIn, heldIn, highIn, topIn, vacantChunk, chunkAfter, chunkSlab, vacantLoan, loanAfter, initialLevels}
 use Rattle.buddy_rules.specs.Sound.{Sound}
 use Rattle.buddy_rules.proofs.Abstract.{storeOf, levels-in, sound-store, Sizes, store-trees}
@@ -276,7 +276,7 @@ module _ (s : BuddySettings) (t : Tables) (fit : BuddyIn s) (lengths : Lengths s
       unfolding grownTables
       place-there j h f = ⊎-elim
           (λ k. let e : pairTaken 0 (part (s .pairs) j (grown n more most .tree)) .place ≡ pairTaken (levelFrom s j) (t .tree) .place =
-          ap (λ (x : List ℕ). pairTaken 0 x .place) (made n more most .below j k) ∙ sym (ap (λ (x : Taken). x .place) (part-spot (s .pairs) j (t .tree) (sound .good j k))) in
+          ap (λ (x : List ℕ). pairTaken 0 x .place) (made n more most .below j k) ∙ sym (ap (λ (x : Taken). x .place) (part-taken (s .pairs) j (t .tree) (sound .good j k))) in
           omega (arith, e, f k))
           (λ k. let e : pairTaken 0 (part (s .pairs) j (grown n more most .tree)) .place ≡ 0 =
           ap (λ (x : List ℕ). pairTaken 0 x .place) (made n more most .inside j k (omega arith)) ∙ fresh-taken 0 (part (s .pairs) j (t .tree)) (omega (arith, fresh-part j (omega arith))) in
@@ -288,5 +288,5 @@ module _ (s : BuddySettings) (t : Tables) (fit : BuddyIn s) (lengths : Lengths s
       grown-place j h f =
           let v = part (s .pairs) j (grownTables s n t .tree) in
           let G = grown-tables-sound n more most .good j (omega (arith, grown-count)) in
-          let e : pairTaken (levelFrom s j) (grownTables s n t .tree) .place ≡ pairTaken 0 v .place = ap (λ (x : Taken). x .place) (part-spot (s .pairs) j (grownTables s n t .tree) G) in
+          let e : pairTaken (levelFrom s j) (grownTables s n t .tree) .place ≡ pairTaken 0 v .place = ap (λ (x : Taken). x .place) (part-taken (s .pairs) j (grownTables s n t .tree) G) in
           omega (arith, e, place-there j h f)

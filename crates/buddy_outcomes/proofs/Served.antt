@@ -24,7 +24,7 @@ use Rattle.buddy_rules.proofs.Fitting.{up-add}
 use Rattle.buddy_rules.proofs.Made.{delivered-sound}
 use Rattle.buddy_rules.specs.Level.{ringHead, pairTaken, part}
 use Rattle.buddy_rules.proofs.Ops.{levelOps}
-use Rattle.buddy_rules.proofs.Parts.{part-good, part-spot}
+use Rattle.buddy_rules.proofs.Parts.{part-good, part-taken}
 use Rattle.buddy_rules.specs.Tables.{Tables, Lengths, levelsIn, placesIn, memoryIn, levelFrom, chunksFrom, loanIn, liveIn, heldIn, highIn, topIn}
 use Rattle.buddy_rules.specs.Moves.{Cut, splitChunk}
 use Rattle.buddy_rules.specs.Sound.{Sound}
@@ -124,7 +124,7 @@ module _ (s : BuddySettings) (t : Tables) (fit : BuddyIn s) (lengths : Lengths s
   word-as =
       let e : levelsIn t - 1 ≡ up d lev = omega (arith, top) in
       ap (λ (l : ℕ). 2 * pairTaken (levelFrom s l) (t .tree) .place + 2) e
-      ∙ ap (λ (x : Taken). 2 * x .place + 2) (part-spot (s .pairs) (up d lev) (t .tree) (sound .good (up d lev) (omega (arith, top))))
+      ∙ ap (λ (x : Taken). 2 * x .place + 2) (part-taken (s .pairs) (up d lev) (t .tree) (sound .good (up d lev) (omega (arith, top))))
 
   top-as : (b : ℕ) → topIn s u b ≡ with (topIn s t) c (grow (s .minimal) (levelOps (s .pairs) (few-pairs s fit)) W lev c 0 k nowhere (suc d) .top) b
   top-as b = chunked-top s t fit lengths memory z chunk-room sound tall is-chunk b ∙ ap (λ (x : ℕ). with (topIn s t) c x b) word-as

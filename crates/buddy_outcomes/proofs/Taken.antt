@@ -30,7 +30,7 @@ use Rattle.buddy_rules.proofs.Fitting.{up-add, lent-aligned}
 use Rattle.buddy_rules.proofs.Made.{lent-sound}
 use Rattle.buddy_rules.specs.Level.{ringHead, pairTaken, acquired, part}
 use Rattle.buddy_rules.proofs.Ops.{levelOps}
-use Rattle.buddy_rules.proofs.Parts.{part-head, part-spot}
+use Rattle.buddy_rules.proofs.Parts.{part-head, part-taken}
 use Rattle.buddy_rules.specs.Tables.{Tables, Lengths, levelsIn, placesIn, levelFrom, loanCell, loanIn, liveIn, heldIn, highIn, topIn}
 use Rattle.buddy_rules.specs.Moves.{Cut, splitDown, readyNode}
 use Rattle.buddy_rules.specs.Sound.{Sound}
@@ -86,7 +86,7 @@ module _ (s : BuddySettings) (t : Tables) (fit : BuddyIn s) (sound : Sound s t) 
   level-empty e f = f (sym (part-head (s .pairs) j (t .tree)) ∙ e)
 
   pub level-room : j < levelsIn t → pairTaken (levelFrom s j) (t .tree) .place < s .pairs → pairTaken 0 (part (s .pairs) j (t .tree)) .place < s .pairs
-  level-room h k = let e = part-spot (s .pairs) j (t .tree) (sound .good j h) in rw (← e) k
+  level-room h k = let e = part-taken (s .pairs) j (t .tree) (sound .good j h) in rw (← e) k
 
 module _ (s : BuddySettings) (t : Tables) (fit : BuddyIn s) (lengths : Lengths s t) (sound : Sound s t) (size lev d : ℕ)
     (below : up d lev < levelsIn t) (some : ringHead (levelFrom s (up d lev)) (t .tree) ≡ nowhere → ⊥)

@@ -110,8 +110,8 @@ module _ (pairs l : ℕ) (t : List ℕ) where
   pub part-head : ringHead (levelWords pairs * l) t ≡ ringHead 0 (part pairs l t)
   part-head = sym (word-out ringAt (omega arith))
 
-  pub part-spot : Good (levelWords pairs * l) pairs t → pairTaken (levelWords pairs * l) t ≡ pairTaken 0 (part pairs l t)
-  part-spot G = by (lt-or-le (slabIn b t .vacant) (slabIn b t .places))
+  pub part-taken : Good (levelWords pairs * l) pairs t → pairTaken (levelWords pairs * l) t ≡ pairTaken 0 (part pairs l t)
+  part-taken G = by (lt-or-le (slabIn b t .vacant) (slabIn b t .places))
     where
       by : (slabIn b t .vacant < slabIn b t .places) ⊎ (slabIn b t .places ≤ slabIn b t .vacant) → pairTaken b t ≡ pairTaken 0 v
       by (inl h) =
@@ -198,7 +198,7 @@ module _ (pairs l : ℕ) (t : List ℕ) where
 
     pub part-added : (c o n w : ℕ) → pairTaken (levelWords pairs * l) t .place < pairs → Within pairs l t (added (levelWords pairs * l) c o n w t) (added 0 c o n w (part pairs l t))
     part-added c o n w h =
-        rw (added-puts b c o n w t, added-puts 0 c o n w v, ← part-spot G)
+        rw (added-puts b c o n w t, added-puts 0 c o n w v, ← part-taken G)
         (within pairs l t (addedRow b c o n w t) ((0 + usedAt, pairTaken b t .slab .places) ∷ (0 + vacatedAt, pairTaken b t .slab .vacant) ∷ enteredRow 0 p c o n w) (
           (refl, omega arith, refl),
           (

@@ -27,7 +27,7 @@ use Rattle.buddy_rules.proofs.Puts.{put-other}
 use Rattle.buddy_rules.specs.Level.{entOf, pairIn, ringHead, pairTaken, dropped, backed, acquired, Good, part}
 use Rattle.buddy_rules.specs.Ringed.{Ringed, outOf, tailOf}
 use Rattle.buddy_rules.proofs.Ops.{levelOps}
-use Rattle.buddy_rules.proofs.Parts.{part-pair, part-head, part-spot}
+use Rattle.buddy_rules.proofs.Parts.{part-pair, part-head, part-taken}
 use Rattle.buddy_rules.proofs.Ringed.{ringed-one, good-ringed, dropped-out, acquired-tail, backed-ringed, added-ringed, part-ringed, ringed-part}
 use Rattle.buddy_rules.specs.Tables.{Tables, Lengths, levelsIn, levelFrom, pairsIn, loanIn, liveIn, highIn, topIn, treeWords}
 use Rattle.buddy_rules.specs.Sound.{Sound}
@@ -284,7 +284,7 @@ module _ (s : BuddySettings) (small : s .pairs ≤ 2 ^ 32) (t : Tables) (fit : B
   lent-rings lev d k below some room l h =
       let A = sound-store s small t fit len S in
       let U = storeOf s small t .levels in
-      let newPlace : (i : ℕ) → i < levelsIn t → pairTaken (levelFrom s i) (t .tree) .place ≡ pairTaken 0 (U i) .place = λ i b. ap (λ z. z .place) (part-spot (s .pairs) i (t .tree) (S .good i b)) in
+      let newPlace : (i : ℕ) → i < levelsIn t → pairTaken (levelFrom s i) (t .tree) .place ≡ pairTaken 0 (U i) .place = λ i b. ap (λ z. z .place) (part-taken (s .pairs) i (t .tree) (S .good i b)) in
       let some-in : ringHead 0 (U (up d lev)) ≡ nowhere → ⊥ = λ e. some (part-head (s .pairs) (up d lev) (t .tree) ∙ e) in
       let room-in : (i : ℕ) → lev ≤ i → i < up d lev → pairTaken 0 (U i) .place < s .pairs = λ i a b. let e = newPlace i (omega arith) in rw (← e) (room i a b) in
       let r = lend-rings (s .pairs) small (s .minimal) lev d k U W (levelsIn t) below (λ i b. A .good i b) some-in room-in (λ j b. part-ringed (s .pairs) j (t .tree) (W j) (rings j b)) l h in
@@ -303,7 +303,7 @@ module _ (s : BuddySettings) (small : s .pairs ≤ 2 ^ 32) (t : Tables) (fit : B
       let A = sound-store s small t fit len S in
       let U = storeOf s small t .levels in
       let i = levelsIn t in
-      let newPlace : (j : ℕ) → j < levelsIn t → pairTaken (levelFrom s j) (t .tree) .place ≡ pairTaken 0 (U j) .place = λ j b. ap (λ z. z .place) (part-spot (s .pairs) j (t .tree) (S .good j b)) in
+      let newPlace : (j : ℕ) → j < levelsIn t → pairTaken (levelFrom s j) (t .tree) .place ≡ pairTaken 0 (U j) .place = λ j b. ap (λ z. z .place) (part-taken (s .pairs) j (t .tree) (S .good j b)) in
       let room-in : (j : ℕ) → lev ≤ j → j < levelsIn t → pairTaken 0 (U j) .place < s .pairs = λ j a b. let e = newPlace j b in rw (← e) (room j a b) in
       let r = grow-all (s .pairs) small (s .minimal) lev c 0 k nowhere (suc d) U W (levelsIn t) top (λ j b. A .good j b) room-in (λ j b. part-ringed (s .pairs) j (t .tree) (W j) (rings j b)) l h in
       let cut = grown-in s small x U fit long same lev d c k (omega (arith, top, S .levels-most)) (λ j a b. A .good j (omega (arith, top)) .1) (λ j a b. room-in j a (omega (arith, top))) in

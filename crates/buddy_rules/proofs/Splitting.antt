@@ -26,7 +26,7 @@ use Rattle.buddy_rules.specs.Level.{usedAt, leftAt, sideAt, pairCell, en
 use Rattle.buddy_rules.proofs.Ops.{levelOps}
 use Rattle.buddy_rules.proofs.Cells.{pair-used}
 use Rattle.buddy_rules.proofs.Rings.{used-below, head-mem}
-use Rattle.buddy_rules.proofs.Parts.{part-ent, part-pair, part-good, part-spot, part-head, part-added, part-acquired}
+use Rattle.buddy_rules.proofs.Parts.{part-ent, part-pair, part-good, part-taken, part-head, part-added, part-acquired}
 use Rattle.buddy_rules.proofs.Within.{Within}
 use Rattle.buddy_rules.specs.Tables.{Tables, Lengths, levelsIn, levelFrom, chunksFrom, treeWords}
 use Rattle.buddy_rules.specs.Sound.{Sound}
@@ -62,7 +62,7 @@ module _ (s : BuddySettings) (small : s .pairs ≤ 2 ^ 32) (lev c o k : ℕ) whe
     good-in = part-good (s .pairs) m t .1 (rw a g)
 
     place-in : pairTaken (levelFrom s m) t .place ≡ pairTaken 0 (W m) .place
-    place-in = ap (λ z. z .place) (part-spot (s .pairs) m t good-in) ∙ ap (λ (v : List ℕ). pairTaken 0 v .place) a
+    place-in = ap (λ z. z .place) (part-taken (s .pairs) m t good-in) ∙ ap (λ (v : List ℕ). pairTaken 0 v .place) a
 
     add-in : pairTaken 0 (W m) .place < s .pairs → Within (s .pairs) m t (added (levelFrom s m) c o n 0 t) (added 0 c o n 0 (part (s .pairs) m t))
     add-in h = part-added (s .pairs) m t good-in c o n 0 (rw place-in h)
