@@ -67,9 +67,7 @@ pub fn return_block(
 ) -> ReleasedShare
     ensures { λ r. ⌜ listed (releaseSaid (r .answer)) (holder (s .store) (r .share)) (tables (now (head .exit)) (now (loans .exit)) (now (chunks .exit)) (now (regions .exit)) (now (index .exit))) (now (list .exit)) ≡ returnOf s (holder (s .store) share) b (tables (now (head .entry)) (now (loans .entry)) (now (chunks .entry)) (now (regions .entry)) (now (index .entry))) (now (list .entry)) ⌝ }
 {
-    let own = s.store;
-    let long = own.chunks <= list.len();
-    let plan = crate::plans::plan_return(s, share, b, long, head, loans, chunks, regions, index);
+    let plan = crate::plans::plan_return(s, share, b, head, loans, chunks, regions, index, list);
     crate::carries::carry_return(s, share, b, plan, head, loans, chunks, regions, index, list)
 }
 
@@ -86,8 +84,6 @@ pub fn clean_up(
 ) -> ReleasedShare
     ensures { λ r. ⌜ listed (releaseSaid (r .answer)) (holder (s .store) (r .share)) (tables (now (head .exit)) (now (loans .entry)) (now (chunks .exit)) (now (regions .exit)) (now (index .entry))) (now (list .exit)) ≡ cleanUpOf s (holder (s .store) share) (tables (now (head .entry)) (now (loans .entry)) (now (chunks .entry)) (now (regions .entry)) (now (index .entry))) (now (list .entry)) ⌝ }
 {
-    let own = s.store;
-    let long = own.chunks <= list.len();
-    let plan = crate::plans::plan_clean_up(s, share, long, head, loans, chunks, regions, index);
+    let plan = crate::plans::plan_clean_up(s, share, head, loans, chunks, regions, index, list);
     crate::carries::carry_clean_up(s, share, plan, head, loans, chunks, regions, index, list)
 }

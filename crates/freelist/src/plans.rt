@@ -1,7 +1,7 @@
 // What each call comes to: the gate, and then the tests behind it. Reads only.
 ghost use mathlib.Core.Path.{_≡_};
-ghost use mathlib.Core.Bool.{true};
 ghost use Rattle.counter.specs.Gate.{verdictOf};
+ghost use Rattle.store_rules.specs.Outcomes.{listOk};
 ghost use Rattle.store_rules.proofs.Holders.{holding, holder};
 ghost use Rattle.store.specs.Comings.{comingOf};
 ghost use Rattle.returning.specs.Backs.{backOf};
@@ -106,39 +106,43 @@ pub fn plan_deliver(
     }
 }
 
-// `list` says whether the release list is long enough.
+// The release list has to hold the chunk limit.
 pub fn plan_return(
     s: FreeListSettings,
     share: Share,
     b: Block,
-    list: bool,
     head: &[u64],
     loans: &[u64],
     chunks: &[u64],
     regions: &[u64],
     index: &[u64],
+    list: &[u64],
 ) -> Back
-    ensures { λ r. ⌜ backOf r ≡ planReturn s (holder (s .store) share) b (tables (now (head .entry)) (now (loans .entry)) (now (chunks .entry)) (now (regions .entry)) (now (index .entry))) list ⌝ }
+    ensures { λ r. ⌜ backOf r ≡ planReturn s (holder (s .store) share) b (tables (now (head .entry)) (now (loans .entry)) (now (chunks .entry)) (now (regions .entry)) (now (index .entry))) (listOk (s .store) (now (list .entry))) ⌝ }
 {
-    let verdict = freelist_gate::gate(s, share, list, head, loans, chunks, regions, index);
-    match verdict {
-        Gate::Go => freelist_decide::decide_return(s, b, head, loans, index),
+    let own = s.store;
+    let long = own.chunks <= list.len();
+    let g = freelist_gate::gate(s, share, long, head, loans, chunks, regions, index);
+    match g {
         Gate::Shut(refusal) => Back::Refuse(refusal),
+        Gate::Go => freelist_decide::decide_return(s, b, head, loans, index),
     }
 }
 
-// The same.
+// The same list; there is no test behind the gate.
 pub fn plan_clean_up(
     s: FreeListSettings,
     share: Share,
-    list: bool,
     head: &[u64],
     loans: &[u64],
     chunks: &[u64],
     regions: &[u64],
     index: &[u64],
+    list: &[u64],
 ) -> Gate
-    ensures { λ r. ⌜ verdictOf r ≡ planCleanUp s (holder (s .store) share) (tables (now (head .entry)) (now (loans .entry)) (now (chunks .entry)) (now (regions .entry)) (now (index .entry))) list ⌝ }
+    ensures { λ r. ⌜ verdictOf r ≡ planCleanUp s (holder (s .store) share) (tables (now (head .entry)) (now (loans .entry)) (now (chunks .entry)) (now (regions .entry)) (now (index .entry))) (listOk (s .store) (now (list .entry))) ⌝ }
 {
-    freelist_gate::gate(s, share, list, head, loans, chunks, regions, index)
+    let own = s.store;
+    let long = own.chunks <= list.len();
+    freelist_gate::gate(s, share, long, head, loans, chunks, regions, index)
 }

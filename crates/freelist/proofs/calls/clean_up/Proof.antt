@@ -14,7 +14,7 @@ plan-clean-up-requires c κs = search needs
 carry-clean-up-requires : tie.Need-carry-clean-up-requires
 carry-clean-up-requires c κs =
     let p = c .before .before .before .before in
-    let b = p .before .before .before .before .before .before .before .before .before .before .before .before in
+    let b = p .before .before .before .before .before .before .before .before .before .before .before in
     let a = b .args in
     let few : a .share .objects ≤ objectsMost = omega (arith, b .good .1) in
     clean-up-carries (a .s) (a .share) (tables (a .head .now) (a .loans .now) (a .chunks .now) (a .regions .now) (a .index .now)) (a .list .now) few (p .plan-clean-up .result) (p .plan-clean-up .ensures)
@@ -35,7 +35,7 @@ returns : tie.Need-returns
 returns c =
     let k = c .before .before .before .before .before .before .before .before in
     let p = k .before .before .before .before .before in
-    let a = p .before .before .before .before .before .before .before .before .before .before .before .before .args in
+    let a = p .before .before .before .before .before .before .before .before .before .before .before .args in
     k .carry-clean-up .ensures ∙ clean-done (a .s) (a .share) (tables (a .head .now) (a .loans .now) (a .chunks .now) (a .regions .now) (a .index .now)) (a .list .now) (p .plan-clean-up .result) (p .plan-clean-up .ensures)
 
 pub clean-up-spec : {M : Type 1} → statement M

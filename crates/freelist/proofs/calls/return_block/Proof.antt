@@ -14,7 +14,7 @@ plan-return-requires c κs = search needs
 carry-return-requires : tie.Need-carry-return-requires
 carry-return-requires c κs =
     let p = c .before .before .before .before .before .before in
-    let b = p .before .before .before .before .before .before .before .before .before .before .before .before .before .before in
+    let b = p .before .before .before .before .before .before .before .before .before .before .before .before .before in
     let a = b .args in
     let few : a .share .objects ≤ objectsMost = omega (arith, b .good .1) in
     return-carries (a .s) (a .share) (tables (a .head .now) (a .loans .now) (a .chunks .now) (a .regions .now) (a .index .now)) (a .list .now) few (a .b) (p .plan-return .result) (p .plan-return .ensures)
@@ -41,7 +41,7 @@ returns : tie.Need-returns
 returns c =
     let k = c .before .before .before .before .before .before .before .before .before .before .before .before in
     let p = k .before .before .before .before .before .before .before in
-    let a = p .before .before .before .before .before .before .before .before .before .before .before .before .before .before .args in
+    let a = p .before .before .before .before .before .before .before .before .before .before .before .before .before .args in
     k .carry-return .ensures ∙ return-done (a .s) (a .share) (tables (a .head .now) (a .loans .now) (a .chunks .now) (a .regions .now) (a .index .now)) (a .list .now) (a .b) (p .plan-return .result) (p .plan-return .ensures)
 
 pub return-block-spec : {M : Type 1} → statement M

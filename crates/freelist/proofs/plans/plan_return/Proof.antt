@@ -1,6 +1,7 @@
 use borrow.Author.Needs.{needs}
 use mathlib.Core.Path.{sym, ap, _∙_}
 use Rattle.counter.specs.Gate.{verdictOf}
+use Rattle.store_rules.specs.Outcomes.{listOk}
 use Rattle.store_rules.proofs.Holders.{holder}
 use Rattle.freelist_rules.specs.Tables.{tables}
 use Rattle.freelist.proofs.Planned.{return-shut, return-go, places-few}
@@ -10,32 +11,32 @@ use Rattle.freelist.proofs.plans.plan_return.Tie as tie
 gate-requires : tie.Need-gate-requires
 gate-requires c κs = search needs
 
+enum-known-g : tie.Need-enum-known-g
+enum-known-g c = search needs
+
 enum-told : tie.Need-enum-told
 enum-told c = search needs
 
 decide-return-requires : tie.Need-decide-return-requires
 decide-return-requires c κs =
     let g = c .before .before in
-    let a = g .before .before .before .before .before .before .args in
-    places-few (a .s) (holder (a .s .store) (a .share)) (a .b) (tables (a .head .now) (a .loans .now) (a .chunks .now) (a .regions .now) (a .index .now)) (a .list) (sym (ap verdictOf (c .enum-told .given .1)) ∙ g .gate .ensures)
-
-enum-known-verdict : tie.Need-enum-known-verdict
-enum-known-verdict c = search needs
+    let a = g .before .before .before .before .before .before .before .before .before .args in
+    places-few (a .s) (holder (a .s .store) (a .share)) (a .b) (tables (a .head .now) (a .loans .now) (a .chunks .now) (a .regions .now) (a .index .now)) (listOk (a .s .store) (a .list .now)) (sym (ap verdictOf (c .enum-told .given .1)) ∙ g .gate .ensures)
 
 returns : tie.Need-returns
 returns c =
-    let e = c .before in
-    let g = e .before .before in
-    let a = g .before .before .before .before .before .before .args in
-    return-go (a .s) (holder (a .s .store) (a .share)) (a .b) (tables (a .head .now) (a .loans .now) (a .chunks .now) (a .regions .now) (a .index .now)) (a .list) _ (sym (ap verdictOf (e .enum-told .given .1)) ∙ g .gate .ensures) (c .decide-return .ensures)
+    let g = c .before .before .before in
+    let a = g .before .before .before .before .before .before .before .before .before .args in
+    return-shut (a .s) (holder (a .s .store) (a .share)) (a .b) (tables (a .head .now) (a .loans .now) (a .chunks .now) (a .regions .now) (a .index .now)) (listOk (a .s .store) (a .list .now)) _ (sym (ap verdictOf (c .before .g .given .1)) ∙ g .gate .ensures)
 
 returns-2 : tie.Need-returns-2
 returns-2 c =
-    let g = c .before .before .before in
-    let a = g .before .before .before .before .before .before .args in
-    return-shut (a .s) (holder (a .s .store) (a .share)) (a .b) (tables (a .head .now) (a .loans .now) (a .chunks .now) (a .regions .now) (a .index .now)) (a .list) _ (sym (ap verdictOf (c .before .verdict .given .1)) ∙ g .gate .ensures)
+    let e = c .before in
+    let g = e .before .before in
+    let a = g .before .before .before .before .before .before .before .before .before .args in
+    return-go (a .s) (holder (a .s .store) (a .share)) (a .b) (tables (a .head .now) (a .loans .now) (a .chunks .now) (a .regions .now) (a .index .now)) (listOk (a .s .store) (a .list .now)) _ (sym (ap verdictOf (e .enum-told .given .1)) ∙ g .gate .ensures) (c .decide-return .ensures)
 
 pub plan-return-spec : {M : Type 1} → statement M
 plan-return-spec =
     tie.close
-    (tie.spec gate-requires enum-told decide-return-requires enum-known-verdict returns returns-2)
+    (tie.spec gate-requires enum-known-g enum-told decide-return-requires returns returns-2)
