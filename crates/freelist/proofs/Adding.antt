@@ -35,7 +35,7 @@ use Rattle.freelist_decide.specs.Plans.{Planned}
 use Rattle.freelist_decide.specs.declared.deciding.Buying.{Buying}
 use Rattle.freelist_decide.specs.declared.deciding.Plan.the-variants.{Buy}
 use Rattle.freelist_place.specs.Ready.{Lends, Adds}
-use Rattle.freelist.specs.Carries.{Keeps}
+use Rattle.freelist.specs.Ready.{KeepReady}
 use Rattle.freelist.proofs.Lending.{opens-below}
 
 -- the last of a list
@@ -128,8 +128,8 @@ delivered-last s memory z t adds =
 
 -- with the numbers that the plan carries
 module _ (s : FreeListSettings) (t : Tables) (fit : FreeListIn s) (lengths : lengthsOk s t ≡ true) (sound : SoundTables s t) (memory : ℕ) (k : KeptOrder) (b : Buying) where
-  pub keeps-ready : (h : Heap) (objects : ℕ) → decideAsk s h objects (k .ask .size) (k .ask .mask) t ≡ buy (k .order .size) → Planned s (k .ask .size) (k .ask .mask) t (Buy b) → Keeps s k memory b t
-  keeps-ready h objects order p =
+  pub keep-ready : (h : Heap) (objects : ℕ) → decideAsk s h objects (k .ask .size) (k .ask .mask) t ≡ buy (k .order .size) → Planned s (k .ask .size) (k .ask .mask) t (Buy b) → KeepReady s k memory t b
+  keep-ready h objects order p =
       let w = buys-bought s h objects (k .ask .size) (k .ask .mask) t (k .order .size) order in
       record {
         planned = p;

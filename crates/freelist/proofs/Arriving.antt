@@ -54,8 +54,8 @@ use Rattle.freelist_gate.specs.declared.deliveries.Passing.the-variants.{Go}
 use Rattle.freelist_place.specs.Ready.{Lends}
 use Rattle.freelist_place.specs.Lent.{lentFrom, lentTables}
 use Rattle.freelist_place.proofs.Serving.{loan-planned, tables-planned}
-use Rattle.freelist.specs.Carries.{Arrives, Keeps, DeliveryCarries}
-use Rattle.freelist.proofs.Adding.{keeps-ready, places-stay, delivered-last}
+use Rattle.freelist.specs.Ready.{ComingBuys, KeepReady, ComingReady}
+use Rattle.freelist.proofs.Adding.{keep-ready, places-stay, delivered-last}
 use Rattle.freelist.proofs.Asking.{lent-rest, loan-rest}
 
 -- ---- what a plan to go on tells
@@ -88,12 +88,12 @@ leads-bought s o (Orders.take i) e = no-test e
 leads-bought s o (Orders.buy z) e = ap Orders.buy (sym (eqb-true (o .size) z (and-left _ _ (and-right (eqb (o .store) (s .number)) _ e))))
 
 -- what a delivery's gate tells goes on with its plan
-pub arrives : (s : FreeListSettings) (t : Tables) (o : Outcome) (held : List ℕ) (order : OpenOrder) (r : Coming) (q : Passing) (b : Buying) → q ≡ Go b → comingOf r ≡ decideDeliver o held order
-    → ((k : KeptOrder) → order ≡ Kept k → BoughtFor s k t q) → Arrives s t b r
-arrives s t o held order (C.Refuse r) q b g e f = tt
-arrives s t o held order (C.Keep c) q b g e f =
+pub coming-buys : (s : FreeListSettings) (t : Tables) (o : Outcome) (held : List ℕ) (order : OpenOrder) (r : Coming) (q : Passing) (b : Buying) → q ≡ Go b → comingOf r ≡ decideDeliver o held order
+    → ((k : KeptOrder) → order ≡ Kept k → BoughtFor s k t q) → ComingBuys s t b r
+coming-buys s t o held order (C.Refuse r) q b g e f = tt
+coming-buys s t o held order (C.Keep c) q b g e f =
     subst (λ (x : Passing). BoughtFor s (c .kept) t x) g (f (c .kept) (decided-go o held order (c .kept) (kept (c .memory)) (sym e)))
-arrives s t o held order (C.Lose l) q b g e f = tt
+coming-buys s t o held order (C.Lose l) q b g e f = tt
 
 -- ---- the tables are ready
 
@@ -129,13 +129,13 @@ module _ (s : FreeListSettings) (a : Account) (o : Outcome) (t : Tables) (k : Ke
       let still : stillOk s a t (Kept k) ≡ true = ap (stillOk s a t) (sym open-order) ∙ and-right sound (stillOk s a t (a .order)) (held .1) in
       leads-bought (s .store) (k .order) (decideAsk s (heapAt a (s .store .heap)) (a .objects) (k .ask .size) (k .ask .mask) t) still
 
-pub delivery-carries : (s : FreeListSettings) (a : Account) (o : Outcome) (t : Tables) (b : Buying) (r : Coming) → comingOf r ≡ planDeliver s a o t → Arrives s t b r → DeliveryCarries s t b r
-delivery-carries s a o t b (C.Refuse r) e c = tt
-delivery-carries s a o t b (C.Lose l) e c = tt
-delivery-carries s a o t b (C.Keep k) e c =
+pub deliver-ready : (s : FreeListSettings) (a : Account) (o : Outcome) (t : Tables) (b : Buying) (r : Coming) → comingOf r ≡ planDeliver s a o t → ComingBuys s t b r → ComingReady s t b r
+deliver-ready s a o t b (C.Refuse r) e c = tt
+deliver-ready s a o t b (C.Lose l) e c = tt
+deliver-ready s a o t b (C.Keep k) e c =
     let f = kept (k .memory) in
     let w = fits s a o t (k .kept) f (sym e) in
-    keeps-ready s t (w .0) (w .1) (yes s a o t (k .kept) f (sym e)) (k .memory) (k .kept) b (heapAt a (s .store .heap)) (a .objects) (bought s a o t (k .kept) f (sym e)) (c .1)
+    keep-ready s t (w .0) (w .1) (yes s a o t (k .kept) f (sym e)) (k .memory) (k .kept) b (heapAt a (s .store .heap)) (a .objects) (bought s a o t (k .kept) f (sym e)) (c .1)
 
 -- ---- what is left
 
@@ -149,7 +149,7 @@ module _ (s : FreeListSettings) (memory z : ℕ) (head loans chunks regions inde
   unfolding deliveredTables storeOf
   added-rest h′ c′ r′ e = ap (λ (t : Tables). tables (t .head) loans (t .chunks) (t .regions) index) e
 
-module _ (s : FreeListSettings) (h : Share) (k : KeptOrder) (memory : ℕ) (b : Buying) (head loans chunks regions index : List ℕ) (keeps : Keeps s k memory b (tables head loans chunks regions index)) where
+module _ (s : FreeListSettings) (h : Share) (k : KeptOrder) (memory : ℕ) (b : Buying) (head loans chunks regions index : List ℕ) (keeps : KeepReady s k memory (tables head loans chunks regions index) b) where
   abbrev start : Tables
   start = tables head loans chunks regions index
 

@@ -22,15 +22,15 @@ use Rattle.freelist_decide.specs.declared.deciding.Plan.{Plan}
 use Rattle.freelist_decide.specs.declared.deciding.Plan.the-variants.{Refuse, Take, Buy}
 use Rattle.freelist_place.specs.Lent.{lentFrom, lentTables}
 use Rattle.freelist_place.proofs.Serving.{loan-planned, tables-planned}
-use Rattle.freelist.specs.Carries.{AskCarries}
+use Rattle.freelist.specs.Ready.{AskReady}
 use Rattle.freelist.proofs.Lending.{lends-ready}
 
 -- ---- what a passed gate and the plan give
 
-pub ask-carries : (s : FreeListSettings) (a : Account) (size mask : ℕ) (t : Tables) (p : Plan) → planOf p ≡ planAsk s a size mask t → Planned s size mask t p → AskCarries s size mask t p
-ask-carries s a size mask t (Refuse r) e c = tt
-ask-carries s a size mask t (Buy b) e c = tt
-ask-carries s a size mask t (Take k) e c =
+pub ask-ready : (s : FreeListSettings) (a : Account) (size mask : ℕ) (t : Tables) (p : Plan) → planOf p ≡ planAsk s a size mask t → Planned s size mask t p → AskReady s size mask t p
+ask-ready s a size mask t (Refuse r) e c = tt
+ask-ready s a size mask t (Buy b) e c = tt
+ask-ready s a size mask t (Take k) e c =
     let w = plan-take s a size mask t (k .region) (sym e) in
     (c, lends-ready s (heapAt a (s .store .heap)) (a .objects) size mask t (w .0 .settings) (w .0 .lengths) (w .0 .sound) (k .region) (k .start) (k .loan) (w .1) (c .0) (c .1))
 

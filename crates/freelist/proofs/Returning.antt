@@ -38,7 +38,7 @@ use Rattle.freelist.proofs.Backing.{backs-ready, strikes-ready}
 use Rattle.freelist.proofs.Releasing.{cleaned-ready, cleaned-bounds, cleaned-objects, returned-ready, returned-bounds, returned-objects}
 use Rattle.freelist_outcomes.proofs.Passing.{Passed, gate-passed}
 use Rattle.freelist_release.specs.Frees.{Frees}
-use Rattle.freelist.specs.Carries.{Releases, joined, TakesBack, ReturnCarries, CleanUpCarries}
+use Rattle.freelist.specs.Ready.{Releases, joined, TakesBack, ReturnReady, CleanUpReady}
 
 -- ---- a plan that carries
 
@@ -102,9 +102,9 @@ module _ (s : FreeListSettings) (h : Share) (t : Tables) (list : List ℕ) (few 
       } in
       (frees, cleaned-objects s t (p .settings) (p .sound) (heapAt held (s .store .heap)) (h .objects) (total (λ (c : Chunk). c .size) (storeOf s t .chunks)) false few (p .covered))
 
-  pub clean-up-carries : (p : Gate) → verdictOf p ≡ planCleanUp s held t (listOk (s .store) list) → CleanUpCarries s (h .objects) t list p
-  clean-up-carries (G.Shut r) e = tt
-  clean-up-carries G.Go e = cleaned-releases e
+  pub clean-up-ready : (p : Gate) → verdictOf p ≡ planCleanUp s held t (listOk (s .store) list) → CleanUpReady s (h .objects) t list p
+  clean-up-ready (G.Shut r) e = tt
+  clean-up-ready G.Go e = cleaned-releases e
 
   module _ (b : Block) (w : ℕ) (e : back w ≡ planReturn s held b t (listOk (s .store) list)) where
     abbrev gate : Passed s held t (listOk (s .store) list)
@@ -139,9 +139,9 @@ module _ (s : FreeListSettings) (h : Share) (t : Tables) (list : List ℕ) (few 
     takes-back : TakesBack s (h .objects) b w t list
     takes-back = record { backs = returned-backs; strikes = returned-strikes; releases = returned-releases }
 
-  pub return-carries : (b : Block) (p : Back) → backOf p ≡ planReturn s held b t (listOk (s .store) list) → ReturnCarries s (h .objects) b t list p
-  return-carries b (B.Refuse r) e = tt
-  return-carries b (B.From w) e = takes-back b w e
+  pub return-ready : (b : Block) (p : Back) → backOf p ≡ planReturn s held b t (listOk (s .store) list) → ReturnReady s (h .objects) b t list p
+  return-ready b (B.Refuse r) e = tt
+  return-ready b (B.From w) e = takes-back b w e
 
 -- ---- carried out
 

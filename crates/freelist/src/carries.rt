@@ -17,7 +17,7 @@ ghost use Rattle.freelist_outcomes.specs.Ask.{carryAsk};
 ghost use Rattle.freelist_outcomes.specs.Deliver.{carryFate, carryDeliver};
 ghost use Rattle.freelist_outcomes.specs.Return.{givenTables, releaseOf, carryReturn, carryCleanUp};
 ghost use Rattle.freelist_decide.specs.Plans.{planOf};
-ghost use Rattle.freelist.specs.Carries.{AskCarries, Keeps, DeliveryCarries, Releases, TakesBack, ReturnCarries, CleanUpCarries};
+ghost use Rattle.freelist.specs.Ready.{AskReady, KeepReady, DeliverReady, Releases, TakesBack, ReturnReady, CleanUpReady};
 use crate::plans::Delivery;
 use counter::AskAnswer;
 use counter::Block;
@@ -45,7 +45,7 @@ pub fn carry_ask(
     regions: &mut [u64],
     index: &mut [u64],
 ) -> AskAnswer
-    requires { ⌜ AskCarries s size mask (tables (now head) (now loans) (now chunks) (now regions) (now index)) plan ⌝ }
+    requires { ⌜ AskReady s size mask (tables (now head) (now loans) (now chunks) (now regions) (now index)) plan ⌝ }
     ensures { λ r. ⌜ ((a : Account) → out (askSaid r) (askLeft a size mask (askSaid r)) (tables (now (head .exit)) (now (loans .exit)) (now (chunks .entry)) (now (regions .exit)) (now (index .exit))) ≡ carryAsk s a size mask (tables (now (head .entry)) (now (loans .entry)) (now (chunks .entry)) (now (regions .entry)) (now (index .entry))) (planOf plan)) ⌝ }
 {
     match plan {
@@ -76,7 +76,7 @@ fn keep_chunk(
     regions: &mut [u64],
     index: &mut [u64],
 ) -> DeliveredShare
-    requires { ⌜ Keeps s k memory b (tables (now head) (now loans) (now chunks) (now regions) (now index)) ⌝ }
+    requires { ⌜ KeepReady s k memory (tables (now head) (now loans) (now chunks) (now regions) (now index)) b ⌝ }
     ensures { λ r. ⌜ ((order : OpenOrder) → out (deliverSaid (r .answer)) (holding (s .store) (r .share) (r .order)) (tables (now (head .exit)) (now (loans .exit)) (now (chunks .exit)) (now (regions .exit)) (now (index .exit))) ≡ carryFate s (holding (s .store) share order) k (tables (now (head .entry)) (now (loans .entry)) (now (chunks .entry)) (now (regions .entry)) (now (index .entry))) (Fates.kept memory)) ⌝ }
 {
     let order = k.order;
@@ -93,18 +93,18 @@ pub fn carry_deliver(
     s: FreeListSettings,
     share: Share,
     order: OpenOrder,
-    d: Delivery,
+    plan: Delivery,
     head: &mut [u64],
     loans: &mut [u64],
     chunks: &mut [u64],
     regions: &mut [u64],
     index: &mut [u64],
 ) -> DeliveredShare
-    requires { ⌜ DeliveryCarries s (tables (now head) (now loans) (now chunks) (now regions) (now index)) (d .buying) (d .coming) ⌝ }
-    ensures { λ r. ⌜ out (deliverSaid (r .answer)) (holding (s .store) (r .share) (r .order)) (tables (now (head .exit)) (now (loans .exit)) (now (chunks .exit)) (now (regions .exit)) (now (index .exit))) ≡ carryDeliver s (holding (s .store) share order) (tables (now (head .entry)) (now (loans .entry)) (now (chunks .entry)) (now (regions .entry)) (now (index .entry))) (comingOf (d .coming)) ⌝ }
+    requires { ⌜ DeliverReady s (tables (now head) (now loans) (now chunks) (now regions) (now index)) plan ⌝ }
+    ensures { λ r. ⌜ out (deliverSaid (r .answer)) (holding (s .store) (r .share) (r .order)) (tables (now (head .exit)) (now (loans .exit)) (now (chunks .exit)) (now (regions .exit)) (now (index .exit))) ≡ carryDeliver s (holding (s .store) share order) (tables (now (head .entry)) (now (loans .entry)) (now (chunks .entry)) (now (regions .entry)) (now (index .entry))) (comingOf (plan .coming)) ⌝ }
 {
-    let coming = d.coming;
-    let b = d.buying;
+    let coming = plan.coming;
+    let b = plan.buying;
     match coming {
         Coming::Refuse(r) => store::refuse_delivery(share, order, r),
         Coming::Keep(c) => {
@@ -143,8 +143,8 @@ fn let_go(
     requires { ⌜ Releases s (share .objects) spare (tables (now head) [] (now chunks) (now regions) []) (now list) ⌝ }
     ensures { λ r. ⌜ listed (releaseSaid (r .answer)) (holder (s .store) (r .share)) (tables (now (head .exit)) [] (now (chunks .exit)) (now (regions .exit)) []) (now (list .exit)) ≡ releaseOf s (holder (s .store) share) spare (tables (now (head .entry)) [] (now (chunks .entry)) (now (regions .entry)) []) (now (list .entry)) ⌝ }
 {
-    let gone = freelist_release::release(s, spare, head, chunks, regions, list);
-    store::settle(share, gone.count, gone.bytes)
+    let f = freelist_release::release(s, spare, head, chunks, regions, list);
+    store::settle(share, f.count, f.bytes)
 }
 
 // The loan that the word at `at` of the index leads to goes back, and then wholly free chunks go.
@@ -179,7 +179,7 @@ pub fn carry_return(
     index: &mut [u64],
     list: &mut [u64],
 ) -> ReleasedShare
-    requires { ⌜ ReturnCarries s (share .objects) b (tables (now head) (now loans) (now chunks) (now regions) (now index)) (now list) plan ⌝ }
+    requires { ⌜ ReturnReady s (share .objects) b (tables (now head) (now loans) (now chunks) (now regions) (now index)) (now list) plan ⌝ }
     ensures { λ r. ⌜ listed (releaseSaid (r .answer)) (holder (s .store) (r .share)) (tables (now (head .exit)) (now (loans .exit)) (now (chunks .exit)) (now (regions .exit)) (now (index .exit))) (now (list .exit)) ≡ carryReturn s (holder (s .store) share) b (tables (now (head .entry)) (now (loans .entry)) (now (chunks .entry)) (now (regions .entry)) (now (index .entry))) (now (list .entry)) (backOf plan) ⌝ }
 {
     match plan {
@@ -199,7 +199,7 @@ pub fn carry_clean_up(
     index: &[u64],
     list: &mut [u64],
 ) -> ReleasedShare
-    requires { ⌜ CleanUpCarries s (share .objects) (tables (now head) (now loans) (now chunks) (now regions) (now index)) (now list) plan ⌝ }
+    requires { ⌜ CleanUpReady s (share .objects) (tables (now head) (now loans) (now chunks) (now regions) (now index)) (now list) plan ⌝ }
     ensures { λ r. ⌜ listed (releaseSaid (r .answer)) (holder (s .store) (r .share)) (tables (now (head .exit)) (now (loans .entry)) (now (chunks .exit)) (now (regions .exit)) (now (index .entry))) (now (list .exit)) ≡ carryCleanUp s (holder (s .store) share) (tables (now (head .entry)) (now (loans .entry)) (now (chunks .entry)) (now (regions .entry)) (now (index .entry))) (now (list .entry)) (verdictOf plan) ⌝ }
 {
     match plan {

@@ -10,7 +10,7 @@ ghost use Rattle.freelist_outcomes.specs.Ask.{planAsk};
 ghost use Rattle.freelist_outcomes.specs.Deliver.{planDeliver};
 ghost use Rattle.freelist_outcomes.specs.Return.{planReturn, planCleanUp};
 ghost use Rattle.freelist_decide.specs.Plans.{planOf, Planned};
-ghost use Rattle.freelist.specs.Carries.{Arrives};
+ghost use Rattle.freelist.specs.Ready.{Delivers};
 use counter::Block;
 use counter::FreeListSettings;
 use counter::Gate;
@@ -82,7 +82,7 @@ pub fn plan_deliver(
     index: &[u64],
 ) -> Delivery
     ensures { λ r. ⌜ comingOf (r .coming) ≡ planDeliver s (holding (s .store) share order) o (tables (now (head .entry)) (now (loans .entry)) (now (chunks .entry)) (now (regions .entry)) (now (index .entry))) ⌝ }
-    ensures { λ r. ⌜ Arrives s (tables (now (head .entry)) (now (loans .entry)) (now (chunks .entry)) (now (regions .entry)) (now (index .entry))) (r .buying) (r .coming) ⌝ }
+    ensures { λ r. ⌜ Delivers s (tables (now (head .entry)) (now (loans .entry)) (now (chunks .entry)) (now (regions .entry)) (now (index .entry))) r ⌝ }
 {
     let passing = freelist_gate::gate_delivery(
         s,

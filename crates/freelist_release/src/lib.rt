@@ -14,8 +14,8 @@ use crate::dropping::drop_chunks;
 use counter::FreeListSettings;
 use freelist_rules::CHUNKS_AT;
 
-// How many chunks went, and of how many bytes.
-pub struct Gone {
+// So many chunks went, of so many bytes in all.
+pub struct Freed {
     pub count: u64,
     pub bytes: u64,
 }
@@ -28,7 +28,7 @@ pub fn release(
     chunks: &mut [u64],
     regions: &mut [u64],
     list: &mut [u64],
-) -> Gone
+) -> Freed
     requires { ⌜ Frees s (now head) (now chunks) (now regions) (now list) ⌝ }
     ensures { λ r. ⌜ r .count ≡ length (goneFrom s spare (tables (now (head .entry)) [] (now (chunks .entry)) (now (regions .entry)) [])) ⌝ }
     ensures { λ r. ⌜ r .bytes ≡ bytesOf (goneFrom s spare (tables (now (head .entry)) [] (now (chunks .entry)) (now (regions .entry)) [])) ⌝ }
@@ -41,7 +41,7 @@ pub fn release(
     let gone = drop_chunks(chunks, k, regions, n, spare, list);
     words::put(head, CHUNKS_AT, gone.chunks as u64);
     words::put(regions, at, gone.regions as u64);
-    Gone {
+    Freed {
         count: gone.count,
         bytes: gone.bytes,
     }

@@ -1,7 +1,7 @@
 use borrow.Author.Needs.{needs}
 use Rattle.store_rules.proofs.Holders.{holder}
 use Rattle.freelist_rules.specs.Tables.{tables}
-use Rattle.freelist.proofs.Asking.{ask-carries, ask-done}
+use Rattle.freelist.proofs.Asking.{ask-ready, ask-done}
 use Rattle.freelist.proofs.calls.ask.Statement.{statement}
 use Rattle.freelist.proofs.calls.ask.Tie as tie
 
@@ -12,7 +12,7 @@ carry-ask-requires : tie.Need-carry-ask-requires
 carry-ask-requires c κs =
     let p = c .before .before .before .before in
     let a = p .before .before .before .before .before .before .before .before .before .before .args in
-    ask-carries (a .s) (holder (a .s .store) (a .share)) (a .size) (a .mask) (tables (a .head .now) (a .loans .now) (a .chunks .now) (a .regions .now) (a .index .now)) (p .plan-ask .result) (p .plan-ask .ensures .0) (p .plan-ask .ensures .1)
+    ask-ready (a .s) (holder (a .s .store) (a .share)) (a .size) (a .mask) (tables (a .head .now) (a .loans .now) (a .chunks .now) (a .regions .now) (a .index .now)) (p .plan-ask .result) (p .plan-ask .ensures .0) (p .plan-ask .ensures .1)
 
 same-length : tie.Need-same-length
 same-length c = search needs

@@ -4,7 +4,7 @@ use Prim.Native.Nat.{_≤_}
 use native.Mathlib.Omega.{arith}
 use Rattle.counter.specs.Limits.{objectsMost}
 use Rattle.freelist_rules.specs.Tables.{tables}
-use Rattle.freelist.proofs.Returning.{clean-up-carries, clean-done}
+use Rattle.freelist.proofs.Returning.{clean-up-ready, clean-done}
 use Rattle.freelist.proofs.calls.clean_up.Statement.{statement}
 use Rattle.freelist.proofs.calls.clean_up.Tie as tie
 
@@ -17,7 +17,7 @@ carry-clean-up-requires c κs =
     let b = p .before .before .before .before .before .before .before .before .before .before .before in
     let a = b .args in
     let few : a .share .objects ≤ objectsMost = omega (arith, b .good .1) in
-    clean-up-carries (a .s) (a .share) (tables (a .head .now) (a .loans .now) (a .chunks .now) (a .regions .now) (a .index .now)) (a .list .now) few (p .plan-clean-up .result) (p .plan-clean-up .ensures)
+    clean-up-ready (a .s) (a .share) (tables (a .head .now) (a .loans .now) (a .chunks .now) (a .regions .now) (a .index .now)) (a .list .now) few (p .plan-clean-up .result) (p .plan-clean-up .ensures)
 
 same-length : tie.Need-same-length
 same-length c = search needs

@@ -2,7 +2,7 @@ use borrow.Author.Needs.{needs}
 use mathlib.Core.Path.{_∙_}
 use Rattle.store_rules.proofs.Holders.{holding}
 use Rattle.freelist_rules.specs.Tables.{tables}
-use Rattle.freelist.proofs.Arriving.{delivery-carries, deliver-done}
+use Rattle.freelist.proofs.Arriving.{deliver-ready, deliver-done}
 use Rattle.freelist.proofs.calls.deliver.Statement.{statement}
 use Rattle.freelist.proofs.calls.deliver.Tie as tie
 
@@ -13,7 +13,7 @@ carry-deliver-requires : tie.Need-carry-deliver-requires
 carry-deliver-requires c κs =
     let p = c .before .before .before .before .before in
     let a = p .before .before .before .before .before .before .before .before .before .before .before .args in
-    delivery-carries (a .s) (holding (a .s .store) (a .share) (a .order)) (a .o) (tables (a .head .now) (a .loans .now) (a .chunks .now) (a .regions .now) (a .index .now)) (p .plan-deliver .result .buying) (p .plan-deliver .result .coming) (p .plan-deliver .ensures .0) (p .plan-deliver .ensures .1)
+    deliver-ready (a .s) (holding (a .s .store) (a .share) (a .order)) (a .o) (tables (a .head .now) (a .loans .now) (a .chunks .now) (a .regions .now) (a .index .now)) (p .plan-deliver .result .buying) (p .plan-deliver .result .coming) (p .plan-deliver .ensures .0) (p .plan-deliver .ensures .1)
 
 same-length : tie.Need-same-length
 same-length c = search needs

@@ -4,7 +4,7 @@ use Prim.Native.Nat.{_≤_}
 use native.Mathlib.Omega.{arith}
 use Rattle.counter.specs.Limits.{objectsMost}
 use Rattle.freelist_rules.specs.Tables.{tables}
-use Rattle.freelist.proofs.Returning.{return-carries, return-done}
+use Rattle.freelist.proofs.Returning.{return-ready, return-done}
 use Rattle.freelist.proofs.calls.return_block.Statement.{statement}
 use Rattle.freelist.proofs.calls.return_block.Tie as tie
 
@@ -17,7 +17,7 @@ carry-return-requires c κs =
     let b = p .before .before .before .before .before .before .before .before .before .before .before .before .before in
     let a = b .args in
     let few : a .share .objects ≤ objectsMost = omega (arith, b .good .1) in
-    return-carries (a .s) (a .share) (tables (a .head .now) (a .loans .now) (a .chunks .now) (a .regions .now) (a .index .now)) (a .list .now) few (a .b) (p .plan-return .result) (p .plan-return .ensures)
+    return-ready (a .s) (a .share) (tables (a .head .now) (a .loans .now) (a .chunks .now) (a .regions .now) (a .index .now)) (a .list .now) few (a .b) (p .plan-return .result) (p .plan-return .ensures)
 
 same-length : tie.Need-same-length
 same-length c = search needs

@@ -2,7 +2,7 @@ use borrow.Author.Needs.{needs}
 use mathlib.Core.Path.{refl, subst}
 use Rattle.freelist_rules.specs.Tables.{tables}
 use Rattle.freelist_decide.specs.declared.deciding.Plan.{Plan}
-use Rattle.freelist.specs.Carries.{AskCarries}
+use Rattle.freelist.specs.Ready.{AskReady}
 use Rattle.freelist.proofs.Asking.{ask-refused, ask-taken, ask-ordered}
 use Rattle.freelist.proofs.carries.carry_ask.Statement.{statement}
 use Rattle.freelist.proofs.carries.carry_ask.Tie as tie
@@ -21,7 +21,7 @@ lend-requires c κs =
     let i = c .before .before .before .before .before .before in
     let b = i .before .before .before .before .before .before .before in
     let a = b .args in
-    subst (λ (p : Plan). AskCarries (a .s) (a .size) (a .mask) (tables (a .head .now) (a .loans .now) (a .chunks .now) (a .regions .now) (a .index .now)) p) (i .plan2 .given .1) (b .pre) .1
+    subst (λ (p : Plan). AskReady (a .s) (a .size) (a .mask) (tables (a .head .now) (a .loans .now) (a .chunks .now) (a .regions .now) (a .index .now)) p) (i .plan2 .given .1) (b .pre) .1
 
 answer-block-requires : tie.Need-answer-block-requires
 answer-block-requires c κs = search needs
@@ -59,7 +59,7 @@ returns-2 c =
     let i = l .before .before .before .before .before .before .before in
     let b = i .before .before .before .before .before .before .before in
     let a = b .args in
-    let e = subst (λ (p : Plan). AskCarries (a .s) (a .size) (a .mask) (tables (a .head .now) (a .loans .now) (a .chunks .now) (a .regions .now) (a .index .now)) p) (i .plan2 .given .1) (b .pre) in
+    let e = subst (λ (p : Plan). AskReady (a .s) (a .size) (a .mask) (tables (a .head .now) (a .loans .now) (a .chunks .now) (a .regions .now) (a .index .now)) p) (i .plan2 .given .1) (b .pre) in
     ask-taken (a .s) (a .size) (a .mask) (a .head .now) (a .loans .now) (a .chunks .now) (a .regions .now) (a .index .now) (a .plan) _ _ _ _ _ _ _ _ _ _ (i .plan2 .given .1) refl (e .0 .0) (e .0 .1) (l .lend .ensures .0) (l .lend .ensures .1) (c .answer-block .ensures)
 
 same-length-5 : tie.Need-same-length-5

@@ -4,7 +4,7 @@ use mathlib.Core.Bool.{false}
 use Rattle.counter.specs.declared.refusal.Gate.{Gate}
 use Rattle.store_rules.proofs.Holders.{holder}
 use Rattle.freelist_rules.specs.Tables.{tables}
-use Rattle.freelist.specs.Carries.{CleanUpCarries}
+use Rattle.freelist.specs.Ready.{CleanUpReady}
 use Rattle.freelist.proofs.Returning.{releases-few, clean-refused, clean-went, beside}
 use Rattle.freelist.proofs.carries.carry_clean_up.Statement.{statement}
 use Rattle.freelist.proofs.carries.carry_clean_up.Tie as tie
@@ -23,7 +23,7 @@ let-go-requires c κs =
     let e = c .before .before .before .before in
     let b = e .before .before .before .before .before .before .before .before in
     let a = b .args in
-    releases-few (a .s) (a .share .objects) false (tables (a .head .now) (a .loans .now) (a .chunks .now) (a .regions .now) (a .index .now)) (a .list .now) (subst (λ (p : Gate). CleanUpCarries (a .s) (a .share .objects) (tables (a .head .now) (a .loans .now) (a .chunks .now) (a .regions .now) (a .index .now)) (a .list .now) p) (e .enum-told .given .1) (b .pre))
+    releases-few (a .s) (a .share .objects) false (tables (a .head .now) (a .loans .now) (a .chunks .now) (a .regions .now) (a .index .now)) (a .list .now) (subst (λ (p : Gate). CleanUpReady (a .s) (a .share .objects) (tables (a .head .now) (a .loans .now) (a .chunks .now) (a .regions .now) (a .index .now)) (a .list .now) p) (e .enum-told .given .1) (b .pre))
 
 returns : tie.Need-returns
 returns c =

@@ -2,7 +2,7 @@ use borrow.Author.Needs.{needs}
 use mathlib.Core.Path.{refl, subst}
 use Rattle.freelist_rules.specs.Tables.{tables}
 use Rattle.store.specs.declared.comings.Coming.{Coming}
-use Rattle.freelist.specs.Carries.{DeliveryCarries}
+use Rattle.freelist.specs.Ready.{ComingReady}
 use Rattle.freelist.proofs.Arriving.{refused-done, went-done, lost-done}
 use Rattle.freelist.proofs.carries.carry_deliver.Statement.{statement}
 use Rattle.freelist.proofs.carries.carry_deliver.Tie as tie
@@ -21,7 +21,7 @@ keep-chunk-requires c κs =
     let i = c .before .before .before .before .before .before .before in
     let b = i .before .before .before .before .before .before .before .before in
     let a = b .args in
-    subst (λ (x : Coming). DeliveryCarries (a .s) (tables (a .head .now) (a .loans .now) (a .chunks .now) (a .regions .now) (a .index .now)) (a .d .buying) x) (i .coming2 .given .1) (b .pre)
+    subst (λ (x : Coming). ComingReady (a .s) (tables (a .head .now) (a .loans .now) (a .chunks .now) (a .regions .now) (a .index .now)) (a .plan .buying) x) (i .coming2 .given .1) (b .pre)
 
 enum-known-coming-3 : tie.Need-enum-known-coming-3
 enum-known-coming-3 c = search needs
@@ -33,7 +33,7 @@ returns : tie.Need-returns
 returns c =
     let i = c .before .before in
     let a = i .before .before .before .before .before .before .before .before .args in
-    refused-done (a .s) (a .share) (a .order) (tables (a .head .now) (a .loans .now) (a .chunks .now) (a .regions .now) (a .index .now)) (a .d .coming) _ (i .coming .given .1) _ _ _ _ refl (c .refuse-delivery .ensures .0) (c .refuse-delivery .ensures .1) (c .refuse-delivery .ensures .2)
+    refused-done (a .s) (a .share) (a .order) (tables (a .head .now) (a .loans .now) (a .chunks .now) (a .regions .now) (a .index .now)) (a .plan .coming) _ (i .coming .given .1) _ _ _ _ refl (c .refuse-delivery .ensures .0) (c .refuse-delivery .ensures .1) (c .refuse-delivery .ensures .2)
 
 same-length : tie.Need-same-length
 same-length c = search needs
@@ -55,13 +55,13 @@ returns-2 c =
     let k = c .before .before .before .before .before .before .before .before .before .before in
     let i = k .before .before .before .before .before .before .before .before in
     let a = i .before .before .before .before .before .before .before .before .args in
-    went-done (a .s) (a .share) (a .order) (tables (a .head .now) (a .loans .now) (a .chunks .now) (a .regions .now) (a .index .now)) (a .d .coming) _ (i .coming2 .given .1) _ _ _ _ _ _ refl (k .keep-chunk .ensures)
+    went-done (a .s) (a .share) (a .order) (tables (a .head .now) (a .loans .now) (a .chunks .now) (a .regions .now) (a .index .now)) (a .plan .coming) _ (i .coming2 .given .1) _ _ _ _ _ _ refl (k .keep-chunk .ensures)
 
 returns-3 : tie.Need-returns-3
 returns-3 c =
     let i = c .before .before .before .before in
     let a = i .before .before .before .before .before .before .before .before .args in
-    lost-done (a .s) (a .share) (a .order) (tables (a .head .now) (a .loans .now) (a .chunks .now) (a .regions .now) (a .index .now)) (a .d .coming) _ (i .coming3 .given .1) _ _ _ _ _ _ _ refl (c .lose-order .ensures .0) (c .lose-order .ensures .1) (c .lose-order .ensures .2)
+    lost-done (a .s) (a .share) (a .order) (tables (a .head .now) (a .loans .now) (a .chunks .now) (a .regions .now) (a .index .now)) (a .plan .coming) _ (i .coming3 .given .1) _ _ _ _ _ _ _ refl (c .lose-order .ensures .0) (c .lose-order .ensures .1) (c .lose-order .ensures .2)
 
 pub carry-deliver-spec : {M : Type 1} → statement M
 carry-deliver-spec =

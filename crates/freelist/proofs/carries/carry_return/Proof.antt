@@ -2,7 +2,7 @@ use borrow.Author.Needs.{needs}
 use mathlib.Core.Path.{refl, subst}
 use Rattle.freelist_rules.specs.Tables.{tables}
 use Rattle.returning.specs.declared.Back.{Back}
-use Rattle.freelist.specs.Carries.{ReturnCarries}
+use Rattle.freelist.specs.Ready.{ReturnReady}
 use Rattle.freelist.proofs.Returning.{return-refused, return-taken}
 use Rattle.freelist.proofs.carries.carry_return.Statement.{statement}
 use Rattle.freelist.proofs.carries.carry_return.Tie as tie
@@ -21,7 +21,7 @@ take-in-requires c κs =
     let i = c .before .before .before .before .before .before .before in
     let b = i .before .before .before .before .before .before .before .before in
     let a = b .args in
-    subst (λ (x : Back). ReturnCarries (a .s) (a .share .objects) (a .b) (tables (a .head .now) (a .loans .now) (a .chunks .now) (a .regions .now) (a .index .now)) (a .list .now) x) (i .plan2 .given .1) (b .pre)
+    subst (λ (x : Back). ReturnReady (a .s) (a .share .objects) (a .b) (tables (a .head .now) (a .loans .now) (a .chunks .now) (a .regions .now) (a .index .now)) (a .list .now) x) (i .plan2 .given .1) (b .pre)
 
 returns : tie.Need-returns
 returns c =

@@ -8,7 +8,7 @@ use Rattle.freelist_rules.specs.Tables.{tables, chunksAt}
 use Rattle.freelist_rules.specs.Walk.{memories}
 use Rattle.freelist_gate.specs.Gates.{passOf}
 use Rattle.freelist.proofs.Planned.{plan-shut, plan-go}
-use Rattle.freelist.proofs.Arriving.{arrives}
+use Rattle.freelist.proofs.Arriving.{coming-buys}
 use Rattle.freelist.proofs.plans.plan_deliver.Statement.{statement}
 use Rattle.freelist.proofs.plans.plan_deliver.Tie as tie
 
@@ -39,7 +39,7 @@ returns-2 c =
     let g = p .before .before in
     let a = g .before .before .before .before .before .before .args in (
       plan-go (a .s) (a .share) (a .order) (a .o) (tables (a .head .now) (a .loans .now) (a .chunks .now) (a .regions .now) (a .index .now)) (passOf (g .gate-delivery .result)) _ (ap passOf (p .passing2 .given .1)) (g .gate-delivery .ensures .0) (c .decide-delivery .ensures),
-      arrives (a .s) (tables (a .head .now) (a .loans .now) (a .chunks .now) (a .regions .now) (a .index .now)) (a .o) (memories (rows chunkRow (getD (a .head .now) chunksAt 0) (a .chunks .now))) (a .order) (c .decide-delivery .result) (g .gate-delivery .result) _ (p .passing2 .given .1) (c .decide-delivery .ensures) (g .gate-delivery .ensures .1),
+      coming-buys (a .s) (tables (a .head .now) (a .loans .now) (a .chunks .now) (a .regions .now) (a .index .now)) (a .o) (memories (rows chunkRow (getD (a .head .now) chunksAt 0) (a .chunks .now))) (a .order) (c .decide-delivery .result) (g .gate-delivery .result) _ (p .passing2 .given .1) (c .decide-delivery .ensures) (g .gate-delivery .ensures .1),
     )
 
 pub plan-deliver-spec : {M : Type 1} → statement M

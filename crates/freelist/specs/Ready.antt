@@ -9,7 +9,7 @@ use Rattle.counter.specs.Limits.{objectsMost}
 use Rattle.counter.specs.declared.account.KeptOrder.{KeptOrder}
 use Rattle.counter.specs.declared.answers.Block.{Block}
 use Rattle.counter.specs.declared.refusal.Gate.{Gate}
-use Rattle.counter.specs.declared.refusal.Gate.the-variants as G
+use Rattle.counter.specs.declared.refusal.Gate.the-variants as Gate
 use Rattle.counter.specs.declared.settings.FreeListSettings.{FreeListSettings}
 use Rattle.book_rules.specs.Ready.{Strikes}
 use Rattle.freelist_rules.specs.Records.{region}
@@ -25,38 +25,45 @@ use Rattle.freelist_decide.specs.declared.deciding.Plan.the-variants.{Refuse, T
 use Rattle.freelist_place.specs.Ready.{Lends, Adds, Backs}
 use Rattle.freelist_release.specs.Frees.{Frees}
 use Rattle.returning.specs.declared.Back.{Back}
-use Rattle.returning.specs.declared.Back.the-variants as B
+use Rattle.returning.specs.declared.Back.the-variants as Back
 use Rattle.store.specs.declared.comings.Coming.{Coming}
-use Rattle.store.specs.declared.comings.Coming.the-variants as C
+use Rattle.store.specs.declared.comings.Coming.the-variants as Coming
+use Rattle.freelist.specs.declared.plans.Delivery.{Delivery}
 
 -- ---- an ask: the region of the plan can be lent from, and its numbers are those of the ask
 
-abbrev pub AskCarries : FreeListSettings → ℕ → ℕ → Tables → Plan → Type 0
-AskCarries s size mask t (Refuse r) = Unit {0}
-AskCarries s size mask t (Take k) =
+abbrev pub AskReady : FreeListSettings → ℕ → ℕ → Tables → Plan → Type 0
+AskReady s size mask t (Refuse r) = Unit {0}
+AskReady s size mask t (Take k) =
     Planned s size mask t (Take k) × Lends s (k .region) (k .start) (k .loan .place) (t .head) (t .loans) (t .regions) (t .index)
-AskCarries s size mask t (Buy b) = Unit {0}
+AskReady s size mask t (Buy b) = Unit {0}
 
 -- ---- a delivery
 
--- what it carries on: the order is the one that was told, and the numbers are those of the kept ask
-abbrev pub Arrives : FreeListSettings → Tables → Buying → Coming → Type 0
-Arrives s t b (C.Refuse r) = Unit {0}
-Arrives s t b (C.Keep c) = (b .order ≡ c .kept .order .size) × Planned s (c .kept .ask .size) (c .kept .ask .mask) t (Buy b)
-Arrives s t b (C.Lose l) = Unit {0}
+-- its buying is what the kept ask came to: the order is the one that was told, and the numbers are those of that ask
+abbrev pub ComingBuys : FreeListSettings → Tables → Buying → Coming → Type 0
+ComingBuys s t b (Coming.Refuse r) = Unit {0}
+ComingBuys s t b (Coming.Keep c) = (b .order ≡ c .kept .order .size) × Planned s (c .kept .ask .size) (c .kept .ask .mask) t (Buy b)
+ComingBuys s t b (Coming.Lose l) = Unit {0}
+
+abbrev pub Delivers : FreeListSettings → Tables → Delivery → Type 0
+Delivers s t d = ComingBuys s t (d .buying) (d .coming)
 
 -- the chunk of the order k can be added, and its region, the last, lent from
-pub record Keeps (s : FreeListSettings) (k : KeptOrder) (memory : ℕ) (b : Buying) (t : Tables) : Type 0 where
+pub record KeepReady (s : FreeListSettings) (k : KeptOrder) (memory : ℕ) (t : Tables) (b : Buying) : Type 0 where
   pub planned : Planned s (k .ask .size) (k .ask .mask) t (Buy b)
   pub aligned : Ones 63 (b .mask)
   pub small : b .size ≤ k .order .size
   pub adds : Adds s (t .head) (t .chunks) (t .regions)
   pub lends : Lends s (length (storeOf s t .regions)) (cut (b .mask) (b .size) (region 0 0 (k .order .size))) (b .loan .place) (deliveredTables s memory (k .order .size) t .head) (t .loans) (deliveredTables s memory (k .order .size) t .regions) (t .index)
 
-abbrev pub DeliveryCarries : FreeListSettings → Tables → Buying → Coming → Type 0
-DeliveryCarries s t b (C.Refuse r) = Unit {0}
-DeliveryCarries s t b (C.Keep c) = Keeps s (c .kept) (c .memory) b t
-DeliveryCarries s t b (C.Lose l) = Unit {0}
+abbrev pub ComingReady : FreeListSettings → Tables → Buying → Coming → Type 0
+ComingReady s t b (Coming.Refuse r) = Unit {0}
+ComingReady s t b (Coming.Keep c) = KeepReady s (c .kept) (c .memory) t b
+ComingReady s t b (Coming.Lose l) = Unit {0}
+
+abbrev pub DeliverReady : FreeListSettings → Tables → Delivery → Type 0
+DeliverReady s t d = ComingReady s t (d .buying) (d .coming)
 
 -- ---- a return and a clean-up
 
@@ -74,10 +81,10 @@ pub record TakesBack (s : FreeListSettings) (objects : ℕ) (b : Block) (w : ℕ
   pub strikes : Strikes w (getD (t .index) w 0) (t .loans) (t .index)
   pub releases : Releases s objects true (tables (t .head) (t .loans) (t .chunks) (joined s b (t .regions)) (t .index)) list
 
-abbrev pub ReturnCarries : FreeListSettings → ℕ → Block → Tables → List ℕ → Back → Type 0
-ReturnCarries s objects b t list (B.Refuse r) = Unit {0}
-ReturnCarries s objects b t list (B.From w) = TakesBack s objects b w t list
+abbrev pub ReturnReady : FreeListSettings → ℕ → Block → Tables → List ℕ → Back → Type 0
+ReturnReady s objects b t list (Back.Refuse r) = Unit {0}
+ReturnReady s objects b t list (Back.From w) = TakesBack s objects b w t list
 
-abbrev pub CleanUpCarries : FreeListSettings → ℕ → Tables → List ℕ → Gate → Type 0
-CleanUpCarries s objects t list (G.Shut r) = Unit {0}
-CleanUpCarries s objects t list G.Go = Releases s objects false t list
+abbrev pub CleanUpReady : FreeListSettings → ℕ → Tables → List ℕ → Gate → Type 0
+CleanUpReady s objects t list (Gate.Shut r) = Unit {0}
+CleanUpReady s objects t list Gate.Go = Releases s objects false t list
