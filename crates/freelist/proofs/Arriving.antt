@@ -54,7 +54,10 @@ use Rattle.freelist_gate.specs.declared.deliveries.Passing.the-variants.{Go}
 use Rattle.freelist_place.specs.Ready.{Lends}
 use Rattle.freelist_place.specs.Lent.{lentFrom, lentTables}
 use Rattle.freelist_place.proofs.Serving.{loan-planned, tables-planned}
-use Rattle.freelist.specs.Ready.{ComingBuys, KeepReady, ComingReady}
+use Rattle.freelist.specs.Deliveries.{deliveryOf}
+use Rattle.freelist.specs.Ready.{ComingBuys, Delivers, KeepReady, ComingReady, DeliverReady}
+use Rattle.freelist.specs.declared.plans.Delivery.{Delivery}
+use Rattle.freelist.specs.declared.plans.Delivery.the-variants as D
 use Rattle.freelist.proofs.Adding.{keep-ready, places-stay, delivered-last}
 use Rattle.freelist.proofs.Asking.{lent-rest, loan-rest}
 
@@ -129,13 +132,17 @@ module _ (s : FreeListSettings) (a : Account) (o : Outcome) (t : Tables) (k : Ke
       let still : stillOk s a t (Kept k) ≡ true = ap (stillOk s a t) (sym open-order) ∙ and-right sound (stillOk s a t (a .order)) (held .1) in
       leads-bought (s .store) (k .order) (decideAsk s (heapAt a (s .store .heap)) (a .objects) (k .ask .size) (k .ask .mask) t) still
 
-pub deliver-ready : (s : FreeListSettings) (a : Account) (o : Outcome) (t : Tables) (b : Buying) (r : Coming) → comingOf r ≡ planDeliver s a o t → ComingBuys s t b r → ComingReady s t b r
-deliver-ready s a o t b (C.Refuse r) e c = tt
-deliver-ready s a o t b (C.Lose l) e c = tt
-deliver-ready s a o t b (C.Keep k) e c =
+coming-ready : (s : FreeListSettings) (a : Account) (o : Outcome) (t : Tables) (b : Buying) (r : Coming) → comingOf r ≡ planDeliver s a o t → ComingBuys s t b r → ComingReady s t b r
+coming-ready s a o t b (C.Refuse r) e c = tt
+coming-ready s a o t b (C.Lose l) e c = tt
+coming-ready s a o t b (C.Keep k) e c =
     let f = kept (k .memory) in
     let w = fits s a o t (k .kept) f (sym e) in
     keep-ready s t (w .0) (w .1) (yes s a o t (k .kept) f (sym e)) (k .memory) (k .kept) b (heapAt a (s .store .heap)) (a .objects) (bought s a o t (k .kept) f (sym e)) (c .1)
+
+pub deliver-ready : (s : FreeListSettings) (a : Account) (o : Outcome) (t : Tables) (d : Delivery) → deliveryOf d ≡ planDeliver s a o t → Delivers s t d → DeliverReady s t d
+deliver-ready s a o t (D.Shut r) e c = tt
+deliver-ready s a o t (D.Come r b) e c = coming-ready s a o t b r e c
 
 -- ---- what is left
 
@@ -206,34 +213,31 @@ module _ (s : FreeListSettings) (h : Share) (k : KeptOrder) (memory : ℕ) (b : 
 
 -- ---- carried out
 
-module _ (s : FreeListSettings) (h : Share) (order : OpenOrder) (t : Tables) (p q : Coming) (same : p ≡ q) where
+module _ (s : FreeListSettings) (h : Share) (order : OpenOrder) (t : Tables) (p : Arrival) where
   abbrev account : Account
   account = holding (s .store) h order
 
-  carried : carryDeliver s account t (comingOf q) ≡ carryDeliver s account t (comingOf p)
-  carried = ap (λ (x : Coming). carryDeliver s account t (comingOf x)) (sym same)
-
-  pub refused-done : (n : ℕ) (share : Share) (left : OpenOrder) (said : Said) → comingOf q ≡ deny n
-      → share ≡ h → left ≡ order → said ≡ Paper.refusal n [] → out said (holding (s .store) share left) t ≡ carryDeliver s account t (comingOf p)
+  pub refused-done : (n : ℕ) (share : Share) (left : OpenOrder) (said : Said) → p ≡ deny n
+      → share ≡ h → left ≡ order → said ≡ Paper.refusal n [] → out said (holding (s .store) share left) t ≡ carryDeliver s account t p
   unfolding carryDeliver
-  refused-done n share left said e g l d = (λ j. out (d j) (holding (s .store) (g j) (l j)) t) ∙ ap (carryDeliver s account t) (sym e) ∙ carried
+  refused-done n share left said e g l d = (λ j. out (d j) (holding (s .store) (g j) (l j)) t) ∙ ap (carryDeliver s account t) (sym e)
 
-  pub lost-done : (k : KeptOrder) (n : ℕ) (charged : Bool) (back : List ℕ) (share : Share) (left : OpenOrder) (said : Said) → comingOf q ≡ go k (lost n charged back)
-      → share ≡ lostShare h (k .order .size) charged back → left ≡ Nothing → said ≡ Paper.refusal n back → out said (holding (s .store) share left) t ≡ carryDeliver s account t (comingOf p)
+  pub lost-done : (k : KeptOrder) (n : ℕ) (charged : Bool) (back : List ℕ) (share : Share) (left : OpenOrder) (said : Said) → p ≡ go k (lost n charged back)
+      → share ≡ lostShare h (k .order .size) charged back → left ≡ Nothing → said ≡ Paper.refusal n back → out said (holding (s .store) share left) t ≡ carryDeliver s account t p
   unfolding carryDeliver carryFate
   lost-done k n charged back share left said e g l d =
       (λ j. out (d j) (holding (s .store) (g j) (l j)) t)
       ∙ (λ j. out (Paper.refusal n back) (sym (held-lost (s .store) h order (k .order .size) charged back) j) t)
-      ∙ ap (carryDeliver s account t) (sym e) ∙ carried
+      ∙ ap (carryDeliver s account t) (sym e)
 
-  pub went-done : (k : KeptOrder) (memory : ℕ) (t′ : Tables) (share : Share) (left : OpenOrder) (said : Said) → comingOf q ≡ go k (kept memory)
+  pub went-done : (k : KeptOrder) (memory : ℕ) (t′ : Tables) (share : Share) (left : OpenOrder) (said : Said) → p ≡ go k (kept memory)
       → ((opened : OpenOrder) → out said (holding (s .store) share left) t′ ≡ carryFate s (holding (s .store) h opened) k t (kept memory))
-      → out said (holding (s .store) share left) t′ ≡ carryDeliver s account t (comingOf p)
+      → out said (holding (s .store) share left) t′ ≡ carryDeliver s account t p
   unfolding carryDeliver
-  went-done k memory t′ share left said e g = g order ∙ ap (carryDeliver s account t) (sym e) ∙ carried
+  went-done k memory t′ share left said e g = g order ∙ ap (carryDeliver s account t) (sym e)
 
 -- ---- the call
 
-pub deliver-done : (s : FreeListSettings) (a : Account) (o : Outcome) (t : Tables) (p : Coming) → comingOf p ≡ planDeliver s a o t → carryDeliver s a t (comingOf p) ≡ deliverOf s a o t
+pub deliver-done : (s : FreeListSettings) (a : Account) (o : Outcome) (t : Tables) (p : Arrival) → p ≡ planDeliver s a o t → carryDeliver s a t p ≡ deliverOf s a o t
 unfolding deliverOf
 deliver-done s a o t p e = ap (carryDeliver s a t) e

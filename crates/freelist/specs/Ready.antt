@@ -29,6 +29,7 @@ use Rattle.returning.specs.declared.Back.the-variants as Back
 use Rattle.store.specs.declared.comings.Coming.{Coming}
 use Rattle.store.specs.declared.comings.Coming.the-variants as Coming
 use Rattle.freelist.specs.declared.plans.Delivery.{Delivery}
+use Rattle.freelist.specs.declared.plans.Delivery.the-variants as Delivery
 
 -- ---- an ask: the region of the plan can be lent from, and its numbers are those of the ask
 
@@ -47,7 +48,8 @@ ComingBuys s t b (Coming.Keep c) = (b .order ≡ c .kept .order .size) × Planne
 ComingBuys s t b (Coming.Lose l) = Unit {0}
 
 abbrev pub Delivers : FreeListSettings → Tables → Delivery → Type 0
-Delivers s t d = ComingBuys s t (d .buying) (d .coming)
+Delivers s t (Delivery.Shut r) = Unit {0}
+Delivers s t (Delivery.Come c b) = ComingBuys s t b c
 
 -- the chunk of the order k can be added, and its region, the last, lent from
 pub record KeepReady (s : FreeListSettings) (k : KeptOrder) (memory : ℕ) (t : Tables) (b : Buying) : Type 0 where
@@ -63,7 +65,8 @@ ComingReady s t b (Coming.Keep c) = KeepReady s (c .kept) (c .memory) t b
 ComingReady s t b (Coming.Lose l) = Unit {0}
 
 abbrev pub DeliverReady : FreeListSettings → Tables → Delivery → Type 0
-DeliverReady s t d = ComingReady s t (d .buying) (d .coming)
+DeliverReady s t (Delivery.Shut r) = Unit {0}
+DeliverReady s t (Delivery.Come c b) = ComingReady s t b c
 
 -- ---- a return and a clean-up
 

@@ -17,7 +17,8 @@ ghost use Rattle.freelist_outcomes.specs.Ask.{carryAsk};
 ghost use Rattle.freelist_outcomes.specs.Deliver.{carryFate, carryDeliver};
 ghost use Rattle.freelist_outcomes.specs.Return.{givenTables, releaseOf, carryReturn, carryCleanUp};
 ghost use Rattle.freelist_decide.specs.Plans.{planOf};
-ghost use Rattle.freelist.specs.Ready.{AskReady, KeepReady, DeliverReady, Releases, TakesBack, ReturnReady, CleanUpReady};
+ghost use Rattle.freelist.specs.Deliveries.{deliveryOf};
+ghost use Rattle.freelist.specs.Ready.{AskReady, KeepReady, ComingReady, DeliverReady, Releases, TakesBack, ReturnReady, CleanUpReady};
 use crate::plans::Delivery;
 use counter::AskAnswer;
 use counter::Block;
@@ -89,22 +90,22 @@ fn keep_chunk(
     store::deliver_block(charged, l)
 }
 
-pub fn carry_deliver(
+// An order that is lost leaves the tables as they were.
+fn carry_coming(
     s: FreeListSettings,
     share: Share,
     order: OpenOrder,
-    plan: Delivery,
+    coming: Coming,
+    b: Buying,
     head: &mut [u64],
     loans: &mut [u64],
     chunks: &mut [u64],
     regions: &mut [u64],
     index: &mut [u64],
 ) -> DeliveredShare
-    requires { ⌜ DeliverReady s (tables (now head) (now loans) (now chunks) (now regions) (now index)) plan ⌝ }
-    ensures { λ r. ⌜ out (deliverSaid (r .answer)) (holding (s .store) (r .share) (r .order)) (tables (now (head .exit)) (now (loans .exit)) (now (chunks .exit)) (now (regions .exit)) (now (index .exit))) ≡ carryDeliver s (holding (s .store) share order) (tables (now (head .entry)) (now (loans .entry)) (now (chunks .entry)) (now (regions .entry)) (now (index .entry))) (comingOf (plan .coming)) ⌝ }
+    requires { ⌜ ComingReady s (tables (now head) (now loans) (now chunks) (now regions) (now index)) b coming ⌝ }
+    ensures { λ r. ⌜ out (deliverSaid (r .answer)) (holding (s .store) (r .share) (r .order)) (tables (now (head .exit)) (now (loans .exit)) (now (chunks .exit)) (now (regions .exit)) (now (index .exit))) ≡ carryDeliver s (holding (s .store) share order) (tables (now (head .entry)) (now (loans .entry)) (now (chunks .entry)) (now (regions .entry)) (now (index .entry))) (comingOf coming) ⌝ }
 {
-    let coming = plan.coming;
-    let b = plan.buying;
     match coming {
         Coming::Refuse(r) => store::refuse_delivery(share, order, r),
         Coming::Keep(c) => {
@@ -126,6 +127,39 @@ pub fn carry_deliver(
             let k = c.kept;
             let l = c.loss;
             store::lose_order(share, k, l)
+        }
+    }
+}
+
+pub fn carry_deliver(
+    s: FreeListSettings,
+    share: Share,
+    order: OpenOrder,
+    plan: Delivery,
+    head: &mut [u64],
+    loans: &mut [u64],
+    chunks: &mut [u64],
+    regions: &mut [u64],
+    index: &mut [u64],
+) -> DeliveredShare
+    requires { ⌜ DeliverReady s (tables (now head) (now loans) (now chunks) (now regions) (now index)) plan ⌝ }
+    ensures { λ r. ⌜ out (deliverSaid (r .answer)) (holding (s .store) (r .share) (r .order)) (tables (now (head .exit)) (now (loans .exit)) (now (chunks .exit)) (now (regions .exit)) (now (index .exit))) ≡ carryDeliver s (holding (s .store) share order) (tables (now (head .entry)) (now (loans .entry)) (now (chunks .entry)) (now (regions .entry)) (now (index .entry))) (deliveryOf plan) ⌝ }
+{
+    match plan {
+        Delivery::Shut(r) => store::refuse_delivery(share, order, r),
+        Delivery::Come(coming, b) => {
+            carry_coming(
+                s,
+                share,
+                order,
+                coming,
+                b,
+                head,
+                loans,
+                chunks,
+                regions,
+                index,
+            )
         }
     }
 }

@@ -3,32 +3,31 @@ ghost use mathlib.Core.Path.{_≡_};
 ghost use Rattle.counter.specs.Gate.{verdictOf};
 ghost use Rattle.store_rules.specs.Outcomes.{listOk};
 ghost use Rattle.store_rules.proofs.Holders.{holding, holder};
-ghost use Rattle.store.specs.Comings.{comingOf};
 ghost use Rattle.returning.specs.Backs.{backOf};
 ghost use Rattle.freelist_rules.specs.Tables.{tables};
 ghost use Rattle.freelist_outcomes.specs.Ask.{planAsk};
 ghost use Rattle.freelist_outcomes.specs.Deliver.{planDeliver};
 ghost use Rattle.freelist_outcomes.specs.Return.{planReturn, planCleanUp};
 ghost use Rattle.freelist_decide.specs.Plans.{planOf, Planned};
+ghost use Rattle.freelist.specs.Deliveries.{deliveryOf};
 ghost use Rattle.freelist.specs.Ready.{Delivers};
 use counter::Block;
 use counter::FreeListSettings;
 use counter::Gate;
 use counter::OpenOrder;
 use counter::Outcome;
+use counter::Refusal;
 use freelist_decide::Buying;
 use freelist_decide::Plan;
 use freelist_gate::Passing;
 use returning::Back;
-use slab::Slab;
-use slab::Taken;
 use store::Coming;
 use store_rules::Share;
 
-// What the outcome leads to, and what the kept ask comes to.
-pub struct Delivery {
-    pub coming: Coming,
-    pub buying: Buying,
+// What a delivery comes to, with what its kept ask came to. A shut gate has no buying.
+pub enum Delivery {
+    Shut(Refusal),
+    Come(Coming, Buying),
 }
 
 pub fn plan_ask(
@@ -55,21 +54,6 @@ pub fn plan_ask(
     }
 }
 
-// Beside a refusal nothing is bought.
-fn no_buying() -> Buying
-    ensures { λ r. ⌜ r .order ≡ 0 ⌝ }
-{
-    Buying {
-        order: 0,
-        size: 0,
-        mask: 0,
-        loan: Taken {
-            place: 0,
-            slab: Slab::new(),
-        },
-    }
-}
-
 pub fn plan_deliver(
     s: FreeListSettings,
     share: Share,
@@ -81,28 +65,16 @@ pub fn plan_deliver(
     regions: &[u64],
     index: &[u64],
 ) -> Delivery
-    ensures { λ r. ⌜ comingOf (r .coming) ≡ planDeliver s (holding (s .store) share order) o (tables (now (head .entry)) (now (loans .entry)) (now (chunks .entry)) (now (regions .entry)) (now (index .entry))) ⌝ }
+    ensures { λ r. ⌜ deliveryOf r ≡ planDeliver s (holding (s .store) share order) o (tables (now (head .entry)) (now (loans .entry)) (now (chunks .entry)) (now (regions .entry)) (now (index .entry))) ⌝ }
     ensures { λ r. ⌜ Delivers s (tables (now (head .entry)) (now (loans .entry)) (now (chunks .entry)) (now (regions .entry)) (now (index .entry))) r ⌝ }
 {
-    let passing = freelist_gate::gate_delivery(
-        s,
-        share,
-        order,
-        head,
-        loans,
-        chunks,
-        regions,
-        index,
-    );
-    match passing {
-        Passing::Shut(r) => Delivery {
-            coming: Coming::Refuse(r),
-            buying: no_buying(),
-        },
-        Passing::Go(b) => Delivery {
-            coming: freelist_decide::decide_delivery(order, o, head, chunks),
-            buying: b,
-        },
+    let g = freelist_gate::gate_delivery(s, share, order, head, loans, chunks, regions, index);
+    match g {
+        Passing::Shut(refusal) => Delivery::Shut(refusal),
+        Passing::Go(b) => {
+            let coming = freelist_decide::decide_delivery(order, o, head, chunks);
+            Delivery::Come(coming, b)
+        }
     }
 }
 

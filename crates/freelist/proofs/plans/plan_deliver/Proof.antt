@@ -15,31 +15,29 @@ use Rattle.freelist.proofs.plans.plan_deliver.Tie as tie
 gate-delivery-requires : tie.Need-gate-delivery-requires
 gate-delivery-requires c κs = search needs
 
-enum-known-passing : tie.Need-enum-known-passing
-enum-known-passing c = search needs
+enum-known-g : tie.Need-enum-known-g
+enum-known-g c = search needs
 
-no-buying-requires : tie.Need-no-buying-requires
-no-buying-requires c κs = search needs
-
-enum-known-passing-2 : tie.Need-enum-known-passing-2
-enum-known-passing-2 c = search needs
+enum-known-g-2 : tie.Need-enum-known-g-2
+enum-known-g-2 c = search needs
 
 decide-delivery-requires : tie.Need-decide-delivery-requires
 decide-delivery-requires c κs = search needs
 
 returns : tie.Need-returns
 returns c =
-    let g = c .before .before .before .before in
+    let p = c .before in
+    let g = p .before .before in
     let a = g .before .before .before .before .before .before .args in
-    (plan-shut (a .s) (holding (a .s .store) (a .share) (a .order)) (a .o) (tables (a .head .now) (a .loans .now) (a .chunks .now) (a .regions .now) (a .index .now)) (passOf (g .gate-delivery .result)) _ (ap passOf (c .before .before .passing .given .1)) (g .gate-delivery .ensures .0), tt)
+    (plan-shut (a .s) (holding (a .s .store) (a .share) (a .order)) (a .o) (tables (a .head .now) (a .loans .now) (a .chunks .now) (a .regions .now) (a .index .now)) (passOf (g .gate-delivery .result)) _ (ap passOf (p .g .given .1)) (g .gate-delivery .ensures .0), tt)
 
 returns-2 : tie.Need-returns-2
 returns-2 c =
     let p = c .before .before in
     let g = p .before .before in
     let a = g .before .before .before .before .before .before .args in (
-      plan-go (a .s) (a .share) (a .order) (a .o) (tables (a .head .now) (a .loans .now) (a .chunks .now) (a .regions .now) (a .index .now)) (passOf (g .gate-delivery .result)) _ (ap passOf (p .passing2 .given .1)) (g .gate-delivery .ensures .0) (c .decide-delivery .ensures),
-      coming-buys (a .s) (tables (a .head .now) (a .loans .now) (a .chunks .now) (a .regions .now) (a .index .now)) (a .o) (memories (rows chunkRow (getD (a .head .now) chunksAt 0) (a .chunks .now))) (a .order) (c .decide-delivery .result) (g .gate-delivery .result) _ (p .passing2 .given .1) (c .decide-delivery .ensures) (g .gate-delivery .ensures .1),
+      plan-go (a .s) (a .share) (a .order) (a .o) (tables (a .head .now) (a .loans .now) (a .chunks .now) (a .regions .now) (a .index .now)) (passOf (g .gate-delivery .result)) _ (ap passOf (p .g2 .given .1)) (g .gate-delivery .ensures .0) (c .decide-delivery .ensures),
+      coming-buys (a .s) (tables (a .head .now) (a .loans .now) (a .chunks .now) (a .regions .now) (a .index .now)) (a .o) (memories (rows chunkRow (getD (a .head .now) chunksAt 0) (a .chunks .now))) (a .order) (c .decide-delivery .result) (g .gate-delivery .result) _ (p .g2 .given .1) (c .decide-delivery .ensures) (g .gate-delivery .ensures .1),
     )
 
 pub plan-deliver-spec : {M : Type 1} → statement M
@@ -47,9 +45,8 @@ plan-deliver-spec =
     tie.close
     (tie.spec
     gate-delivery-requires
-    enum-known-passing
-    no-buying-requires
-    enum-known-passing-2
+    enum-known-g
+    enum-known-g-2
     decide-delivery-requires
     returns
     returns-2)
