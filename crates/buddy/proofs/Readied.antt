@@ -54,7 +54,10 @@ use Rattle.buddy_moves.proofs.Lending.{lends-ready, lends-rest}
 use Rattle.buddy_moves.proofs.Serving.{serves-ready}
 use Rattle.buddy_moves.proofs.Sizing.{Late, grows-ready}
 use Rattle.buddy_grow.specs.Grows.{Grows}
-use Rattle.buddy.specs.Ready.{AskReady, ComingBuys, KeepReady, LoseReady, ComingReady, ReturnReady}
+use Rattle.buddy.specs.Deliveries.{deliveryOf}
+use Rattle.buddy.specs.Ready.{AskReady, ComingBuys, Delivers, KeepReady, LoseReady, ComingReady, DeliverReady, ReturnReady}
+use Rattle.buddy.specs.declared.plans.Delivery.{Delivery}
+use Rattle.buddy.specs.declared.plans.Delivery.the-variants as Delivery
 use Rattle.buddy.proofs.Planned.{shut-number, gated-go, decided-go}
 
 -- ---- an ask
@@ -160,10 +163,14 @@ module _ (s : BuddySettings) (a : Account) (o : Outcome) (t : Tables) (k : KeptO
   arrived-loses : (b : Buying) → KeptBuys s k t b → LoseReady s k t (b .levels)
   arrived-loses b h = (h .levels, arrived-grows (b .levels) (h .levels))
 
-pub deliver-ready : (s : BuddySettings) (a : Account) (o : Outcome) (t : Tables) (b : Buying) (c : Coming) → planDeliver s a o t ≡ comingOf c → ComingBuys s t b c → ComingReady s t b c
-deliver-ready s a o t b (Coming.Refuse r) e h = tt
-deliver-ready s a o t b (Coming.Keep c) e h = arrived-keeps s a o t (c .kept) _ e b (c .memory) h
-deliver-ready s a o t b (Coming.Lose c) e h = arrived-loses s a o t (c .kept) _ e b h
+coming-ready : (s : BuddySettings) (a : Account) (o : Outcome) (t : Tables) (b : Buying) (c : Coming) → planDeliver s a o t ≡ comingOf c → ComingBuys s t b c → ComingReady s t b c
+coming-ready s a o t b (Coming.Refuse r) e h = tt
+coming-ready s a o t b (Coming.Keep c) e h = arrived-keeps s a o t (c .kept) _ e b (c .memory) h
+coming-ready s a o t b (Coming.Lose c) e h = arrived-loses s a o t (c .kept) _ e b h
+
+pub deliver-ready : (s : BuddySettings) (a : Account) (o : Outcome) (t : Tables) (d : Delivery) → planDeliver s a o t ≡ deliveryOf d → Delivers s t d → DeliverReady s t d
+deliver-ready s a o t (Delivery.Shut r) e h = tt
+deliver-ready s a o t (Delivery.Come c b) e h = coming-ready s a o t b c e h
 
 -- ---- a return
 

@@ -24,6 +24,7 @@ use Rattle.buddy_gate.specs.Gates.{KeptBuys}
 use Rattle.buddy_moves.specs.Ready.{Lends, Serves, Backs}
 use Rattle.buddy_grow.specs.Grows.{Grows}
 use Rattle.buddy.specs.declared.plans.Delivery.{Delivery}
+use Rattle.buddy.specs.declared.plans.Delivery.the-variants as Delivery
 
 -- ---- an ask
 
@@ -45,7 +46,8 @@ ComingBuys s t b (Coming.Keep c) = KeptBuys s (c .kept) t b
 ComingBuys s t b (Coming.Lose c) = KeptBuys s (c .kept) t b
 
 abbrev pub Delivers : BuddySettings → Tables → Delivery → Type 0
-Delivers s t d = ComingBuys s t (d .buying) (d .coming)
+Delivers s t (Delivery.Shut r) = Unit {0}
+Delivers s t (Delivery.Come c b) = ComingBuys s t b c
 
 -- the store as the order grew it can take the chunk and serve from it
 abbrev pub KeepReady : BuddySettings → KeptOrder → ℕ → Tables → Buying → Type 0
@@ -61,7 +63,8 @@ ComingReady s t b (Coming.Keep c) = KeepReady s (c .kept) (c .memory) t b
 ComingReady s t b (Coming.Lose c) = LoseReady s (c .kept) t (b .levels)
 
 abbrev pub DeliverReady : BuddySettings → Tables → Delivery → Type 0
-DeliverReady s t d = ComingReady s t (d .buying) (d .coming)
+DeliverReady s t (Delivery.Shut r) = Unit {0}
+DeliverReady s t (Delivery.Come c b) = ComingReady s t b c
 
 -- ---- a return
 

@@ -16,7 +16,8 @@ ghost use Rattle.buddy_outcomes.specs.Ask.{carryAsk};
 ghost use Rattle.buddy_outcomes.specs.Deliver.{carryFate, carryDeliver};
 ghost use Rattle.buddy_outcomes.specs.Return.{carryReturn};
 ghost use Rattle.buddy_decide.specs.Plans.{planOf, Planned};
-ghost use Rattle.buddy.specs.Ready.{AskReady, KeepReady, LoseReady, DeliverReady, ReturnReady};
+ghost use Rattle.buddy.specs.Deliveries.{deliveryOf};
+ghost use Rattle.buddy.specs.Ready.{AskReady, KeepReady, LoseReady, ComingReady, DeliverReady, ReturnReady};
 use crate::plans::Delivery;
 use buddy_decide::Buying;
 use buddy_decide::Plan;
@@ -130,6 +131,35 @@ fn lose(
 }
 
 // Kept or lost, the levels are as the order raised them.
+fn carry_coming(
+    s: BuddySettings,
+    share: Share,
+    order: OpenOrder,
+    coming: Coming,
+    b: Buying,
+    head: &mut [u64],
+    loans: &mut [u64],
+    chunks: &mut [u64],
+    index: &mut [u64],
+    tree: &mut [u64],
+) -> DeliveredShare
+    requires { ⌜ ComingReady s (tables (now head) (now loans) (now chunks) (now index) (now tree)) b coming ⌝ }
+    ensures { λ r. ⌜ out (deliverSaid (r .answer)) (holding (s .store) (r .share) (r .order)) (tables (now (head .exit)) (now (loans .exit)) (now (chunks .exit)) (now (index .exit)) (now (tree .exit))) ≡ carryDeliver s (holding (s .store) share order) (tables (now (head .entry)) (now (loans .entry)) (now (chunks .entry)) (now (index .entry)) (now (tree .entry))) (comingOf coming) ⌝ }
+{
+    match coming {
+        Coming::Refuse(r) => store::refuse_delivery(share, order, r),
+        Coming::Keep(c) => {
+            let k = c.kept;
+            keep_chunk(s, share, k, c.memory, b, head, loans, chunks, index, tree)
+        }
+        Coming::Lose(c) => {
+            let k = c.kept;
+            let l = c.loss;
+            lose(s, share, k, l, b.levels, head, tree)
+        }
+    }
+}
+
 pub fn carry_deliver(
     s: BuddySettings,
     share: Share,
@@ -142,20 +172,12 @@ pub fn carry_deliver(
     tree: &mut [u64],
 ) -> DeliveredShare
     requires { ⌜ DeliverReady s (tables (now head) (now loans) (now chunks) (now index) (now tree)) plan ⌝ }
-    ensures { λ r. ⌜ out (deliverSaid (r .answer)) (holding (s .store) (r .share) (r .order)) (tables (now (head .exit)) (now (loans .exit)) (now (chunks .exit)) (now (index .exit)) (now (tree .exit))) ≡ carryDeliver s (holding (s .store) share order) (tables (now (head .entry)) (now (loans .entry)) (now (chunks .entry)) (now (index .entry)) (now (tree .entry))) (comingOf (plan .coming)) ⌝ }
+    ensures { λ r. ⌜ out (deliverSaid (r .answer)) (holding (s .store) (r .share) (r .order)) (tables (now (head .exit)) (now (loans .exit)) (now (chunks .exit)) (now (index .exit)) (now (tree .exit))) ≡ carryDeliver s (holding (s .store) share order) (tables (now (head .entry)) (now (loans .entry)) (now (chunks .entry)) (now (index .entry)) (now (tree .entry))) (deliveryOf plan) ⌝ }
 {
-    let coming = plan.coming;
-    let b = plan.buying;
-    match coming {
-        Coming::Refuse(r) => store::refuse_delivery(share, order, r),
-        Coming::Keep(c) => {
-            let k = c.kept;
-            keep_chunk(s, share, k, c.memory, b, head, loans, chunks, index, tree)
-        }
-        Coming::Lose(c) => {
-            let k = c.kept;
-            let l = c.loss;
-            lose(s, share, k, l, b.levels, head, tree)
+    match plan {
+        Delivery::Shut(r) => store::refuse_delivery(share, order, r),
+        Delivery::Come(coming, b) => {
+            carry_coming(s, share, order, coming, b, head, loans, chunks, index, tree)
         }
     }
 }

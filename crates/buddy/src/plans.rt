@@ -2,13 +2,13 @@
 ghost use mathlib.Core.Path.{_≡_};
 ghost use Rattle.store_rules.specs.Outcomes.{listOk};
 ghost use Rattle.store_rules.proofs.Holders.{holding, holder};
-ghost use Rattle.store.specs.Comings.{comingOf};
 ghost use Rattle.returning.specs.Backs.{backOf};
 ghost use Rattle.buddy_rules.specs.Tables.{tables};
 ghost use Rattle.buddy_outcomes.specs.Ask.{planAsk};
 ghost use Rattle.buddy_outcomes.specs.Deliver.{planDeliver};
 ghost use Rattle.buddy_outcomes.specs.Return.{planReturn};
 ghost use Rattle.buddy_decide.specs.Plans.{planOf, Planned};
+ghost use Rattle.buddy.specs.Deliveries.{deliveryOf};
 ghost use Rattle.buddy.specs.Ready.{Delivers};
 use buddy_decide::Buying;
 use buddy_decide::Plan;
@@ -18,16 +18,15 @@ use counter::BuddySettings;
 use counter::Gate;
 use counter::OpenOrder;
 use counter::Outcome;
+use counter::Refusal;
 use returning::Back;
-use slab::Slab;
-use slab::Taken;
 use store::Coming;
 use store_rules::Share;
 
-// What a delivery comes to, and what its kept ask needs.
-pub struct Delivery {
-    pub coming: Coming,
-    pub buying: Buying,
+// What a delivery comes to, with what its kept ask needs. A shut gate has no buying.
+pub enum Delivery {
+    Shut(Refusal),
+    Come(Coming, Buying),
 }
 
 pub fn plan_ask(
@@ -54,24 +53,6 @@ pub fn plan_ask(
     }
 }
 
-// A refused delivery has none.
-fn no_buying() -> Buying
-    ensures { λ r. ⌜ r .order ≡ 0 ⌝ }
-{
-    let none = Taken {
-        place: 0,
-        slab: Slab::new(),
-    };
-    Buying {
-        order: 0,
-        size: 0,
-        level: 0,
-        levels: 0,
-        loan: none,
-        chunk: none,
-    }
-}
-
 pub fn plan_deliver(
     s: BuddySettings,
     share: Share,
@@ -83,25 +64,15 @@ pub fn plan_deliver(
     index: &[u64],
     tree: &[u64],
 ) -> Delivery
-    ensures { λ r. ⌜ comingOf (r .coming) ≡ planDeliver s (holding (s .store) share order) o (tables (now (head .entry)) (now (loans .entry)) (now (chunks .entry)) (now (index .entry)) (now (tree .entry))) ⌝ }
+    ensures { λ r. ⌜ deliveryOf r ≡ planDeliver s (holding (s .store) share order) o (tables (now (head .entry)) (now (loans .entry)) (now (chunks .entry)) (now (index .entry)) (now (tree .entry))) ⌝ }
     ensures { λ r. ⌜ Delivers s (tables (now (head .entry)) (now (loans .entry)) (now (chunks .entry)) (now (index .entry)) (now (tree .entry))) r ⌝ }
 {
     let g = buddy_gate::gate_delivery(s, share, order, head, loans, chunks, index, tree);
     match g {
-        Passing::Shut(refusal) => {
-            let coming = Coming::Refuse(refusal);
-            let buying = no_buying();
-            Delivery {
-                coming: coming,
-                buying: buying,
-            }
-        }
+        Passing::Shut(refusal) => Delivery::Shut(refusal),
         Passing::Go(b) => {
             let coming = buddy_decide::decide_delivery(order, o, head, chunks);
-            Delivery {
-                coming: coming,
-                buying: b,
-            }
+            Delivery::Come(coming, b)
         }
     }
 }

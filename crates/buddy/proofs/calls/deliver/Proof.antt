@@ -13,8 +13,8 @@ plan-deliver-requires c κs = search needs
 carry-deliver-requires : tie.Need-carry-deliver-requires
 carry-deliver-requires c κs =
     let a = c .before .before .before .before .before .before .before .before .before .before .before .before .before .before .before .before .args in
-    let d = (c .before .before .before .before .before) .plan-deliver .result in
-    deliver-ready (a .s) (holding (a .s .store) (a .share) (a .order)) (a .o) (tables (a .head .now) (a .loans .now) (a .chunks .now) (a .index .now) (a .tree .now)) (d .buying) (d .coming) (sym ((c .before .before .before .before .before) .plan-deliver .ensures .0)) ((c .before .before .before .before .before) .plan-deliver .ensures .1)
+    let p = c .before .before .before .before .before .plan-deliver in
+    deliver-ready (a .s) (holding (a .s .store) (a .share) (a .order)) (a .o) (tables (a .head .now) (a .loans .now) (a .chunks .now) (a .index .now) (a .tree .now)) (p .result) (sym (p .ensures .0)) (p .ensures .1)
 
 same-length : tie.Need-same-length
 same-length c = search needs

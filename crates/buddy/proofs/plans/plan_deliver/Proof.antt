@@ -12,9 +12,6 @@ gate-delivery-requires c κs = search needs
 enum-known-g : tie.Need-enum-known-g
 enum-known-g c = search needs
 
-no-buying-requires : tie.Need-no-buying-requires
-no-buying-requires c κs = search needs
-
 enum-known-g-2 : tie.Need-enum-known-g-2
 enum-known-g-2 c = search needs
 
@@ -23,9 +20,9 @@ decide-delivery-requires c κs = search needs
 
 returns : tie.Need-returns
 returns c =
-    let a = c .before .before .before .before .before .before .before .before .before .before .args in
-    let v = (c .before .before .before .before) in
-    (deliver-shut (a .s) (a .share) (a .order) (a .o) (tables (a .head .now) (a .loans .now) (a .chunks .now) (a .index .now) (a .tree .now)) (passingOf (v .gate-delivery .result)) _ (ap passingOf ((c .before .before) .g .given .1)) (v .gate-delivery .ensures .0), tt)
+    let a = c .before .before .before .before .before .before .before .before .before .args in
+    let v = c .before .before .before .gate-delivery in
+    (deliver-shut (a .s) (a .share) (a .order) (a .o) (tables (a .head .now) (a .loans .now) (a .chunks .now) (a .index .now) (a .tree .now)) (passingOf (v .result)) _ (ap passingOf (c .before .g .given .1)) (v .ensures .0), tt)
 
 returns-2 : tie.Need-returns-2
 returns-2 c =
@@ -37,4 +34,4 @@ returns-2 c =
     )
 
 pub plan-deliver-spec : {M : Type 1} → statement M
-plan-deliver-spec = tie.close (tie.spec gate-delivery-requires enum-known-g no-buying-requires enum-known-g-2 decide-delivery-requires returns returns-2)
+plan-deliver-spec = tie.close (tie.spec gate-delivery-requires enum-known-g enum-known-g-2 decide-delivery-requires returns returns-2)
