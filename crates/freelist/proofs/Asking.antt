@@ -9,7 +9,7 @@ use Rattle.counter.specs.Paper as Paper
 use Rattle.counter.specs.declared.account.Account.{Account}
 use Rattle.counter.specs.declared.settings.FreeListSettings.{FreeListSettings}
 use Rattle.slab.specs.declared.Taken.{Taken}
-use Rattle.store_rules.specs.Orders.{deny, take, buy, orderFrom}
+use Rattle.store_rules.specs.Orders.{Plan, deny, take, buy, orderFrom}
 use Rattle.store_rules.specs.Outcomes.{out, blockSaid}
 use Rattle.store_rules.specs.Shares.{askLeft}
 use Rattle.store_rules.specs.declared.Loan.{Loan}
@@ -18,8 +18,8 @@ use Rattle.freelist_rules.specs.Tables.{Tables, tables, chunkSizeAt, placesIn, 
 use Rattle.freelist_outcomes.specs.Ask.{blockAt, takenTables, orderedTables, carryAsk, planAsk, askOf}
 use Rattle.freelist_outcomes.proofs.Plans.{plan-take}
 use Rattle.freelist_decide.specs.Plans.{planOf, Planned}
-use Rattle.freelist_decide.specs.declared.deciding.Plan.{Plan}
-use Rattle.freelist_decide.specs.declared.deciding.Plan.the-variants.{Refuse, Take, Buy}
+use Rattle.freelist_decide.specs.declared.deciding.Plan as Decided
+use Rattle.freelist_decide.specs.declared.deciding.Plan.the-variants as Decides
 use Rattle.freelist_place.specs.Lent.{lentFrom, lentTables}
 use Rattle.freelist_place.proofs.Serving.{loan-planned, tables-planned}
 use Rattle.freelist.specs.Ready.{AskReady}
@@ -27,12 +27,13 @@ use Rattle.freelist.proofs.Lending.{lends-ready}
 
 -- ---- what a passed gate and the plan give
 
-pub ask-ready : (s : FreeListSettings) (a : Account) (size mask : ℕ) (t : Tables) (p : Plan) → planOf p ≡ planAsk s a size mask t → Planned s size mask t p → AskReady s size mask t p
-ask-ready s a size mask t (Refuse r) e c = tt
-ask-ready s a size mask t (Buy b) e c = tt
-ask-ready s a size mask t (Take k) e c =
+pub ask-ready : (s : FreeListSettings) (a : Account) (size mask : ℕ) (t : Tables) (p : Decided.Plan) → planOf p ≡ planAsk s a size mask t → Planned s size mask t p
+    → AskReady s (tables (t .head) (t .loans) [] (t .regions) (t .index)) p
+ask-ready s a size mask t (Decides.Refuse r) e c = tt
+ask-ready s a size mask t (Decides.Buy b) e c = tt
+ask-ready s a size mask t (Decides.Take k) e c =
     let w = plan-take s a size mask t (k .region) (sym e) in
-    (c, lends-ready s (heapAt a (s .store .heap)) (a .objects) size mask t (w .0 .settings) (w .0 .lengths) (w .0 .sound) (k .region) (k .start) (k .loan) (w .1) (c .0) (c .1))
+    lends-ready s (heapAt a (s .store .heap)) (a .objects) size mask t (w .0 .settings) (w .0 .lengths) (w .0 .sound) (k .region) (k .start) (k .loan) (w .1) (c .0) (c .1)
 
 -- ---- what is left
 
@@ -47,38 +48,34 @@ module _ (s : FreeListSettings) (start i : ℕ) (k : Taken) (head loans chunks r
   unfolding storeOf
   loan-rest l e = e
 
-module _ (s : FreeListSettings) (size mask : ℕ) (head loans chunks regions index : List ℕ) where
+module _ (s : FreeListSettings) (size mask : ℕ) (head loans chunks regions index : List ℕ) (p : Plan ℕ) (a : Account) where
   abbrev now : Tables
   now = tables head loans chunks regions index
 
-  carried : (a : Account) (p q : Plan) → p ≡ q → carryAsk s a size mask now (planOf q) ≡ carryAsk s a size mask now (planOf p)
-  carried a p q e = ap (λ (x : Plan). carryAsk s a size mask now (planOf x)) (sym e)
-
   -- the account that is left goes by what is said
-  pub ask-refused : (p q : Plan) (n : ℕ) (w : Said) → p ≡ q → planOf q ≡ deny n → w ≡ Paper.refusal n [] → (a : Account) → out w (askLeft a size mask w) now ≡ carryAsk s a size mask now (planOf p)
+  pub ask-refused : (n : ℕ) (w : Said) → p ≡ deny n → w ≡ Paper.refusal n [] → out w (askLeft a size mask w) now ≡ carryAsk s a size mask now p
   unfolding carryAsk
-  ask-refused p q n w f e g a = (λ j. out (g j) (askLeft a size mask (g j)) now) ∙ ap (carryAsk s a size mask now) (sym e) ∙ carried a p q f
+  ask-refused n w e g = (λ j. out (g j) (askLeft a size mask (g j)) now) ∙ ap (carryAsk s a size mask now) (sym e)
 
-  pub ask-taken : (p q : Plan) (i start : ℕ) (k : Taken) (l : Loan) (w : Said) (h′ l′ r′ i′ : List ℕ) → p ≡ q → planOf q ≡ take i
+  pub ask-taken : (i start : ℕ) (k : Taken) (l : Loan) (w : Said) (h′ l′ r′ i′ : List ℕ) → p ≡ take i
       → start ≡ blockAt s size mask now i .start → k ≡ takenOf (placesIn now) index
       → l ≡ lentFrom s start (tables head [] [] regions []) i → tables h′ l′ [] r′ i′ ≡ lentTables s start k (tables head loans [] regions index) i
-      → w ≡ blockSaid l → (a : Account) → out w (askLeft a size mask w) (tables h′ l′ chunks r′ i′) ≡ carryAsk s a size mask now (planOf p)
+      → w ≡ blockSaid l → out w (askLeft a size mask w) (tables h′ l′ chunks r′ i′) ≡ carryAsk s a size mask now p
   unfolding carryAsk
-  ask-taken p q i start k l w h′ l′ r′ i′ f e x y m t g a =
+  ask-taken i start k l w h′ l′ r′ i′ e x y m t g =
       let loan = loan-rest s start i k head loans chunks regions index l m ∙ loan-planned s size mask start i k now x in
       let left = lent-rest s start i k head loans chunks regions index h′ l′ r′ i′ t ∙ tables-planned s size mask start i k now x y in
       (λ j. out (g j) (askLeft a size mask (g j)) (left j))
-      ∙ (λ j. out (blockSaid (loan j)) a (takenTables s size mask now i)) ∙ ap (carryAsk s a size mask now) (sym e) ∙ carried a p q f
+      ∙ (λ j. out (blockSaid (loan j)) a (takenTables s size mask now i)) ∙ ap (carryAsk s a size mask now) (sym e)
 
-  pub ask-ordered : (p q : Plan) (z : ℕ) (w : Said) (h′ : List ℕ) → p ≡ q → planOf q ≡ buy z → h′ ≡ set head chunkSizeAt z
-      → w ≡ Paper.orderOf (orderFrom (s .store) z) → (a : Account) → out w (askLeft a size mask w) (tables h′ loans chunks regions index) ≡ carryAsk s a size mask now (planOf p)
+  pub ask-ordered : (z : ℕ) (w : Said) (h′ : List ℕ) → p ≡ buy z → h′ ≡ set head chunkSizeAt z
+      → w ≡ Paper.orderOf (orderFrom (s .store) z) → out w (askLeft a size mask w) (tables h′ loans chunks regions index) ≡ carryAsk s a size mask now p
   unfolding carryAsk orderedTables
-  ask-ordered p q z w h′ f e h k a =
-      (λ j. out (k j) (askLeft a size mask (k j)) (tables (h j) loans chunks regions index)) ∙ ap (carryAsk s a size mask now) (sym e) ∙ carried a p q f
+  ask-ordered z w h′ e h k =
+      (λ j. out (k j) (askLeft a size mask (k j)) (tables (h j) loans chunks regions index)) ∙ ap (carryAsk s a size mask now) (sym e)
 
 -- ---- the call
 
-pub ask-done : (s : FreeListSettings) (a : Account) (size mask : ℕ) (t t′ : Tables) (p : Plan) (w : Said) → planOf p ≡ planAsk s a size mask t
-    → ((b : Account) → out w (askLeft b size mask w) t′ ≡ carryAsk s b size mask t (planOf p)) → out w (askLeft a size mask w) t′ ≡ askOf s a size mask t
+pub ask-done : (s : FreeListSettings) (a : Account) (size mask : ℕ) (t : Tables) (p : Plan ℕ) → p ≡ planAsk s a size mask t → carryAsk s a size mask t p ≡ askOf s a size mask t
 unfolding askOf
-ask-done s a size mask t t′ p w e f = f a ∙ ap (carryAsk s a size mask t) e
+ask-done s a size mask t p e = ap (carryAsk s a size mask t) e

@@ -31,13 +31,12 @@ use Rattle.store.specs.declared.comings.Coming.the-variants as Coming
 use Rattle.freelist.specs.declared.plans.Delivery.{Delivery}
 use Rattle.freelist.specs.declared.plans.Delivery.the-variants as Delivery
 
--- ---- an ask: the region of the plan can be lent from, and its numbers are those of the ask
+-- ---- an ask: the region of the plan can be lent from
 
-abbrev pub AskReady : FreeListSettings → ℕ → ℕ → Tables → Plan → Type 0
-AskReady s size mask t (Refuse r) = Unit {0}
-AskReady s size mask t (Take k) =
-    Planned s size mask t (Take k) × Lends s (k .region) (k .start) (k .loan .place) (t .head) (t .loans) (t .regions) (t .index)
-AskReady s size mask t (Buy b) = Unit {0}
+abbrev pub AskReady : FreeListSettings → Tables → Plan → Type 0
+AskReady s t (Refuse r) = Unit {0}
+AskReady s t (Take k) = Lends s (k .region) (k .start) (k .loan .place) (t .head) (t .loans) (t .regions) (t .index)
+AskReady s t (Buy b) = Unit {0}
 
 -- ---- a delivery
 

@@ -32,7 +32,7 @@ pub fn ask(
     ensures { λ r. ⌜ out (askSaid r) (askLeft (holder (s .store) share) size mask (askSaid r)) (tables (now (head .exit)) (now (loans .exit)) (now (chunks .entry)) (now (regions .exit)) (now (index .exit))) ≡ askOf s (holder (s .store) share) size mask (tables (now (head .entry)) (now (loans .entry)) (now (chunks .entry)) (now (regions .entry)) (now (index .entry))) ⌝ }
 {
     let plan = crate::plans::plan_ask(s, share, size, mask, head, loans, chunks, regions, index);
-    crate::carries::carry_ask(s, size, mask, plan, head, loans, chunks, regions, index)
+    crate::carries::carry_ask(s, plan, head, loans, regions, index)
 }
 
 // A delivery: the chunk is added and lent from, or the order is lost.

@@ -1,7 +1,8 @@
 // Plans carried out: the tables written, and what is answered.
 ghost use mathlib.Core.Path.{_≡_};
 ghost use mathlib.Core.Bool.{true};
-ghost use mathlib.Core.List.{[]};
+ghost use mathlib.Core.List.{List, []};
+ghost use Prim.Native.Nat.{ℕ};
 ghost use Rattle.counter.specs.Gate.{verdictOf};
 ghost use Rattle.counter.specs.Paper.{askSaid, deliverSaid, releaseSaid};
 ghost use Rattle.counter.specs.declared.account.Account.{Account};
@@ -16,7 +17,7 @@ ghost use Rattle.freelist_rules.specs.Tables.{tables};
 ghost use Rattle.freelist_outcomes.specs.Ask.{carryAsk};
 ghost use Rattle.freelist_outcomes.specs.Deliver.{carryFate, carryDeliver};
 ghost use Rattle.freelist_outcomes.specs.Return.{givenTables, releaseOf, carryReturn, carryCleanUp};
-ghost use Rattle.freelist_decide.specs.Plans.{planOf};
+ghost use Rattle.freelist_decide.specs.Plans.{planOf, Planned};
 ghost use Rattle.freelist.specs.Deliveries.{deliveryOf};
 ghost use Rattle.freelist.specs.Ready.{AskReady, KeepReady, ComingReady, DeliverReady, Releases, TakesBack, ReturnReady, CleanUpReady};
 use crate::plans::Delivery;
@@ -34,20 +35,17 @@ use store_rules::DeliveredShare;
 use store_rules::ReleasedShare;
 use store_rules::Share;
 
-// The plan is that of an ask of this size and mask.
+// Whatever the account, the chunks, and the size and mask that this is the plan of.
 pub fn carry_ask(
     s: FreeListSettings,
-    size: u64,
-    mask: u64,
     plan: Plan,
     head: &mut [u64],
     loans: &mut [u64],
-    chunks: &[u64],
     regions: &mut [u64],
     index: &mut [u64],
 ) -> AskAnswer
-    requires { ⌜ AskReady s size mask (tables (now head) (now loans) (now chunks) (now regions) (now index)) plan ⌝ }
-    ensures { λ r. ⌜ ((a : Account) → out (askSaid r) (askLeft a size mask (askSaid r)) (tables (now (head .exit)) (now (loans .exit)) (now (chunks .entry)) (now (regions .exit)) (now (index .exit))) ≡ carryAsk s a size mask (tables (now (head .entry)) (now (loans .entry)) (now (chunks .entry)) (now (regions .entry)) (now (index .entry))) (planOf plan)) ⌝ }
+    requires { ⌜ AskReady s (tables (now head) (now loans) [] (now regions) (now index)) plan ⌝ }
+    ensures { λ r. ⌜ ((a : Account) (size mask : ℕ) (chunks : List ℕ) → Planned s size mask (tables (now (head .entry)) (now (loans .entry)) chunks (now (regions .entry)) (now (index .entry))) plan → out (askSaid r) (askLeft a size mask (askSaid r)) (tables (now (head .exit)) (now (loans .exit)) chunks (now (regions .exit)) (now (index .exit))) ≡ carryAsk s a size mask (tables (now (head .entry)) (now (loans .entry)) chunks (now (regions .entry)) (now (index .entry))) (planOf plan)) ⌝ }
 {
     match plan {
         Plan::Refuse(refusal) => store::refuse_ask(refusal),

@@ -1,4 +1,5 @@
 use borrow.Author.Needs.{needs}
+use mathlib.Core.Path.{_∙_}
 use Rattle.store_rules.proofs.Holders.{holder}
 use Rattle.freelist_rules.specs.Tables.{tables}
 use Rattle.freelist.proofs.Asking.{ask-ready, ask-done}
@@ -31,7 +32,8 @@ returns c =
     let k = c .before .before .before .before .before .before .before .before in
     let p = k .before .before .before .before .before in
     let a = p .before .before .before .before .before .before .before .before .before .before .args in
-    ask-done (a .s) (holder (a .s .store) (a .share)) (a .size) (a .mask) (tables (a .head .now) (a .loans .now) (a .chunks .now) (a .regions .now) (a .index .now)) _ (p .plan-ask .result) _ (p .plan-ask .ensures .0) (k .carry-ask .ensures)
+    k .carry-ask .ensures (holder (a .s .store) (a .share)) (a .size) (a .mask) (a .chunks .now) (p .plan-ask .ensures .1)
+    ∙ ask-done (a .s) (holder (a .s .store) (a .share)) (a .size) (a .mask) (tables (a .head .now) (a .loans .now) (a .chunks .now) (a .regions .now) (a .index .now)) _ (p .plan-ask .ensures .0)
 
 pub ask-spec : {M : Type 1} → statement M
 ask-spec =

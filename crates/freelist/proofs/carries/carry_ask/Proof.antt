@@ -1,6 +1,8 @@
 use borrow.Author.Needs.{needs}
-use mathlib.Core.Path.{refl, subst}
+use mathlib.Core.Path.{ap, subst}
+use mathlib.Core.List.{[]}
 use Rattle.freelist_rules.specs.Tables.{tables}
+use Rattle.freelist_decide.specs.Plans.{planOf, Planned}
 use Rattle.freelist_decide.specs.declared.deciding.Plan.{Plan}
 use Rattle.freelist.specs.Ready.{AskReady}
 use Rattle.freelist.proofs.Asking.{ask-refused, ask-taken, ask-ordered}
@@ -19,9 +21,9 @@ enum-known-plan-2 c = search needs
 lend-requires : tie.Need-lend-requires
 lend-requires c κs =
     let i = c .before .before .before .before .before .before in
-    let b = i .before .before .before .before .before .before .before in
+    let b = i .before .before .before .before .before .before in
     let a = b .args in
-    subst (λ (p : Plan). AskReady (a .s) (a .size) (a .mask) (tables (a .head .now) (a .loans .now) (a .chunks .now) (a .regions .now) (a .index .now)) p) (i .plan2 .given .1) (b .pre) .1
+    subst (λ (p : Plan). AskReady (a .s) (tables (a .head .now) (a .loans .now) [] (a .regions .now) (a .index .now)) p) (i .plan2 .given .1) (b .pre)
 
 answer-block-requires : tie.Need-answer-block-requires
 answer-block-requires c κs = search needs
@@ -38,8 +40,8 @@ answer-order-requires c κs = search needs
 returns : tie.Need-returns
 returns c =
     let i = c .before .before in
-    let a = i .before .before .before .before .before .before .before .args in
-    ask-refused (a .s) (a .size) (a .mask) (a .head .now) (a .loans .now) (a .chunks .now) (a .regions .now) (a .index .now) (a .plan) _ _ _ (i .plan .given .1) refl (c .refuse-ask .ensures)
+    let a = i .before .before .before .before .before .before .args in
+    λ account size mask chunks k. ask-refused (a .s) size mask (a .head .now) (a .loans .now) chunks (a .regions .now) (a .index .now) (planOf (a .plan)) account _ _ (ap planOf (i .plan .given .1)) (c .refuse-ask .ensures)
 
 same-length : tie.Need-same-length
 same-length c = search needs
@@ -57,10 +59,10 @@ returns-2 : tie.Need-returns-2
 returns-2 c =
     let l = c .before .before .before .before .before .before .before .before .before in
     let i = l .before .before .before .before .before .before .before in
-    let b = i .before .before .before .before .before .before .before in
-    let a = b .args in
-    let e = subst (λ (p : Plan). AskReady (a .s) (a .size) (a .mask) (tables (a .head .now) (a .loans .now) (a .chunks .now) (a .regions .now) (a .index .now)) p) (i .plan2 .given .1) (b .pre) in
-    ask-taken (a .s) (a .size) (a .mask) (a .head .now) (a .loans .now) (a .chunks .now) (a .regions .now) (a .index .now) (a .plan) _ _ _ _ _ _ _ _ _ _ (i .plan2 .given .1) refl (e .0 .0) (e .0 .1) (l .lend .ensures .0) (l .lend .ensures .1) (c .answer-block .ensures)
+    let a = i .before .before .before .before .before .before .args in
+    λ account size mask chunks k.
+    let e = subst (λ (p : Plan). Planned (a .s) size mask (tables (a .head .now) (a .loans .now) chunks (a .regions .now) (a .index .now)) p) (i .plan2 .given .1) k in
+    ask-taken (a .s) size mask (a .head .now) (a .loans .now) chunks (a .regions .now) (a .index .now) (planOf (a .plan)) account _ _ _ _ _ _ _ _ _ (ap planOf (i .plan2 .given .1)) (e .0) (e .1) (l .lend .ensures .0) (l .lend .ensures .1) (c .answer-block .ensures)
 
 same-length-5 : tie.Need-same-length-5
 same-length-5 c = search needs
@@ -69,8 +71,8 @@ returns-3 : tie.Need-returns-3
 returns-3 c =
     let r = c .before .before .before in
     let i = r .before .before .before in
-    let a = i .before .before .before .before .before .before .before .args in
-    ask-ordered (a .s) (a .size) (a .mask) (a .head .now) (a .loans .now) (a .chunks .now) (a .regions .now) (a .index .now) (a .plan) _ _ _ _ (i .plan3 .given .1) refl (r .raise-size .ensures) (c .answer-order .ensures)
+    let a = i .before .before .before .before .before .before .args in
+    λ account size mask chunks k. ask-ordered (a .s) size mask (a .head .now) (a .loans .now) chunks (a .regions .now) (a .index .now) (planOf (a .plan)) account _ _ _ (ap planOf (i .plan3 .given .1)) (r .raise-size .ensures) (c .answer-order .ensures)
 
 pub carry-ask-spec : {M : Type 1} → statement M
 carry-ask-spec =
