@@ -1,39 +1,59 @@
--- Set-up leaves the tables of a store with nothing in it.
-use mathlib.Core.Path.{_≡_, refl, sym, _∙_}
+-- Set-up: its plan is whether the tables fit, makes them ready, and is carried out as it is defined.
+use mathlib.Core.Path.{_≡_, refl, sym, ap}
 use mathlib.Core.Bool.{true, false}
-use mathlib.Core.List.{List, []}
+use mathlib.Core.List.{List, [], _∷_}
 use Prim.Native.Nat.{ℕ}
 use lib.ListN.{length, set}
 use Rattle.lists.proofs.Bools.{and-left, and-right}
+use Rattle.counter.specs.Gate.{Verdict, pass, refuse, verdictOf}
 use Rattle.counter.specs.InTable.{BuddyIn}
 use Rattle.counter.specs.Paper as Paper
 use Rattle.counter.specs.Table.{buddyOk}
+use Rattle.counter.specs.declared.refusal.Gate.{Gate}
+use Rattle.counter.specs.declared.refusal.Gate.the-variants as Gate
 use Rattle.counter.specs.declared.settings.BuddySettings.{BuddySettings}
+use Rattle.counter.proofs.Gates.{passed, first-held, first-failed}
 use Rattle.counter.proofs.Tables.{buddy-yes}
 use Rattle.slab.specs.Slab.{nowhere}
 use Rattle.book_rules.specs.Book.{freshIndex}
 use Rattle.buddy_rules.specs.Tables.{Tables, tables, headWords, chunksFrom, initialLevels, lengthsOk}
 use Rattle.buddy_outcomes.specs.Ask.{freshLevels}
-use Rattle.buddy_outcomes.specs.SetUp.{setUp, freshHead, freshTables, fitOk, setUpOf}
+use Rattle.buddy_outcomes.specs.SetUp.{setUp, freshHead, freshTables, fitOk, planSetUp, carrySetUp, setUpOf}
 use Rattle.buddy_outcomes.proofs.Passing.{lengths-are}
-
--- ---- what it says and leaves
+use Rattle.buddy.specs.Ready.{SetUpReady}
 
 module _ (s : BuddySettings) (t : Tables) where
-  pub fit-head : fitOk s t ≡ true → length (t .head) ≡ headWords
-  unfolding fitOk
-  fit-head e = lengths-are s t (and-right (buddyOk s) (lengthsOk s t) e) .head
+  -- ---- the plan
 
-  pub fit-settings : fitOk s t ≡ true → BuddyIn s
-  unfolding fitOk
-  fit-settings e = buddy-yes s (and-left (buddyOk s) (lengthsOk s t) e)
+  pub set-up-go : fitOk s t ≡ true → pass ≡ planSetUp s t
+  unfolding planSetUp
+  set-up-go e = sym (first-held (fitOk s t) 1 [] e)
 
-  pub set-up-ready : (h′ i′ r′ : List ℕ) → fitOk s t ≡ true → h′ ≡ freshHead s → r′ ≡ set (freshLevels s 0 (initialLevels s) (t .tree)) (chunksFrom s) nowhere
-      → i′ ≡ freshIndex (t .index) → setUp Paper.ready (tables h′ (t .loans) (t .chunks) i′ r′) ≡ setUpOf s t
-  unfolding setUpOf freshTables fitOk
-  set-up-ready h′ i′ r′ e h r i =
-      (λ j. setUp Paper.ready (tables (h j) (t .loans) (t .chunks) (i j) (r j))) ∙ sym (rw e refl)
+  pub set-up-shut : fitOk s t ≡ false → refuse 1 ≡ planSetUp s t
+  unfolding planSetUp
+  set-up-shut e = sym (first-failed (fitOk s t) 1 [] e)
 
-  pub set-up-unfit : fitOk s t ≡ false → setUp (Paper.refusal 1 []) t ≡ setUpOf s t
+  passed-ready : pass ≡ planSetUp s t → BuddyIn s × (length (t .head) ≡ headWords)
+  unfolding planSetUp fitOk
+  passed-ready e =
+      let fit = passed ((fitOk s t, 1) ∷ []) (sym e) .0 in
+      (buddy-yes s (and-left (buddyOk s) (lengthsOk s t) fit), lengths-are s t (and-right (buddyOk s) (lengthsOk s t) fit) .head)
+
+  pub set-up-ready : (g : Gate) → verdictOf g ≡ planSetUp s t → SetUpReady s (t .head) g
+  set-up-ready (Gate.Shut r) e = tt
+  set-up-ready Gate.Go e = passed-ready e
+
+  -- ---- carried out
+
+  pub set-up-refused : (n : ℕ) → setUp (Paper.refusal n []) t ≡ carrySetUp s t (refuse n)
+  unfolding carrySetUp
+  set-up-refused n = refl
+
+  pub set-up-done : (h′ i′ r′ : List ℕ) → h′ ≡ freshHead s → r′ ≡ set (freshLevels s 0 (initialLevels s) (t .tree)) (chunksFrom s) nowhere → i′ ≡ freshIndex (t .index)
+      → setUp Paper.ready (tables h′ (t .loans) (t .chunks) i′ r′) ≡ carrySetUp s t pass
+  unfolding carrySetUp freshTables
+  set-up-done h′ i′ r′ h r i = λ j. setUp Paper.ready (tables (h j) (t .loans) (t .chunks) (i j) (r j))
+
+  pub set-up-called : (v : Verdict) → v ≡ planSetUp s t → carrySetUp s t v ≡ setUpOf s t
   unfolding setUpOf
-  set-up-unfit e = sym (rw e refl)
+  set-up-called v e = ap (carrySetUp s t) e

@@ -1,11 +1,15 @@
 -- What the code that carries a plan out asks of the tables, by cases on the plan; a passed gate and the plan give it.
 use mathlib.Core.Path.{_≡_}
 use mathlib.Core.Bool.{true}
-use mathlib.Core.List.{[]}
+use mathlib.Core.List.{List, []}
 use Prim.Native.Nat.{ℕ, _+_, _≤_}
+use lib.ListN.{length}
+use Rattle.counter.specs.InTable.{BuddyIn}
 use Rattle.counter.specs.Limits.{objectsMost}
 use Rattle.counter.specs.declared.account.KeptOrder.{KeptOrder}
 use Rattle.counter.specs.declared.answers.Block.{Block}
+use Rattle.counter.specs.declared.refusal.Gate.{Gate}
+use Rattle.counter.specs.declared.refusal.Gate.the-variants as Gate
 use Rattle.counter.specs.declared.settings.BuddySettings.{BuddySettings}
 use Rattle.store_rules.specs.declared.Share.{Share}
 use Rattle.store.specs.declared.comings.Coming.{Coming}
@@ -13,7 +17,7 @@ use Rattle.store.specs.declared.comings.Coming.the-variants as Coming
 use Rattle.returning.specs.declared.Back.{Back}
 use Rattle.returning.specs.declared.Back.the-variants as Back
 use Rattle.buddy_rules.specs.Level.{ringHead}
-use Rattle.buddy_rules.specs.Tables.{Tables, tables, levelFrom}
+use Rattle.buddy_rules.specs.Tables.{Tables, tables, headWords, levelFrom}
 use Rattle.buddy_outcomes.specs.Ask.{levelFor, grownTo, grownTables}
 use Rattle.buddy_outcomes.specs.Return.{climbFor}
 use Rattle.buddy_decide.specs.Plans.{nextLoan}
@@ -25,6 +29,12 @@ use Rattle.buddy_moves.specs.Ready.{Lends, Serves, Backs}
 use Rattle.buddy_grow.specs.Grows.{Grows}
 use Rattle.buddy.specs.declared.plans.Delivery.{Delivery}
 use Rattle.buddy.specs.declared.plans.Delivery.the-variants as Delivery
+
+-- ---- set-up
+
+abbrev pub SetUpReady : BuddySettings → List ℕ → Gate → Type 0
+SetUpReady s head (Gate.Shut r) = Unit {0}
+SetUpReady s head Gate.Go = BuddyIn s × (length head ≡ headWords)
 
 -- ---- an ask
 

@@ -2,7 +2,8 @@
 ghost use mathlib.Core.Path.{_≡_};
 ghost use mathlib.Core.List.{List, []};
 ghost use Prim.Native.Nat.{ℕ};
-ghost use Rattle.counter.specs.Paper.{numberOf, freeOf, askSaid, deliverSaid, releaseSaid};
+ghost use Rattle.counter.specs.Gate.{verdictOf};
+ghost use Rattle.counter.specs.Paper.{numberOf, freeOf, setUpSaid, askSaid, deliverSaid, releaseSaid};
 ghost use Rattle.counter.specs.declared.account.Account.{Account};
 ghost use Rattle.counter.specs.declared.account.OpenOrder as Open;
 ghost use Rattle.store_rules.specs.Delivery.{kept, lost};
@@ -15,24 +16,53 @@ ghost use Rattle.buddy_rules.specs.Tables.{tables};
 ghost use Rattle.buddy_outcomes.specs.Ask.{carryAsk};
 ghost use Rattle.buddy_outcomes.specs.Deliver.{carryFate, carryDeliver};
 ghost use Rattle.buddy_outcomes.specs.Return.{carryReturn};
+ghost use Rattle.buddy_outcomes.specs.SetUp.{setUp, carrySetUp};
 ghost use Rattle.buddy_decide.specs.Plans.{planOf, Planned};
 ghost use Rattle.buddy.specs.Deliveries.{deliveryOf};
-ghost use Rattle.buddy.specs.Ready.{AskReady, KeepReady, LoseReady, ComingReady, DeliverReady, ReturnReady};
+ghost use Rattle.buddy.specs.Ready.{SetUpReady, AskReady, KeepReady, LoseReady, ComingReady, DeliverReady, ReturnReady};
 use crate::plans::Delivery;
 use buddy_decide::Buying;
 use buddy_decide::Plan;
 use counter::AskAnswer;
 use counter::Block;
 use counter::BuddySettings;
+use counter::Gate;
 use counter::KeptOrder;
 use counter::OpenOrder;
 use counter::Refusal;
+use counter::Refused;
+use counter::SetUpAnswer;
+use counter::ToFree;
 use returning::Back;
 use store::Coming;
 use store::Loss;
 use store_rules::DeliveredShare;
 use store_rules::ReleasedShare;
 use store_rules::Share;
+
+// Whatever the loans and chunks, of which set-up writes none.
+pub fn carry_set_up(
+    s: BuddySettings,
+    plan: Gate,
+    head: &mut [u64],
+    index: &mut [u64],
+    tree: &mut [u64],
+) -> SetUpAnswer
+    requires { ⌜ SetUpReady s (now head) plan ⌝ }
+    ensures { λ r. ⌜ ((loans chunks : List ℕ) → setUp (setUpSaid r) (tables (now (head .exit)) loans chunks (now (index .exit)) (now (tree .exit))) ≡ carrySetUp s (tables (now (head .entry)) loans chunks (now (index .entry)) (now (tree .entry))) (verdictOf plan)) ⌝ }
+{
+    match plan {
+        Gate::Shut(refusal) => SetUpAnswer::Refused(Refused {
+            refusal: refusal,
+            free: ToFree::Nothing,
+        }),
+        Gate::Go => {
+            buddy_grow::fresh(s, head, tree);
+            book::fresh_index(index);
+            SetUpAnswer::Ready
+        }
+    }
+}
 
 // Whatever the account, the chunks, and the size and mask that this is the plan of.
 pub fn carry_ask(

@@ -1,5 +1,6 @@
 // What each call comes to: the gate, and then the tests behind it. Reads only.
 ghost use mathlib.Core.Path.{_≡_};
+ghost use Rattle.counter.specs.Gate.{verdictOf};
 ghost use Rattle.store_rules.specs.Outcomes.{listOk};
 ghost use Rattle.store_rules.proofs.Holders.{holding, holder};
 ghost use Rattle.returning.specs.Backs.{backOf};
@@ -7,6 +8,7 @@ ghost use Rattle.buddy_rules.specs.Tables.{tables};
 ghost use Rattle.buddy_outcomes.specs.Ask.{planAsk};
 ghost use Rattle.buddy_outcomes.specs.Deliver.{planDeliver};
 ghost use Rattle.buddy_outcomes.specs.Return.{planReturn};
+ghost use Rattle.buddy_outcomes.specs.SetUp.{planSetUp};
 ghost use Rattle.buddy_decide.specs.Plans.{planOf, Planned};
 ghost use Rattle.buddy.specs.Deliveries.{deliveryOf};
 ghost use Rattle.buddy.specs.Ready.{Delivers};
@@ -27,6 +29,22 @@ use store_rules::Share;
 pub enum Delivery {
     Shut(Refusal),
     Come(Coming, Buying),
+}
+
+pub fn plan_set_up(
+    s: BuddySettings,
+    head: &[u64],
+    loans: &[u64],
+    chunks: &[u64],
+    index: &[u64],
+    tree: &[u64],
+) -> Gate
+    ensures { λ r. ⌜ verdictOf r ≡ planSetUp s (tables (now (head .entry)) (now (loans .entry)) (now (chunks .entry)) (now (index .entry)) (now (tree .entry))) ⌝ }
+{
+    if buddy_gate::is_fit(s, head, loans, chunks, index, tree) {
+        return Gate::Go;
+    }
+    Gate::Shut(Refusal::Setup)
 }
 
 pub fn plan_ask(

@@ -28,7 +28,7 @@ use Rattle.heap.specs.History.{release}
 use Rattle.heap.proofs.Bounds.{agrees-yes}
 use Rattle.store_rules.specs.Delivery.{buddy, mapped, fateOf, deliveryOk}
 use Rattle.store_rules.specs.Orders.{Plan, deny, take, buy}
-use Rattle.store_rules.specs.Outcomes.{Out, out, Listed, listed, listOk, chargedAccount, lostAccount, releasedAccount}
+use Rattle.store_rules.specs.Outcomes.{toFree, Out, out, Listed, listed, listOk, chargedAccount, lostAccount, releasedAccount}
 use Rattle.store_rules.specs.Tests.{openFor, coversOk, gateRow}
 use Rattle.store_rules.specs.Views.{sizes}
 use Rattle.store_rules.proofs.Accounts.{covers-yes, lost-nothing}
@@ -46,7 +46,7 @@ use Rattle.buddy_outcomes.specs.Ask.{decideAsk, carryAsk, planAsk, askOf}
 use Rattle.buddy_outcomes.specs.Deliver as Deliver
 use Rattle.buddy_outcomes.specs.Deliver.{asOrdered, stillOk, deliverGateOf, carryFate, decideDeliver, planDeliver, carryDeliver, deliverOf}
 use Rattle.buddy_outcomes.specs.Return.{wordFor, onLoanOk, climbFor, givenTables, releasedBy, returnOf}
-use Rattle.buddy_outcomes.specs.SetUp.{fitOk, setUpOf}
+use Rattle.buddy_outcomes.specs.SetUp.{planSetUp, carrySetUp, setUpOf}
 use Rattle.buddy_outcomes.proofs.Counting.{bytes-is}
 use Rattle.buddy_outcomes.proofs.Passing.{Passed, lent-in}
 use Rattle.buddy_outcomes.proofs.Plans.{buy-bears}
@@ -62,8 +62,12 @@ module _ (s : BuddySettings) (a : Account) (t : Tables) where
   -- ---- set-up and an ask book nothing
 
   sets-up-booked : BuddyBooked setsUp (does buddyShape s a (asLent t) setsUp)
-  unfolding setUpOf
-  sets-up-booked = still (s .store .heap) a _ _ _ refl refl refl refl (⊎-elim (λ e. rw e) (λ e. rw e) (told (fitOk s t)))
+  unfolding setUpOf carrySetUp
+  sets-up-booked = still (s .store .heap) a _ _ _ refl refl refl refl (by (planSetUp s t))
+    where
+      by : (v : Verdict) → toFree (carrySetUp s t v .said) ≡ 0
+      by pass = refl
+      by (refuse n) = refl
 
   abbrev arrived : Out Tables → Listed Lent
   arrived r = listed (r .said) (r .account) (asLent (r .tables)) []

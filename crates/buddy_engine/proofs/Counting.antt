@@ -1,12 +1,12 @@
 -- The buddy gives serials as an engine has to: they count up, and one that is gone stays so and is never taken.
 use mathlib.Core.Path.{_≡_, refl, sym, ap, _∙_}
-use mathlib.Core.Bool.{Bool, true, false, cond}
 use mathlib.Core.Logic.{_⊎_}
 use mathlib.Core.List.{List, []}
 use Prim.Native.Nat.{ℕ}
 use native.Mathlib.Omega.{arith}
 use lib.ListN.{getD}
 use Rattle.words.proofs.Records.{cell-row}
+use Rattle.counter.specs.Gate.{Verdict, pass, refuse}
 use Rattle.counter.specs.Paper.{Said}
 use Rattle.counter.specs.Paper as Paper
 use Rattle.counter.specs.Reasons.{Given}
@@ -22,7 +22,7 @@ use Rattle.store_rules.specs.Rows.{listRows}
 use Rattle.engines.specs.Shapes.{Lent, Call, setsUp, asks, delivers, returns, others, does, Marked, wordsOf}
 use Rattle.buddy_rules.specs.Tables.{Tables, mark, markAt, givenIn}
 use Rattle.buddy_rules.proofs.Viewed.{loanAt, live-loan, loan-live}
-use Rattle.buddy_outcomes.specs.SetUp.{setUp, freshTables, fitOk, setUpOf}
+use Rattle.buddy_outcomes.specs.SetUp.{freshTables, planSetUp, carrySetUp, setUpOf}
 use Rattle.buddy_outcomes.proofs.Gone as Buddy
 use Rattle.buddy_outcomes.proofs.Gone.{ask-gone, deliver-gone, return-gone-stays}
 use Rattle.buddy_engine.specs.Shape.{asBuddy, asLent, listedAs, buddyShape}
@@ -31,14 +31,12 @@ use Rattle.buddy_engine.proofs.Stepping.{Stepped, ask-stepped, deliver-
 -- ---- set-up
 
 begins : (s : BuddySettings) (t : Tables) → setUpOf s t .said ≡ Paper.ready → (getD (setUpOf s t .tables .head) markAt 0 ≡ mark) × (givenIn (setUpOf s t .tables) ≡ 0)
-unfolding setUpOf freshTables
-begins s t e = by (fitOk s t) e
+unfolding setUpOf carrySetUp freshTables
+begins s t e = by (planSetUp s t) e
   where
-    by : (b : Bool) → cond b (setUp Paper.ready (freshTables s t)) (setUp (Paper.refusal 1 []) t) .said ≡ Paper.ready
-        → (getD (cond b (setUp Paper.ready (freshTables s t)) (setUp (Paper.refusal 1 []) t) .tables .head) markAt 0 ≡ mark)
-        × (givenIn (cond b (setUp Paper.ready (freshTables s t)) (setUp (Paper.refusal 1 []) t) .tables) ≡ 0)
-    by true q = (refl, refl)
-    by false q = let z : kindOf (Paper.refusal 1 []) ≡ kindOf Paper.ready = ap kindOf q in absurd (omega arith)
+    by : (v : Verdict) → carrySetUp s t v .said ≡ Paper.ready → (getD (carrySetUp s t v .tables .head) markAt 0 ≡ mark) × (givenIn (carrySetUp s t v .tables) ≡ 0)
+    by pass q = (refl, refl)
+    by (refuse n) q = let z : kindOf (Paper.refusal n []) ≡ kindOf Paper.ready = ap kindOf q in absurd (omega arith)
 
 -- ---- the other calls
 

@@ -1,8 +1,8 @@
 -- The buddy stays sound and filled as an engine has to, and lends good blocks.
 use mathlib.Core.Path.{_≡_, refl, sym, ap, _∙_}
-use mathlib.Core.Bool.{Bool, true, false, cond}
-use mathlib.Core.List.{[]}
-use Rattle.counter.specs.Gate.{pass}
+use mathlib.Core.Bool.{Bool, true, false}
+use mathlib.Core.List.{[], _∷_}
+use Rattle.counter.specs.Gate.{pass, first}
 use Rattle.counter.specs.InTable.{BuddyIn}
 use Rattle.counter.specs.Paper as Paper
 use Rattle.counter.specs.declared.account.Account.{Account}
@@ -22,7 +22,7 @@ use Rattle.buddy_rules.proofs.Onces.{loans-once, chunks-once}
 use Rattle.buddy_rules.proofs.Viewed.{chunkAt, seen-held}
 use Rattle.buddy_rules.proofs.Walks.{minimal-pos}
 use Rattle.buddy_outcomes.specs.Gate.{gateOf}
-use Rattle.buddy_outcomes.specs.SetUp.{setUp, freshTables, fitOk, setUpOf}
+use Rattle.buddy_outcomes.specs.SetUp.{fitOk, planSetUp, carrySetUp, setUpOf}
 use Rattle.buddy_outcomes.proofs.Again.{ask-again, deliver-again, return-again}
 use Rattle.buddy_outcomes.proofs.Blocks.{ask-block, deliver-block}
 use Rattle.buddy_outcomes.proofs.Delivered.{deliver-sound}
@@ -34,10 +34,10 @@ use Rattle.buddy_engine.specs.Shape.{asBuddy, buddyShape}
 
 -- what was set up passed its test
 begun : (s : BuddySettings) (t : Tables) → setUpOf s t .said ≡ Paper.ready → fitOk s t ≡ true
-unfolding setUpOf
+unfolding setUpOf planSetUp carrySetUp
 begun s t = by (fitOk s t)
   where
-    by : (b : Bool) → cond b (setUp Paper.ready (freshTables s t)) (setUp (Paper.refusal 1 []) t) .said ≡ Paper.ready → b ≡ true
+    by : (b : Bool) → carrySetUp s t (first ((b, 1) ∷ [])) .said ≡ Paper.ready → b ≡ true
     by true e = refl
     by false e = not-refused Paper.ready 1 [] refl (sym e)
 

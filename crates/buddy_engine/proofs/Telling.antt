@@ -1,10 +1,10 @@
 -- The buddy tells its caller of every loan and every chunk, as an engine has to.
 use mathlib.Core.Path.{_≡_, refl, sym, ap, subst, _∙_}
-use mathlib.Core.Bool.{Bool, true, false, cond}
 use mathlib.Core.Logic.{_⊎_, inl, inr, ⊎-elim, _↔_}
 use mathlib.Core.List.{List, [], List·Memᴰ}
 use Prim.Native.Nat.{ℕ}
 use Rattle.lists.proofs.Bools.{told}
+use Rattle.counter.specs.Gate.{Verdict, pass, refuse}
 use Rattle.counter.specs.Paper as Paper
 use Rattle.counter.specs.declared.account.Account.{Account}
 use Rattle.counter.specs.declared.account.KeptOrder.{KeptOrder}
@@ -29,7 +29,7 @@ use Rattle.buddy_rules.specs.Views.{loansIn, chunksIn}
 use Rattle.buddy_outcomes.specs.Ask.{grownTo, grownTables, loanFrom, deniedTables, chunkTaken, carryAsk, askOf, sizeFor, levelFor}
 use Rattle.buddy_outcomes.specs.Deliver.{loanIn, asOrdered, carryFate, deliverOf}
 use Rattle.buddy_outcomes.specs.Return.{wordFor, climbFor, releasedBy, returnOf}
-use Rattle.buddy_outcomes.specs.SetUp.{setUp, freshTables, fitOk, setUpOf}
+use Rattle.buddy_outcomes.specs.SetUp.{freshTables, planSetUp, carrySetUp, setUpOf}
 use Rattle.buddy_outcomes.proofs.Comes.{AskComes, denied, lends, orders, ask-comes, DeliverComes, early, loses, keeps, deliver-comes, grown-loans, grown-chunks, denied-tables, taken-amid, served-amid, served-chunks}
 use Rattle.buddy_outcomes.proofs.Lendings.{taken-chunks}
 use Rattle.buddy_outcomes.proofs.Returned as Returned
@@ -39,8 +39,12 @@ use Rattle.buddy_engine.specs.Shape.{asBuddy, buddyShape}
 -- ---- the forms of its answers
 
 set-up-says : (s : BuddySettings) (t : Tables) → (setUpOf s t .said ≡ Paper.ready) ⊎ Refused (setUpOf s t .said)
-unfolding setUpOf
-set-up-says s t = ⊎-elim (λ e. inl (rw e)) (λ e. inr (1, [], rw e)) (told (fitOk s t))
+unfolding setUpOf carrySetUp
+set-up-says s t = by (planSetUp s t)
+  where
+    by : (v : Verdict) → (carrySetUp s t v .said ≡ Paper.ready) ⊎ Refused (carrySetUp s t v .said)
+    by pass = inl refl
+    by (refuse n) = inr (n, [], refl)
 
 ask-says : (s : BuddySettings) (a : Account) (size mask : ℕ) (t : Tables) (r : Out Tables) → AskComes s a size mask t r → Blocked (r .said) ⊎ (Ordered (r .said) ⊎ Refused (r .said))
 unfolding carryAsk
@@ -81,12 +85,12 @@ deliver-lends s a o t _ (keeps k m f e l sound b) =
     (served-amid s t (l .settings) (l .lengths) sound (k .ask .size) (k .ask .mask) (k .order .size) (m .number) b)
 
 fresh-none : (s : BuddySettings) (t : Tables) → setUpOf s t .said ≡ Paper.ready → loansIn (setUpOf s t .tables) ≡ []
-unfolding setUpOf freshTables loansOf
-fresh-none s t = by (fitOk s t)
+unfolding setUpOf carrySetUp freshTables loansOf
+fresh-none s t = by (planSetUp s t)
   where
-    by : (b : Bool) → cond b (setUp Paper.ready (freshTables s t)) (setUp (Paper.refusal 1 []) t) .said ≡ Paper.ready → loansIn (cond b (setUp Paper.ready (freshTables s t)) (setUp (Paper.refusal 1 []) t) .tables) ≡ []
-    by true e = refl
-    by false e = not-refused Paper.ready 1 [] refl (sym e)
+    by : (v : Verdict) → carrySetUp s t v .said ≡ Paper.ready → loansIn (carrySetUp s t v .tables) ≡ []
+    by pass e = refl
+    by (refuse n) e = not-refused Paper.ready n [] refl (sym e)
 
 -- ---- chunks
 

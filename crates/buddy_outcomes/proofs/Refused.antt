@@ -40,7 +40,7 @@ use Rattle.buddy_outcomes.specs.Deliver as D
 use Rattle.buddy_outcomes.specs.Deliver.{Arrival, arrivalOf, deliverGateOf, carryFate, planDeliver, carryDeliver, deliverOf}
 use Rattle.buddy_outcomes.specs.Return.{wordFor, onLoanOk, releasedBy, climbFor, givenTables, decideReturn, planReturn, carryReturn, returnOf}
 use Rattle.buddy_outcomes.specs.Return as R
-use Rattle.buddy_outcomes.specs.SetUp.{setUp, fitOk, setUpOf, freshTables}
+use Rattle.buddy_outcomes.specs.SetUp.{setUp, fitOk, planSetUp, carrySetUp, setUpOf}
 use Rattle.buddy_outcomes.specs.Refusals.{buddyWords}
 use Rattle.store_rules.specs.Rows.{Stale, askRows, askTests, gateRows, listRows, returnRows, setUpRows}
 use Rattle.buddy_outcomes.proofs.Gated.{gate-decided, list-decided}
@@ -55,22 +55,21 @@ use Rattle.buddy_rules.proofs.Viewed.{live-loan}
 
 -- a refused set-up leaves every word as it was
 pub set-up-leaves : (s : BuddySettings) (t : Tables) (n : ℕ) (back : List ℕ) → setUpOf s t .said ≡ Paper.refusal n back → setUpOf s t ≡ setUp (Paper.refusal n []) t
-unfolding setUpOf
-set-up-leaves s t n back = by (fitOk s t)
+unfolding setUpOf carrySetUp
+set-up-leaves s t n back = by (planSetUp s t)
   where
-    by : (b : Bool) → cond b (setUp Paper.ready (freshTables s t)) (setUp (Paper.refusal 1 []) t) .said ≡ Paper.refusal n back
-        → cond b (setUp Paper.ready (freshTables s t)) (setUp (Paper.refusal 1 []) t) ≡ setUp (Paper.refusal n []) t
-    by true e = not-refused Paper.ready n back refl e
-    by false e = ap (λ (k : ℕ). setUp (Paper.refusal k []) t) (said-number 1 n [] back e)
+    by : (v : Verdict) → carrySetUp s t v .said ≡ Paper.refusal n back → carrySetUp s t v ≡ setUp (Paper.refusal n []) t
+    by pass e = not-refused Paper.ready n back refl e
+    by (refuse m) e = ap (λ (k : ℕ). setUp (Paper.refusal k []) t) (said-number m n [] back e)
 
 -- set-up is refused only by 1, exactly when a value or a length is outside the table
 pub set-up-refused : (s : BuddySettings) (t : Tables) (n : ℕ) → (setUpOf s t .said ≡ Paper.refusal n []) ↔ Given (setUpRows buddyWords s t) n
-unfolding setUpOf fitOk
-set-up-refused s t n = Iff·trans (by (fitOk s t)) (given-first ((fitOk s t, 1) ∷ []) (setUpRows buddyWords s t) (refl, fails (fitOk s t) there back, (λ _. tt)) n)
+unfolding setUpOf planSetUp carrySetUp fitOk
+set-up-refused s t n = Iff·trans (by (planSetUp s t)) (given-first ((fitOk s t, 1) ∷ []) (setUpRows buddyWords s t) (refl, fails (fitOk s t) there back, (λ _. tt)) n)
   where
-    by : (b : Bool) → Says (cond b (setUp Paper.ready (freshTables s t)) (setUp (Paper.refusal 1 []) t) .said) (first ((b, 1) ∷ [])) n
-    by true = says-passed Paper.ready n refl
-    by false = says-refused 1 n
+    by : (v : Verdict) → Says (carrySetUp s t v .said) v n
+    by pass = says-passed Paper.ready n refl
+    by (refuse m) = says-refused m n
 
     there : fitOk s t ≡ true → BuddyIn s × Lengths s t
     there e = (buddy-yes s (and-left (buddyOk s) (lengthsOk s t) e), lengths-are s t (and-right (buddyOk s) (lengthsOk s t) e))

@@ -1,6 +1,6 @@
 -- Set-up gives a sound store, and an ask on a sound store leaves it sound, whatever its numbers: lent from, ordered for, refused,
 -- also where the refusal leaves the levels grown.
-use mathlib.Core.Path.{_≡_, refl, sym}
+use mathlib.Core.Path.{_≡_, refl, sym, ap}
 use mathlib.Core.Bool.{Bool, true, false, _&&_}
 use mathlib.Core.Logic.{_⊎_, inl, inr, ⊎-elim}
 use mathlib.Core.List.{[], _∷_}
@@ -12,6 +12,7 @@ use Rattle.lists.proofs.Bools.{told, and-left, and-right}
 use Rattle.counter.specs.Account.{heapAt}
 use Rattle.counter.specs.Gate.{Verdict, refuse, pass, first, gated}
 use Rattle.counter.specs.InTable.{BuddyIn}
+use Rattle.counter.specs.Paper as Paper
 use Rattle.counter.specs.Table.{buddyOk, alignmentOk}
 use Rattle.counter.specs.declared.account.Account.{Account}
 use Rattle.counter.specs.declared.settings.BuddySettings.{BuddySettings}
@@ -24,7 +25,7 @@ use Rattle.buddy_rules.specs.Sound.{Sound}
 use Rattle.buddy_rules.specs.Test.{soundOk}
 use Rattle.buddy_outcomes.specs.Gate.{inTableOk, accountOk, gateOf}
 use Rattle.buddy_outcomes.specs.Ask.{Found, nowhere, at, grownTo, foundFrom, sizeOk, roomOk, countOk, objectsOk, askRow, planned, decideAsk, grownTables, deniedTables, carryAsk, deny, planAsk, askOf, levelFor}
-use Rattle.buddy_outcomes.specs.SetUp.{fitOk, setUpOf}
+use Rattle.buddy_outcomes.specs.SetUp.{setUp, freshTables, fitOk, planSetUp, carrySetUp, setUpOf}
 use Rattle.buddy_outcomes.proofs.Passing.{gate-passed, lengths-are}
 use Rattle.buddy_outcomes.proofs.Rounds.{initial-few, level-low}
 use Rattle.buddy_outcomes.proofs.Changed.{fresh-sound, grown-tables-sound}
@@ -32,11 +33,16 @@ use Rattle.buddy_outcomes.proofs.Taken.{taken-sound}
 
 -- ---- set-up
 
+-- what fits is set up
+set-up-fit : (s : BuddySettings) (t : Tables) → fitOk s t ≡ true → setUpOf s t ≡ setUp Paper.ready (freshTables s t)
+unfolding setUpOf planSetUp carrySetUp
+set-up-fit s t e = ap (λ (b : Bool). carrySetUp s t (first ((b, 1) ∷ []))) e
+
 pub set-up-sound : (s : BuddySettings) (t : Tables) → fitOk s t ≡ true → Sound s (setUpOf s t .tables)
-unfolding setUpOf fitOk
+unfolding fitOk
 set-up-sound s t e =
     let fit = buddy-yes s (and-left (buddyOk s) (lengthsOk s t) e) in
-    rw e (fresh-sound s t fit (lengths-are s t (and-right (buddyOk s) (lengthsOk s t) e)) (initial-few s fit))
+    rw (set-up-fit s t e) (fresh-sound s t fit (lengths-are s t (and-right (buddyOk s) (lengthsOk s t) e)) (initial-few s fit))
 
 -- ---- an ask
 

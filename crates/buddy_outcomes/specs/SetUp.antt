@@ -1,8 +1,9 @@
 -- What set-up of a buddy store says and leaves.
-use mathlib.Core.Bool.{Bool, cond, _&&_}
+use mathlib.Core.Bool.{Bool, _&&_}
 use mathlib.Core.List.{List, [], _∷_}
 use Prim.Native.Nat.{ℕ}
 use lib.ListN.{set}
+use Rattle.counter.specs.Gate.{Verdict, pass, refuse, first}
 use Rattle.counter.specs.Paper.{Said}
 use Rattle.counter.specs.Paper as Paper
 use Rattle.counter.specs.Table.{buddyOk}
@@ -34,5 +35,14 @@ unfoldable pub fitOk : BuddySettings → Tables → Bool
 fitOk s t = buddyOk s && lengthsOk s t
 
 -- "Set-up and ranking test only 1"
+unfoldable pub planSetUp : BuddySettings → Tables → Verdict
+planSetUp s t = first ((fitOk s t, 1) ∷ [])
+
+-- a refused set-up leaves every word as it was
+unfoldable pub carrySetUp : BuddySettings → Tables → Verdict → SetUp
+carrySetUp s t (refuse n) = setUp (Paper.refusal n []) t
+carrySetUp s t pass = setUp Paper.ready (freshTables s t)
+
+-- what set-up says and leaves, for every input
 unfoldable pub setUpOf : BuddySettings → Tables → SetUp
-setUpOf s t = cond (fitOk s t) (setUp Paper.ready (freshTables s t)) (setUp (Paper.refusal 1 []) t)
+setUpOf s t = carrySetUp s t (planSetUp s t)

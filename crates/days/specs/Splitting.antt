@@ -33,7 +33,7 @@ use Rattle.buddy_outcomes.specs.Gate.{inTableOk, heldCount, heldBytes, accountO
 use Rattle.buddy_outcomes.specs.Ask.{sizeFor, levelFor, searchFrom, foundFrom, sizeOk, pairsRoom, roomOk, countOk, objectsOk, decideAsk, freshLevels, grownTables, bookedTables, takenTables, deniedTables, carryAsk, planAsk, askOf}
 use Rattle.buddy_outcomes.specs.Deliver.{deliverGateOf, chunkTables, servedTables, carryFate, planDeliver, carryDeliver, deliverOf}
 use Rattle.buddy_outcomes.specs.Return.{onLoanOk, vacatedTree, givenTables, decideReturn, planReturn, releasedBy, carryReturn, returnOf}
-use Rattle.buddy_outcomes.specs.SetUp.{freshTables, fitOk, setUpOf}
+use Rattle.buddy_outcomes.specs.SetUp.{freshTables, fitOk, planSetUp, carrySetUp, setUpOf}
 use Rattle.days.specs.Facts.{row, heard, Day, day, account, openFor, made}
 
 -- ---- "All masks 0 unless given. Buddy, minimal 256, initial 4,096."
@@ -100,7 +100,7 @@ unfolding splitting trailingZeros onesOk powerOk upTo bits powerUp levelOf align
     foundFrom sizeOk pairsRoom roomOk countOk objectsOk decideAsk freshLevels grownTables bookedTables takenTables
     deniedTables carryAsk planAsk askOf deliverGateOf memories chunkTables servedTables carryFate planDeliver
     carryDeliver deliverOf onLoanOk vacatedTree givenTables decideReturn planReturn releasedBy carryReturn returnOf
-    freshTables fitOk setUpOf
+    freshTables fitOk planSetUp carrySetUp setUpOf
 split-worked = λ j. order-300 j ∷ block-300 j ∷ block-512 j ∷ next-512 j ∷ one-back j ∷ two-back j ∷ three-back j ∷ listed-back j ∷ level-31 j ∷ past-31 j ∷ []
   where
     order-300 : heard (asked .said) (asked .account) ≡ heard (Paper.order 7 4096 0 false) (account 0 0 0 10 (openFor 300 4096))

@@ -1,21 +1,18 @@
 use borrow.Author.Needs.{needs}
-use mathlib.Core.Path.{sym, _∙_}
+use mathlib.Core.Path.{_∙_}
 use Rattle.buddy_rules.specs.Tables.{tables}
-use Rattle.buddy.proofs.Fresh.{fit-head, fit-settings, set-up-ready, set-up-unfit}
+use Rattle.buddy.proofs.Fresh.{set-up-ready, set-up-called}
 use Rattle.buddy.proofs.set_ups.set_up.Statement.{statement}
 use Rattle.buddy.proofs.set_ups.set_up.Tie as tie
 
-is-fit-requires : tie.Need-is-fit-requires
-is-fit-requires c κs = search needs
+plan-set-up-requires : tie.Need-plan-set-up-requires
+plan-set-up-requires c κs = search needs
 
-fresh-requires : tie.Need-fresh-requires
-fresh-requires c κs =
+carry-set-up-requires : tie.Need-carry-set-up-requires
+carry-set-up-requires c κs =
     let a = c .before .before .before .before .before .before .before .before .before .before .before .before .args in
-    let e = sym ((c .before .before .before) .is-fit .ensures) ∙ (c .before .before) .if1 .taken in
-    (fit-settings (a .s) (tables (a .head .now) (a .loans .now) (a .chunks .now) (a .index .now) (a .tree .now)) e, fit-head (a .s) (tables (a .head .now) (a .loans .now) (a .chunks .now) (a .index .now) (a .tree .now)) e)
-
-fresh-index-requires : tie.Need-fresh-index-requires
-fresh-index-requires c κs = search needs
+    let p = c .before .before .before .plan-set-up in
+    set-up-ready (a .s) (tables (a .head .now) (a .loans .now) (a .chunks .now) (a .index .now) (a .tree .now)) (p .result) (p .ensures)
 
 same-length : tie.Need-same-length
 same-length c = search needs
@@ -28,23 +25,8 @@ same-length-3 c = search needs
 
 returns : tie.Need-returns
 returns c =
-    let a = c .before .before .before .before .before .before .before .before .before .before .before .before .before .before .before .before .before .before .before .before .before .args in
-    let f = (c .before .before .before .before .before .before .before .before) .fresh .ensures in
-    set-up-ready (a .s) (tables (a .head .now) (a .loans .now) (a .chunks .now) (a .index .now) (a .tree .now)) _ _ _ (sym ((c .before .before .before .before .before .before .before .before .before .before .before .before) .is-fit .ensures) ∙ (c .before .before .before .before .before .before .before .before .before .before .before) .if1 .taken) (f .0) (f .1) ((c .before .before) .fresh-index .ensures)
-
-same-length-4 : tie.Need-same-length-4
-same-length-4 c = search needs
-
-same-length-5 : tie.Need-same-length-5
-same-length-5 c = search needs
-
-same-length-6 : tie.Need-same-length-6
-same-length-6 c = search needs
-
-returns-2 : tie.Need-returns-2
-returns-2 c =
-    let a = c .before .before .before .before .before .before .before .before .before .before .args in
-    set-up-unfit (a .s) (tables (a .head .now) (a .loans .now) (a .chunks .now) (a .index .now) (a .tree .now)) (sym ((c .before) .is-fit .ensures) ∙ (c) .if1 .left)
+    let a = c .before .before .before .before .before .before .before .before .before .before .before .before .before .before .before .before .before .before .before .args in
+    c .before .before .before .before .before .before .carry-set-up .ensures (a .loans .now) (a .chunks .now) ∙ set-up-called (a .s) (tables (a .head .now) (a .loans .now) (a .chunks .now) (a .index .now) (a .tree .now)) _ (c .before .before .before .before .before .before .before .before .before .before .plan-set-up .ensures)
 
 pub set-up-spec : {M : Type 1} → statement M
-set-up-spec = tie.close (tie.spec is-fit-requires fresh-requires fresh-index-requires same-length same-length-2 same-length-3 returns same-length-4 same-length-5 same-length-6 returns-2)
+set-up-spec = tie.close (tie.spec plan-set-up-requires carry-set-up-requires same-length same-length-2 same-length-3 returns)
