@@ -11,7 +11,7 @@ use Rattle.counter.specs.declared.settings.BuddySettings.{BuddySettings}
 use Rattle.book_rules.specs.Book.{takenOf}
 use Rattle.buddy_rules.specs.Tables.{Tables, tables, placesIn}
 use Rattle.buddy_outcomes.specs.Ask.{Found, nowhere, at, levelFor, grownTo, foundFrom, sizeOk, pairsRoom, chunkTaken, roomOk, countOk, objectsOk, planned, decideAsk}
-use Rattle.buddy_decide.specs.Plans.{Takes, Buys, Planned}
+use Rattle.buddy_decide.specs.Plans.{Buys, Planned}
 use Rattle.buddy_decide.specs.declared.plans.Buying.{Buying}
 use Rattle.buddy_decide.specs.declared.plans.Plan.{Plan}
 use Rattle.buddy_decide.specs.declared.plans.Plan.the-variants.{Refuse, Lack, Take, Buy}

@@ -1,8 +1,8 @@
--- An ask that is served, that opens an order, or that is refused as 9 for want of an object has a size that a word holds, of a
--- level that is allowed; so the levels grown for it are allowed too.
+-- An ask that is served, that opens an order, or that is refused as 9 for want of an object has passed the tests of its mask and its
+-- size; so the levels grown for it are allowed.
 use mathlib.Core.Path.{_≡_}
 use mathlib.Core.Bool.{true}
-use Prim.Native.Nat.{ℕ, _^_, _≤_, _<_}
+use Prim.Native.Nat.{ℕ, _≤_}
 use native.Mathlib.Omega.{arith}
 use Rattle.counter.specs.InTable.{BuddyIn}
 use Rattle.counter.specs.Limits.{levelsMost}
@@ -12,21 +12,11 @@ use Rattle.counter.specs.declared.settings.BuddySettings.{BuddySettings}
 use Rattle.store_rules.specs.Orders.{Plan, deny, take, buy}
 use Rattle.buddy_rules.specs.Tables.{Tables, levelsIn}
 use Rattle.buddy_rules.specs.Sound.{Sound}
-use Rattle.buddy_outcomes.specs.Ask.{sizeFor, levelFor, grownTo, sizeOk, decideAsk}
+use Rattle.buddy_outcomes.specs.Ask.{levelFor, grownTo, sizeOk, decideAsk}
 use Rattle.buddy_outcomes.proofs.Plans.{takes, buys, nine}
-use Rattle.buddy_outcomes.proofs.Rounds.{size-low, level-low}
+use Rattle.buddy_outcomes.proofs.Rounds.{level-low}
 
--- ---- what the test of the size says
-
-module _ (s : BuddySettings) (fit : BuddyIn s) (size mask : ℕ) (sized : sizeOk s size mask ≡ true) where
-  pub size-held : sizeFor s size mask < 2 ^ 64
-  size-held = omega (arith, size-low s fit size mask sized)
-
-  pub level-held : levelFor s size mask < levelsMost
-  level-held = level-low s fit size mask sized
-
--- ---- what an ask comes to after that test
-
+-- what an ask comes to after these tests
 abbrev pub Late : Plan ℕ → Type 0
 Late (deny n) = n ≡ 9
 Late (take i) = Unit {0}

@@ -26,7 +26,7 @@ use Rattle.store_rules.specs.Refusals.{UnwelcomeTo, DeviceOut, HostOut, lostFor
 use Rattle.store_rules.specs.Tests.{openFor, gateRow}
 use Rattle.store_rules.proofs.Refused.{fails, none-for, is-same-order, leads-buy}
 use Rattle.store_rules.proofs.Said.{not-refused, said-number, said-back, Tells, tells-refused, tells-passed}
-use Rattle.store_rules.proofs.Fates.{left, fateVerdict, fateRow, device-out, host-out, welcomeOk, unwelcomed, arrival-tells}
+use Rattle.store_rules.proofs.Fates.{loss-left, fateVerdict, fateRow, device-out, host-out, welcomeOk, unwelcomed, arrival-tells}
 use Rattle.store_rules.proofs.Tested.{gate-low}
 use Rattle.buddy_rules.specs.Sound.{Sound}
 use Rattle.buddy_rules.specs.Tables.{Tables, Lengths, chunkPlacesIn, memories}
@@ -63,7 +63,7 @@ module _ (s : BuddySettings) (a : Account) (o : Outcome) (t : Tables) (k : KeptO
   fated : (f : Fate) → fateOf buddy o ≡ f → Leaves (D.go k f)
   unfolding carryDeliver carryFate
   fated (kept m) e q = not-refused (carryFate s a k t (kept m) .said) n back refl q
-  fated (lost m c x) e q = λ i. out (Paper.refusal (said-number m n x back q i) (said-back m n x back q i)) (left buddy (s .store) a k o m c x e .1 i) (asOrdered s k t)
+  fated (lost m c x) e q = λ i. out (Paper.refusal (said-number m n x back q i) (said-back m n x back q i)) (loss-left buddy (s .store) a k o m c x e .1 i) (asOrdered s k t)
 
   after : (v : Verdict) → deliverGateOf s a t ≡ v → Leaves (gated D.deny v (decideDeliver o (memories t (chunkPlacesIn t)) (Kept k)))
   unfolding deliverGateOf

@@ -29,7 +29,7 @@ use Rattle.store_rules.specs.Outcomes.{out, listed, listOk, releasedAccount}
 use Rattle.store_rules.specs.Tests.{noOrder, gateRow}
 use Rattle.store_rules.proofs.Refused.{fails}
 use Rattle.store_rules.proofs.Said.{refuses, not-refused, said-number, Says, says-refused, says-passed}
-use Rattle.store_rules.proofs.Fates.{left}
+use Rattle.store_rules.proofs.Fates.{loss-left}
 use Rattle.buddy_rules.specs.Sound.{Sound}
 use Rattle.buddy_rules.specs.Tables.{Tables, Lengths, lengthsOk, chunkPlacesIn, memories, memoryIn, chunkSizeIn}
 use Rattle.buddy_rules.specs.Test.{soundOk}
@@ -209,7 +209,7 @@ deliver-leaves s a o t n back e device host = after (deliverGateOf s a t) (a .or
     fated k (kept m) l q = not-refused (carryFate s a k t (kept m) .said) n back refl q
     fated k (lost m c x) l q =
         let z = sym (said-number m n x back q) in
-        absurd (⊎-elim (λ d. device (z ∙ d)) (λ d. host (z ∙ d)) (left buddy (s .store) a k o m c x l .0))
+        absurd (⊎-elim (λ d. device (z ∙ d)) (λ d. host (z ∙ d)) (loss-left buddy (s .store) a k o m c x l .0))
 
     tested : (b : Bool) (k : KeptOrder) → Leaves (cond b (D.go k (fateOf buddy o)) (D.deny 13))
     tested true k = fated k (fateOf buddy o) refl

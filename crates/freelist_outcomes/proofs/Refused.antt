@@ -28,7 +28,7 @@ use Rattle.store_rules.specs.Refusals.{DeviceOut, HostOut, lostFor, UnwelcomeTo
 use Rattle.store_rules.specs.Tests.{noOrder, openFor, gateRow}
 use Rattle.store_rules.proofs.Refused.{fails, none-for, is-same-order, leads-buy}
 use Rattle.store_rules.proofs.Said.{not-refused, said-number, said-back, Says, says-refused, says-passed, Tells, tells-refused, tells-passed}
-use Rattle.store_rules.proofs.Fates.{left, fateVerdict, fateRow, device-out, host-out, welcomeOk, unwelcomed, same-kept, arrival-tells}
+use Rattle.store_rules.proofs.Fates.{loss-left, fateVerdict, fateRow, device-out, host-out, welcomeOk, unwelcomed, same-kept, arrival-tells}
 use Rattle.freelist_rules.specs.Place.{Found, nowhere, at}
 use Rattle.freelist_rules.specs.Tables.{Tables, lengthsOk, Lengths, storeOf, soundOk, SoundTables}
 use Rattle.freelist_rules.specs.Walk.{memories}
@@ -135,7 +135,7 @@ deliver-leaves s a o t n back e device host = by (deliverOf s a o t) (arrives s 
     by _ (early m x y) q = ap (λ (i : ℕ). out (Paper.refusal i []) a t) (said-number m n [] back q)
     by _ (fated k w g) q =
         let f = fate-lost s a k t (fateOf freeList o) n back q in
-        absurd (⊎-elim device host (left freeList (s .store) a k o n (f .0) back (f .1) .0))
+        absurd (⊎-elim device host (loss-left freeList (s .store) a k o n (f .0) back (f .1) .0))
 
 -- 11 and 12 leave every table as it was, and of the account what 01 says
 pub deliver-lost : (s : FreeListSettings) (a : Account) (o : Outcome) (t : Tables) (k : KeptOrder) (n : ℕ) (back : List ℕ) → a .order ≡ Kept k → deliverOf s a o t .said ≡ Paper.refusal n back → (n ≡ 11) ⊎ (n ≡ 12)
@@ -150,7 +150,7 @@ deliver-lost s a o t k n back its e number = by (deliverOf s a o t) (arrives s a
     by _ (fated j w g) q =
         let f = fate-lost s a j t (fateOf freeList o) n back q in
         ap (carryFate s a j t) (f .1)
-        ∙ (λ i. out (Paper.refusal n back) (left freeList (s .store) a j o n (f .0) back (f .1) .1 i) t)
+        ∙ (λ i. out (Paper.refusal n back) (loss-left freeList (s .store) a j o n (f .0) back (f .1) .1 i) t)
         ∙ (λ i. out (Paper.refusal n back) (lostFor freeList (s .store) a (same-kept j k (sym (w .is) ∙ its) i) o) t)
 
 -- ---- exactly when each number of a delivery is given

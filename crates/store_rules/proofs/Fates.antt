@@ -60,10 +60,10 @@ module _ (e : Engine) (s : StoreSettings) (a : Account) (k : KeptOrder) where
   made-lost false memory = refl
 
   -- an order is lost with 11 or 12, and of the account is left what 01 says
-  pub left : (o : Outcome) (n : ℕ) (c : Bool) (back : List ℕ) → fateOf e o ≡ lost n c back → ((n ≡ 11) ⊎ (n ≡ 12)) × (lostAccount s a (k .order .size) c back ≡ lostFor e s a k o)
-  left O.OutOfDevice n c back q = left-by (withOrder a Nothing) 11 n false c [] back (inl refl, lost-nothing s a (k .order .size) []) q
-  left O.OutOfHost n c back q = left-by (withOrder a Nothing) 12 n false c [] back (inr refl, lost-nothing s a (k .order .size) []) q
-  left (O.Made m) n c back q = made (m .mapping) q
+  pub loss-left : (o : Outcome) (n : ℕ) (c : Bool) (back : List ℕ) → fateOf e o ≡ lost n c back → ((n ≡ 11) ⊎ (n ≡ 12)) × (lostAccount s a (k .order .size) c back ≡ lostFor e s a k o)
+  loss-left O.OutOfDevice n c back q = left-by (withOrder a Nothing) 11 n false c [] back (inl refl, lost-nothing s a (k .order .size) []) q
+  loss-left O.OutOfHost n c back q = left-by (withOrder a Nothing) 12 n false c [] back (inr refl, lost-nothing s a (k .order .size) []) q
+  loss-left (O.Made m) n c back q = made (m .mapping) q
     where
       what : Mapping → Account
       what w = cond (givesBack e w) (backAccount s a (k .order .size)) (chargedAccount s a (k .order .size))
