@@ -29,7 +29,7 @@ use Rattle.freelist_outcomes.specs.Gate.{inTableOk, accountOk, gateOf}
 use Rattle.freelist_outcomes.specs.Ask.{sizeOk, roomOk, countOk, objectsOk, decideAsk, takenTables, orderedTables, carryAsk, planAsk, askOf}
 use Rattle.freelist_outcomes.specs.Deliver.{deliverGateOf, deliveredTables, carryFate, planDeliver, carryDeliver, deliverOf}
 use Rattle.freelist_outcomes.specs.Return.{onLoanOk, givenTables, releasedTables, releaseOf, decideReturn, planReturn, carryReturn, returnOf}
-use Rattle.freelist_outcomes.specs.SetUp.{freshTables, fitOk, setUpOf}
+use Rattle.freelist_outcomes.specs.SetUp.{freshTables, fitOk, planSetUp, carrySetUp, setUpOf}
 use Rattle.days.specs.Facts.{Fact, left, back, Day, day, ranks, account, openFor, made}
 use Rattle.days.specs.Splitting.{splitting, split-worked}
 use Rattle.usage_rules.specs.Usage.{servesOk, patternOf, wantedOf, keyOf}
@@ -168,7 +168,8 @@ unfolding ranking lending servesOk patternOf wantedOf keyOf before placed order 
     fillsOk sizedOk chunkOk loanOk fitsIn findFrom cutOff insert staying leaving remaining lengthsOk ordered storeOf
     soundOk laidRegions inTableOk accountOk gateOf sizeOk roomOk countOk objectsOk decideAsk takenTables orderedTables
     carryAsk planAsk askOf deliverGateOf deliveredTables carryFate planDeliver carryDeliver deliverOf onLoanOk
-    givenTables releasedTables releaseOf decideReturn planReturn carryReturn returnOf freshTables fitOk setUpOf
+    givenTables releasedTables releaseOf decideReturn planReturn carryReturn returnOf freshTables fitOk
+    planSetUp carrySetUp setUpOf
 first-worked = refl
 
 map-append : (f : Day → Fact) (xs ys : List Day) → map f (xs ++ ys) ≡ map f xs ++ map f ys

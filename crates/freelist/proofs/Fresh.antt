@@ -1,37 +1,70 @@
--- Set-up leaves the tables of a store with nothing in it.
-use mathlib.Core.Path.{_≡_, refl, ap, _∙_}
-use mathlib.Core.Bool.{Bool, true, false}
-use mathlib.Core.List.{List, [], _∷_}
+-- Set-up's plan can be carried out, and carried out it leaves the tables of a store with nothing in it.
+use mathlib.Core.Path.{_≡_, refl, sym, ap, _∙_}
+use mathlib.Core.Bool.{Bool, true, false, cond}
+use mathlib.Core.List.{List, []}
 use Prim.Native.Nat.{ℕ}
 use native.Mathlib.Omega.{arith}
-use lib.ListN.{length, set}
+use lib.ListN.{length}
 use Rattle.lists.proofs.Bools.{and-left, and-right}
+use Rattle.counter.specs.Gate.{Verdict, pass, refuse, verdictOf}
 use Rattle.counter.specs.InTable.{FreeListIn}
+use Rattle.counter.specs.Paper.{Said}
 use Rattle.counter.specs.Paper as Paper
 use Rattle.counter.specs.Table.{freeListOk}
+use Rattle.counter.specs.declared.refusal.Gate.{Gate}
+use Rattle.counter.specs.declared.refusal.Gate.the-variants as G
 use Rattle.counter.specs.declared.settings.FreeListSettings.{FreeListSettings}
 use Rattle.counter.proofs.Tables.{free-list-yes}
-use Rattle.book_rules.specs.Book.{freshIndex}
-use Rattle.freelist_rules.specs.Tables.{Tables, tables, mark, markAt, givenAt, madeAt, chunkSizeAt, placesAt, chunksAt, headWords, regionCountAt, lengthsOk}
-use Rattle.freelist_outcomes.specs.SetUp.{setUp, freshHead, freshTables, fitOk, setUpOf}
+use Rattle.freelist_rules.specs.Tables.{Tables, tables, headWords, lengthsOk}
 use Rattle.freelist_rules.proofs.Fits.{lengths-are}
+use Rattle.freelist_outcomes.specs.SetUp.{setUp, freshTables, fitOk, planSetUp, carrySetUp, setUpOf}
+use Rattle.freelist.specs.Ready.{SetUpReady}
+
+-- ---- planned
+
+module _ (s : FreeListSettings) (t : Tables) where
+  pub plan-fit : fitOk s t ≡ true → pass ≡ planSetUp s t
+  unfolding planSetUp
+  plan-fit e = rw e refl
+
+  pub plan-unfit : fitOk s t ≡ false → refuse 1 ≡ planSetUp s t
+  unfolding planSetUp
+  plan-unfit e = rw e refl
+
+  passed-fit : pass ≡ planSetUp s t → fitOk s t ≡ true
+  unfolding planSetUp
+  passed-fit = by (fitOk s t)
+    where
+      by : (b : Bool) → pass ≡ cond b pass (refuse 1) → b ≡ true
+      by true e = refl
+      by false e = let z : _≡_ {A = ℕ} 0 1 = cc in absurd (omega arith)
+
+  fit-head : fitOk s t ≡ true → FreeListIn s × (length (t .head) ≡ headWords)
+  unfolding fitOk
+  fit-head e = (free-list-yes s (and-left (freeListOk s) _ e), lengths-are s t (and-right (freeListOk s) _ e) .head)
+
+  pub set-up-ready : (p : Gate) → verdictOf p ≡ planSetUp s t → SetUpReady s (tables (t .head) [] [] (t .regions) (t .index)) p
+  set-up-ready (G.Shut r) e = tt
+  set-up-ready G.Go e = fit-head (passed-fit e)
+
+-- ---- carried out
+
+module _ (s : FreeListSettings) (head loans chunks regions index : List ℕ) (v : Verdict) where
+  abbrev before : Tables
+  before = tables head loans chunks regions index
+
+  pub refused-done : (n : ℕ) (said : Said) → v ≡ refuse n → said ≡ Paper.refusal n [] → setUp said before ≡ carrySetUp s before v
+  unfolding carrySetUp
+  refused-done n said e f = (λ j. setUp (f j) before) ∙ ap (carrySetUp s before) (sym e)
+
+  pub fresh-done : (h′ r′ i′ : List ℕ) (said : Said) → v ≡ pass → tables h′ [] [] r′ i′ ≡ freshTables s (tables head [] [] regions index) → said ≡ Paper.ready
+      → setUp said (tables h′ loans chunks r′ i′) ≡ carrySetUp s before v
+  unfolding carrySetUp freshTables
+  fresh-done h′ r′ i′ said e p f =
+      (λ j. setUp (f j) (tables (p j .head) loans chunks (p j .regions) (p j .index))) ∙ ap (carrySetUp s before) (sym e)
 
 -- ---- the call
 
-module _ (s : FreeListSettings) (t : Tables) where
-  pub fit-in : fitOk s t ≡ true → FreeListIn s × (lengthsOk s t ≡ true)
-  unfolding fitOk
-  fit-in e = (free-list-yes s (and-left (freeListOk s) _ e), and-right (freeListOk s) _ e)
-
-  pub fit-head : fitOk s t ≡ true → length (t .head) ≡ headWords
-  fit-head e = lengths-are s t (fit-in e .1) .head
-
-  pub set-up-ready : (h r i : List ℕ) → fitOk s t ≡ true → tables h [] [] r i ≡ freshTables s (tables (t .head) [] [] (t .regions) (t .index))
-      → setUp Paper.ready (tables h (t .loans) (t .chunks) r i) ≡ setUpOf s t
-  unfolding setUpOf freshTables
-  set-up-ready h r i e p =
-      ap (λ (x : Tables). setUp Paper.ready (tables (x .head) (t .loans) (t .chunks) (x .regions) (x .index))) p ∙ rw e refl
-
-  pub set-up-refused : fitOk s t ≡ false → setUp (Paper.refusal 1 []) t ≡ setUpOf s t
-  unfolding setUpOf
-  set-up-refused e = rw e refl
+pub set-up-done : (s : FreeListSettings) (t : Tables) (v : Verdict) → v ≡ planSetUp s t → carrySetUp s t v ≡ setUpOf s t
+unfolding setUpOf
+set-up-done s t v e = ap (carrySetUp s t) e

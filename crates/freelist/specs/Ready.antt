@@ -5,6 +5,7 @@ use mathlib.Core.List.{List}
 use Prim.Native.Nat.{ℕ, _+_, _≤_}
 use lib.ListN.{length, getD}
 use Rattle.rounding_rules.specs.Masks.{Ones}
+use Rattle.counter.specs.InTable.{FreeListIn}
 use Rattle.counter.specs.Limits.{objectsMost}
 use Rattle.counter.specs.declared.account.KeptOrder.{KeptOrder}
 use Rattle.counter.specs.declared.answers.Block.{Block}
@@ -15,7 +16,7 @@ use Rattle.book_rules.specs.Ready.{Strikes}
 use Rattle.freelist_rules.specs.Records.{region}
 use Rattle.freelist_rules.specs.Place.{cut}
 use Rattle.freelist_rules.specs.Join.{insert}
-use Rattle.freelist_rules.specs.Tables.{Tables, tables, storeOf, laidRegions, regionsOf}
+use Rattle.freelist_rules.specs.Tables.{Tables, tables, headWords, storeOf, laidRegions, regionsOf}
 use Rattle.freelist_outcomes.specs.Deliver.{deliveredTables}
 use Rattle.freelist_outcomes.specs.Return.{goneFrom}
 use Rattle.freelist_decide.specs.Plans.{Planned}
@@ -30,6 +31,12 @@ use Rattle.store.specs.declared.comings.Coming.{Coming}
 use Rattle.store.specs.declared.comings.Coming.the-variants as Coming
 use Rattle.freelist.specs.declared.plans.Delivery.{Delivery}
 use Rattle.freelist.specs.declared.plans.Delivery.the-variants as Delivery
+
+-- ---- set-up
+
+abbrev pub SetUpReady : FreeListSettings → Tables → Gate → Type 0
+SetUpReady s t (Gate.Shut r) = Unit {0}
+SetUpReady s t Gate.Go = FreeListIn s × (length (t .head) ≡ headWords)
 
 -- ---- an ask: the region of the plan can be lent from
 

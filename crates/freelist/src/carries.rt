@@ -4,7 +4,7 @@ ghost use mathlib.Core.Bool.{true};
 ghost use mathlib.Core.List.{List, []};
 ghost use Prim.Native.Nat.{ℕ};
 ghost use Rattle.counter.specs.Gate.{verdictOf};
-ghost use Rattle.counter.specs.Paper.{askSaid, deliverSaid, releaseSaid};
+ghost use Rattle.counter.specs.Paper.{setUpSaid, askSaid, deliverSaid, releaseSaid};
 ghost use Rattle.counter.specs.declared.account.Account.{Account};
 ghost use Rattle.counter.specs.declared.account.OpenOrder.{OpenOrder};
 ghost use Rattle.store_rules.specs.Delivery as Fates;
@@ -17,9 +17,10 @@ ghost use Rattle.freelist_rules.specs.Tables.{tables};
 ghost use Rattle.freelist_outcomes.specs.Ask.{carryAsk};
 ghost use Rattle.freelist_outcomes.specs.Deliver.{carryFate, carryDeliver};
 ghost use Rattle.freelist_outcomes.specs.Return.{givenTables, releaseOf, carryReturn, carryCleanUp};
+ghost use Rattle.freelist_outcomes.specs.SetUp.{setUp, carrySetUp};
 ghost use Rattle.freelist_decide.specs.Plans.{planOf, Planned};
 ghost use Rattle.freelist.specs.Deliveries.{deliveryOf};
-ghost use Rattle.freelist.specs.Ready.{AskReady, KeepReady, ComingReady, DeliverReady, Releases, TakesBack, ReturnReady, CleanUpReady};
+ghost use Rattle.freelist.specs.Ready.{SetUpReady, AskReady, KeepReady, ComingReady, DeliverReady, Releases, TakesBack, ReturnReady, CleanUpReady};
 use crate::plans::Delivery;
 use counter::AskAnswer;
 use counter::Block;
@@ -27,6 +28,9 @@ use counter::FreeListSettings;
 use counter::Gate;
 use counter::KeptOrder;
 use counter::OpenOrder;
+use counter::Refused;
+use counter::SetUpAnswer;
+use counter::ToFree;
 use freelist_decide::Buying;
 use freelist_decide::Plan;
 use returning::Back;
@@ -34,6 +38,29 @@ use store::Coming;
 use store_rules::DeliveredShare;
 use store_rules::ReleasedShare;
 use store_rules::Share;
+
+// Whatever the loans and chunks, which a fresh store does not look at.
+pub fn carry_set_up(
+    s: FreeListSettings,
+    plan: Gate,
+    head: &mut [u64],
+    regions: &mut [u64],
+    index: &mut [u64],
+) -> SetUpAnswer
+    requires { ⌜ SetUpReady s (tables (now head) [] [] (now regions) (now index)) plan ⌝ }
+    ensures { λ r. ⌜ ((loans chunks : List ℕ) → setUp (setUpSaid r) (tables (now (head .exit)) loans chunks (now (regions .exit)) (now (index .exit))) ≡ carrySetUp s (tables (now (head .entry)) loans chunks (now (regions .entry)) (now (index .entry))) (verdictOf plan)) ⌝ }
+{
+    match plan {
+        Gate::Shut(refusal) => SetUpAnswer::Refused(Refused {
+            refusal: refusal,
+            free: ToFree::Nothing,
+        }),
+        Gate::Go => {
+            freelist_place::fresh(s, head, regions, index);
+            SetUpAnswer::Ready
+        }
+    }
+}
 
 // Whatever the account, the chunks, and the size and mask that this is the plan of.
 pub fn carry_ask(

@@ -8,6 +8,7 @@ ghost use Rattle.freelist_rules.specs.Tables.{tables};
 ghost use Rattle.freelist_outcomes.specs.Ask.{planAsk};
 ghost use Rattle.freelist_outcomes.specs.Deliver.{planDeliver};
 ghost use Rattle.freelist_outcomes.specs.Return.{planReturn, planCleanUp};
+ghost use Rattle.freelist_outcomes.specs.SetUp.{planSetUp};
 ghost use Rattle.freelist_decide.specs.Plans.{planOf, Planned};
 ghost use Rattle.freelist.specs.Deliveries.{deliveryOf};
 ghost use Rattle.freelist.specs.Ready.{Delivers};
@@ -28,6 +29,24 @@ use store_rules::Share;
 pub enum Delivery {
     Shut(Refusal),
     Come(Coming, Buying),
+}
+
+// 1, but for the account, which set-up does not take.
+pub fn plan_set_up(
+    s: FreeListSettings,
+    head: &[u64],
+    loans: &[u64],
+    chunks: &[u64],
+    regions: &[u64],
+    index: &[u64],
+) -> Gate
+    ensures { λ r. ⌜ verdictOf r ≡ planSetUp s (tables (now (head .entry)) (now (loans .entry)) (now (chunks .entry)) (now (regions .entry)) (now (index .entry))) ⌝ }
+{
+    if freelist_gate::is_fit(s, head, loans, chunks, regions, index) {
+        Gate::Go
+    } else {
+        Gate::Shut(Refusal::Setup)
+    }
 }
 
 pub fn plan_ask(

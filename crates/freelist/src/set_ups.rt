@@ -4,10 +4,7 @@ ghost use Rattle.counter.specs.Paper.{setUpSaid};
 ghost use Rattle.freelist_rules.specs.Tables.{tables};
 ghost use Rattle.freelist_outcomes.specs.SetUp.{setUp, setUpOf};
 use counter::FreeListSettings;
-use counter::Refusal;
-use counter::Refused;
 use counter::SetUpAnswer;
-use counter::ToFree;
 
 pub fn set_up(
     s: FreeListSettings,
@@ -19,13 +16,6 @@ pub fn set_up(
 ) -> SetUpAnswer
     ensures { λ r. ⌜ setUp (setUpSaid r) (tables (now (head .exit)) (now (loans .entry)) (now (chunks .entry)) (now (regions .exit)) (now (index .exit))) ≡ setUpOf s (tables (now (head .entry)) (now (loans .entry)) (now (chunks .entry)) (now (regions .entry)) (now (index .entry))) ⌝ }
 {
-    if freelist_gate::is_fit(s, head, loans, chunks, regions, index) {
-        freelist_place::fresh(s, head, regions, index);
-        SetUpAnswer::Ready
-    } else {
-        SetUpAnswer::Refused(Refused {
-            refusal: Refusal::Setup,
-            free: ToFree::Nothing,
-        })
-    }
+    let plan = crate::plans::plan_set_up(s, head, loans, chunks, regions, index);
+    crate::carries::carry_set_up(s, plan, head, regions, index)
 }

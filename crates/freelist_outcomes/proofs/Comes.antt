@@ -51,7 +51,7 @@ use Rattle.freelist_outcomes.specs.Deliver as Deliver
 use Rattle.freelist_outcomes.specs.Deliver.{stillOk, deliverGateOf, carryFate, decideDeliver, planDeliver, carryDeliver, deliverOf}
 use Rattle.freelist_outcomes.specs.Return as Return
 use Rattle.freelist_outcomes.specs.Return.{wordFor, onLoanOk, givenTables, releaseOf, decideReturn, planReturn, carryReturn, returnOf, carryCleanUp, cleanUpOf}
-use Rattle.freelist_outcomes.specs.SetUp.{SetUp, setUp, freshTables, fitOk, setUpOf}
+use Rattle.freelist_outcomes.specs.SetUp.{SetUp, setUp, freshTables, fitOk, planSetUp, carrySetUp, setUpOf}
 use Rattle.freelist_outcomes.proofs.Passing.{Passed, gate-passed, lent-in, lent-heaps}
 use Rattle.freelist_outcomes.proofs.Plans.{take-is, buy-held, size-some, size-most, chunk-place}
 
@@ -285,7 +285,7 @@ pub data SetUpComes (s : FreeListSettings) (t : Tables) : SetUp → Type 0 where
   readies : FreeListIn s → Lengths s t → SetUpComes s t (setUp Paper.ready (freshTables s t))
 
 pub set-up-comes : (s : FreeListSettings) (t : Tables) → SetUpComes s t (setUpOf s t)
-unfolding setUpOf fitOk
+unfolding setUpOf planSetUp carrySetUp fitOk
 set-up-comes s t =
     ⊎-elim (λ e. rw e (readies (free-list-yes s (and-left (freeListOk s) (lengthsOk s t) e)) (lengths-are s t (and-right (freeListOk s) (lengthsOk s t) e)))) (λ e. rw e denied)
     (told (freeListOk s && lengthsOk s t))

@@ -41,7 +41,7 @@ use Rattle.freelist_outcomes.specs.Deliver.{stillOk, deliverGateOf, carr
 use Rattle.freelist_outcomes.specs.Deliver as D
 use Rattle.freelist_outcomes.specs.Return.{wordFor, onLoanOk, releaseOf, decideReturn, planReturn, carryReturn, returnOf, carryCleanUp, cleanUpOf}
 use Rattle.freelist_outcomes.specs.Return as R
-use Rattle.freelist_outcomes.specs.SetUp.{setUp, fitOk, setUpOf, freshTables}
+use Rattle.freelist_outcomes.specs.SetUp.{setUp, fitOk, planSetUp, carrySetUp, setUpOf}
 use Rattle.freelist_outcomes.specs.Refusals.{Needed, listWords}
 use Rattle.store_rules.specs.Rows.{Leads, Stale, askRows, askTests, deliverRows, gateRows, keptRows, listRows, returnRows, setUpRows}
 use Rattle.freelist_outcomes.proofs.Asked.{ask-decided, ask-buys}
@@ -82,13 +82,12 @@ clean-up-leaves-all s a t list n back = by (gateOf s a t (listOk (s .store) list
 
 -- and a refused set-up
 pub set-up-leaves : (s : FreeListSettings) (t : Tables) (n : ℕ) (back : List ℕ) → setUpOf s t .said ≡ Paper.refusal n back → setUpOf s t ≡ setUp (Paper.refusal n []) t
-unfolding setUpOf
-set-up-leaves s t n back = by (fitOk s t)
+unfolding setUpOf carrySetUp
+set-up-leaves s t n back = by (planSetUp s t)
   where
-    by : (b : Bool) → cond b (setUp Paper.ready (freshTables s t)) (setUp (Paper.refusal 1 []) t) .said ≡ Paper.refusal n back
-        → cond b (setUp Paper.ready (freshTables s t)) (setUp (Paper.refusal 1 []) t) ≡ setUp (Paper.refusal n []) t
-    by true e = not-refused Paper.ready n back refl e
-    by false e = ap (λ (k : ℕ). setUp (Paper.refusal k []) t) (said-number 1 n [] back e)
+    by : (v : Verdict) → carrySetUp s t v .said ≡ Paper.refusal n back → carrySetUp s t v ≡ setUp (Paper.refusal n []) t
+    by (refuse m) e = ap (λ (k : ℕ). setUp (Paper.refusal k []) t) (said-number m n [] back e)
+    by pass e = not-refused Paper.ready n back refl e
 
 -- ---- exactly when each number is given
 
@@ -106,12 +105,12 @@ clean-up-refused s a t list n = Iff·trans (by (first row)) (given-first row (li
 
 -- set-up is refused only by 1, exactly when a value or a length is outside the table
 pub set-up-refused : (s : FreeListSettings) (t : Tables) (n : ℕ) → (setUpOf s t .said ≡ Paper.refusal n []) ↔ Given (setUpRows listWords s t) n
-unfolding setUpOf fitOk
-set-up-refused s t n = Iff·trans (by (fitOk s t)) (given-first ((fitOk s t, 1) ∷ []) (setUpRows listWords s t) (refl, fails (fitOk s t) there back, (λ _. tt)) n)
+unfolding setUpOf planSetUp carrySetUp fitOk
+set-up-refused s t n = Iff·trans (by (planSetUp s t)) (given-first ((fitOk s t, 1) ∷ []) (setUpRows listWords s t) (refl, fails (fitOk s t) there back, (λ _. tt)) n)
   where
-    by : (b : Bool) → Says (cond b (setUp Paper.ready (freshTables s t)) (setUp (Paper.refusal 1 []) t) .said) (first ((b, 1) ∷ [])) n
-    by true = says-passed Paper.ready n refl
-    by false = says-refused 1 n
+    by : (v : Verdict) → Says (carrySetUp s t v .said) v n
+    by (refuse m) = says-refused m n
+    by pass = says-passed Paper.ready n refl
 
     there : fitOk s t ≡ true → FreeListIn s × Lengths s t
     there e = (free-list-yes s (and-left (freeListOk s) (lengthsOk s t) e), lengths-are s t (and-right (freeListOk s) (lengthsOk s t) e))

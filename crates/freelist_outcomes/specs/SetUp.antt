@@ -1,8 +1,9 @@
 -- What set-up says and leaves.
-use mathlib.Core.Bool.{Bool, cond, _&&_}
+use mathlib.Core.Bool.{Bool, _&&_}
 use mathlib.Core.List.{List, [], _∷_}
 use Prim.Native.Nat.{ℕ}
 use lib.ListN.{set}
+use Rattle.counter.specs.Gate.{Verdict, pass, refuse, first}
 use Rattle.counter.specs.Paper.{Said}
 use Rattle.counter.specs.Paper as Paper
 use Rattle.counter.specs.Table.{freeListOk}
@@ -31,5 +32,14 @@ unfoldable pub fitOk : FreeListSettings → Tables → Bool
 fitOk s t = freeListOk s && lengthsOk s t
 
 -- "Set-up and ranking test only 1"
+unfoldable pub planSetUp : FreeListSettings → Tables → Verdict
+planSetUp s t = first ((fitOk s t, 1) ∷ [])
+
+-- a refusal leaves every word as it was
+unfoldable pub carrySetUp : FreeListSettings → Tables → Verdict → SetUp
+carrySetUp s t (refuse n) = setUp (Paper.refusal n []) t
+carrySetUp s t pass = setUp Paper.ready (freshTables s t)
+
+-- the call
 unfoldable pub setUpOf : FreeListSettings → Tables → SetUp
-setUpOf s t = cond (fitOk s t) (setUp Paper.ready (freshTables s t)) (setUp (Paper.refusal 1 []) t)
+setUpOf s t = carrySetUp s t (planSetUp s t)

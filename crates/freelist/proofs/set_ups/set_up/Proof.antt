@@ -1,20 +1,18 @@
 use borrow.Author.Needs.{needs}
-use mathlib.Core.Path.{sym, _∙_}
+use mathlib.Core.Path.{_∙_}
 use Rattle.freelist_rules.specs.Tables.{tables}
-use Rattle.freelist.proofs.Fresh.{fit-in, fit-head, set-up-ready, set-up-refused}
+use Rattle.freelist.proofs.Fresh.{set-up-ready, set-up-done}
 use Rattle.freelist.proofs.set_ups.set_up.Statement.{statement}
 use Rattle.freelist.proofs.set_ups.set_up.Tie as tie
 
-is-fit-requires : tie.Need-is-fit-requires
-is-fit-requires c κs = search needs
+plan-set-up-requires : tie.Need-plan-set-up-requires
+plan-set-up-requires c κs = search needs
 
-fresh-requires : tie.Need-fresh-requires
-fresh-requires c κs =
-    let i = c .before .before .before in
-    let f = i .before in
-    let a = f .before .before .before .before .before .before .before .before .before .args in
-    let e = (sym (f .is-fit .ensures) ∙ i .if1 .taken) in
-    (fit-in (a .s) (tables (a .head .now) (a .loans .now) (a .chunks .now) (a .regions .now) (a .index .now)) e .0, fit-head (a .s) (tables (a .head .now) (a .loans .now) (a .chunks .now) (a .regions .now) (a .index .now)) e)
+carry-set-up-requires : tie.Need-carry-set-up-requires
+carry-set-up-requires c κs =
+    let p = c .before .before .before in
+    let a = p .before .before .before .before .before .before .before .before .before .args in
+    set-up-ready (a .s) (tables (a .head .now) (a .loans .now) (a .chunks .now) (a .regions .now) (a .index .now)) (p .plan-set-up .result) (p .plan-set-up .ensures)
 
 same-length : tie.Need-same-length
 same-length c = search needs
@@ -27,38 +25,18 @@ same-length-3 c = search needs
 
 returns : tie.Need-returns
 returns c =
-    let h = c .before .before .before .before .before .before in
-    let i = h .before .before .before .before in
-    let f = i .before in
-    let a = f .before .before .before .before .before .before .before .before .before .args in
-    set-up-ready (a .s) (tables (a .head .now) (a .loans .now) (a .chunks .now) (a .regions .now) (a .index .now)) _ _ _ (sym (f .is-fit .ensures) ∙ i .if1 .taken) (h .fresh .ensures)
-
-same-length-4 : tie.Need-same-length-4
-same-length-4 c = search needs
-
-same-length-5 : tie.Need-same-length-5
-same-length-5 c = search needs
-
-same-length-6 : tie.Need-same-length-6
-same-length-6 c = search needs
-
-returns-2 : tie.Need-returns-2
-returns-2 c =
-    let f = c .before in
-    let a = f .before .before .before .before .before .before .before .before .before .args in
-    set-up-refused (a .s) (tables (a .head .now) (a .loans .now) (a .chunks .now) (a .regions .now) (a .index .now)) (sym (f .is-fit .ensures) ∙ c .if1 .left)
+    let k = c .before .before .before .before .before .before in
+    let p = k .before .before .before .before in
+    let a = p .before .before .before .before .before .before .before .before .before .args in
+    k .carry-set-up .ensures (a .loans .now) (a .chunks .now) ∙ set-up-done (a .s) (tables (a .head .now) (a .loans .now) (a .chunks .now) (a .regions .now) (a .index .now)) _ (p .plan-set-up .ensures)
 
 pub set-up-spec : {M : Type 1} → statement M
 set-up-spec =
     tie.close
     (tie.spec
-    is-fit-requires
-    fresh-requires
+    plan-set-up-requires
+    carry-set-up-requires
     same-length
     same-length-2
     same-length-3
-    returns
-    same-length-4
-    same-length-5
-    same-length-6
-    returns-2)
+    returns)
