@@ -25,7 +25,7 @@ use Rattle.store_rules.specs.Outcomes.{Out, out, withOrder, blockSaid}
 use Rattle.store_rules.specs.declared.Loan.{Loan}
 use Rattle.book_rules.specs.Book.{takenOf, entered, enteredIndex}
 use Rattle.buddy_trees.specs.Trees.{bytes}
-use Rattle.buddy_rules.specs.Nodes.{Ent}
+use Rattle.buddy_rules.specs.Nodes.{freeWord, Ent}
 use Rattle.buddy_rules.specs.Levels.{baseOf}
 use Rattle.buddy_rules.specs.Level.{entOf, ringHead, pairTaken, acquired, freshLevel}
 use Rattle.buddy_rules.specs.Tables.{Tables, tables, givenAt, levelsAt, placesAt, givenIn, levelsIn, placesIn, levelFrom, placeAt, afterAt, placeWords, nodesFrom, chunkSlab}
@@ -163,7 +163,7 @@ unfoldable pub takenTables : BuddySettings → ℕ → ℕ → Tables → ℕ �
 takenTables s z l t i =
     bookedTables s (loanFrom s z t i .chunk) (loanFrom s z t i .offset) z
     (splitDown (s .pairs) l (loanFrom s z t i .chunk) (loanFrom s z t i .offset) (takenOf (placesIn t) (t .index) .place) (readyNode (s .pairs) i (t .tree)) (i - l)
-    (acquired (levelFrom s i) 0 (t .tree)))
+    (acquired (levelFrom s i) freeWord (t .tree)))
     t
 
 -- "9 in a buddy store leaves the levels grown as the ask needs", an ask of level l

@@ -10,6 +10,7 @@ use Rattle.counter.specs.declared.settings.BuddySettings.{BuddySettings}
 use Rattle.store_rules.specs.Words.{Words}
 use Rattle.buddy_trees.specs.Trees.{bytes}
 use Rattle.buddy_trees.specs.Chunks.{Fitting}
+use Rattle.buddy_rules.specs.Nodes.{vacant, exhausted}
 use Rattle.buddy_rules.specs.Sound.{Sound}
 use Rattle.buddy_rules.specs.Views.{viewOf}
 use Rattle.buddy_rules.specs.Tables.{Tables, Lengths, givenIn, levelsIn, liveIn, pairsIn}
@@ -36,13 +37,13 @@ liveCount t (suc n) = liveCount t n + cond (liveIn t n) 1 0
 
 unfoldable pub pairCount : BuddySettings → Tables → ℕ → ℕ → ℕ
 pairCount s t l zero = 0
-pairCount s t l (suc n) = pairCount s t l n + cond (ltb 0 (pairsIn s t l n .tag)) 1 0
+pairCount s t l (suc n) = pairCount s t l n + cond (ltb vacant (pairsIn s t l n .tag)) 1 0
 
 -- level l, which there is, needs a new pair: no side is ready from the asked level up to it
 pub record Splits (s : BuddySettings) (size mask : ℕ) (t : Tables) (l : ℕ) : Type 0 where
   pub from : levelFor s size mask ≤ l
   pub there : l < levelsIn t
-  pub none : (j p : ℕ) → levelFor s size mask ≤ j → j ≤ l → 1 < pairsIn s t j p .tag → ⊥
+  pub none : (j p : ℕ) → levelFor s size mask ≤ j → j ≤ l → exhausted < pairsIn s t j p .tag → ⊥
 
 -- "a level that needs a new pair has none", by how many are in use
 abbrev pub PairsOut : BuddySettings → ℕ → ℕ → Tables → Type 0

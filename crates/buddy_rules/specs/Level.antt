@@ -162,8 +162,8 @@ module _ (b : ℕ) where
     pub ring : List ℕ
     pub rings : RingOf (b + ringAt) (fieldAt nextAt) (fieldAt prevAt) pairWords t ring
     pub below : (p : ℕ) → Mem p ring → p < getD t (b + usedAt) 0
-    pub ready : (p : ℕ) → Mem p ring → 1 < entOf t p .tag
-    pub all : (p : ℕ) → p < getD t (b + usedAt) 0 → 1 < entOf t p .tag → Mem p ring
+    pub ready : (p : ℕ) → Mem p ring → exhausted < entOf t p .tag
+    pub all : (p : ℕ) → p < getD t (b + usedAt) 0 → exhausted < entOf t p .tag → Mem p ring
     pub parted : Parted (vacantIn t) (vacantAfter t) (slabIn t) pairs
 
 -- ---- the levels of a table, one after the other

@@ -7,6 +7,7 @@ use lib.Dec.{eqb, ltb}
 use lib.ListN.{getD}
 use Rattle.slab.specs.Test.{vacancies, partedOk}
 use Rattle.ring_rules.specs.Test.{ringLength}
+use Rattle.buddy_rules.specs.Nodes.{exhausted}
 use Rattle.buddy_rules.specs.Level.{
   ringAt,
   usedAt,
@@ -31,7 +32,7 @@ along f next p (suc k) = f p && along f next (next p) k
 module _ (b : ℕ) where
   -- a pair is ready: its tag says so
   abbrev pub readyIn : List ℕ → ℕ → Bool
-  readyIn t p = ltb 1 (getD t (pairCell b tagAt p) 0)
+  readyIn t p = ltb exhausted (getD t (pairCell b tagAt p) 0)
 
   -- the pair after p in the ring
   abbrev pub readyAfter : List ℕ → ℕ → ℕ

@@ -3,7 +3,7 @@ use mathlib.Core.Path.{_≡_}
 use mathlib.Core.Bool.{Bool, true, false}
 use Prim.Native.Nat.{ℕ, _<_}
 use lib.Dec.{eqb}
-use Rattle.buddy_rules.specs.Nodes.{freeWord, exhausted, leftReady, rightReady, Ent, Side, L, R, isLeft, base}
+use Rattle.buddy_rules.specs.Nodes.{freeWord, vacant, exhausted, leftReady, rightReady, Ent, Side, L, R, isLeft, base}
 
 -- the entry with side s free, and ready there
 abbrev pub readied : Side → Ent → Ent
@@ -38,19 +38,19 @@ pub record Ops : Type 1 where
   pub Good : Lv → Type 0
   -- "the pair goes": a ready pair leaves the ring and is vacant
   pub drop : Lv → ℕ → Lv
-  pub drop-good : (v : Lv) (p : ℕ) → Good v → 1 < ent v p .tag → Good (drop v p)
-  pub drop-here : (v : Lv) (p : ℕ) → Good v → 1 < ent v p .tag → ent (drop v p) p .tag ≡ 0
-  pub drop-other : (v : Lv) (p x : ℕ) → Good v → 1 < ent v p .tag → (x ≡ p → ⊥) → ent (drop v p) x ≡ ent v x
+  pub drop-good : (v : Lv) (p : ℕ) → Good v → exhausted < ent v p .tag → Good (drop v p)
+  pub drop-here : (v : Lv) (p : ℕ) → Good v → exhausted < ent v p .tag → ent (drop v p) p .tag ≡ vacant
+  pub drop-other : (v : Lv) (p x : ℕ) → Good v → exhausted < ent v p .tag → (x ≡ p → ⊥) → ent (drop v p) x ≡ ent v x
   -- "A returned side of an exhausted pair joins the ring before the head"
   pub back : Lv → ℕ → Side → Lv
-  pub back-good : (v : Lv) (p : ℕ) (s : Side) → Good v → ent v p .tag ≡ 1 → Good (back v p s)
-  pub back-here : (v : Lv) (p : ℕ) (s : Side) → Good v → ent v p .tag ≡ 1 → ent (back v p s) p ≡ readied s (ent v p)
-  pub back-other : (v : Lv) (p : ℕ) (s : Side) (x : ℕ) → Good v → ent v p .tag ≡ 1 → (x ≡ p → ⊥) → ent (back v p s) x ≡ ent v x
+  pub back-good : (v : Lv) (p : ℕ) (s : Side) → Good v → ent v p .tag ≡ exhausted → Good (back v p s)
+  pub back-here : (v : Lv) (p : ℕ) (s : Side) → Good v → ent v p .tag ≡ exhausted → ent (back v p s) p ≡ readied s (ent v p)
+  pub back-other : (v : Lv) (p : ℕ) (s : Side) (x : ℕ) → Good v → ent v p .tag ≡ exhausted → (x ≡ p → ⊥) → ent (back v p s) x ≡ ent v x
   -- "Acquire takes the head pair's ready side": the ring's head, where there is one; its ready side is taken by w
   pub Some : Lv → Type 0
   pub head : Lv → ℕ
-  pub head-ready : (v : Lv) → Good v → Some v → 1 < ent v (head v) .tag
-  pub ready-some : (v : Lv) (p : ℕ) → Good v → 1 < ent v p .tag → Some v
+  pub head-ready : (v : Lv) → Good v → Some v → exhausted < ent v (head v) .tag
+  pub ready-some : (v : Lv) (p : ℕ) → Good v → exhausted < ent v p .tag → Some v
   pub take : Lv → ℕ → Lv
   pub take-good : (v : Lv) (w : ℕ) → Good v → Some v → Good (take v w)
   pub take-here : (v : Lv) (w : ℕ) → Good v → Some v → ent (take v w) (head v) ≡ filled (sideOf (ent v (head v) .tag)) w (ent v (head v))
@@ -58,7 +58,7 @@ pub record Ops : Type 1 where
   -- a new pair of node n, whose left side is taken by w, is the whole ring
   pub Room : Lv → Type 0
   pub newPlace : Lv → ℕ
-  pub newPlace-vacant : (v : Lv) → Good v → Room v → ent v (newPlace v) .tag ≡ 0
+  pub newPlace-vacant : (v : Lv) → Good v → Room v → ent v (newPlace v) .tag ≡ vacant
   pub add : Lv → ℕ → ℕ → ℕ → ℕ → Lv
   pub add-good : (v : Lv) (c o n w : ℕ) → Good v → Room v → (Some v → ⊥) → Good (add v c o n w)
   pub add-here : (v : Lv) (c o n w : ℕ) → Good v → Room v → (Some v → ⊥)

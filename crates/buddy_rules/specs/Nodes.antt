@@ -111,7 +111,7 @@ module _ (u : ℕ) where
 
   -- E l p is the entry of pair p whose nodes are of level l. No pair in use lies in that node
   abbrev pub None : (ℕ → ℕ → Ent) → ℕ → ℕ → ℕ → Type 0
-  None E c l o = (i p : ℕ) → i < l → 0 < E i p .tag → Inside (E i p) c o l → ⊥
+  None E c l o = (i p : ℕ) → i < l → vacant < E i p .tag → Inside (E i p) c o l → ⊥
 
   -- a split node n: its pair, which alone of its level lies there, and its two halves
   pub record Node (E : ℕ → ℕ → Ent) (c l o n w t : ℕ) (A B : Type 0) : Type 0 where
@@ -120,7 +120,7 @@ module _ (u : ℕ) where
     pub chunk : E l (pairSaid w) .chunk ≡ c
     pub off : E l (pairSaid w) .off ≡ o
     pub up : E l (pairSaid w) .up ≡ n
-    pub only : (p : ℕ) → 0 < E l p .tag → Inside (E l p) c o (suc l) → p ≡ pairSaid w
+    pub only : (p : ℕ) → vacant < E l p .tag → Inside (E l p) c o (suc l) → p ≡ pairSaid w
     pub this : A
     pub twin : B
 
@@ -140,12 +140,12 @@ module _ (u : ℕ) where
   abbrev pub Keep : (ℕ → ℕ → Ent) → (ℕ → ℕ → Ent) → ℕ → ℕ → ℕ → Type 0
   Keep E E′ c o l =
       (i p : ℕ) → i < l
-      → ((0 < E i p .tag → Inside (E i p) c o l → E′ i p ≡ E i p)
-      × (0 < E′ i p .tag → Inside (E′ i p) c o l → E′ i p ≡ E i p))
+      → ((vacant < E i p .tag → Inside (E i p) c o l → E′ i p ≡ E i p)
+      × (vacant < E′ i p .tag → Inside (E′ i p) c o l → E′ i p ≡ E i p))
 
   -- an entry of the stretch, or a vacant one
   abbrev pub Loc : (ℕ → ℕ → Ent) → ℕ → ℕ → ℕ → ℕ → ℕ → Type 0
-  Loc E i p c o l = (E i p .tag ≡ 0) ⊎ ((i < l) × Inside (E i p) c o l)
+  Loc E i p c o l = (E i p .tag ≡ vacant) ⊎ ((i < l) × Inside (E i p) c o l)
 
   -- only those change
   abbrev pub Local : (ℕ → ℕ → Ent) → (ℕ → ℕ → Ent) → ℕ → ℕ → ℕ → Type 0

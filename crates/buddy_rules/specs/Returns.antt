@@ -26,7 +26,7 @@ module _ (O : Ops) where
   -- side s of pair q of level l was given back: its twin is free and the pair goes, or it is ready
   abbrev pub settle : ℕ → ℕ → Side → Bool → (ℕ → O .Lv) → Out
   settle l q s false W = out false W
-  settle l q s true W = cond (eqb (word (other s) (O .ent (W l) q)) 0) (out true (put W l (O .drop (W l) q))) (out false (put W l (O .back (W l) q s)))
+  settle l q s true W = cond (eqb (word (other s) (O .ent (W l) q)) freeWord) (out true (put W l (O .drop (W l) q))) (out false (put W l (O .back (W l) q s)))
 
   abbrev pub settled : ℕ → ℕ → Side → Out → Out
   settled l q s r = settle l q s (r .freed) (r .levels)

@@ -9,7 +9,7 @@ use Rattle.slab.specs.Slab.{nowhere, Parted}
 use Rattle.book_rules.specs.Book.{serialOf}
 use Rattle.book_rules.specs.Chains.{Chained}
 use Rattle.buddy_trees.specs.Trees.{Tree, Taken, Piece, Wf, Has, bytes}
-use Rattle.buddy_rules.specs.Nodes.{Rep}
+use Rattle.buddy_rules.specs.Nodes.{vacant, Rep}
 use Rattle.buddy_rules.specs.Stores.{piece}
 use Rattle.buddy_rules.specs.Level.{Good}
 use Rattle.buddy_rules.specs.Tables.{Tables, mark, markAt, givenIn, levelsIn, placesIn, memoryIn, chunkSizeIn, levelFrom, pairsIn, loanCell, loanIn, liveIn, heldIn, highIn, topIn, vacantChunk, chunkAfter, chunkSlab, vacantLoan, loanAfter, loanSlab, chainStart, chainNext, initialLevels}
@@ -26,7 +26,7 @@ pub record Trees (s : BuddySettings) (t : Tables) : Type 0 where
   pub wf : (c : ℕ) → heldIn t c ≡ true → Wf (highIn s t c) (trees c)
   pub rep : (c : ℕ) → heldIn t c ≡ true → Rep (s .minimal) (pairsIn s t) (loanIn s t) c (highIn s t c) 0 nowhere (topIn s t c) (trees c)
   -- every pair in use is one of a held chunk's tree
-  pub owned : (l p : ℕ) → l < levelsIn t → 0 < pairsIn s t l p .tag
+  pub owned : (l p : ℕ) → l < levelsIn t → vacant < pairsIn s t l p .tag
       → (heldIn t (pairsIn s t l p .chunk) ≡ true) × (l < highIn s t (pairsIn s t l p .chunk)) × (pairsIn s t l p .off < chunkSizeIn t (pairsIn s t l p .chunk))
   -- loans are the trees' leaves, one for one
   pub loans-sized : (k : ℕ) → liveIn t k ≡ true → loanCell t sizeAt k ≡ bytes (s .minimal) (loanIn s t k .lev)

@@ -6,7 +6,8 @@ use Prim.Native.Nat.{ℕ, suc, _+_, _-_, _*_, _≤_, _<_}
 use lib.Dec.{eqb}
 use Rattle.slab.specs.Slab.{nowhere}
 use Rattle.buddy_trees.specs.Trees.{Tree, free, Piece, Wf, Has, up, bytes}
-use Rattle.buddy_rules.specs.Nodes.{Ent, Loan, L, nodeOf, Rep}
+use Rattle.buddy_rules.specs.Nodes as Nodes
+use Rattle.buddy_rules.specs.Nodes.{freeWord, Ent, Loan, L, nodeOf, Rep}
 use Rattle.buddy_rules.specs.Levels.{Ops, baseOf}
 use Rattle.buddy_rules.specs.Returns.{entries, Out, climb}
 use Rattle.buddy_rules.specs.Lends.{grow, lend, headNode, loanNode}
@@ -34,13 +35,13 @@ module _ (u : ℕ) (O : Ops) where
   -- tree, which is not free, and no pair in use is anything else's; loans are the trees' leaves, one for one
   pub record Sound (s : Store) (T : ℕ → Tree) : Type 0 where
     pub good : (i : ℕ) → i < s .count → O .Good (s .levels i)
-    pub small : (i p : ℕ) → i < s .count → 0 < O .ent (s .levels i) p .tag → 2 * p + 1 < nowhere
+    pub small : (i p : ℕ) → i < s .count → Nodes.vacant < O .ent (s .levels i) p .tag → 2 * p + 1 < nowhere
     pub tall : (c : ℕ) → s .high c ≤ s .count
-    pub held : (c : ℕ) → T c ≡ free → (s .high c ≡ 0) × (s .top c ≡ 0)
+    pub held : (c : ℕ) → T c ≡ free → (s .high c ≡ 0) × (s .top c ≡ freeWord)
     pub vacant : (c : ℕ) → s .high c ≡ 0 → T c ≡ free
     pub wf : (c : ℕ) → Wf (s .high c) (T c)
     pub rep : (c : ℕ) → Rep u (entries O (s .levels)) (s .loans) c (s .high c) 0 nowhere (s .top c) (T c)
-    pub owned : (i p : ℕ) → i < s .count → 0 < O .ent (s .levels i) p .tag
+    pub owned : (i p : ℕ) → i < s .count → Nodes.vacant < O .ent (s .levels i) p .tag
         → (i < s .high (O .ent (s .levels i) p .chunk)) × (O .ent (s .levels i) p .off < bytes u (s .high (O .ent (s .levels i) p .chunk)))
     pub has : (k : ℕ) → s .live k ≡ true → Has u (s .high (s .loans k .chunk)) 0 (T (s .loans k .chunk)) (piece (s .loans k) k)
     pub is-live : (c k : ℕ) (y : Piece) → Has u (s .high c) 0 (T c) y → y .who ≡ k + 1 → s .live k ≡ true

@@ -58,7 +58,7 @@ module _ (s : BuddySettings) (t : Tables) where
       || (eqb (chunkSizeIn t c) (bytes (s .minimal) (highIn s t c))
       && (ltb 0 (highIn s t c)
       && (leb (initialLevels s) (highIn s t c)
-      && (leb (highIn s t c) (levelsIn t) && (not (eqb (topIn s t c) 0) && nodeOk (highIn s t c) c 0 nowhere (topIn s t c))))))
+      && (leb (highIn s t c) (levelsIn t) && (not (eqb (topIn s t c) freeWord) && nodeOk (highIn s t c) c 0 nowhere (topIn s t c))))))
 
   -- ---- what leads to it: node n of level l has the word w
 

@@ -11,7 +11,7 @@ use Rattle.store_rules.specs.declared.Loan.{Loan}
 use Rattle.store_rules.specs.declared.Region.{Region}
 use Rattle.buddy_trees.specs.Trees.{bytes}
 use Rattle.buddy_trees.specs.Chunks.{viewFrom}
-use Rattle.buddy_rules.specs.Nodes.{Ent, Side, word, base}
+use Rattle.buddy_rules.specs.Nodes.{freeWord, vacant, exhausted, Ent, Side, word, base}
 use Rattle.buddy_rules.specs.Levels.{baseOf}
 use Rattle.buddy_rules.specs.Tables.{Tables, levelsIn, placesIn, chunkPlacesIn, memoryIn, chunkSizeIn, heldIn, pairsIn}
 
@@ -41,7 +41,7 @@ pub record ReadySide (s : BuddySettings) (t : Tables) (r : Region) : Type 0 wher
   pub level : ℕ
   pub low : level < levelsIn t
   pub pair : ℕ
-  pub ready : 1 < pairsIn s t level pair .tag
+  pub ready : exhausted < pairsIn s t level pair .tag
   pub is : r ≡ readyStretch (s .minimal) (pairsIn s t level pair) level
 
 -- some pair in use has a side whose word says that it is free, and r is that side's stretch
@@ -49,7 +49,7 @@ pub record FreeNode (s : BuddySettings) (t : Tables) (r : Region) : Type 0 where
   pub level : ℕ
   pub low : level < levelsIn t
   pub pair : ℕ
-  pub used : 0 < pairsIn s t level pair .tag
+  pub used : vacant < pairsIn s t level pair .tag
   pub side : Side
-  pub free : word side (pairsIn s t level pair) ≡ 0
+  pub free : word side (pairsIn s t level pair) ≡ freeWord
   pub is : r ≡ region (pairsIn s t level pair .chunk) (base (s .minimal) side (pairsIn s t level pair .off) level) (base (s .minimal) side (pairsIn s t level pair .off) level + bytes (s .minimal) level)
