@@ -42,7 +42,7 @@ use Rattle.freelist_rules.specs.Place.{sizeFor, maskFor, cut}
 use Rattle.freelist_rules.specs.Tables.{Tables, tables, regionCountAt, lengthsOk, placesIn, storeOf, soundOk, SoundTables}
 use Rattle.freelist_rules.specs.Walk.{memories}
 use Rattle.freelist_rules.proofs.Fits.{regions-length}
-use Rattle.freelist_outcomes.specs.Ask.{decideAsk, blockAt, loanFrom, takenTables}
+use Rattle.freelist_outcomes.specs.Ask.{decideAsk, blockAt, loanFrom}
 use Rattle.freelist_outcomes.specs.Deliver.{Arrival, deny, go, stillOk, deliverGateOf, deliveredTables, carryFate, decideDeliver, planDeliver, carryDeliver, deliverOf}
 use Rattle.freelist_outcomes.specs.Gate.{inTableOk, accountOk}
 use Rattle.freelist_outcomes.proofs.Passing.{lent-in}
@@ -156,7 +156,7 @@ module _ (s : FreeListSettings) (memory z : ℕ) (head loans chunks regions inde
   unfolding deliveredTables storeOf
   added-rest h′ c′ r′ e = ap (λ (t : Tables). tables (t .head) loans (t .chunks) (t .regions) index) e
 
-module _ (s : FreeListSettings) (h : Share) (k : KeptOrder) (memory : ℕ) (b : Buying) (head loans chunks regions index : List ℕ) (keeps : KeepReady s k memory (tables head loans chunks regions index) b) where
+module _ (s : FreeListSettings) (share : Share) (k : KeptOrder) (memory : ℕ) (b : Buying) (head loans chunks regions index : List ℕ) (keeps : KeepReady s k memory (tables head loans chunks regions index) b) where
   abbrev start : Tables
   start = tables head loans chunks regions index
 
@@ -190,15 +190,15 @@ module _ (s : FreeListSettings) (h : Share) (k : KeptOrder) (memory : ℕ) (b : 
   unfolding deliveredTables
   loan-now = keeps .planned .2 ∙ ap (λ (p : ℕ). takenOf p index) (sym (places-stay s memory (k .order .size) start))
 
-  pub kept-done : (i x : ℕ) (h₁ c₁ r₁ h₂ l₂ r₂ i₂ : List ℕ) (share paid : Share) (order : OpenOrder) (l : Loan) (said : Said) → i ≡ getD regions (regionCountAt s) 0
-      → x ≡ downTo (k .order .size - b .size) (b .mask) → paid ≡ chargedShare h (k .order .size)
+  pub kept-done : (i x : ℕ) (h₁ c₁ r₁ h₂ l₂ r₂ i₂ : List ℕ) (after paid : Share) (order : OpenOrder) (l : Loan) (said : Said) → i ≡ getD regions (regionCountAt s) 0
+      → x ≡ downTo (k .order .size - b .size) (b .mask) → paid ≡ chargedShare share (k .order .size)
       → tables h₁ [] c₁ r₁ [] ≡ deliveredTables s memory (k .order .size) (tables head [] chunks regions [])
       → l ≡ lentFrom s x (tables h₁ [] [] r₁ []) i
       → tables h₂ l₂ [] r₂ i₂ ≡ lentTables s x (b .loan) (tables h₁ loans [] r₁ index) i
-      → share ≡ paid → order ≡ Nothing → said ≡ blockSaid l → (left : OpenOrder)
-      → out said (holding (s .store) share order) (tables h₂ l₂ c₁ r₂ i₂) ≡ carryFate s (holding (s .store) h left) k start (kept memory)
+      → after ≡ paid → order ≡ Nothing → said ≡ blockSaid l → (left : OpenOrder)
+      → out said (holding (s .store) after order) (tables h₂ l₂ c₁ r₂ i₂) ≡ carryFate s (holding (s .store) share left) k start (kept memory)
   unfolding carryFate
-  kept-done i x h₁ c₁ r₁ h₂ l₂ r₂ i₂ share paid order l said e y p f m g q n d left =
+  kept-done i x h₁ c₁ r₁ h₂ l₂ r₂ i₂ after paid order l said e y p f m g q n d left =
       let size = k .ask .size in
       let mask = k .ask .mask in
       let mid = added-rest s memory (k .order .size) head loans chunks regions index h₁ c₁ r₁ f in
@@ -208,33 +208,33 @@ module _ (s : FreeListSettings) (h : Share) (k : KeptOrder) (memory : ℕ) (b : 
       let end = lent-rest s x i (b .loan) h₁ loans c₁ r₁ index h₂ l₂ r₂ i₂ g ∙ (λ j. lentTables s x (b .loan) (mid j) (w j)) ∙ tables-planned s size mask x last (b .loan) added (starts-now x y) loan-now in
       let words = d ∙ ap blockSaid loan in
       let shared = q ∙ p in
-      let settled = (λ j. holding (s .store) (shared j) (n j)) ∙ sym (held-charged (s .store) h left (k .order .size)) in
+      let settled = (λ j. holding (s .store) (shared j) (n j)) ∙ sym (held-charged (s .store) share left (k .order .size)) in
       (λ j. out (words j) (settled j) (end j))
 
 -- ---- carried out
 
-module _ (s : FreeListSettings) (h : Share) (order : OpenOrder) (t : Tables) (p : Arrival) where
+module _ (s : FreeListSettings) (share : Share) (order : OpenOrder) (t : Tables) (p : Arrival) where
   abbrev account : Account
-  account = holding (s .store) h order
+  account = holding (s .store) share order
 
-  pub refused-done : (n : ℕ) (share : Share) (left : OpenOrder) (said : Said) → p ≡ deny n
-      → share ≡ h → left ≡ order → said ≡ Paper.refusal n [] → out said (holding (s .store) share left) t ≡ carryDeliver s account t p
+  pub refused-done : (n : ℕ) (after : Share) (left : OpenOrder) (said : Said) → p ≡ deny n
+      → after ≡ share → left ≡ order → said ≡ Paper.refusal n [] → out said (holding (s .store) after left) t ≡ carryDeliver s account t p
   unfolding carryDeliver
-  refused-done n share left said e g l d = (λ j. out (d j) (holding (s .store) (g j) (l j)) t) ∙ ap (carryDeliver s account t) (sym e)
+  refused-done n after left said e g l d = (λ j. out (d j) (holding (s .store) (g j) (l j)) t) ∙ ap (carryDeliver s account t) (sym e)
 
-  pub lost-done : (k : KeptOrder) (n : ℕ) (charged : Bool) (back : List ℕ) (share : Share) (left : OpenOrder) (said : Said) → p ≡ go k (lost n charged back)
-      → share ≡ lostShare h (k .order .size) charged back → left ≡ Nothing → said ≡ Paper.refusal n back → out said (holding (s .store) share left) t ≡ carryDeliver s account t p
+  pub lost-done : (k : KeptOrder) (n : ℕ) (charged : Bool) (back : List ℕ) (after : Share) (left : OpenOrder) (said : Said) → p ≡ go k (lost n charged back)
+      → after ≡ lostShare share (k .order .size) charged back → left ≡ Nothing → said ≡ Paper.refusal n back → out said (holding (s .store) after left) t ≡ carryDeliver s account t p
   unfolding carryDeliver carryFate
-  lost-done k n charged back share left said e g l d =
+  lost-done k n charged back after left said e g l d =
       (λ j. out (d j) (holding (s .store) (g j) (l j)) t)
-      ∙ (λ j. out (Paper.refusal n back) (sym (held-lost (s .store) h order (k .order .size) charged back) j) t)
+      ∙ (λ j. out (Paper.refusal n back) (sym (held-lost (s .store) share order (k .order .size) charged back) j) t)
       ∙ ap (carryDeliver s account t) (sym e)
 
-  pub went-done : (k : KeptOrder) (memory : ℕ) (t′ : Tables) (share : Share) (left : OpenOrder) (said : Said) → p ≡ go k (kept memory)
-      → ((opened : OpenOrder) → out said (holding (s .store) share left) t′ ≡ carryFate s (holding (s .store) h opened) k t (kept memory))
-      → out said (holding (s .store) share left) t′ ≡ carryDeliver s account t p
+  pub went-done : (k : KeptOrder) (memory : ℕ) (t′ : Tables) (after : Share) (left : OpenOrder) (said : Said) → p ≡ go k (kept memory)
+      → ((opened : OpenOrder) → out said (holding (s .store) after left) t′ ≡ carryFate s (holding (s .store) share opened) k t (kept memory))
+      → out said (holding (s .store) after left) t′ ≡ carryDeliver s account t p
   unfolding carryDeliver
-  went-done k memory t′ share left said e g = g order ∙ ap (carryDeliver s account t) (sym e)
+  went-done k memory t′ after left said e g = g order ∙ ap (carryDeliver s account t) (sym e)
 
 -- ---- the call
 

@@ -15,7 +15,7 @@ use Rattle.counter.specs.declared.refusal.Gate.{Gate}
 use Rattle.counter.specs.declared.refusal.Gate.the-variants as G
 use Rattle.counter.specs.declared.settings.FreeListSettings.{FreeListSettings}
 use Rattle.counter.proofs.Tables.{free-list-yes}
-use Rattle.freelist_rules.specs.Tables.{Tables, tables, headWords, lengthsOk}
+use Rattle.freelist_rules.specs.Tables.{Tables, tables, headWords}
 use Rattle.freelist_rules.proofs.Fits.{lengths-are}
 use Rattle.freelist_outcomes.specs.SetUp.{setUp, freshTables, fitOk, planSetUp, carrySetUp, setUpOf}
 use Rattle.freelist.specs.Ready.{SetUpReady}

@@ -50,12 +50,12 @@ module _ (s : FreeListSettings) (size mask : ℕ) (head loans chunks regions ind
       ∙ ask-few s (heapAt a (s .store .heap)) (a .objects) size mask now ∙ rw (sym g) refl
 
   -- by the share
-  pub ask-go : (h : Share) (p : Plan ℕ) → pass ≡ gateOf s (holder (s .store) h) now true
-      → p ≡ decideAsk s (h .heap) (h .objects) size mask (tables head [] [] regions index) → p ≡ planAsk s (holder (s .store) h) size mask now
+  pub ask-go : (share : Share) (p : Plan ℕ) → pass ≡ gateOf s (holder (s .store) share) now true
+      → p ≡ decideAsk s (share .heap) (share .objects) size mask (tables head [] [] regions index) → p ≡ planAsk s (holder (s .store) share) size mask now
   unfolding holding
-  ask-go h p g e =
-      let below = gate-passed s (holder (s .store) h) now true g .settings .store .heap in
-      went (holder (s .store) h) (h .heap) p g (sym (held-heap (s .store) h (orderBy (h .idle)) below)) e
+  ask-go share p g e =
+      let below = gate-passed s (holder (s .store) share) now true g .settings .store .heap in
+      went (holder (s .store) share) (share .heap) p g (sym (held-heap (s .store) share (orderBy (share .idle)) below)) e
 
 -- ---- a return
 
@@ -85,8 +85,8 @@ module _ (s : FreeListSettings) (a : Account) (o : Outcome) (t : Tables) where
   unfolding planDeliver storeOf
   delivered v p e f g = g ∙ rw (sym f ∙ e) refl
 
-pub plan-go : (s : FreeListSettings) (h : Share) (order : OpenOrder) (o : Outcome) (t : Tables) (v : Verdict) (p : Deliver.Arrival) → v ≡ pass
-    → v ≡ deliverGateOf s (holding (s .store) h order) t → p ≡ decideDeliver o (memories (rows chunkRow (chunksIn t) (t .chunks))) order
-    → p ≡ planDeliver s (holding (s .store) h order) o t
+pub plan-go : (s : FreeListSettings) (share : Share) (order : OpenOrder) (o : Outcome) (t : Tables) (v : Verdict) (p : Deliver.Arrival) → v ≡ pass
+    → v ≡ deliverGateOf s (holding (s .store) share order) t → p ≡ decideDeliver o (memories (rows chunkRow (chunksIn t) (t .chunks))) order
+    → p ≡ planDeliver s (holding (s .store) share order) o t
 unfolding holding
-plan-go s h order o t v p e f g = delivered s (holding (s .store) h order) o t v p e f g
+plan-go s share order o t v p e f g = delivered s (holding (s .store) share order) o t v p e f g

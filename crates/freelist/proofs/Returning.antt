@@ -82,11 +82,11 @@ module _ (s : FreeListSettings) (a : Account) (b : Block) (t : Tables) (list : B
 long-enough : (s : FreeListSettings) (t : Tables) (list : List ℕ) → listOk (s .store) list ≡ true → chunksIn t ≤ s .store .chunks → chunksIn t ≤ length list
 long-enough s t list e h = omega (arith, leb-true (s .store .chunks) (length list) e)
 
-module _ (s : FreeListSettings) (h : Share) (t : Tables) (list : List ℕ) (few : h .objects ≤ objectsMost) where
+module _ (s : FreeListSettings) (share : Share) (t : Tables) (list : List ℕ) (few : share .objects ≤ objectsMost) where
   abbrev held : Account
-  held = holder (s .store) h
+  held = holder (s .store) share
 
-  cleaned-releases : pass ≡ gateOf s held t (listOk (s .store) list) → Releases s (h .objects) false t list
+  cleaned-releases : pass ≡ gateOf s held t (listOk (s .store) list) → Releases s (share .objects) false t list
   unfolding storeOf accountOk holding
   cleaned-releases e =
       let p = gate-passed s held t (listOk (s .store) list) e in
@@ -100,9 +100,9 @@ module _ (s : FreeListSettings) (h : Share) (t : Tables) (list : List ℕ) (few 
         few = bounds .2;
         long = long-enough s t list (p .listed) (p .sound .chunks-fit);
       } in
-      (frees, cleaned-objects s t (p .settings) (p .sound) (heapAt held (s .store .heap)) (h .objects) (total (λ (c : Chunk). c .size) (storeOf s t .chunks)) false few (p .covered))
+      (frees, cleaned-objects s t (p .settings) (p .sound) (heapAt held (s .store .heap)) (share .objects) (total (λ (c : Chunk). c .size) (storeOf s t .chunks)) false few (p .covered))
 
-  pub clean-up-ready : (p : Gate) → verdictOf p ≡ planCleanUp s held t (listOk (s .store) list) → CleanUpReady s (h .objects) t list p
+  pub clean-up-ready : (p : Gate) → verdictOf p ≡ planCleanUp s held t (listOk (s .store) list) → CleanUpReady s (share .objects) t list p
   clean-up-ready (G.Shut r) e = tt
   clean-up-ready G.Go e = cleaned-releases e
 
@@ -121,7 +121,7 @@ module _ (s : FreeListSettings) (h : Share) (t : Tables) (list : List ℕ) (few 
         subst (λ (v : ℕ). Strikes v (getD (t .index) v 0) (t .loans) (t .index)) (sym (word-is s held b t (listOk (s .store) list) w e))
         (strikes-ready s t (gate .settings) (gate .sound) b lent (gate .lengths))
 
-    returned-releases : Releases s (h .objects) true (tables (t .head) (t .loans) (t .chunks) (joined s b (t .regions)) (t .index)) list
+    returned-releases : Releases s (share .objects) true (tables (t .head) (t .loans) (t .chunks) (joined s b (t .regions)) (t .index)) list
     unfolding givenTables storeOf accountOk holding
     returned-releases =
         let bounds = returned-bounds s t (gate .settings) (gate .sound) b lent (gate .lengths) in
@@ -134,32 +134,32 @@ module _ (s : FreeListSettings) (h : Share) (t : Tables) (list : List ℕ) (few 
           few = bounds .2;
           long = long-enough s t list (gate .listed) (gate .sound .chunks-fit);
         } in
-        (frees, returned-objects s t (gate .settings) (gate .sound) b lent (gate .lengths) (heapAt held (s .store .heap)) (h .objects) (total (λ (c : Chunk). c .size) (storeOf s t .chunks)) true few (gate .covered))
+        (frees, returned-objects s t (gate .settings) (gate .sound) b lent (gate .lengths) (heapAt held (s .store .heap)) (share .objects) (total (λ (c : Chunk). c .size) (storeOf s t .chunks)) true few (gate .covered))
 
-    takes-back : TakesBack s (h .objects) b w t list
+    takes-back : TakesBack s (share .objects) b w t list
     takes-back = record { backs = returned-backs; strikes = returned-strikes; releases = returned-releases }
 
-  pub return-ready : (b : Block) (p : Back) → backOf p ≡ planReturn s held b t (listOk (s .store) list) → ReturnReady s (h .objects) b t list p
+  pub return-ready : (b : Block) (p : Back) → backOf p ≡ planReturn s held b t (listOk (s .store) list) → ReturnReady s (share .objects) b t list p
   return-ready b (B.Refuse r) e = tt
   return-ready b (B.From w) e = takes-back b w e
 
 -- ---- carried out
 
 -- chunks released and counted are what a release is defined to leave
-module _ (s : FreeListSettings) (h : Share) (spare : Bool) (head chunks regions list : List ℕ) where
+module _ (s : FreeListSettings) (share : Share) (spare : Bool) (head chunks regions list : List ℕ) where
   abbrev begun : Tables
   begun = tables head [] chunks regions []
 
-  pub let-go-done : (count bytes : ℕ) (said : Paper.Said) (share : Share) (h′ c′ r′ l′ : List ℕ)
+  pub let-go-done : (count bytes : ℕ) (said : Paper.Said) (after : Share) (h′ c′ r′ l′ : List ℕ)
       → count ≡ length (goneFrom s spare begun) → bytes ≡ bytesOf (goneFrom s spare begun)
       → tables h′ [] c′ r′ [] ≡ releasedTables s spare begun
       → l′ ≡ sets list 0 (memoriesOf (storeOf s begun .chunks) (goneFrom s spare begun))
-      → share ≡ releasedShare h count bytes → said ≡ Paper.released count
-      → listed said (holder (s .store) share) (tables h′ [] c′ r′ []) l′ ≡ releaseOf s (holder (s .store) h) spare begun list
+      → after ≡ releasedShare share count bytes → said ≡ Paper.released count
+      → listed said (holder (s .store) after) (tables h′ [] c′ r′ []) l′ ≡ releaseOf s (holder (s .store) share) spare begun list
   unfolding releaseOf
-  let-go-done count bytes said share h′ c′ r′ l′ e b t l x y =
-      let account = holder (s .store) h in
-      let x-is = ap (holder (s .store)) x ∙ sym (held-released (s .store) h (orderBy (h .idle)) count bytes) ∙ (λ j. releasedAccount (s .store) account (e j) (b j)) in
+  let-go-done count bytes said after h′ c′ r′ l′ e b t l x y =
+      let account = holder (s .store) share in
+      let x-is = ap (holder (s .store)) x ∙ sym (held-released (s .store) share (orderBy (share .idle)) count bytes) ∙ (λ j. releasedAccount (s .store) account (e j) (b j)) in
       let y-is = y ∙ ap Paper.released e in
       (λ j. listed (y-is j) (x-is j) (t j) (l j))
 
@@ -193,24 +193,24 @@ module _ (s : FreeListSettings) (a : Account) (b : Block) (at : ℕ) (loans regi
       beside s a true said account head chunks r′ list h″ c″ r″ m p l′ i′
       ∙ ap (λ (t : Tables). releaseOf s a true (tables head (t .loans) chunks (t .regions) (t .index)) list) e
 
-module _ (s : FreeListSettings) (h : Share) (t : Tables) (list : List ℕ) where
+module _ (s : FreeListSettings) (share : Share) (t : Tables) (list : List ℕ) where
   abbrev before : Account
-  before = holder (s .store) h
+  before = holder (s .store) share
 
-  pub return-refused : (b : Block) (p q : Back) (n : ℕ) (share : Share) (said : Paper.Said) → p ≡ q → backOf q ≡ deny n → share ≡ h → said ≡ Paper.refusal n []
-      → listed said (holder (s .store) share) t list ≡ carryReturn s before b t list (backOf p)
+  pub return-refused : (b : Block) (p q : Back) (n : ℕ) (after : Share) (said : Paper.Said) → p ≡ q → backOf q ≡ deny n → after ≡ share → said ≡ Paper.refusal n []
+      → listed said (holder (s .store) after) t list ≡ carryReturn s before b t list (backOf p)
   unfolding carryReturn
-  return-refused b p q n share said f e same says =
+  return-refused b p q n after said f e same says =
       (λ j. listed (says j) (holder (s .store) (same j)) t list) ∙ ap (carryReturn s before b t list) (sym e) ∙ ap (λ (x : Back). carryReturn s before b t list (backOf x)) (sym f)
 
   pub return-taken : (b : Block) (p q : Back) (w : ℕ) (r : Listed Tables) → p ≡ q → backOf q ≡ back w → r ≡ releaseOf s before true (givenTables s b w t) list → r ≡ carryReturn s before b t list (backOf p)
   unfolding carryReturn
   return-taken b p q w r f e d = d ∙ ap (carryReturn s before b t list) (sym e) ∙ ap (λ (x : Back). carryReturn s before b t list (backOf x)) (sym f)
 
-  pub clean-refused : (p q : Gate) (n : ℕ) (share : Share) (said : Paper.Said) → p ≡ q → verdictOf q ≡ refuse n → share ≡ h → said ≡ Paper.refusal n []
-      → listed said (holder (s .store) share) t list ≡ carryCleanUp s before t list (verdictOf p)
+  pub clean-refused : (p q : Gate) (n : ℕ) (after : Share) (said : Paper.Said) → p ≡ q → verdictOf q ≡ refuse n → after ≡ share → said ≡ Paper.refusal n []
+      → listed said (holder (s .store) after) t list ≡ carryCleanUp s before t list (verdictOf p)
   unfolding carryCleanUp
-  clean-refused p q n share said f e same says =
+  clean-refused p q n after said f e same says =
       (λ j. listed (says j) (holder (s .store) (same j)) t list) ∙ ap (carryCleanUp s before t list) (sym e) ∙ ap (λ (x : Gate). carryCleanUp s before t list (verdictOf x)) (sym f)
 
   pub clean-went : (p q : Gate) (r : Listed Tables) → p ≡ q → verdictOf q ≡ pass → r ≡ releaseOf s before false t list → r ≡ carryCleanUp s before t list (verdictOf p)

@@ -25,9 +25,9 @@ use Rattle.freelist_outcomes.specs.Deliver.{deliverOf}
 use Rattle.freelist_outcomes.specs.Return.{returnOf, cleanUpOf}
 use Rattle.freelist_outcomes.proofs.Shares.{ask-alike, deliver-alike, return-alike, clean-up-alike}
 
-module _ (s : FreeListSettings) (a : Account) (h : Share) (own : h ≡ shareOf (s .store) a) (t t′ : Tables) where
+module _ (s : FreeListSettings) (a : Account) (share : Share) (own : share ≡ shareOf (s .store) a) (t t′ : Tables) where
   abbrev b : Account
-  b = holder (s .store) h
+  b = holder (s .store) share
 
   alike : Alike (s .store) a b
   alike = subst (λ (x : Share). Alike (s .store) a (holder (s .store) x)) (sym own) (holder-alike (s .store) a)
@@ -40,11 +40,11 @@ module _ (s : FreeListSettings) (a : Account) (h : Share) (own : h ≡ shareOf (
 
   -- with the order that is open
   pub delivered-whole : (o : Outcome) (r : DeliveredShare) (q : DeliverAnswer) (account : Account)
-      → out (deliverSaid (r .answer)) (holding (s .store) (r .share) (r .order)) t′ ≡ deliverOf s (holding (s .store) h (a .order)) o t
+      → out (deliverSaid (r .answer)) (holding (s .store) (r .share) (r .order)) t′ ≡ deliverOf s (holding (s .store) share (a .order)) o t
       → account ≡ withShare (s .store) a (r .share) (r .order) → q ≡ r .answer → out (deliverSaid q) account t′ ≡ deliverOf s a o t
   unfolding holding
   delivered-whole o r q account d e f =
-      let c = holding (s .store) h (a .order) in
+      let c = holding (s .store) share (a .order) in
       let same : Alike (s .store) a c =
       subst (λ (x : Share). Alike (s .store) a (holding (s .store) x (a .order))) (sym own) (held-alike (s .store) a (a .order) refl) in
       (λ j. out (deliverSaid (f j)) (e j) t′)

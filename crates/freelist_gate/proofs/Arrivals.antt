@@ -89,30 +89,30 @@ module _ (s : FreeListSettings) (a : Account) (t : Tables) where
   order-kept h v k e f o p g = g ∙ ap (λ (x : Heap). keptGate s x (a .objects) k t) p ∙ rw (e, f, ap (stillOk s a t) o) refl
 
 -- by the share and the order
-module _ (s : FreeListSettings) (h : Share) (order : OpenOrder) (t : Tables) where
+module _ (s : FreeListSettings) (share : Share) (order : OpenOrder) (t : Tables) where
   abbrev held : Account
-  held = holding (s .store) h order
+  held = holding (s .store) share order
 
   -- test 1 looks at no order
-  lent-held : {b : Bool} → inTableOk s (holder (s .store) h) t ≡ b → inTableOk s held t ≡ b
+  lent-held : {b : Bool} → inTableOk s (holder (s .store) share) t ≡ b → inTableOk s held t ≡ b
   unfolding inTableOk holding
   lent-held e = e
 
-  pub delivery-lent : inTableOk s (holder (s .store) h) t ≡ false → refuse 1 ≡ deliverGateOf s held t
+  pub delivery-lent : inTableOk s (holder (s .store) share) t ≡ false → refuse 1 ≡ deliverGateOf s held t
   delivery-lent e = lent-not s held t (lent-held e)
 
-  pub delivery-order : inTableOk s (holder (s .store) h) t ≡ true → openFor (s .store .number) order ≡ false → refuse 2 ≡ deliverGateOf s held t
+  pub delivery-order : inTableOk s (holder (s .store) share) t ≡ true → openFor (s .store .number) order ≡ false → refuse 2 ≡ deliverGateOf s held t
   unfolding holding
   delivery-order e f = order-not s held t (lent-held e) f
 
   -- no order is open
-  pub delivery-none : inTableOk s (holder (s .store) h) t ≡ true → order ≡ Nothing → refuse 2 ≡ deliverGateOf s held t
+  pub delivery-none : inTableOk s (holder (s .store) share) t ≡ true → order ≡ Nothing → refuse 2 ≡ deliverGateOf s held t
   delivery-none e f = delivery-order e (ap (openFor (s .store .number)) f)
 
-  pub delivery-kept : (v : Verdict) (k : KeptOrder) → inTableOk s (holder (s .store) h) t ≡ true → openFor (s .store .number) order ≡ true → order ≡ Kept k → v ≡ keptGate s (h .heap) (h .objects) k t → v ≡ deliverGateOf s held t
+  pub delivery-kept : (v : Verdict) (k : KeptOrder) → inTableOk s (holder (s .store) share) t ≡ true → openFor (s .store .number) order ≡ true → order ≡ Kept k → v ≡ keptGate s (share .heap) (share .objects) k t → v ≡ deliverGateOf s held t
   unfolding holding
   delivery-kept v k e f o g =
-      order-kept s held t (h .heap) v k (lent-held e) f o (sym (held-heap (s .store) h order (lent-in s held t (lent-held e) .0 .store .heap))) g
+      order-kept s held t (share .heap) v k (lent-held e) f o (sym (held-heap (s .store) share order (lent-in s held t (lent-held e) .0 .store .heap))) g
 
 -- ---- what it tells
 

@@ -40,12 +40,12 @@ module _ (s : FreeListSettings) (t : Tables) where
   lengths-is count e = rw e refl
 
   -- the share's word on all heaps and its own heap's test are the test of the heaps that hold it
-  pub lent-yes : (h : Share) (b f : Bool) → freeListOk s ≡ true → b ≡ heapOk (h .heap) → f ≡ lengthsOk s t → (h .bounded && (b && f)) ≡ inTableOk s (holder (s .store) h) t
+  pub lent-yes : (share : Share) (b f : Bool) → freeListOk s ≡ true → b ≡ heapOk (share .heap) → f ≡ lengthsOk s t → (share .bounded && (b && f)) ≡ inTableOk s (holder (s .store) share) t
   unfolding inTableOk
-  lent-yes h b f e p q =
-      let k : (h .bounded && b) ≡ heapsOk (holder (s .store) h .heaps) =
-      ap (λ (x : Bool). h .bounded && x) p ∙ sym (held-table (s .store) h (orderBy (h .idle)) (free-list-yes s e .store .heap)) in
-      and-again (h .bounded) b f ∙ (λ j. k j && q j) ∙ rw e refl
+  lent-yes share b f e p q =
+      let k : (share .bounded && b) ≡ heapsOk (holder (s .store) share .heaps) =
+      ap (λ (x : Bool). share .bounded && x) p ∙ sym (held-table (s .store) share (orderBy (share .idle)) (free-list-yes s e .store .heap)) in
+      and-again (share .bounded) b f ∙ (λ j. k j && q j) ∙ rw e refl
     where
       and-again : (x y z : Bool) → (x && (y && z)) ≡ ((x && y) && z)
       and-again true y z = refl
@@ -112,17 +112,17 @@ module _ (s : FreeListSettings) (a : Account) (t : Tables) (list : Bool) where
   gate-rest v e f g = g ∙ rw (e, f) refl
 
 -- the later tests, by the share
-module _ (s : FreeListSettings) (h : Share) (t : Tables) (list : Bool) where
+module _ (s : FreeListSettings) (share : Share) (t : Tables) (list : Bool) where
   abbrev held : Account
-  held = holder (s .store) h
+  held = holder (s .store) share
 
-  pub gate-closed : (inTableOk s held t && list) ≡ true → h .idle ≡ false → refuse 2 ≡ gateOf s held t list
+  pub gate-closed : (inTableOk s held t && list) ≡ true → share .idle ≡ false → refuse 2 ≡ gateOf s held t list
   unfolding holding
-  gate-closed e f = gate-order s held t list e (held-free (h .idle) ∙ f)
+  gate-closed e f = gate-order s held t list e (held-free (share .idle) ∙ f)
 
-  pub gate-open : (v : Verdict) → (inTableOk s held t && list) ≡ true → h .idle ≡ true → v ≡ storeGate s (h .heap) (h .objects) t → v ≡ gateOf s held t list
+  pub gate-open : (v : Verdict) → (inTableOk s held t && list) ≡ true → share .idle ≡ true → v ≡ storeGate s (share .heap) (share .objects) t → v ≡ gateOf s held t list
   unfolding holding
   gate-open v e f g =
       let below = lent-in s held t (and-left (inTableOk s held t) list e) .0 .store .heap in
-      gate-rest s held t list v e (held-free (h .idle) ∙ f)
-      (g ∙ ap (λ (x : Heap). storeGate s x (h .objects) t) (sym (held-heap (s .store) h (orderBy (h .idle)) below)))
+      gate-rest s held t list v e (held-free (share .idle) ∙ f)
+      (g ∙ ap (λ (x : Heap). storeGate s x (share .objects) t) (sym (held-heap (s .store) share (orderBy (share .idle)) below)))

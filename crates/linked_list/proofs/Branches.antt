@@ -69,9 +69,9 @@ module _ (s a : List ℕ) (p q : Bool) (w v : List ℕ) (d : p ≡ settingsOk li
   are-right what mapping r b k h = all-tested listWords s a what mapping p q r d e k ∙ h
 
   -- made: the share read, the call made of it, and what it changed of the account and the answer written
-  module _ (own : FreeListSettings) (h : Share) (c : List ℕ) (t u : Tables) (said : Said) (f : own ≡ listIn s) (g : h ≡ shareOf (own .store) (accountIn a)) where
+  module _ (own : FreeListSettings) (share : Share) (c : List ℕ) (t u : Tables) (said : Said) (f : own ≡ listIn s) (g : share ≡ shareOf (own .store) (accountIn a)) where
     pub ask-made : (size mask : ℕ) → (p && q) ≡ true
-        → out said (askLeft (holder (own .store) h) size mask said) u ≡ askOf own (holder (own .store) h) size mask t
+        → out said (askLeft (holder (own .store) share) size mask said) u ≡ askOf own (holder (own .store) share) size mask t
         → c ≡ askedOut size mask said a → v ≡ saidOut said w → Ends c u w v (linkedAsk s a size mask t)
     unfolding linkedAsk
     ask-made size mask y k m =
@@ -79,12 +79,12 @@ module _ (s a : List ℕ) (p q : Bool) (w v : List ℕ) (d : p ≡ settingsOk li
         (call-made (rightOk s a) a t _ _ (is-right true y)
         (ap (leftBy a)
         (read s own (λ x. askOf x (accountIn a) size mask t) (out said (askLeft (accountIn a) size mask said) u) f
-        (whole-ask (own .store) (accountIn a) said u size mask (holder (own .store) h) _ _ (ask-alike own (accountIn a) (holder (own .store) h) (holds (own .store) a h g) size mask t) k))))
+        (whole-ask (own .store) (accountIn a) said u size mask (holder (own .store) share) _ _ (ask-alike own (accountIn a) (holder (own .store) share) (holds (own .store) a share g) size mask t) k))))
         (m ∙ sym (asked-out a (both-right listWords s a p q d e y .1) size mask said))
 
     pub deliver-made : (what memory mapping : ℕ) (r : Bool) (o : Outcome) (order left-order : OpenOrder) (after : Share) (b : List ℕ)
         → r ≡ outcomeOk what mapping → ((p && q) && r) ≡ true → o ≡ outcomeIn what memory mapping → order ≡ orderIn a
-        → out said (holding (own .store) after left-order) u ≡ deliverOf own (holding (own .store) h order) o t
+        → out said (holding (own .store) after left-order) u ≡ deliverOf own (holding (own .store) share order) o t
         → b ≡ shareOut (own .store .heap) after a → c ≡ orderOut left-order b → v ≡ saidOut said w
         → Ends c u w v (linkedDeliver s a what memory mapping t)
     unfolding linkedDeliver
@@ -93,7 +93,7 @@ module _ (s a : List ℕ) (p q : Bool) (w v : List ℕ) (d : p ≡ settingsOk li
         (call-made (rightOk s a && outcomeOk what mapping) a t _ _ (are-right what mapping r true i y)
         (ap (leftBy a)
         (read s own (λ z. deliverOf z (accountIn a) (outcomeIn what memory mapping) t) (out said (withShare (own .store) (accountIn a) after left-order) u) f
-        (whole-deliver (own .store) (accountIn a) said u after left-order _ _ (deliver-alike own (accountIn a) (holding (own .store) h order) (holds-order (own .store) a h g order x) (order-held (own .store) a h g order x) o t) k
+        (whole-deliver (own .store) (accountIn a) said u after left-order _ _ (deliver-alike own (accountIn a) (holding (own .store) share order) (holds-order (own .store) a share g order x) (order-held (own .store) a share g order x) o t) k
         ∙ ap (λ (z : Outcome). deliverOf own (accountIn a) z t) j))))
         (n ∙ ap (orderOut left-order) m ∙ sym (share-out a (own .store) after left-order))
 
@@ -106,7 +106,7 @@ module _ (s a : List ℕ) (p q : Bool) (w v : List ℕ) (d : p ≡ settingsOk li
       gone-out y m = m ∙ sym (released-out a (both-right listWords s a p q d e y .1) (own .store) after)
 
       pub return-made : (block : Block) → (p && q) ≡ true
-          → listed said (holder (own .store) after) u left-list ≡ returnOf own (holder (own .store) h) block t list
+          → listed said (holder (own .store) after) u left-list ≡ returnOf own (holder (own .store) share) block t list
           → c ≡ shareOut (own .store .heap) after a → v ≡ saidOut said w → Ends c (listing u left-list) w v (linkedReturn s a block t list)
       unfolding linkedReturn
       return-made block y k m =
@@ -114,11 +114,11 @@ module _ (s a : List ℕ) (p q : Bool) (w v : List ℕ) (d : p ≡ settingsOk li
           (call-made (rightOk s a) a (listing t list) _ _ (is-right true y)
           (ap (leftListed a)
           (read s own (λ x. returnOf x (accountIn a) block t list) (listed said gone u left-list) f
-          (whole-listed (own .store) (accountIn a) said u left-list after _ _ (return-alike own (accountIn a) (holder (own .store) h) (holds (own .store) a h g) block t list) k))))
+          (whole-listed (own .store) (accountIn a) said u left-list after _ _ (return-alike own (accountIn a) (holder (own .store) share) (holds (own .store) a share g) block t list) k))))
           (gone-out y m)
 
       pub clean-made : (p && q) ≡ true
-          → listed said (holder (own .store) after) u left-list ≡ cleanUpOf own (holder (own .store) h) t list
+          → listed said (holder (own .store) after) u left-list ≡ cleanUpOf own (holder (own .store) share) t list
           → c ≡ shareOut (own .store .heap) after a → v ≡ saidOut said w → Ends c (listing u left-list) w v (linkedCleanUp s a t list)
       unfolding linkedCleanUp
       clean-made y k m =
@@ -126,7 +126,7 @@ module _ (s a : List ℕ) (p q : Bool) (w v : List ℕ) (d : p ≡ settingsOk li
           (call-made (rightOk s a) a (listing t list) _ _ (is-right true y)
           (ap (leftListed a)
           (read s own (λ x. cleanUpOf x (accountIn a) t list) (listed said gone u left-list) f
-          (whole-listed (own .store) (accountIn a) said u left-list after _ _ (clean-up-alike own (accountIn a) (holder (own .store) h) (holds (own .store) a h g) t list) k))))
+          (whole-listed (own .store) (accountIn a) said u left-list after _ _ (clean-up-alike own (accountIn a) (holder (own .store) share) (holds (own .store) a share g) t list) k))))
           (gone-out y m)
 
   -- not made: the answer alone is written
