@@ -81,33 +81,33 @@ module _ (s : BuddySettings) (head loans chunks index tree : List ℕ) where
 
   -- ---- a delivery
 
-  module _ (k : KeptOrder) (h : Share) (o : OpenOrder) where
+  module _ (k : KeptOrder) (share : Share) (o : OpenOrder) where
     -- the levels grown to n
     module _ (n : ℕ) (d : n ≡ grownTo (levelFor s (k .ask .size) (k .ask .mask)) start) (h₁ r₁ : List ℕ) (e : tables h₁ [] [] [] r₁ ≡ grownTables s n (tables head [] [] [] tree)) where
       -- the chunk is added and lent from
-      pub kept-done : (memory z lev : ℕ) (t′ : Tables) (share paid : Share) (order : OpenOrder) (l : Loan) (said : Said)
+      pub kept-done : (memory z lev : ℕ) (t′ : Tables) (share′ paid : Share) (order : OpenOrder) (l : Loan) (said : Said)
           → z ≡ sizeFor s (k .ask .size) (k .ask .mask) → lev ≡ levelFor s (k .ask .size) (k .ask .mask)
-          → paid ≡ chargedShare h (k .order .size)
+          → paid ≡ chargedShare share (k .order .size)
           → l ≡ loan (getD h₁ givenAt 0 + 1) (chunkTaken s (tables h₁ [] [] [] r₁) .place) 0 z
           → t′ ≡ servedTables s z lev memory (k .order .size) (tables h₁ loans chunks index r₁)
-          → share ≡ paid → order ≡ Nothing → said ≡ blockSaid l → out said (holding (s .store) share order) t′ ≡ carryFate s (holding (s .store) h o) k start (kept memory)
+          → share′ ≡ paid → order ≡ Nothing → said ≡ blockSaid l → out said (holding (s .store) share′ order) t′ ≡ carryFate s (holding (s .store) share o) k start (kept memory)
       unfolding carryFate servedTables
-      kept-done memory z lev t′ share paid order l said p q c m g y v w =
+      kept-done memory z lev t′ share′ paid order l said p q c m g y v w =
           let mid = grown-rest n h₁ r₁ e ∙ (λ j. grownTables s (d j) start) in
           let left = y ∙ c in
-          let a = holding (s .store) h o in
-          let settled = (λ j. holding (s .store) (left j) (v j)) ∙ sym (held-charged (s .store) h o (k .order .size)) in
+          let a = holding (s .store) share o in
+          let settled = (λ j. holding (s .store) (left j) (v j)) ∙ sym (held-charged (s .store) share o (k .order .size)) in
           (λ j. out (w j) (settled j) (g j))
           ∙ (λ j. out (blockSaid (m j)) (chargedAccount (s .store) a (k .order .size)) (servedTables s z lev memory (k .order .size) (mid j)))
           ∙ (λ j. out (blockSaid (loan (getD (mid j .head) givenAt 0 + 1) (chunkTaken s (mid j) .place) 0 (p j))) (chargedAccount (s .store) a (k .order .size)) (servedTables s (p j) (q j) memory (k .order .size) (grownTables s (grownTo (levelFor s (k .ask .size) (k .ask .mask)) start) start)))
 
-      pub lost-done : (c : ℕ) (charged : Bool) (back : List ℕ) (share : Share) (order : OpenOrder) (said : Said)
-          → share ≡ lostShare h (k .order .size) charged back → order ≡ Nothing → said ≡ Paper.refusal c back
-          → out said (holding (s .store) share order) (tables h₁ loans chunks index r₁) ≡ carryFate s (holding (s .store) h o) k start (lost c charged back)
+      pub lost-done : (c : ℕ) (charged : Bool) (back : List ℕ) (share′ : Share) (order : OpenOrder) (said : Said)
+          → share′ ≡ lostShare share (k .order .size) charged back → order ≡ Nothing → said ≡ Paper.refusal c back
+          → out said (holding (s .store) share′ order) (tables h₁ loans chunks index r₁) ≡ carryFate s (holding (s .store) share o) k start (lost c charged back)
       unfolding carryFate
-      lost-done c charged back share order said f v g =
+      lost-done c charged back share′ order said f v g =
           let mid = grown-rest n h₁ r₁ e ∙ (λ j. grownTables s (d j) start) in
-          let settled = (λ j. holding (s .store) (f j) (v j)) ∙ sym (held-lost (s .store) h o (k .order .size) charged back) in
+          let settled = (λ j. holding (s .store) (f j) (v j)) ∙ sym (held-lost (s .store) share o (k .order .size) charged back) in
           (λ j. out (g j) (settled j) (mid j))
 
     -- the same beside tables that were not lent
@@ -130,25 +130,25 @@ module _ (s : BuddySettings) (head loans chunks index tree : List ℕ) where
 
 -- ---- the call
 
-module _ (s : BuddySettings) (h : Share) (order : OpenOrder) (t : Tables) where
-  pub deliver-refused : (n : ℕ) (share : Share) (left : OpenOrder) (said : Said) → share ≡ h → left ≡ order → said ≡ Paper.refusal n []
-      → out said (holding (s .store) share left) t ≡ carryDeliver s (holding (s .store) h order) t (Deliver.deny n)
+module _ (s : BuddySettings) (share : Share) (order : OpenOrder) (t : Tables) where
+  pub deliver-refused : (n : ℕ) (share′ : Share) (left : OpenOrder) (said : Said) → share′ ≡ share → left ≡ order → said ≡ Paper.refusal n []
+      → out said (holding (s .store) share′ left) t ≡ carryDeliver s (holding (s .store) share order) t (Deliver.deny n)
   unfolding carryDeliver
-  deliver-refused n share left said g v w = λ j. out (w j) (holding (s .store) (g j) (v j)) t
+  deliver-refused n share′ left said g v w = λ j. out (w j) (holding (s .store) (g j) (v j)) t
 
-  pub deliver-kept : (x : Out Tables) (k : KeptOrder) (memory : ℕ) → x ≡ carryFate s (holding (s .store) h order) k t (kept memory) → x ≡ carryDeliver s (holding (s .store) h order) t (Deliver.go k (kept memory))
+  pub deliver-kept : (x : Out Tables) (k : KeptOrder) (memory : ℕ) → x ≡ carryFate s (holding (s .store) share order) k t (kept memory) → x ≡ carryDeliver s (holding (s .store) share order) t (Deliver.go k (kept memory))
   unfolding carryDeliver
   deliver-kept x k memory e = e
 
 -- ---- a return
 
-module _ (s : BuddySettings) (h : Share) (b : Block) (t : Tables) (list : List ℕ) where
+module _ (s : BuddySettings) (share : Share) (b : Block) (t : Tables) (list : List ℕ) where
   abbrev held : Account
-  held = holder (s .store) h
+  held = holder (s .store) share
 
-  pub return-refused : (share : Share) (said : Said) (n : ℕ) → share ≡ h → said ≡ Paper.refusal n [] → listed said (holder (s .store) share) t list ≡ carryReturn s held b t list (Return.deny n)
+  pub return-refused : (share′ : Share) (said : Said) (n : ℕ) → share′ ≡ share → said ≡ Paper.refusal n [] → listed said (holder (s .store) share′) t list ≡ carryReturn s held b t list (Return.deny n)
   unfolding carryReturn
-  return-refused share said n same says = λ j. listed (says j) (holder (s .store) (same j)) t list
+  return-refused share′ said n same says = λ j. listed (says j) (holder (s .store) (same j)) t list
 
   module _ (w : ℕ) (f : Freed) (is : f ≡ freedBy s b w t) where
     -- by whether the chunk went
@@ -156,19 +156,19 @@ module _ (s : BuddySettings) (h : Share) (b : Block) (t : Tables) (list : List �
     count-is true e = ap (λ (y : Freed). y .count) is ∙ rw e refl
     count-is false e = ap (λ (y : Freed). y .count) is ∙ rw e refl
 
-    pub return-room : h .objects ≤ objectsMost → (climbFor s b w t .freed ≡ true → h .objects + 1 ≤ objectsMost) → h .objects + f .count ≤ objectsMost
+    pub return-room : share .objects ≤ objectsMost → (climbFor s b w t .freed ≡ true → share .objects + 1 ≤ objectsMost) → share .objects + f .count ≤ objectsMost
     return-room low room = by (climbFor s b w t .freed) refl
       where
-        by : (x : Bool) → climbFor s b w t .freed ≡ x → h .objects + f .count ≤ objectsMost
+        by : (x : Bool) → climbFor s b w t .freed ≡ x → share .objects + f .count ≤ objectsMost
         by true e = let c = count-is true e in omega (arith, c, room e)
         by false e = let c = count-is false e in omega (arith, c, low)
 
-    pub return-done : (t′ : Tables) (list′ : List ℕ) (share : Share) (said : Said) → t′ ≡ givenTables s b w t → list′ ≡ freedList s b w t list
-        → share ≡ releasedShare h (f .count) (f .bytes) → said ≡ Paper.released (f .count)
-        → listed said (holder (s .store) share) t′ list′ ≡ carryReturn s held b t list (Return.back w)
+    pub return-done : (t′ : Tables) (list′ : List ℕ) (share′ : Share) (said : Said) → t′ ≡ givenTables s b w t → list′ ≡ freedList s b w t list
+        → share′ ≡ releasedShare share (f .count) (f .bytes) → said ≡ Paper.released (f .count)
+        → listed said (holder (s .store) share′) t′ list′ ≡ carryReturn s held b t list (Return.back w)
     unfolding carryReturn releasedBy
-    return-done t′ list′ share said g i k l =
-        let left = ap (holder (s .store)) k ∙ sym (held-released (s .store) h (orderBy (h .idle)) (f .count) (f .bytes)) in
+    return-done t′ list′ share′ said g i k l =
+        let left = ap (holder (s .store)) k ∙ sym (held-released (s .store) share (orderBy (share .idle)) (f .count) (f .bytes)) in
         (λ j. listed (l j) (left j) (g j) (i j))
         ∙ (λ j. listed (Paper.released (is j .count)) (releasedAccount (s .store) held (is j .count) (is j .bytes)) (givenTables s b w t) (freedList s b w t list))
         ∙ by (climbFor s b w t .freed) refl

@@ -49,23 +49,23 @@ module _ (s : BuddySettings) (a : Account) (t : Tables) where
   unfolding gateOf
   shut-number list n g = gate-number (inTableOk s a t && list) (noOrder (a .order)) (soundOk s t) (accountOk s a t) n g
 
-pub ask-go : (s : BuddySettings) (h : Share) (size mask : ℕ) (head loans chunks index tree : List ℕ) (p : Plan ℕ)
-    → pass ≡ gateOf s (holder (s .store) h) (tables head loans chunks index tree) true
-    → p ≡ decideAsk s (h .heap) (h .objects) size mask (tables head [] [] index tree) → p ≡ planAsk s (holder (s .store) h) size mask (tables head loans chunks index tree)
+pub ask-go : (s : BuddySettings) (share : Share) (size mask : ℕ) (head loans chunks index tree : List ℕ) (p : Plan ℕ)
+    → pass ≡ gateOf s (holder (s .store) share) (tables head loans chunks index tree) true
+    → p ≡ decideAsk s (share .heap) (share .objects) size mask (tables head [] [] index tree) → p ≡ planAsk s (holder (s .store) share) size mask (tables head loans chunks index tree)
 unfolding planAsk holding
-ask-go s h size mask head loans chunks index tree p g e =
+ask-go s share size mask head loans chunks index tree p g e =
     let t = tables head loans chunks index tree in
-    let below = gate-passed s (holder (s .store) h) t true g .lent .settings .store .heap in
+    let below = gate-passed s (holder (s .store) share) t true g .lent .settings .store .heap in
     e
-    ∙ ask-few s t (h .heap) (h .objects) size mask
-    ∙ ap (λ (x : Heap). decideAsk s x (h .objects) size mask t) (sym (held-heap (s .store) h (orderBy (h .idle)) below))
+    ∙ ask-few s t (share .heap) (share .objects) size mask
+    ∙ ap (λ (x : Heap). decideAsk s x (share .objects) size mask t) (sym (held-heap (s .store) share (orderBy (share .idle)) below))
     ∙ rw (sym g) refl
 
 -- ---- a delivery
 
-module _ (s : BuddySettings) (h : Share) (order : OpenOrder) (o : Outcome) (t : Tables) where
+module _ (s : BuddySettings) (share : Share) (order : OpenOrder) (o : Outcome) (t : Tables) where
   abbrev whole : Account
-  whole = holding (s .store) h order
+  whole = holding (s .store) share order
 
   pub deliver-shut : (v : Verdict) (n : ℕ) → v ≡ refuse n → v ≡ deliverGateOf s whole t → Arrivals.deny n ≡ planDeliver s whole o t
   unfolding planDeliver

@@ -219,11 +219,11 @@ module _ (s : BuddySettings) (a : Account) (b : Block) (t : Tables) (list : List
   returned-object f = gives-object s a b t (listOk (s .store) list) gate on-loan (subst (λ (x : ℕ). climbFor s b x t .freed ≡ true) word-is f)
 
 -- of a share
-returned-held : (s : BuddySettings) (h : Share) (b : Block) (t : Tables) (list : List ℕ) (w : ℕ) → Return.back w ≡ planReturn s (holder (s .store) h) b t (listOk (s .store) list)
-    → climbFor s b w t .freed ≡ true → h .objects + 1 ≤ objectsMost
+returned-held : (s : BuddySettings) (share : Share) (b : Block) (t : Tables) (list : List ℕ) (w : ℕ) → Return.back w ≡ planReturn s (holder (s .store) share) b t (listOk (s .store) list)
+    → climbFor s b w t .freed ≡ true → share .objects + 1 ≤ objectsMost
 unfolding holding
-returned-held s h b t list w e f = returned-object s (holder (s .store) h) b t list w e f
+returned-held s share b t list w e f = returned-object s (holder (s .store) share) b t list w e f
 
-pub return-ready : (s : BuddySettings) (h : Share) (b : Block) (t : Tables) (list : List ℕ) (p : Back) → backOf p ≡ planReturn s (holder (s .store) h) b t (listOk (s .store) list) → ReturnReady s h b t p
-return-ready s h b t list (Back.Refuse r) e = tt
-return-ready s h b t list (Back.From w) e = (returned-backs s (holder (s .store) h) b t list w e, returned-held s h b t list w e)
+pub return-ready : (s : BuddySettings) (share : Share) (b : Block) (t : Tables) (list : List ℕ) (p : Back) → backOf p ≡ planReturn s (holder (s .store) share) b t (listOk (s .store) list) → ReturnReady s share b t p
+return-ready s share b t list (Back.Refuse r) e = tt
+return-ready s share b t list (Back.From w) e = (returned-backs s (holder (s .store) share) b t list w e, returned-held s share b t list w e)

@@ -51,12 +51,12 @@ module _ (s : BuddySettings) (t : Tables) where
       joined (eqb (length (t .head)) headWords) (eqb (length (t .loans)) (loanWords * s .store .loans)) (eqb (length (t .chunks)) (chunkWords * s .store .chunks)) (eqb (length (t .index)) (indexWords (s .store .loans))) (eqb (length (t .tree)) (nodes + s .store .loans))
       ∙ rw e refl
 
-  pub lent-yes : (h : Share) (own f : Bool) → buddyOk s ≡ true → own ≡ heapOk (h .heap) → f ≡ lengthsOk s t → (h .bounded && (own && f)) ≡ inTableOk s (holder (s .store) h) t
+  pub lent-yes : (share : Share) (own f : Bool) → buddyOk s ≡ true → own ≡ heapOk (share .heap) → f ≡ lengthsOk s t → (share .bounded && (own && f)) ≡ inTableOk s (holder (s .store) share) t
   unfolding inTableOk
-  lent-yes h own f e p q =
-      three (h .bounded) own f
-      ∙ (λ j. (h .bounded && p j) && q j)
-      ∙ ap (λ (b : Bool). b && lengthsOk s t) (sym (held-table (s .store) h (orderBy (h .idle)) (buddy-yes s e .store .heap)))
+  lent-yes share own f e p q =
+      three (share .bounded) own f
+      ∙ (λ j. (share .bounded && p j) && q j)
+      ∙ ap (λ (b : Bool). b && lengthsOk s t) (sym (held-table (s .store) share (orderBy (share .idle)) (buddy-yes s e .store .heap)))
       ∙ rw e refl
     where
       three : (a b c : Bool) → (a && (b && c)) ≡ ((a && b) && c)
@@ -64,9 +64,9 @@ module _ (s : BuddySettings) (t : Tables) where
       three false b c = refl
 
   -- whatever order is open
-  pub lent-held : (h : Share) (o p : OpenOrder) → inTableOk s (holding (s .store) h o) t ≡ inTableOk s (holding (s .store) h p) t
+  pub lent-held : (share : Share) (o p : OpenOrder) → inTableOk s (holding (s .store) share o) t ≡ inTableOk s (holding (s .store) share p) t
   unfolding inTableOk holding
-  lent-held h o p = refl
+  lent-held share o p = refl
 
   pub lent-no : (a : Account) → buddyOk s ≡ false → false ≡ inTableOk s a t
   unfolding inTableOk
@@ -128,22 +128,22 @@ module _ (s : BuddySettings) (h : Heap) (objects : ℕ) (t : Tables) where
 pub covered-is : (h : Heap) (objects k n b m : ℕ) (r : Bool) → k ≡ n → b ≡ m → r ≡ coversOk h objects k b → r ≡ coversOk h objects n m
 covered-is h objects k n b m r e f g = g ∙ (λ j. coversOk h objects (e j) (f j))
 
-module _ (s : BuddySettings) (h : Share) (t : Tables) (list : Bool) where
+module _ (s : BuddySettings) (share : Share) (t : Tables) (list : Bool) where
   abbrev held : Account
-  held = holder (s .store) h
+  held = holder (s .store) share
 
   pub gate-lent : (inTableOk s held t && list) ≡ false → refuse 1 ≡ gateOf s held t list
   unfolding gateOf
   gate-lent e = rw e refl
 
-  pub gate-order : (inTableOk s held t && list) ≡ true → h .idle ≡ false → refuse 2 ≡ gateOf s held t list
+  pub gate-order : (inTableOk s held t && list) ≡ true → share .idle ≡ false → refuse 2 ≡ gateOf s held t list
   unfolding gateOf holding
-  gate-order e f = rw (e, held-free (h .idle) ∙ f) refl
+  gate-order e f = rw (e, held-free (share .idle) ∙ f) refl
 
-  pub gate-rest : (v : Verdict) → (inTableOk s held t && list) ≡ true → h .idle ≡ true → v ≡ storeGate s (h .heap) (h .objects) t → v ≡ gateOf s held t list
+  pub gate-rest : (v : Verdict) → (inTableOk s held t && list) ≡ true → share .idle ≡ true → v ≡ storeGate s (share .heap) (share .objects) t → v ≡ gateOf s held t list
   unfolding gateOf storeGate accountOk holding
   gate-rest v e f g =
       let below = lent-in s held t (and-left (inTableOk s held t) list e) .settings .store .heap in
       g
-      ∙ ap (λ (x : Heap). storeGate s x (h .objects) t) (sym (held-heap (s .store) h (orderBy (h .idle)) below))
-      ∙ rw (e, held-free (h .idle) ∙ f) refl
+      ∙ ap (λ (x : Heap). storeGate s x (share .objects) t) (sym (held-heap (s .store) share (orderBy (share .idle)) below))
+      ∙ rw (e, held-free (share .idle) ∙ f) refl

@@ -65,15 +65,15 @@ module _ (s : BuddySettings) (h : Heap) (objects : ℕ) (k : KeptOrder) (t : Tab
   kept-go e f g = rw (e, sym still-is ∙ f, sym (covered-same s h objects t) ∙ g) refl
 
 -- told of the share, whatever order is open
-module _ (s : BuddySettings) (h : Share) (o : OpenOrder) (t : Tables) where
+module _ (s : BuddySettings) (share : Share) (o : OpenOrder) (t : Tables) where
   abbrev lent : Bool
-  lent = inTableOk s (holder (s .store) h) t
+  lent = inTableOk s (holder (s .store) share) t
 
   abbrev held : Account
-  held = holding (s .store) h o
+  held = holding (s .store) share o
 
   lent-same : (b : Bool) → lent ≡ b → inTableOk s held t ≡ b
-  lent-same b e = lent-held s t h o (orderBy (h .idle)) ∙ e
+  lent-same b e = lent-held s t share o (orderBy (share .idle)) ∙ e
 
   pub delivery-lent : lent ≡ false → refuse 1 ≡ deliverGateOf s held t
   unfolding deliverGateOf
@@ -87,12 +87,12 @@ module _ (s : BuddySettings) (h : Share) (o : OpenOrder) (t : Tables) where
   pub delivery-none : lent ≡ true → o ≡ Nothing → refuse 2 ≡ deliverGateOf s held t
   delivery-none e f = delivery-order e (ap (openFor (s .store .number)) f)
 
-  pub delivery-kept : (v : Verdict) (k : KeptOrder) → lent ≡ true → openFor (s .store .number) o ≡ true → o ≡ Kept k → v ≡ keptGate s (h .heap) (h .objects) k t → v ≡ deliverGateOf s held t
+  pub delivery-kept : (v : Verdict) (k : KeptOrder) → lent ≡ true → openFor (s .store .number) o ≡ true → o ≡ Kept k → v ≡ keptGate s (share .heap) (share .objects) k t → v ≡ deliverGateOf s held t
   unfolding deliverGateOf keptGate accountOk holding
   delivery-kept v k e f d g =
-      let below = lent-in s (holder (s .store) h) t e .settings .store .heap in
+      let below = lent-in s (holder (s .store) share) t e .settings .store .heap in
       g
-      ∙ ap (λ (x : Heap). keptGate s x (h .objects) k t) (sym (held-heap (s .store) h o below))
+      ∙ ap (λ (x : Heap). keptGate s x (share .objects) k t) (sym (held-heap (s .store) share o below))
       ∙ rw (lent-same true e, f, ap (stillOk s held t) d) refl
 
 -- ---- of the order that is open

@@ -79,16 +79,16 @@ module _ (s w : List ℕ) (p q : Bool) (ep : p ≡ settingsOk buddyWords s) (eq 
 
   module _ (size mask : ℕ) (t : Tables) where
     -- both are right: of the share that was read, what the ask left of the account is written, and its answer told
-    pub ask-made : (w′ v v′ : List ℕ) (t′ : Tables) (said : Said) (s′ : BuddySettings) (h : Share)
-        → (p && q) ≡ true → s′ ≡ buddyIn s → h ≡ shareOf (s′ .store) (accountIn w)
-        → out said (askLeft (holder (s′ .store) h) size mask said) t′ ≡ askOf s′ (holder (s′ .store) h) size mask t
+    pub ask-made : (w′ v v′ : List ℕ) (t′ : Tables) (said : Said) (s′ : BuddySettings) (share : Share)
+        → (p && q) ≡ true → s′ ≡ buddyIn s → share ≡ shareOf (s′ .store) (accountIn w)
+        → out said (askLeft (holder (s′ .store) share) size mask said) t′ ≡ askOf s′ (holder (s′ .store) share) size mask t
         → w′ ≡ askedOut size mask said w → v′ ≡ saidOut said v → Leaves (linkedAsk s w size mask t) w′ t′ v v′
     unfolding linkedAsk
-    ask-made w′ v v′ t′ said s′ h right es eh r f g =
+    ask-made w′ v v′ t′ said s′ share right es own r f g =
         let o : rightOk s w ≡ true = both true right in
         let a = accountIn w in
-        let b = holder (s′ .store) h in
-        let alike = ask-alike s′ a b (holds (s′ .store) w h eh) size mask t in
+        let b = holder (s′ .store) share in
+        let alike = ask-alike s′ a b (holds (s′ .store) w share own) size mask t in
         let r′ : out said (askLeft a size mask said) t′ ≡ askOf s′ a size mask t = whole-ask (s′ .store) a said t′ size mask b _ _ alike r in
         leaves-made (linkedAsk s w size mask t) w w′ v v′ t′ said (askLeft a size mask said)
         (ap (leftBy w) r′ ∙ (λ j. leftBy w (askOf (es j) a size mask t)) ∙ sym (rw o refl))
@@ -106,21 +106,21 @@ module _ (s w : List ℕ) (p q : Bool) (ep : p ≡ settingsOk buddyWords s) (eq 
     all x e = (λ j. both (p && q) refl j && sym ez j) ∙ e
 
     -- all three are right: the share and the order that the delivery left are written one after the other
-    pub deliver-made : (w″ w′ v v′ : List ℕ) (t′ : Tables) (said : Said) (s′ : BuddySettings) (h h′ : Share) (n n′ : OpenOrder) (o : Outcome)
-        → ((p && q) && z) ≡ true → s′ ≡ buddyIn s → h ≡ shareOf (s′ .store) (accountIn w) → n ≡ orderIn w → o ≡ outcomeIn what memory mapping
-        → out said (holding (s′ .store) h′ n′) t′ ≡ deliverOf s′ (holding (s′ .store) h n) o t
-        → w″ ≡ shareOut (s′ .store .heap) h′ w → w′ ≡ orderOut n′ w″ → v′ ≡ saidOut said v → Leaves (linkedDeliver s w what memory mapping t) w′ t′ v v′
+    pub deliver-made : (w″ w′ v v′ : List ℕ) (t′ : Tables) (said : Said) (s′ : BuddySettings) (share share′ : Share) (n n′ : OpenOrder) (o : Outcome)
+        → ((p && q) && z) ≡ true → s′ ≡ buddyIn s → share ≡ shareOf (s′ .store) (accountIn w) → n ≡ orderIn w → o ≡ outcomeIn what memory mapping
+        → out said (holding (s′ .store) share′ n′) t′ ≡ deliverOf s′ (holding (s′ .store) share n) o t
+        → w″ ≡ shareOut (s′ .store .heap) share′ w → w′ ≡ orderOut n′ w″ → v′ ≡ saidOut said v → Leaves (linkedDeliver s w what memory mapping t) w′ t′ v v′
     unfolding linkedDeliver
-    deliver-made w″ w′ v v′ t′ said s′ h h′ n n′ o right es eh en eo r f f′ g =
+    deliver-made w″ w′ v v′ t′ said s′ share share′ n n′ o right es own en eo r f f′ g =
         let k : (rightOk s w && outcomeOk what mapping) ≡ true = all true right in
         let a = accountIn w in
-        let b = holding (s′ .store) h n in
-        let after = withShare (s′ .store) a h′ n′ in
-        let alike = deliver-alike s′ a b (holds-order (s′ .store) w h eh n en) (order-held (s′ .store) w h eh n en) o t in
-        let r′ : out said after t′ ≡ deliverOf s′ a o t = whole-deliver (s′ .store) a said t′ h′ n′ _ _ alike r in
+        let b = holding (s′ .store) share n in
+        let after = withShare (s′ .store) a share′ n′ in
+        let alike = deliver-alike s′ a b (holds-order (s′ .store) w share own n en) (order-held (s′ .store) w share own n en) o t in
+        let r′ : out said after t′ ≡ deliverOf s′ a o t = whole-deliver (s′ .store) a said t′ share′ n′ _ _ alike r in
         leaves-made (linkedDeliver s w what memory mapping t) w w′ v v′ t′ said after
         (ap (leftBy w) r′ ∙ (λ j. leftBy w (deliverOf (es j) a (eo j) t)) ∙ sym (rw k refl))
-        (f′ ∙ ap (orderOut n′) f ∙ sym (share-out w (s′ .store) h′ n′))
+        (f′ ∙ ap (orderOut n′) f ∙ sym (share-out w (s′ .store) share′ n′))
         g
 
     -- one is not
@@ -132,20 +132,20 @@ module _ (s w : List ℕ) (p q : Bool) (ep : p ≡ settingsOk buddyWords s) (eq 
 
   module _ (b : Block) (t : Tables) (list : List ℕ) where
     -- both are right; the list is left as the return left it
-    pub return-made : (w′ v v′ : List ℕ) (t′ : Tables) (list′ : List ℕ) (said : Said) (s′ : BuddySettings) (h h′ : Share)
-        → (p && q) ≡ true → s′ ≡ buddyIn s → h ≡ shareOf (s′ .store) (accountIn w)
-        → listed said (holder (s′ .store) h′) t′ list′ ≡ returnOf s′ (holder (s′ .store) h) b t list
-        → w′ ≡ shareOut (s′ .store .heap) h′ w → v′ ≡ saidOut said v → Leaves (linkedReturn s w b t list) w′ (listing t′ list′) v v′
+    pub return-made : (w′ v v′ : List ℕ) (t′ : Tables) (list′ : List ℕ) (said : Said) (s′ : BuddySettings) (share share′ : Share)
+        → (p && q) ≡ true → s′ ≡ buddyIn s → share ≡ shareOf (s′ .store) (accountIn w)
+        → listed said (holder (s′ .store) share′) t′ list′ ≡ returnOf s′ (holder (s′ .store) share) b t list
+        → w′ ≡ shareOut (s′ .store .heap) share′ w → v′ ≡ saidOut said v → Leaves (linkedReturn s w b t list) w′ (listing t′ list′) v v′
     unfolding linkedReturn
-    return-made w′ v v′ t′ list′ said s′ h h′ right es eh r f g =
+    return-made w′ v v′ t′ list′ said s′ share share′ right es own r f g =
         let o : rightOk s w ≡ true = both true right in
         let a = accountIn w in
-        let after = withShare (s′ .store) a h′ (orderIn w) in
-        let alike = return-alike s′ a (holder (s′ .store) h) (holds (s′ .store) w h eh) b t list in
-        let r′ : listed said after t′ list′ ≡ returnOf s′ a b t list = whole-listed (s′ .store) a said t′ list′ h′ _ _ alike r in
+        let after = withShare (s′ .store) a share′ (orderIn w) in
+        let alike = return-alike s′ a (holder (s′ .store) share) (holds (s′ .store) w share own) b t list in
+        let r′ : listed said after t′ list′ ≡ returnOf s′ a b t list = whole-listed (s′ .store) a said t′ list′ share′ _ _ alike r in
         leaves-made (linkedReturn s w b t list) w w′ v v′ (listing t′ list′) said after
         (ap (leftListed w) r′ ∙ (λ j. leftListed w (returnOf (es j) a b t list)) ∙ sym (rw o refl))
-        (f ∙ sym (released-out w (account-right right) (s′ .store) h′))
+        (f ∙ sym (released-out w (account-right right) (s′ .store) share′))
         g
 
     -- one is not

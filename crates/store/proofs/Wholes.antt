@@ -19,10 +19,10 @@ module _ {T : Type 0} (s : StoreSettings) (a : Account) (said : Said) (t : T) wh
   whole-ask size mask b r q d e = ap (overAsk size mask a) e ∙ sym d
 
   -- a delivery
-  pub whole-deliver : (h : Share) (o : OpenOrder) (r q : Out T) → q ≡ overOut s a r → out said (holding s h o) t ≡ r → out said (withShare s a h o) t ≡ q
+  pub whole-deliver : (share : Share) (o : OpenOrder) (r q : Out T) → q ≡ overOut s a r → out said (holding s share o) t ≡ r → out said (withShare s a share o) t ≡ q
   unfolding holding
-  whole-deliver h o r q d e = (λ j. out said (sym (over-held s a h o o) j) t) ∙ ap (overOut s a) e ∙ sym d
+  whole-deliver share o r q d e = (λ j. out said (sym (over-held s a share o o) j) t) ∙ ap (overOut s a) e ∙ sym d
 
   -- a return and a clean-up
-  pub whole-listed : (list : List ℕ) (h : Share) (r q : Listed T) → q ≡ overListed s a r → listed said (holder s h) t list ≡ r → listed said (withShare s a h (a .order)) t list ≡ q
-  whole-listed list h r q d e = (λ j. listed said (sym (over-held s a h (orderBy (h .idle)) (a .order)) j) t list) ∙ ap (overListed s a) e ∙ sym d
+  pub whole-listed : (list : List ℕ) (share : Share) (r q : Listed T) → q ≡ overListed s a r → listed said (holder s share) t list ≡ r → listed said (withShare s a share (a .order)) t list ≡ q
+  whole-listed list share r q d e = (λ j. listed said (sym (over-held s a share (orderBy (share .idle)) (a .order)) j) t list) ∙ ap (overListed s a) e ∙ sym d

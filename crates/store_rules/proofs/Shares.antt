@@ -54,91 +54,91 @@ unfolding heapsUpto
 others-table true = refl
 others-table false = refl
 
-module _ (s : StoreSettings) (h : Share) where
+module _ (s : StoreSettings) (share : Share) where
   abbrev blank : Account
-  blank = record { heaps = others (h .bounded); objects = 0; order = Nothing }
+  blank = record { heaps = others (share .bounded); objects = 0; order = Nothing }
 
-  sixteen : length (others (h .bounded)) ≡ heapsMost
-  sixteen = by (h .bounded)
+  sixteen : length (others (share .bounded)) ≡ heapsMost
+  sixteen = by (share .bounded)
     where
       by : (b : Bool) → length (others b) ≡ heapsMost
       by true = refl
       by false = refl
 
   -- its heap is the share's
-  pub held-heap : (o : OpenOrder) → s .heap < heapsMost → heapAt (holding s h o) (s .heap) ≡ h .heap
+  pub held-heap : (o : OpenOrder) → s .heap < heapsMost → heapAt (holding s share o) (s .heap) ≡ share .heap
   unfolding holding
-  held-heap o below = settled-own blank (s .heap) (h .heap) (h .objects) o below (subst (λ (n : ℕ). s .heap < n) (sym sixteen) below)
+  held-heap o below = settled-own blank (s .heap) (share .heap) (share .objects) o below (subst (λ (n : ℕ). s .heap < n) (sym sixteen) below)
 
   -- settled, it holds what it is settled with
-  pub held-settled : (o p : OpenOrder) (free : Bool) (g : Heap) (n : ℕ) → settledOf (holding s h o) (s .heap) g n p ≡ holding s (record { bounded = h .bounded; idle = free; heap = g; objects = n }) p
+  pub held-settled : (o p : OpenOrder) (free : Bool) (g : Heap) (n : ℕ) → settledOf (holding s share o) (s .heap) g n p ≡ holding s (record { bounded = share .bounded; idle = free; heap = g; objects = n }) p
   unfolding holding
-  held-settled o p free g n = settled-again blank (s .heap) (h .heap) g (h .objects) n o p
+  held-settled o p free g n = settled-again blank (s .heap) (share .heap) g (share .objects) n o p
 
   -- by what is done to its heap
   held-changed : (f : Heap → Heap) (o p : OpenOrder) (free : Bool) (n : ℕ)
-      → settledOf (holding s h o) (s .heap) (f (heapAt (holding s h o) (s .heap))) n p ≡ holding s (record { bounded = h .bounded; idle = free; heap = f (h .heap); objects = n }) p
+      → settledOf (holding s share o) (s .heap) (f (heapAt (holding s share o) (s .heap))) n p ≡ holding s (record { bounded = share .bounded; idle = free; heap = f (share .heap); objects = n }) p
   held-changed f o p free n =
       ⊎-elim
-      (λ below. ap (λ (g : Heap). settledOf (holding s h o) (s .heap) (f g) n p) (held-heap o below) ∙ held-settled o p free (f (h .heap)) n)
-      (λ past. settled-none (holding s h o) (s .heap) past (f (heapAt (holding s h o) (s .heap))) (f (h .heap)) n p ∙ held-settled o p free (f (h .heap)) n)
+      (λ below. ap (λ (g : Heap). settledOf (holding s share o) (s .heap) (f g) n p) (held-heap o below) ∙ held-settled o p free (f (share .heap)) n)
+      (λ past. settled-none (holding s share o) (s .heap) past (f (heapAt (holding s share o) (s .heap))) (f (share .heap)) n p ∙ held-settled o p free (f (share .heap)) n)
       (lt-or-le (s .heap) heapsMost)
 
-  pub held-charged : (o : OpenOrder) (z : ℕ) → chargedAccount s (holding s h o) z ≡ holding s (chargedShare h z) Nothing
+  pub held-charged : (o : OpenOrder) (z : ℕ) → chargedAccount s (holding s share o) z ≡ holding s (chargedShare share z) Nothing
   unfolding chargedAccount holding
-  held-charged o z = held-changed (λ (g : Heap). chargedOf g z) o Nothing true (h .objects - 1)
+  held-charged o z = held-changed (λ (g : Heap). chargedOf g z) o Nothing true (share .objects - 1)
 
-  pub held-back : (o : OpenOrder) (z : ℕ) → backAccount s (holding s h o) z ≡ holding s (backShare h z) Nothing
+  pub held-back : (o : OpenOrder) (z : ℕ) → backAccount s (holding s share o) z ≡ holding s (backShare share z) Nothing
   unfolding backAccount holding
-  held-back o z = held-changed (λ (g : Heap). releasedOf (chargedOf g z) z) o Nothing true (h .objects)
+  held-back o z = held-changed (λ (g : Heap). releasedOf (chargedOf g z) z) o Nothing true (share .objects)
 
-  pub held-lost : (o : OpenOrder) (z : ℕ) (charged : Bool) (back : List ℕ) → lostAccount s (holding s h o) z charged back ≡ holding s (lostShare h z charged back) Nothing
+  pub held-lost : (o : OpenOrder) (z : ℕ) (charged : Bool) (back : List ℕ) → lostAccount s (holding s share o) z charged back ≡ holding s (lostShare share z charged back) Nothing
   unfolding lostAccount holding
-  held-lost o z false back = held-changed (λ (g : Heap). g) o Nothing true (h .objects)
-  held-lost o z true [] = held-changed (λ (g : Heap). chargedOf g z) o Nothing true (h .objects - 1)
-  held-lost o z true (m ∷ back) = held-changed (λ (g : Heap). releasedOf (chargedOf g z) z) o Nothing true (h .objects)
+  held-lost o z false back = held-changed (λ (g : Heap). g) o Nothing true (share .objects)
+  held-lost o z true [] = held-changed (λ (g : Heap). chargedOf g z) o Nothing true (share .objects - 1)
+  held-lost o z true (m ∷ back) = held-changed (λ (g : Heap). releasedOf (chargedOf g z) z) o Nothing true (share .objects)
 
-  pub held-released : (o : OpenOrder) (n bytes : ℕ) → releasedAccount s (holding s h o) n bytes ≡ holding s (releasedShare h n bytes) o
+  pub held-released : (o : OpenOrder) (n bytes : ℕ) → releasedAccount s (holding s share o) n bytes ≡ holding s (releasedShare share n bytes) o
   unfolding releasedAccount holding
-  held-released o n bytes = held-changed (λ (g : Heap). releasedOf g bytes) o o (h .idle) (h .objects + n)
+  held-released o n bytes = held-changed (λ (g : Heap). releasedOf g bytes) o o (share .idle) (share .objects + n)
 
   -- ---- its heaps are in the table
 
-  blank-heap : (j : ℕ) → j < heapsMost → getD (others (h .bounded)) j noHeap ≡ cond (h .bounded) noHeap overHeap
-  blank-heap j q = by (h .bounded)
+  blank-heap : (j : ℕ) → j < heapsMost → getD (others (share .bounded)) j noHeap ≡ cond (share .bounded) noHeap overHeap
+  blank-heap j q = by (share .bounded)
     where
       by : (b : Bool) → getD (others b) j noHeap ≡ cond b noHeap overHeap
       by true = getD-replicate heapsMost j noHeap noHeap q
       by false = getD-replicate heapsMost j overHeap noHeap q
 
-  pub held-table : (o : OpenOrder) → s .heap < heapsMost → heapsOk (holding s h o .heaps) ≡ (h .bounded && heapOk (h .heap))
+  pub held-table : (o : OpenOrder) → s .heap < heapsMost → heapsOk (holding s share o .heaps) ≡ (share .bounded && heapOk (share .heap))
   unfolding holding
-  held-table o below = same-test (heapsOk (holding s h o .heaps)) (h .bounded && heapOk (h .heap)) yes all
+  held-table o below = same-test (heapsOk (holding s share o .heaps)) (share .bounded && heapOk (share .heap)) yes all
     where
-      own : heapsOk (holding s h o .heaps) ≡ true → heapOk (h .heap) ≡ true
-      own e = sym (ap heapOk (held-heap o below)) ∙ own-in (holding s h o) (s .heap) below e
+      own : heapsOk (holding s share o .heaps) ≡ true → heapOk (share .heap) ≡ true
+      own e = sym (ap heapOk (held-heap o below)) ∙ own-in (holding s share o) (s .heap) below e
 
       -- of the first two one is another
-      one : heapsOk (holding s h o .heaps) ≡ true → (j : ℕ) → j < heapsMost → (j ≡ s .heap → ⊥) → heapOk (cond (h .bounded) noHeap overHeap) ≡ true
+      one : heapsOk (holding s share o .heaps) ≡ true → (j : ℕ) → j < heapsMost → (j ≡ s .heap → ⊥) → heapOk (cond (share .bounded) noHeap overHeap) ≡ true
       one e j q n =
-          let k : heapAt blank j ≡ cond (h .bounded) noHeap overHeap = rw (lt-ltb j heapsMost q) (blank-heap j q) in
-          sym (ap heapOk (settled-other blank (s .heap) (h .heap) (h .objects) o j n ∙ k)) ∙ own-in (holding s h o) j q e
+          let k : heapAt blank j ≡ cond (share .bounded) noHeap overHeap = rw (lt-ltb j heapsMost q) (blank-heap j q) in
+          sym (ap heapOk (settled-other blank (s .heap) (share .heap) (share .objects) o j n ∙ k)) ∙ own-in (holding s share o) j q e
 
       tabled : (b : Bool) → heapOk (cond b noHeap overHeap) ≡ true → b ≡ true
       tabled true e = refl
       tabled false e = e
 
-      yes : heapsOk (holding s h o .heaps) ≡ true → (h .bounded && heapOk (h .heap)) ≡ true
+      yes : heapsOk (holding s share o .heaps) ≡ true → (share .bounded && heapOk (share .heap)) ≡ true
       yes e =
-          and-both (h .bounded) (heapOk (h .heap))
-          (tabled (h .bounded)
+          and-both (share .bounded) (heapOk (share .heap))
+          (tabled (share .bounded)
           (⊎-elim (λ z. one e 1 (omega arith) (λ q. absurd (omega (arith, z, q)))) (λ n. one e 0 (omega arith) (λ q. n (sym q))) (same? (s .heap) 0)))
           (own e)
 
-      all : (h .bounded && heapOk (h .heap)) ≡ true → heapsOk (holding s h o .heaps) ≡ true
+      all : (share .bounded && heapOk (share .heap)) ≡ true → heapsOk (holding s share o .heaps) ≡ true
       all e =
-          settled-heaps blank (s .heap) (h .heap) (h .objects) o below (and-right (h .bounded) _ e)
-          (others-table (h .bounded) ∙ and-left (h .bounded) _ e)
+          settled-heaps blank (s .heap) (share .heap) (share .objects) o below (and-right (share .bounded) _ e)
+          (others-table (share .bounded) ∙ and-left (share .bounded) _ e)
 
 -- no order is open where the share says so
 pub held-free : (b : Bool) → noOrder (orderBy b) ≡ b
@@ -182,11 +182,11 @@ module _ (s : StoreSettings) (a : Account) where
   holder-alike = held-alike (orderBy (noOrder (a .order))) (sym (held-free (noOrder (a .order))))
 
   -- what is left of a share, in the account itself
-  pub over-held : (h : Share) (o p : OpenOrder) → takenOver s a (holding s h o) p ≡ withShare s a h p
+  pub over-held : (share : Share) (o p : OpenOrder) → takenOver s a (holding s share o) p ≡ withShare s a share p
   unfolding holding
-  over-held h o p =
-      ⊎-elim (λ below. ap (λ (g : Heap). settledOf a (s .heap) g (h .objects) p) (held-heap s h o below))
-      (λ past. settled-none a (s .heap) past (heapAt (holding s h o) (s .heap)) (h .heap) (h .objects) p)
+  over-held share o p =
+      ⊎-elim (λ below. ap (λ (g : Heap). settledOf a (s .heap) g (share .objects) p) (held-heap s share o below))
+      (λ past. settled-none a (s .heap) past (heapAt (holding s share o) (s .heap)) (share .heap) (share .objects) p)
       (lt-or-le (s .heap) heapsMost)
 
   module _ (b : Account) (alike : Alike s a b) where

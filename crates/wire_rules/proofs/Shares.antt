@@ -74,44 +74,44 @@ module _ (w : List ℕ) where
   read-share s table g n e f k = rw (e, f, k, free-read)
 
 -- what was read of an account, held by an account that has nothing else
-module _ (s : StoreSettings) (w : List ℕ) (h : Share) (e : h ≡ shareOf s (accountIn w)) where
-  pub holds : Alike s (accountIn w) (holder s h)
+module _ (s : StoreSettings) (w : List ℕ) (share : Share) (e : share ≡ shareOf s (accountIn w)) where
+  pub holds : Alike s (accountIn w) (holder s share)
   holds = subst (λ (x : Share). Alike s (accountIn w) (holder s x)) (sym e) (holder-alike s (accountIn w))
 
   -- with the order too
   module _ (o : OpenOrder) (f : o ≡ orderIn w) where
-    pub holds-order : Alike s (accountIn w) (holding s h o)
+    pub holds-order : Alike s (accountIn w) (holding s share o)
     holds-order = subst (λ (x : Share). Alike s (accountIn w) (holding s x o)) (sym e) (held-alike s (accountIn w) o (ap noOrder (sym f)))
 
-    pub order-held : accountIn w .order ≡ holding s h o .order
+    pub order-held : accountIn w .order ≡ holding s share o .order
     unfolding holding
     order-held = sym f
 
 -- ---- as the code writes one
 
-module _ (i : ℕ) (h : Share) (w v : List ℕ) where
+module _ (i : ℕ) (share : Share) (w v : List ℕ) where
   -- the heap's part
   abbrev pub ownOut : List ℕ
-  ownOut = cond (ltb i heapsMost) (heapOut (h .heap) i w) w
+  ownOut = cond (ltb i heapsMost) (heapOut (share .heap) i w) w
 
-  pub put-own : i < heapsMost → v ≡ heapOut (h .heap) i w → v ≡ ownOut
+  pub put-own : i < heapsMost → v ≡ heapOut (share .heap) i w → v ≡ ownOut
   put-own l e = rw (lt-ltb i heapsMost l) e
 
   pub put-past : heapsMost ≤ i → v ≡ w → v ≡ ownOut
   put-past l e = rw (le-ltb i heapsMost l) e
 
   -- and the objects
-  pub put-share : (u : List ℕ) → v ≡ ownOut → u ≡ set v objectsAt (h .objects) → u ≡ shareOut i h w
+  pub put-share : (u : List ℕ) → v ≡ ownOut → u ≡ set v objectsAt (share .objects) → u ≡ shareOut i share w
   unfolding shareOut
-  put-share u e f = f ∙ ap (λ (x : List ℕ). set x objectsAt (h .objects)) e
+  put-share u e f = f ∙ ap (λ (x : List ℕ). set x objectsAt (share .objects)) e
 
-pub share-length : (i : ℕ) (h : Share) (w : List ℕ) → length (shareOut i h w) ≡ length w
+pub share-length : (i : ℕ) (share : Share) (w : List ℕ) → length (shareOut i share w) ≡ length w
 unfolding shareOut
-share-length i h w =
-    length-set (cond (ltb i heapsMost) (heapOut (h .heap) i w) w) objectsAt (h .objects) ∙ by (ltb i heapsMost)
+share-length i share w =
+    length-set (cond (ltb i heapsMost) (heapOut (share .heap) i w) w) objectsAt (share .objects) ∙ by (ltb i heapsMost)
   where
-    by : (b : Bool) → length (cond b (heapOut (h .heap) i w) w) ≡ length w
-    by true = heap-length (h .heap) i w
+    by : (b : Bool) → length (cond b (heapOut (share .heap) i w) w) ≡ length w
+    by true = heap-length (share .heap) i w
     by false = refl
 
 -- ---- what is left of the whole account
@@ -152,35 +152,35 @@ module _ (w : List ℕ) where
       ∙ ap (λ (x : Heap). heapOut x i w) (getD-set-same (heapsIn w heapsMost) i g noHeap (omega (arith, heaps-many w heapsMost)))
 
   -- the account with a share and an order in it
-  pub share-out : (s : StoreSettings) (h : Share) (o : OpenOrder) → accountOut (withShare s (accountIn w) h o) w ≡ orderOut o (shareOut (s .heap) h w)
+  pub share-out : (s : StoreSettings) (share : Share) (o : OpenOrder) → accountOut (withShare s (accountIn w) share o) w ≡ orderOut o (shareOut (s .heap) share w)
   unfolding accountOut shareOut
-  share-out s h o =
-      ap (λ (v : List ℕ). orderOut o (set v objectsAt (h .objects))) (one-heap (s .heap) (h .heap) (ltb (s .heap) heapsMost) refl)
+  share-out s share o =
+      ap (λ (v : List ℕ). orderOut o (set v objectsAt (share .objects))) (one-heap (s .heap) (share .heap) (ltb (s .heap) heapsMost) refl)
 
   -- ---- the order stays where a share is written
 
-  module _ (i : ℕ) (h : Share) where
-    share-past : (k : ℕ) → objectsAt < k → getD (shareOut i h w) k 0 ≡ getD w k 0
+  module _ (i : ℕ) (share : Share) where
+    share-past : (k : ℕ) → objectsAt < k → getD (shareOut i share w) k 0 ≡ getD w k 0
     unfolding shareOut
     share-past k l =
-        getD-set-other (cond (ltb i heapsMost) (heapOut (h .heap) i w) w) objectsAt k (h .objects) 0 (λ e. omega arith)
+        getD-set-other (cond (ltb i heapsMost) (heapOut (share .heap) i w) w) objectsAt k (share .objects) 0 (λ e. omega arith)
         ∙ by (ltb i heapsMost) refl
       where
-        by : (b : Bool) → ltb i heapsMost ≡ b → getD (cond b (heapOut (h .heap) i w) w) k 0 ≡ getD w k 0
+        by : (b : Bool) → ltb i heapsMost ≡ b → getD (cond b (heapOut (share .heap) i w) w) k 0 ≡ getD w k 0
         by false e = refl
-        by true e = let below : i < heapsMost = ltb-true i heapsMost e in heap-other (h .heap) i w k (λ f lf q. omega arith)
+        by true e = let below : i < heapsMost = ltb-true i heapsMost e in heap-other (share .heap) i w k (λ f lf q. omega arith)
 
-    order-past : orderIn (shareOut i h w) ≡ orderIn w
+    order-past : orderIn (shareOut i share w) ≡ orderIn w
     unfolding orderIn
     order-past =
         rw (share-past openAt (omega arith), share-past orderStoreAt (omega arith), share-past orderSizeAt (omega arith), share-past orderMemtypeAt (omega arith), share-past orderMapAt (omega arith), share-past askSizeAt (omega arith), share-past askMaskAt (omega arith))
 
-    pub order-kept-out : accountOk w ≡ true → orderOut (orderIn w) (shareOut i h w) ≡ shareOut i h w
+    pub order-kept-out : accountOk w ≡ true → orderOut (orderIn w) (shareOut i share w) ≡ shareOut i share w
     order-kept-out ok =
         let r = right-yes w ok in
-        ap (λ (o : OpenOrder). orderOut o (shareOut i h w)) (sym order-past)
-        ∙ order-stays (shareOut i h w) (omega (arith, share-past openAt (omega arith), r .opened-most)) (omega (arith, share-past orderMapAt (omega arith), r .map-most))
+        ap (λ (o : OpenOrder). orderOut o (shareOut i share w)) (sym order-past)
+        ∙ order-stays (shareOut i share w) (omega (arith, share-past openAt (omega arith), r .opened-most)) (omega (arith, share-past orderMapAt (omega arith), r .map-most))
 
   -- so what a return or a clean-up leaves of the account is the share
-  pub released-out : accountOk w ≡ true → (s : StoreSettings) (h : Share) → accountOut (withShare s (accountIn w) h (orderIn w)) w ≡ shareOut (s .heap) h w
-  released-out ok s h = share-out s h (orderIn w) ∙ order-kept-out (s .heap) h ok
+  pub released-out : accountOk w ≡ true → (s : StoreSettings) (share : Share) → accountOut (withShare s (accountIn w) share (orderIn w)) w ≡ shareOut (s .heap) share w
+  released-out ok s share = share-out s share (orderIn w) ∙ order-kept-out (s .heap) share ok
