@@ -1,12 +1,11 @@
 //! The archives' functions, and safe calls of them over slices.
 //!
 //! A slice goes as two arguments, where it begins and how many words it has. Both engines have
-//! five tables, and lend them in an order of their own, which is the order of `Tables` here: a
-//! free list's are head, loans, chunks, regions and index, a buddy's head, loans, chunks, index
-//! and tree. So one type serves each call of both. A table that a call only reads is lent to be
-//! written like the others.
+//! five tables and lend them in one order: head, loans, chunks, index and room, which is a free
+//! list's regions and a buddy's tree. So one type serves each call of both. A table that a call
+//! only reads is lent to be written like the others.
 
-/// A store's tables, in its engine's order.
+/// A store's tables, in that order.
 pub type Tables = [Vec<u64>; 5];
 /// The words of an answer.
 pub type Answer = [u64; 6];
@@ -131,7 +130,7 @@ extern "C" {
     fn tibrezkam_list_clean_up(
         settings: Read, _: usize, account: Lent, _: usize,
         head: Lent, _: usize, loans: Lent, _: usize, chunks: Lent, _: usize,
-        regions: Lent, _: usize, index: Lent, _: usize, list: Lent, _: usize,
+        index: Lent, _: usize, regions: Lent, _: usize, list: Lent, _: usize,
         answer: Lent, _: usize,
     );
 }

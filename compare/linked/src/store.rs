@@ -167,9 +167,9 @@ fn outcome_words(outcome: Outcome, memory: u64) -> OutcomeWords {
     }
 }
 
-/// Words of head, loans, chunks, regions and index.
+/// Words of head, loans, chunks, index and regions.
 fn list_lengths(loans: usize, chunks: usize) -> [usize; 5] {
-    [6, 4 * loans, 3 * chunks, 3 * (loans + chunks) + 1, 1 + 3 * loans]
+    [6, 4 * loans, 3 * chunks, 1 + 3 * loans, 3 * (loans + chunks) + 1]
 }
 
 /// Words of head, loans, chunks, index and tree: levels of pairs, chunk places, loans' nodes.

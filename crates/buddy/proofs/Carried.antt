@@ -46,7 +46,7 @@ module _ (s : BuddySettings) (head loans chunks index tree : List ℕ) where
   -- growing looks at head and tree alone
   grown-rest : (n : ℕ) (h₁ r₁ : List ℕ) → tables h₁ [] [] [] r₁ ≡ grownTables s n (tables head [] [] [] tree) → tables h₁ loans chunks index r₁ ≡ grownTables s n start
   unfolding grownTables
-  grown-rest n h₁ r₁ e = ap (λ (t : Tables). tables (t .head) loans chunks index (t .tree)) e
+  grown-rest n h₁ r₁ e = ap (λ (t : Tables). tables (t .head) loans chunks index (t .room)) e
 
   -- ---- an ask
 
@@ -67,7 +67,7 @@ module _ (s : BuddySettings) (head loans chunks index tree : List ℕ) where
         → w ≡ blockSaid l → out w (askLeft a size mask w) (tables h′ l′ chunks i′ r′) ≡ carryAsk s a size mask start (take i)
     unfolding carryAsk takenTables bookedTables
     ask-taken i z lev l w h′ l′ i′ r′ p q f t k =
-        (λ j. out (k j) (askLeft a size mask (k j)) (tables (t j .head) (t j .loans) chunks (t j .index) (t j .tree)))
+        (λ j. out (k j) (askLeft a size mask (k j)) (tables (t j .head) (t j .loans) chunks (t j .index) (t j .room)))
         ∙ (λ j. out (blockSaid (f j)) a (takenTables s z lev start i))
         ∙ (λ j. out (blockSaid (loanFrom s (p j) start i)) a (takenTables s (p j) (q j) start i))
 
@@ -115,7 +115,7 @@ module _ (s : BuddySettings) (head loans chunks index tree : List ℕ) where
         → out said account (tables h₁ [] [] [] r₁) ≡ carryFate s a k (tables head [] [] [] tree) (lost n charged back)
         → out said account (tables h₁ loans chunks index r₁) ≡ carryDeliver s a start (Deliver.go k (lost n charged back))
     unfolding carryDeliver carryFate grownTables
-    lost-beside a n charged back h₁ r₁ account said e = ap (λ (x : Out Tables). out (x .said) (x .account) (tables (x .tables .head) loans chunks index (x .tables .tree))) e
+    lost-beside a n charged back h₁ r₁ account said e = ap (λ (x : Out Tables). out (x .said) (x .account) (tables (x .tables .head) loans chunks index (x .tables .room))) e
 
   -- the grown tables that the code left are ready for the chunk, at the places that were found before
   module _ (k : KeptOrder) (b : Buying) (has : KeptBuys s k start b) (more : getD head levelsAt 0 ≤ b .levels) (most : b .levels ≤ levelsMost) (h₁ r₁ : List ℕ) (e : tables h₁ [] [] [] r₁ ≡ grownTables s (b .levels) (tables head [] [] [] tree)) where

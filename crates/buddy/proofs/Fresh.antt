@@ -18,7 +18,7 @@ use Rattle.slab.specs.Slab.{nowhere}
 use Rattle.book_rules.specs.Book.{freshIndex}
 use Rattle.buddy_rules.specs.Tables.{Tables, tables, headWords, chunksFrom, initialLevels, lengthsOk}
 use Rattle.buddy_outcomes.specs.Ask.{freshLevels}
-use Rattle.buddy_outcomes.specs.SetUp.{setUp, freshHead, freshTables, fitOk, planSetUp, carrySetUp, setUpOf}
+use Rattle.buddy_outcomes.specs.SetUp.{begun, freshHead, freshTables, fitOk, planSetUp, carrySetUp, setUpOf}
 use Rattle.buddy_outcomes.proofs.Passing.{lengths-are}
 use Rattle.buddy.specs.Ready.{SetUpReady}
 
@@ -45,14 +45,14 @@ module _ (s : BuddySettings) (t : Tables) where
 
   -- ---- carried out
 
-  pub set-up-refused : (n : ℕ) → setUp (Paper.refusal n []) t ≡ carrySetUp s t (refuse n)
+  pub set-up-refused : (n : ℕ) → begun (Paper.refusal n []) t ≡ carrySetUp s t (refuse n)
   unfolding carrySetUp
   set-up-refused n = refl
 
-  pub set-up-done : (h′ i′ r′ : List ℕ) → h′ ≡ freshHead s → r′ ≡ set (freshLevels s 0 (initialLevels s) (t .tree)) (chunksFrom s) nowhere → i′ ≡ freshIndex (t .index)
-      → setUp Paper.ready (tables h′ (t .loans) (t .chunks) i′ r′) ≡ carrySetUp s t pass
+  pub set-up-done : (h′ i′ r′ : List ℕ) → h′ ≡ freshHead s → r′ ≡ set (freshLevels s 0 (initialLevels s) (t .room)) (chunksFrom s) nowhere → i′ ≡ freshIndex (t .index)
+      → begun Paper.ready (tables h′ (t .loans) (t .chunks) i′ r′) ≡ carrySetUp s t pass
   unfolding carrySetUp freshTables
-  set-up-done h′ i′ r′ h r i = λ j. setUp Paper.ready (tables (h j) (t .loans) (t .chunks) (i j) (r j))
+  set-up-done h′ i′ r′ h r i = λ j. begun Paper.ready (tables (h j) (t .loans) (t .chunks) (i j) (r j))
 
   pub set-up-called : (v : Verdict) → v ≡ planSetUp s t → carrySetUp s t v ≡ setUpOf s t
   unfolding setUpOf

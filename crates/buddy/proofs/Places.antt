@@ -31,9 +31,9 @@ module _ (s : BuddySettings) (t : Tables) (n : ℕ) where
   pub grown-taken : levelsIn t ≤ n → n ≤ levelsMost → chunkTaken s (grownTables s n t) ≡ chunkTaken s t
   unfolding grownTables
   grown-taken more most =
-      let made = freshened s (levelsIn t) (n - levelsIn t) (t .tree) (omega arith) in
-      let u : List ℕ = freshLevels s (levelsIn t) (n - levelsIn t) (t .tree) in
+      let made = freshened s (levelsIn t) (n - levelsIn t) (t .room) (omega arith) in
+      let u : List ℕ = freshLevels s (levelsIn t) (n - levelsIn t) (t .room) in
       let a : getD (set (t .head) levelsAt n) chunkPlacesAt 0 ≡ getD (t .head) chunkPlacesAt 0 = getD-set-other (t .head) levelsAt chunkPlacesAt n 0 (λ e. omega arith) in
-      let b : getD u (chunksFrom s) 0 ≡ getD (t .tree) (chunksFrom s) 0 = made .past (chunksFrom s) (omega arith) in
+      let b : getD u (chunksFrom s) 0 ≡ getD (t .room) (chunksFrom s) 0 = made .past (chunksFrom s) (omega arith) in
       (λ j. inserted (record { places = a j; vacant = b j }) u (placeAt s afterAt) placeWords)
-      ∙ inserted-same (chunkSlab s t) u (t .tree) (placeAt s afterAt) placeWords (made .past (cellOf (placeAt s afterAt) placeWords (chunkSlab s t .vacant)) (omega arith))
+      ∙ inserted-same (chunkSlab s t) u (t .room) (placeAt s afterAt) placeWords (made .past (cellOf (placeAt s afterAt) placeWords (chunkSlab s t .vacant)) (omega arith))

@@ -16,7 +16,7 @@ ghost use Rattle.buddy_rules.specs.Tables.{tables};
 ghost use Rattle.buddy_outcomes.specs.Ask.{carryAsk};
 ghost use Rattle.buddy_outcomes.specs.Deliver.{carryFate, carryDeliver};
 ghost use Rattle.buddy_outcomes.specs.Return.{carryReturn};
-ghost use Rattle.buddy_outcomes.specs.SetUp.{setUp, carrySetUp};
+ghost use Rattle.buddy_outcomes.specs.SetUp.{begun, carrySetUp};
 ghost use Rattle.buddy_decide.specs.Plans.{planOf, Planned};
 ghost use Rattle.buddy.specs.Deliveries.{deliveryOf};
 ghost use Rattle.buddy.specs.Ready.{SetUpReady, AskReady, KeepReady, LoseReady, ComingReady, DeliverReady, ReturnReady};
@@ -49,7 +49,7 @@ pub fn carry_set_up(
     tree: &mut [u64],
 ) -> SetUpAnswer
     requires { ⌜ SetUpReady s (now head) plan ⌝ }
-    ensures { λ r. ⌜ ((loans chunks : List ℕ) → setUp (setUpSaid r) (tables (now (head .exit)) loans chunks (now (index .exit)) (now (tree .exit))) ≡ carrySetUp s (tables (now (head .entry)) loans chunks (now (index .entry)) (now (tree .entry))) (verdictOf plan)) ⌝ }
+    ensures { λ r. ⌜ ((loans chunks : List ℕ) → begun (setUpSaid r) (tables (now (head .exit)) loans chunks (now (index .exit)) (now (tree .exit))) ≡ carrySetUp s (tables (now (head .entry)) loans chunks (now (index .entry)) (now (tree .entry))) (verdictOf plan)) ⌝ }
 {
     match plan {
         Gate::Shut(refusal) => SetUpAnswer::Refused(Refused {

@@ -37,13 +37,13 @@ module _ (s : BuddySettings) (b : Block) (w : ℕ) (head loans chunks index tree
   abbrev Climb : Climbed
   Climb = climbFor s b w (tables head [] [] index tree)
 
-  module _ (out : freed ≡ Climb .freed) (rose : t₁ ≡ Climb .tree) where
+  module _ (out : freed ≡ Climb .freed) (rose : t₁ ≡ Climb .room) where
     abbrev after : Climbed → Tables
     after x =
         tables head (struck w index loans)
         (cond (x .freed) (set chunks (cellOf chunkSizeAt chunkWords (b .chunk)) 0) chunks)
         (struckIndex w index)
-        (cond (x .freed) (vacatedTree s (b .chunk) (x .tree)) (x .tree))
+        (cond (x .freed) (vacatedTree s (b .chunk) (x .room)) (x .room))
 
     -- the block's chunk gone or not, as a climb so says
     by : (f : Bool) → freed ≡ f → (l′ c′ i′ t′ : List ℕ)
@@ -52,7 +52,7 @@ module _ (s : BuddySettings) (b : Block) (w : ℕ) (head loans chunks index tree
     unfolding givenTables
     by f e l′ c′ i′ t′ c t l i =
         let o : f ≡ Climb .freed = sym e ∙ out in
-        (λ j. tables head (l j) (c j) (i j) (t j)) ∙ (λ j. after (record { freed = o j; tree = rose j }))
+        (λ j. tables head (l j) (c j) (i j) (t j)) ∙ (λ j. after (record { freed = o j; room = rose j }))
 
     pub given-freed : freed ≡ true → (l′ c′ i′ t′ : List ℕ) → c′ ≡ set chunks (cellOf chunkSizeAt chunkWords (b .chunk)) 0 → t′ ≡ vacatedTree s (b .chunk) t₁
         → l′ ≡ struck w index loans → i′ ≡ struckIndex w index → tables head l′ c′ i′ t′ ≡ givenTables s b w (tables head loans chunks index tree)

@@ -42,7 +42,7 @@ pub fn strike_out(
 ) -> bool
     requires { ⌜ Backs s b at (tables (now head) (now loans) [] (now index) []) ⌝ }
     ensures { λ r. ⌜ r ≡ climbFor s b at (tables (now (head .entry)) [] [] (now (index .entry)) (now (tree .entry))) .freed ⌝ }
-    ensures { λ _. ⌜ now (tree .exit) ≡ climbFor s b at (tables (now (head .entry)) [] [] (now (index .entry)) (now (tree .entry))) .tree ⌝ }
+    ensures { λ _. ⌜ now (tree .exit) ≡ climbFor s b at (tables (now (head .entry)) [] [] (now (index .entry)) (now (tree .entry))) .room ⌝ }
     ensures { λ _. ⌜ (now (loans .exit) ≡ struck at (now (index .entry)) (now (loans .entry))) × (now (index .exit) ≡ struckIndex at (now (index .entry))) ⌝ }
 {
     let own = s.store;

@@ -19,7 +19,7 @@ use Rattle.buddy_decide.proofs.Reading.{pairs-read}
 
 module _ (s : BuddySettings) (t : Tables) where
   abbrev few : Tables
-  few = tables (t .head) [] [] (t .index) (t .tree)
+  few = tables (t .head) [] [] (t .index) (t .room)
 
   pub buys-more : (z l : ℕ) (b : Buying) → Buys s z l few b → Buys s z l t b
   buys-more z l b k = record { size = k .size; level = k .level; levels = k .levels; loan = k .loan; chunk = k .chunk }

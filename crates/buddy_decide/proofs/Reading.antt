@@ -17,7 +17,7 @@ use Rattle.buddy_decide.specs.Sought.{yielded, sought}
 use Rattle.buddy_decide.specs.declared.seeking.Found.{Found}
 use Rattle.buddy_decide.specs.declared.seeking.Found.the-variants.{At, Order}
 
-pub pairs-read : (s : BuddySettings) (t : Tables) (l n : ℕ) → pairsRoom (partSettings 0 (s .pairs) 0) (levelPart (levelsIn t) 0 [] (t .tree)) l n ≡ pairsRoom s t l n
+pub pairs-read : (s : BuddySettings) (t : Tables) (l n : ℕ) → pairsRoom (partSettings 0 (s .pairs) 0) (levelPart (levelsIn t) 0 [] (t .room)) l n ≡ pairsRoom s t l n
 unfolding pairsRoom
 pairs-read s t l zero = refl
 pairs-read s t l (suc n) = ap (λ (b : Bool). pairRoom s t l && b) (pairs-read s t (suc l) n)

@@ -38,7 +38,7 @@ nextLoan t = takenOf (placesIn t) (t .index)
 pub record Takes (s : BuddySettings) (z l : ℕ) (t : Tables) (k : Taking) : Type 0 where
   pub size : k .size ≡ z
   pub level : k .level ≡ l
-  pub pair : k .pair ≡ ringHead (levelFrom s (k .from)) (t .tree)
+  pub pair : k .pair ≡ ringHead (levelFrom s (k .from)) (t .room)
   pub loan : k .loan ≡ nextLoan t
 
 pub record Buys (s : BuddySettings) (z l : ℕ) (t : Tables) (b : Buying) : Type 0 where

@@ -35,7 +35,7 @@ use Rattle.store_rules.proofs.Accounts.{covers-yes, lost-nothing}
 use Rattle.store_rules.proofs.Refused.{leads-buy}
 use Rattle.engines.specs.Books.{accepted, takes, Booked, Books}
 use Rattle.engines.specs.Books as Entries
-use Rattle.engines.specs.Shapes.{Lent, Call, setsUp, asks, delivers, returns, others, does}
+use Rattle.engines.specs.Shapes.{Call, setsUp, asks, delivers, returns, others, does}
 use Rattle.store_rules.proofs.Tested.{gate-low}
 use Rattle.engines.proofs.Booking.{not-accepted, Bears, still, early-booked, charged-booked, release-booked}
 use Rattle.buddy_rules.specs.Tables.{Tables, chunkSizeIn, chunkPlacesIn, memories}
@@ -52,16 +52,16 @@ use Rattle.buddy_outcomes.proofs.Passing.{Passed, lent-in}
 use Rattle.buddy_outcomes.proofs.Plans.{buy-bears}
 use Rattle.buddy_outcomes.proofs.Returned as Returned
 use Rattle.buddy_outcomes.proofs.Returned.{ReturnComes, return-comes}
-use Rattle.buddy_engine.specs.Shape.{asBuddy, asLent, listedAs, buddyShape}
+use Rattle.buddy_engine.specs.Shape.{buddyShape}
 use Rattle.buddy_engine.proofs.Leaving.{freed-bytes, kept-bytes}
 
 module _ (s : BuddySettings) (a : Account) (t : Tables) where
-  abbrev BuddyBooked : Call ⊥ → Listed Lent → Type 0
-  BuddyBooked c d = Booked (s .store .heap) a (Entries.books buddyShape s a (asLent t) c d) (takes buddyShape c (d .said)) d
+  abbrev BuddyBooked : Call ⊥ → Listed Tables → Type 0
+  BuddyBooked c d = Booked (s .store .heap) a (Entries.books buddyShape s a t c d) (takes buddyShape c (d .said)) d
 
   -- ---- set-up and an ask book nothing
 
-  sets-up-booked : BuddyBooked setsUp (does buddyShape s a (asLent t) setsUp)
+  sets-up-booked : BuddyBooked setsUp (does buddyShape s a t setsUp)
   unfolding setUpOf carrySetUp
   sets-up-booked = still (s .store .heap) a _ _ _ refl refl refl refl (by (planSetUp s t))
     where
@@ -69,8 +69,8 @@ module _ (s : BuddySettings) (a : Account) (t : Tables) where
       by pass = refl
       by (refuse n) = refl
 
-  abbrev arrived : Out Tables → Listed Lent
-  arrived r = listed (r .said) (r .account) (asLent (r .tables)) []
+  abbrev arrived : Out Tables → Listed Tables
+  arrived r = listed (r .said) (r .account) (r .tables) []
 
   planned-booked : (size mask : ℕ) (p : Plan ℕ) → BuddyBooked (asks size mask) (arrived (carryAsk s a size mask t p))
   unfolding carryAsk
@@ -78,7 +78,7 @@ module _ (s : BuddySettings) (a : Account) (t : Tables) where
   planned-booked size mask (take i) = still (s .store .heap) a _ _ _ refl refl refl refl refl
   planned-booked size mask (buy z) = still (s .store .heap) a _ _ _ refl refl refl refl refl
 
-  asks-booked : (size mask : ℕ) → BuddyBooked (asks size mask) (does buddyShape s a (asLent t) (asks size mask))
+  asks-booked : (size mask : ℕ) → BuddyBooked (asks size mask) (does buddyShape s a t (asks size mask))
   unfolding askOf
   asks-booked size mask = planned-booked size mask (planAsk s a size mask t)
 
@@ -133,12 +133,12 @@ module _ (s : BuddySettings) (a : Account) (t : Tables) where
 
     after-delivery : (v : Verdict) → deliverGateOf s a t ≡ v → (x : OpenOrder) → a .order ≡ x → BuddyBooked (delivers o) (arrived (carryDeliver s a t (gated Deliver.deny v (decideDeliver o held x))))
     unfolding carryDeliver
-    after-delivery (refuse n) g x e = early-booked (s .store) a n (asLent t) (gate-number n g) o
-    after-delivery pass g Nothing e = early-booked (s .store) a 2 (asLent t) refl o
+    after-delivery (refuse n) g x e = early-booked (s .store) a n t (gate-number n g) o
+    after-delivery pass g Nothing e = early-booked (s .store) a 2 t refl o
     after-delivery pass g (Kept k) e =
-        ⊎-elim (λ d. rw d (fated-booked k (opened k e g) o)) (λ d. rw d (early-booked (s .store) a 13 (asLent t) refl o)) (told (deliveryOk (k .order .map) held o))
+        ⊎-elim (λ d. rw d (fated-booked k (opened k e g) o)) (λ d. rw d (early-booked (s .store) a 13 t refl o)) (told (deliveryOk (k .order .map) held o))
 
-    delivers-booked : BuddyBooked (delivers o) (does buddyShape s a (asLent t) (delivers o))
+    delivers-booked : BuddyBooked (delivers o) (does buddyShape s a t (delivers o))
     unfolding deliverOf planDeliver
     delivers-booked = after-delivery (deliverGateOf s a t) refl (a .order) refl
 
@@ -158,13 +158,13 @@ module _ (s : BuddySettings) (a : Account) (t : Tables) where
     less-seen y e = omega (arith, e, bytes-is t, bytes-is u)
 
     releases : (n y : ℕ) (list′ : List ℕ) → heldBytes u (chunkPlacesIn t) + y ≡ heldBytes t (chunkPlacesIn t)
-        → BuddyBooked (returns b list) (listed (Paper.released n) (releasedAccount (s .store) a n y) (asLent u) list′)
+        → BuddyBooked (returns b list) (listed (Paper.released n) (releasedAccount (s .store) a n y) u list′)
     releases n y list′ e =
         let m = chunkPlacesIn t in
-        release-booked (s .store) a (p .lent .settings .store .heap) (heldCount t m) (heldBytes t m) covered n y (omega (arith, e)) _ _ (asLent u) list′
+        release-booked (s .store) a (p .lent .settings .store .heap) (heldCount t m) (heldBytes t m) covered n y (omega (arith, e)) _ _ u list′
         (ap (λ (x : ℕ). release x ∷ []) (less-seen y e)) refl
 
-    returns-taken : BuddyBooked (returns b list) (listedAs (releasedBy s a b (wordFor s b t) t list))
+    returns-taken : BuddyBooked (returns b list) (releasedBy s a b (wordFor s b t) t list)
     unfolding releasedBy
     returns-taken =
         let fit = p .lent .settings in
@@ -174,14 +174,14 @@ module _ (s : BuddySettings) (a : Account) (t : Tables) where
         (λ f. rw f (releases 0 0 list (kept-bytes s t fit lengths (p .sound) b on f)))
         (told (climbFor s b (wordFor s b t) t .freed))
 
-  returns-booked : (b : Block) (list : List ℕ) → BuddyBooked (returns b list) (does buddyShape s a (asLent t) (returns b list))
+  returns-booked : (b : Block) (list : List ℕ) → BuddyBooked (returns b list) (does buddyShape s a t (returns b list))
   returns-booked b list = go (returnOf s a b t list) (return-comes s a b t list)
     where
-      go : (r : Listed Tables) → ReturnComes s a b t list r → BuddyBooked (returns b list) (listedAs r)
+      go : (r : Listed Tables) → ReturnComes s a b t list r → BuddyBooked (returns b list) r
       go _ (Returned.denied n) = still (s .store .heap) a _ _ _ refl refl refl refl refl
       go _ (Returned.takes p on) = returns-taken b list p on
 
-  booked : (c : Call ⊥) → BuddyBooked c (does buddyShape s a (asLent t) c)
+  booked : (c : Call ⊥) → BuddyBooked c (does buddyShape s a t c)
   booked setsUp = sets-up-booked
   booked (asks size mask) = asks-booked size mask
   booked (delivers o) = delivers-booked o
@@ -190,4 +190,4 @@ module _ (s : BuddySettings) (a : Account) (t : Tables) where
 
 -- the buddy books as an engine has to
 pub books : Books buddyShape
-books = record { booked = λ s a t c. booked s a (asBuddy t) c }
+books = record { booked = λ s a t c. booked s a t c }

@@ -24,7 +24,7 @@ use Rattle.buddy_outcomes.specs.Gate.{heldCount, heldBytes, accountOk, gateOf}
 use Rattle.buddy_outcomes.specs.Return.{returnOf, givenTables}
 use Rattle.buddy_outcomes.proofs.Ended.{return-told, return-view}
 use Rattle.buddy_outcomes.proofs.Passing.{gate-passed}
-use Rattle.buddy_engine.specs.Shape.{asBuddy, buddyShape, countsOf}
+use Rattle.buddy_engine.specs.Shape.{buddyShape, countsOf}
 
 module _ (s : BuddySettings) (a : Account) (b : Block) (t : Tables) (list : List ℕ) (passes : gateOf s a t true ≡ pass)
     (lent : OnLoan b (loansIn t)) (long : s .store .chunks ≤ length list) where
@@ -42,23 +42,23 @@ unfolding accountOk givenTables
 ends =
     record {
       taken = λ s a b t list passes lent long.
-          let h = return-told s a b (asBuddy t) list passes lent long in
+          let h = return-told s a b t list passes lent long in
           record {
             said = h .said;
-            loans = loans-are s a b (asBuddy t) list passes lent long;
+            loans = loans-are s a b t list passes lent long;
             account = h .account;
             goes = h .goes;
           };
-      rest-stays = λ s a b t list passes lent long. ap countsOf (return-told s a b (asBuddy t) list passes lent long .tables);
+      rest-stays = λ s a b t list passes lent long. ap countsOf (return-told s a b t list passes lent long .tables);
       none = λ s a t passes.
-          let p = gate-passed s a (asBuddy t) true (sym passes) in
-          at-once-none (s .minimal) (viewOf s (asBuddy t)) (has-loan s (asBuddy t) (p .lent .settings) (p .sound)) refl;
+          let p = gate-passed s a t true (sym passes) in
+          at-once-none (s .minimal) (viewOf s t) (has-loan s t (p .lent .settings) (p .sound)) refl;
       next = λ s a b bs t list passes lot long.
-          ap (atOnce (s .minimal) bs) (return-view s a b (asBuddy t) list passes (lot .lent b (List·Memᴰ·head refl)) long)
-          ∙ at-once-next (s .minimal) b bs (viewOf s (asBuddy t));
-      same = λ s a bs cs t passes lot e. at-once-same (s .minimal) (viewOf s (asBuddy t)) e;
-      heap-low = λ s a t passes. gate-passed s a (asBuddy t) true (sym passes) .lent .settings .store .heap;
+          ap (atOnce (s .minimal) bs) (return-view s a b t list passes (lot .lent b (List·Memᴰ·head refl)) long)
+          ∙ at-once-next (s .minimal) b bs (viewOf s t);
+      same = λ s a bs cs t passes lot e. at-once-same (s .minimal) (viewOf s t) e;
+      heap-low = λ s a t passes. gate-passed s a t true (sym passes) .lent .settings .store .heap;
       heap-agrees = λ s a t passes.
-          let u : Tables = asBuddy t in
+          let u : Tables = t in
           covers-yes (heapAt a (s .store .heap)) (a .objects) (heldCount u (chunkPlacesIn u)) (heldBytes u (chunkPlacesIn u)) (gate-passed s a u true (sym passes) .covered) .1;
     }

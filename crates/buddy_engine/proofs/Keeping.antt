@@ -30,12 +30,12 @@ use Rattle.buddy_outcomes.proofs.Fitted.{orders-when}
 use Rattle.buddy_outcomes.proofs.Passing.{gate-passed}
 use Rattle.buddy_outcomes.proofs.Returned.{return-sound}
 use Rattle.buddy_outcomes.proofs.Sounds.{set-up-sound, ask-sound}
-use Rattle.buddy_engine.specs.Shape.{asBuddy, buddyShape}
+use Rattle.buddy_engine.specs.Shape.{buddyShape}
 
 -- what was set up passed its test
-begun : (s : BuddySettings) (t : Tables) → setUpOf s t .said ≡ Paper.ready → fitOk s t ≡ true
+is-begun : (s : BuddySettings) (t : Tables) → setUpOf s t .said ≡ Paper.ready → fitOk s t ≡ true
 unfolding setUpOf planSetUp carrySetUp
-begun s t = by (fitOk s t)
+is-begun s t = by (fitOk s t)
   where
     by : (b : Bool) → carrySetUp s t (first ((b, 1) ∷ [])) .said ≡ Paper.ready → b ≡ true
     by true e = refl
@@ -69,18 +69,18 @@ apart s t fit sound =
 pub keeps : Keeps buddyShape
 keeps =
     record {
-      set-up-sound = λ s t e. set-up-sound s (asBuddy t) (begun s (asBuddy t) e);
-      ask-sound = λ s a size mask t sound. ask-sound s a size mask (asBuddy t) sound;
-      deliver-sound = λ s a o t sound. deliver-sound s a o (asBuddy t) sound;
-      return-sound = λ s a b t list sound. return-sound s a b (asBuddy t) list sound;
+      set-up-sound = λ s t e. set-up-sound s t (is-begun s t e);
+      ask-sound = λ s a size mask t sound. ask-sound s a size mask t sound;
+      deliver-sound = λ s a o t sound. deliver-sound s a o t sound;
+      return-sound = λ s a b t list sound. return-sound s a b t list sound;
       other-sound = λ s a c t list sound. absurd c;
-      ask-again = λ s a t typed passes size mask none. ask-again s a (asBuddy t) typed passes size mask none;
-      deliver-again = λ s a o t typed passes none. deliver-again s a o (asBuddy t) typed passes none;
-      return-again = λ s a t typed passes b list. return-again s a (asBuddy t) typed passes b list;
+      ask-again = λ s a t typed passes size mask none. ask-again s a t typed passes size mask none;
+      deliver-again = λ s a o t typed passes none. deliver-again s a o t typed passes none;
+      return-again = λ s a t typed passes b list. return-again s a t typed passes b list;
       other-again = λ s a t typed passes c list. absurd c;
-      passed-sound = λ s a t passes. gate-passed s a (asBuddy t) true (sym passes) .sound;
-      filled = λ s a t passes. fills s a (asBuddy t) passes;
-      apart = λ s a t passes. let p = gate-passed s a (asBuddy t) true (sym passes) in apart s (asBuddy t) (p .lent .settings) (p .sound);
+      passed-sound = λ s a t passes. gate-passed s a t true (sym passes) .sound;
+      filled = λ s a t passes. fills s a t passes;
+      apart = λ s a t passes. let p = gate-passed s a t true (sym passes) in apart s t (p .lent .settings) (p .sound);
       loans-seen = λ s t l. ((λ m. m), (λ m. m));
     }
 
@@ -88,7 +88,7 @@ keeps =
 pub lends : Lends buddyShape
 lends =
     record {
-      ask-block = λ s a size mask t serial number offset len e. ask-block s a size mask (asBuddy t) serial number offset len e;
-      deliver-block = λ s a o t serial number offset len e. deliver-block s a o (asBuddy t) serial number offset len e;
-      orders-when = λ s a size mask t f. orders-when s a size mask (asBuddy t) f;
+      ask-block = λ s a size mask t serial number offset len e. ask-block s a size mask t serial number offset len e;
+      deliver-block = λ s a o t serial number offset len e. deliver-block s a o t serial number offset len e;
+      orders-when = λ s a size mask t f. orders-when s a size mask t f;
     }

@@ -21,7 +21,7 @@ use Rattle.store_rules.specs.Outcomes.{Out, out, listed, listOk}
 use Rattle.store_rules.specs.Tests.{noOrder, openFor, gateRow}
 use Rattle.engines.specs.Refuses.{Refuses}
 use Rattle.store_rules.specs.Rows.{gateRows, keptRows}
-use Rattle.engines.specs.Shapes.{Lent, Call, setsUp, asks, delivers, returns, others, does, Marked, lentList, wordsOf}
+use Rattle.engines.specs.Shapes.{Call, setsUp, asks, delivers, returns, others, does, Marked, lentList, wordsOf}
 use Rattle.engines.proofs.Shutting.{shut}
 use Rattle.buddy_rules.specs.Tables.{Tables, mark, markAt}
 use Rattle.buddy_rules.specs.Views.{viewOf}
@@ -35,7 +35,7 @@ use Rattle.buddy_outcomes.proofs.Denied.{kept-decided, deliver-refused, deliver
 use Rattle.buddy_outcomes.proofs.Gated.{gate-decided}
 use Rattle.buddy_outcomes.proofs.Lendings.{grown-view}
 use Rattle.buddy_outcomes.proofs.Refused.{set-up-refused, ask-refused, return-refused, set-up-leaves, ask-leaves, ask-leaves-grown, deliver-leaves, return-leaves}
-use Rattle.buddy_engine.specs.Shape.{asBuddy, begunAs, outAs, listedAs, buddyShape}
+use Rattle.buddy_engine.specs.Shape.{buddyShape}
 
 -- ---- tables without the mark
 
@@ -71,55 +71,55 @@ module _ (s : BuddySettings) (a : Account) (t : Tables) (other : getD (t .head) 
   return-shut b list = let g = gate-shut (listOk (s .store) list) in let e = g .1 in (g .0, rw e, g .2, g .3)
 
 -- each call but set-up is refused there, by 1, 2 or 3, and leaves everything
-foreign : (s : BuddySettings) (a : Account) (t : Lent) (c : Call ⊥) → (c ≡ setsUp → ⊥) → (Marked buddyShape t → ⊥)
+foreign : (s : BuddySettings) (a : Account) (t : Tables) (c : Call ⊥) → (c ≡ setsUp → ⊥) → (Marked buddyShape t → ⊥)
     → (n : ℕ) × (does buddyShape s a t c ≡ listed (Paper.refusal n []) a t (lentList c)) × (0 < n) × (n ≤ 3)
 foreign s a t setsUp f m = absurd (f refl)
 foreign s a t (asks size mask) f m =
-    let r = ask-shut s a (asBuddy t) m size mask in (r .0, ap (λ (o : Out Tables). listed (o .said) (o .account) (outAs o .tables) []) (r .1), r .2, r .3)
+    let r = ask-shut s a t m size mask in (r .0, ap (λ (o : Out Tables). listed (o .said) (o .account) (o .tables) []) (r .1), r .2, r .3)
 foreign s a t (delivers x) f m =
-    let r = deliver-shut s a (asBuddy t) m x in (r .0, ap (λ (o : Out Tables). listed (o .said) (o .account) (outAs o .tables) []) (r .1), r .2, r .3)
-foreign s a t (returns b list) f m = let r = return-shut s a (asBuddy t) m b list in (r .0, ap listedAs (r .1), r .2, r .3)
+    let r = deliver-shut s a t m x in (r .0, ap (λ (o : Out Tables). listed (o .said) (o .account) (o .tables) []) (r .1), r .2, r .3)
+foreign s a t (returns b list) f m = let r = return-shut s a t m b list in (r .0, (r .1), r .2, r .3)
 foreign s a t (others c list) f m = absurd c
 
 -- ---- the tests 1 to 4
 
-gate-clear : (s : BuddySettings) (a : Account) (t : Lent) → (gateOf s a (asBuddy t) true ≡ pass) ↔ Clear (gateRows (wordsOf buddyShape) s a t)
+gate-clear : (s : BuddySettings) (a : Account) (t : Tables) → (gateOf s a t true ≡ pass) ↔ Clear (gateRows (wordsOf buddyShape) s a t)
 unfolding gateOf
 gate-clear s a t =
-    let u = asBuddy t in
+    let u = t in
     clear-first (gateRow (inTableOk s a u && true) (noOrder (a .order)) (soundOk s u) (accountOk s a u)) (gateRows buddyWords s a u) (gate-decided s a u)
 
-deliver-clear : (s : BuddySettings) (a : Account) (t : Lent) → (deliverGateOf s a (asBuddy t) ≡ pass) ↔ Clear (keptRows (wordsOf buddyShape) s a t)
+deliver-clear : (s : BuddySettings) (a : Account) (t : Tables) → (deliverGateOf s a t ≡ pass) ↔ Clear (keptRows (wordsOf buddyShape) s a t)
 unfolding deliverGateOf
 deliver-clear s a t =
-    let u = asBuddy t in
+    let u = t in
     clear-first (gateRow (inTableOk s a u) (openFor (s .store .number) (a .order)) (soundOk s u && stillOk s a u (a .order)) (accountOk s a u)) (keptRows buddyWords s a u) (kept-decided s a u)
 
 -- the buddy refuses as an engine has to
 pub refuses : Refuses buddyShape
 refuses =
     record {
-      set-up-refused = λ s t n. set-up-refused s (asBuddy t) n;
+      set-up-refused = λ s t n. set-up-refused s t n;
       ask-refused = λ s a size mask t n.
-          ask-refused s a size mask (asBuddy t) n;
+          ask-refused s a size mask t n;
       deliver-refused = λ s a o t n.
-          deliver-refused s a o (asBuddy t) n;
+          deliver-refused s a o t n;
       return-refused = λ s a b t list n.
-          return-refused s a b (asBuddy t) list n;
+          return-refused s a b t list n;
       other-refused = λ s a c t list n. absurd c;
       gate-clear = gate-clear;
       deliver-clear = deliver-clear;
-      set-up-leaves = λ s t n back e. ap begunAs (set-up-leaves s (asBuddy t) n back e);
-      ask-leaves = λ s a size mask t n back e x. ap outAs (ask-leaves s a size mask (asBuddy t) n back e x);
-      deliver-leaves = λ s a o t n back e x y. ap outAs (deliver-leaves s a o (asBuddy t) n back e x y);
-      return-leaves = λ s a b t list n back e. ap listedAs (return-leaves s a b (asBuddy t) list n back e);
+      set-up-leaves = λ s t n back e. (set-up-leaves s t n back e);
+      ask-leaves = λ s a size mask t n back e x. (ask-leaves s a size mask t n back e x);
+      deliver-leaves = λ s a o t n back e x y. (deliver-leaves s a o t n back e x y);
+      return-leaves = λ s a b t list n back e. (return-leaves s a b t list n back e);
       other-leaves = λ s a c t list n back e. absurd c;
       nine-leaves = λ s a size mask t back e.
-          let u : Tables = asBuddy t in
+          let u : Tables = t in
           let r = ask-leaves-grown s a size mask u back e in
           (ap (λ (o : Out Tables). o .account) r, ap (λ (o : Out Tables). viewOf s (o .tables)) r ∙ grown-view s (grownTo (levelFor s size mask) u) u);
       lost-leaves = λ s a o t k n back its e number.
-          let u : Tables = asBuddy t in
+          let u : Tables = t in
           let r = deliver-lost s a o u k n back its e number in
           (ap (λ (x : Out Tables). x .account) r, ap (λ (x : Out Tables). viewOf s (x .tables)) r ∙ grown-view s (grownTo (levelFor s (k .ask .size) (k .ask .mask)) u) u);
       foreign = foreign;

@@ -34,7 +34,7 @@ use Rattle.buddy_outcomes.proofs.Comes.{AskComes, denied, lends, orders, ask-co
 use Rattle.buddy_outcomes.proofs.Lendings.{taken-chunks}
 use Rattle.buddy_outcomes.proofs.Returned as Returned
 use Rattle.buddy_outcomes.proofs.Returned.{ReturnComes, return-comes}
-use Rattle.buddy_engine.specs.Shape.{asBuddy, buddyShape}
+use Rattle.buddy_engine.specs.Shape.{buddyShape}
 
 -- ---- the forms of its answers
 
@@ -127,15 +127,15 @@ deliver-arrives s a o t serial number offset len _ (keeps k m f e l sound b) q =
 pub buddy-tells : Tells buddyShape
 buddy-tells =
     record {
-      set-up-says = λ s t. set-up-says s (asBuddy t);
-      ask-says = λ s a size mask t. ask-says s a size mask (asBuddy t) (askOf s a size mask (asBuddy t)) (ask-comes s a size mask (asBuddy t));
-      deliver-says = λ s a o t. deliver-says s a o (asBuddy t) (deliverOf s a o (asBuddy t)) (deliver-comes s a o (asBuddy t));
-      return-says = λ s a b t list. return-says s a b (asBuddy t) list (returnOf s a b (asBuddy t) list) (return-comes s a b (asBuddy t) list);
+      set-up-says = λ s t. set-up-says s t;
+      ask-says = λ s a size mask t. ask-says s a size mask t (askOf s a size mask t) (ask-comes s a size mask t);
+      deliver-says = λ s a o t. deliver-says s a o t (deliverOf s a o t) (deliver-comes s a o t);
+      return-says = λ s a b t list. return-says s a b t list (returnOf s a b t list) (return-comes s a b t list);
       other-says = λ s a c t list. absurd c;
-      fresh = λ s t e. fresh-none s (asBuddy t) e;
-      ask-loans = λ s a size mask t. ask-lends s a size mask (asBuddy t) (askOf s a size mask (asBuddy t)) (ask-comes s a size mask (asBuddy t));
-      deliver-loans = λ s a o t. deliver-lends s a o (asBuddy t) (deliverOf s a o (asBuddy t)) (deliver-comes s a o (asBuddy t));
+      fresh = λ s t e. fresh-none s t e;
+      ask-loans = λ s a size mask t. ask-lends s a size mask t (askOf s a size mask t) (ask-comes s a size mask t);
+      deliver-loans = λ s a o t. deliver-lends s a o t (deliverOf s a o t) (deliver-comes s a o t);
       other-loans = λ s a c t list. absurd c;
-      ask-chunks = λ s a size mask t. ask-leaves s a size mask (asBuddy t) (askOf s a size mask (asBuddy t)) (ask-comes s a size mask (asBuddy t));
-      deliver-chunks = λ s a o t serial number offset len e. deliver-arrives s a o (asBuddy t) serial number offset len (deliverOf s a o (asBuddy t)) (deliver-comes s a o (asBuddy t)) e;
+      ask-chunks = λ s a size mask t. ask-leaves s a size mask t (askOf s a size mask t) (ask-comes s a size mask t);
+      deliver-chunks = λ s a o t serial number offset len e. deliver-arrives s a o t serial number offset len (deliverOf s a o t) (deliver-comes s a o t) e;
     }

@@ -43,7 +43,7 @@ module _ (s : BuddySettings) (k : KeptOrder) where
 
 module _ (s : BuddySettings) (h : Heap) (objects : ℕ) (k : KeptOrder) (t : Tables) where
   abbrev pub still : Bool
-  still = leadsTo (s .store) (k .order) (decideAsk s h objects (k .ask .size) (k .ask .mask) (tables (t .head) [] [] (t .index) (t .tree)))
+  still = leadsTo (s .store) (k .order) (decideAsk s h objects (k .ask .size) (k .ask .mask) (tables (t .head) [] [] (t .index) (t .room)))
 
   still-is : still ≡ leadsTo (s .store) (k .order) (decideAsk s h objects (k .ask .size) (k .ask .mask) t)
   still-is = ap (leadsTo (s .store) (k .order)) (ask-few s t h objects (k .ask .size) (k .ask .mask))

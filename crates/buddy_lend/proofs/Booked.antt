@@ -37,7 +37,7 @@ module _ (s : BuddySettings) (head index : List ℕ) (taken : Taken) (next : tak
     pub booked-done : (h′ l′ i′ t′ : List ℕ) → t′ ≡ set tree (nodesFrom s + taken .place) node → h′ ≡ set (set head givenAt (l .serial)) placesAt (taken .slab .places)
         → l′ ≡ written loanRow (taken .place) l loans
         → i′ ≡ set (set (set index vacatedAt (taken .slab .vacant)) (nextOf (taken .place)) (firstBefore (s .store .loans) (l .serial) index)) (firstOf (l .serial % s .store .loans)) (taken .place)
-        → tables h′ l′ [] i′ t′ ≡ bookedTables s (l .chunk) (l .offset) (l .size) (record { node = node; tree = tree }) (tables head loans [] index [])
+        → tables h′ l′ [] i′ t′ ≡ bookedTables s (l .chunk) (l .offset) (l .size) (record { node = node; room = tree }) (tables head loans [] index [])
     unfolding bookedTables
     booked-done h′ l′ i′ t′ t h ls is =
         let x : l′ ≡ entered Places index l loans = entered-loans Places index taken l loans l′ next ls in

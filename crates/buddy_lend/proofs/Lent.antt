@@ -67,12 +67,12 @@ module _ (s : BuddySettings) (i : ℕ) (tree : List ℕ) (base : ℕ) (at : base
         abbrev bookedBy : Loan → Cut → Tables
         bookedBy l c = bookedTables s (l .chunk) (l .offset) size c (tables head loans [] index [])
 
-        pub lent-done : (n : ℕ) (t₂ h′ l′ i′ t′ : List ℕ) → n ≡ cutBy (loan (g + 1) (e .chunk) o size) (k .place) .node → t₂ ≡ cutBy (loan (g + 1) (e .chunk) o size) (k .place) .tree
-            → tables h′ l′ [] i′ t′ ≡ bookedTables s (e .chunk) o size (record { node = n; tree = t₂ }) (tables head loans [] index [])
+        pub lent-done : (n : ℕ) (t₂ h′ l′ i′ t′ : List ℕ) → n ≡ cutBy (loan (g + 1) (e .chunk) o size) (k .place) .node → t₂ ≡ cutBy (loan (g + 1) (e .chunk) o size) (k .place) .room
+            → tables h′ l′ [] i′ t′ ≡ bookedTables s (e .chunk) o size (record { node = n; room = t₂ }) (tables head loans [] index [])
             → tables h′ l′ [] i′ t′ ≡ takenTables s size level (tables head loans [] index tree) i
         unfolding bookedTables takenTables
         lent-done n t₂ h′ l′ i′ t′ a b d =
             let l = loan (g + 1) (e .chunk) o size in
             d
-            ∙ (λ j. bookedBy l (record { node = a j; tree = b j }))
+            ∙ (λ j. bookedBy l (record { node = a j; room = b j }))
             ∙ (λ j. bookedBy (loan-is j) (cutBy (loan-is j) (next j .place)))

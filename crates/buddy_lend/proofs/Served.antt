@@ -75,15 +75,15 @@ module _ (s : BuddySettings) (memory bytes : ℕ) (head loans chunks index tree 
 
   now-is : tables h₁ loans c₁ index t₁ ≡ chunkTables s memory bytes Before
   unfolding chunkTables
-  now-is = λ j. tables (more j .head) loans (more j .chunks) index (more j .tree)
+  now-is = λ j. tables (more j .head) loans (more j .chunks) index (more j .room)
 
   module _ (levels : ℕ) (top : levels ≡ getD head levelsAt 0) (c : ℕ) (taken : c ≡ chunkTaken s (tables head [] [] [] tree) .place) (level : ℕ) where
     -- what was shown of the tables with the chunk holds of what the code has
-    pub still : (P : ℕ → ℕ → List ℕ → Type 0) → P (chunkTaken s Before .place) (getD head levelsAt 0) (chunkTables s memory bytes Before .tree) → P c levels t₁
+    pub still : (P : ℕ → ℕ → List ℕ → Type 0) → P (chunkTaken s Before .place) (getD head levelsAt 0) (chunkTables s memory bytes Before .room) → P c levels t₁
     still P r =
         subst (λ (x : ℕ). P x levels t₁) (sym taken)
         (subst (λ (n : ℕ). P (chunkTaken s Before .place) n t₁) (sym top)
-        (subst (λ (t : Tables). P (chunkTaken s Before .place) (getD head levelsAt 0) (t .tree)) (sym now-is) r))
+        (subst (λ (t : Tables). P (chunkTaken s Before .place) (getD head levelsAt 0) (t .room)) (sym now-is) r))
 
     -- the loan of its left end
     pub loan-done : (size g : ℕ) → g ≡ getD h₁ givenAt 0 → loan (g + 1) c 0 size ≡ loan (getD head givenAt 0 + 1) (chunkTaken s (tables head [] [] [] tree) .place) 0 size
@@ -93,11 +93,11 @@ module _ (s : BuddySettings) (memory bytes : ℕ) (head loans chunks index tree 
       abbrev cutBy : ℕ → ℕ → ℕ → List ℕ → Cut
       cutBy x p n t = splitChunk (s .pairs) level x p (n - level - 1) t
 
-      pub served-done : (size n : ℕ) (t₂ h′ l′ i′ t′ : List ℕ) → n ≡ cutBy c (k .place) levels t₁ .node → t₂ ≡ cutBy c (k .place) levels t₁ .tree
-          → tables h′ l′ [] i′ t′ ≡ bookedTables s c 0 size (record { node = n; tree = t₂ }) (tables h₁ loans [] index [])
+      pub served-done : (size n : ℕ) (t₂ h′ l′ i′ t′ : List ℕ) → n ≡ cutBy c (k .place) levels t₁ .node → t₂ ≡ cutBy c (k .place) levels t₁ .room
+          → tables h′ l′ [] i′ t′ ≡ bookedTables s c 0 size (record { node = n; room = t₂ }) (tables h₁ loans [] index [])
           → tables h′ l′ c₁ i′ t′ ≡ servedTables s size level memory bytes Before
       unfolding bookedTables servedTables
       served-done size n t₂ h′ l′ i′ t′ a b d =
-          (λ j. tables (d j .head) (d j .loans) c₁ (d j .index) (d j .tree))
-          ∙ (λ j. bookedTables s c 0 size (record { node = a j; tree = b j }) (tables h₁ loans c₁ index t₁))
-          ∙ (λ j. bookedTables s (taken j) 0 size (cutBy (taken j) (next j .place) (top j) (now-is j .tree)) (now-is j))
+          (λ j. tables (d j .head) (d j .loans) c₁ (d j .index) (d j .room))
+          ∙ (λ j. bookedTables s c 0 size (record { node = a j; room = b j }) (tables h₁ loans c₁ index t₁))
+          ∙ (λ j. bookedTables s (taken j) 0 size (cutBy (taken j) (next j .place) (top j) (now-is j .room)) (now-is j))

@@ -41,14 +41,14 @@ module _ (pairs i : ℕ) (tree : List ℕ) where
     cutFrom m t = splitDown pairs lev c o k m (i - lev) t
 
     -- of the asked level itself: the word of the loan is written at once
-    pub took-whole : (w : ℕ) (t′ : List ℕ) → i ≡ lev → w ≡ loanWord k → t′ ≡ acquired b w tree → cutFrom (readyNode pairs i tree) (acquired Base freeWord tree) ≡ record { node = n; tree = t′ }
+    pub took-whole : (w : ℕ) (t′ : List ℕ) → i ≡ lev → w ≡ loanWord k → t′ ≡ acquired b w tree → cutFrom (readyNode pairs i tree) (acquired Base freeWord tree) ≡ record { node = n; room = t′ }
     took-whole w t′ same said took =
         let v : t′ ≡ set (acquired Base freeWord tree) (pairCell Base (sideAt Ready) Head) w = took ∙ ap (λ (x : ℕ). acquired x w tree) at ∙ sym (acquired-again Base w tree) in
         let e = node-side Head Ready in
         let f = node-pair Head Ready in
         split-done pairs lev c o k (readyNode pairs i tree) (acquired Base freeWord tree) (i - lev) (omega (arith, same)) Base (ap (levelStart pairs) same) w said t′
         (v ∙ (λ j. set (acquired Base freeWord tree) (pairCell Base (sideAt (sym e j)) (sym f j)) w))
-        ∙ (λ j. record { node = sym ready j; tree = t′ })
+        ∙ (λ j. record { node = sym ready j; room = t′ })
 
     -- of a level above: it is split down
     module _ (t₁ : List ℕ) (took : t₁ ≡ acquired b freeWord tree) where

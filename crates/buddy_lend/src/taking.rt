@@ -29,7 +29,7 @@ pub fn take_side(
     requires { ⌜ (h ≡ ringHead (levelStart pairs from) (now tree)) × (sideBy left ≡ sideOf (getD (now tree) (pairCell (levelStart pairs from) tagAt h) 0)) ⌝ }
     requires { ⌜ Roomy pairs level chunk offset (readyNode pairs from (now tree)) (from - level) (acquired (levelStart pairs from) freeWord (now tree)) ⌝ }
     ensures { λ r. ⌜ r ≡ splitDown pairs level chunk offset loan (readyNode pairs from (now (tree .entry))) (from - level) (acquired (levelStart pairs from) freeWord (now (tree .entry))) .node ⌝ }
-    ensures { λ _. ⌜ now (tree .exit) ≡ splitDown pairs level chunk offset loan (readyNode pairs from (now (tree .entry))) (from - level) (acquired (levelStart pairs from) freeWord (now (tree .entry))) .tree ⌝ }
+    ensures { λ _. ⌜ now (tree .exit) ≡ splitDown pairs level chunk offset loan (readyNode pairs from (now (tree .entry))) (from - level) (acquired (levelStart pairs from) freeWord (now (tree .entry))) .room ⌝ }
 {
     let base = level_from(pairs, from);
     let node = if left {

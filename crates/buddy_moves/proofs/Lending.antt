@@ -47,12 +47,12 @@ module _ (s : BuddySettings) (t : Tables) (fit : BuddyIn s) (lengths : Lengths s
   lev = levelFor s size mask
 
   abbrev p : ℕ
-  p = ringHead (levelFrom s i) (t .tree)
+  p = ringHead (levelFrom s i) (t .room)
 
   found : (lev ≤ i) × (i < levelsIn t) × (p ≡ nowhere → ⊥)
   found = let r = first s t fit lengths sound size mask i (w .found) (w .aligned) (w .sized) (w .room) in (r .0, r .1, r .2)
 
-  some : levelOps (s .pairs) (few-pairs s fit) .Some (part (s .pairs) i (t .tree))
+  some : levelOps (s .pairs) (few-pairs s fit) .Some (part (s .pairs) i (t .room))
   some = level-some s t fit sound i (found .2)
 
   below : p < s .pairs
@@ -61,12 +61,12 @@ module _ (s : BuddySettings) (t : Tables) (fit : BuddyIn s) (lengths : Lengths s
   -- ---- the head pair lies in its chunk
 
   head-is : pairsIn s t i p ≡ headEnt s t i
-  head-is = pair-used (levelFrom s i) (t .tree) p (head-used s (few-pairs s fit) t sound i (found .1) some)
+  head-is = pair-used (levelFrom s i) (t .room) p (head-used s (few-pairs s fit) t sound i (found .1) some)
 
   in-use : 0 < pairsIn s t i p .tag
   in-use =
       let g = sound .good i (found .1) in
-      let r : 1 < headEnt s t i .tag = g .ready p (head-mem (levelFrom s i) (s .pairs) (t .tree) g (found .2)) in
+      let r : 1 < headEnt s t i .tag = g .ready p (head-mem (levelFrom s i) (s .pairs) (t .room) g (found .2)) in
       omega (arith, ap (λ (e : Ent). e .tag) head-is, r)
 
   offset-low : headEnt s t i .off ≤ 2 ^ 62
@@ -79,10 +79,10 @@ module _ (s : BuddySettings) (t : Tables) (fit : BuddyIn s) (lengths : Lengths s
   -- ---- its ready side can be split down
 
   abbrev taken : List ℕ
-  taken = acquired (levelFrom s i) freeWord (t .tree)
+  taken = acquired (levelFrom s i) freeWord (t .room)
 
   abbrev node : ℕ
-  node = readyNode (s .pairs) i (t .tree)
+  node = readyNode (s .pairs) i (t .room)
 
   tall : up (i - lev) lev ≡ i
   tall = height s t fit lengths sound size mask i (w .found) (w .aligned) (w .sized) (w .room)
@@ -90,18 +90,18 @@ module _ (s : BuddySettings) (t : Tables) (fit : BuddyIn s) (lengths : Lengths s
   low : i < levelsMost
   low = omega (arith, found .1, sound .levels-most)
 
-  left : Left s i (t .tree) taken
-  left = within-left s i (t .tree) taken _ low (acquire-in s (few-pairs s fit) t sound i (found .1) some)
+  left : Left s i (t .room) taken
+  left = within-left s i (t .room) taken _ low (acquire-in s (few-pairs s fit) t sound i (found .1) some)
 
   fits : Fits s (up (i - lev) lev) node
   fits = inl (omega (arith, tall, low), rw (node-pair p (sideOf (headEnt s t i .tag))) below)
 
   short : length taken ≤ 2 ^ 62
-  short = rw (left .long) (tree-short s (few-pairs s fit) (t .tree) fit (lengths .tree))
+  short = rw (left .long) (tree-short s (few-pairs s fit) (t .room) fit (lengths .room))
 
   split-room : (c o : ℕ) → Roomy (s .pairs) lev c o node (i - lev) taken
   split-room c o =
-      roomy s (t .tree) lev c o (i - lev) node taken (omega (arith, tall, low)) fits short
+      roomy s (t .room) lev c o (i - lev) node taken (omega (arith, tall, low)) fits short
       (λ j h g. left .others j (λ e. omega (arith, tall)))
       (λ j h g. sound .good j (omega (arith, tall, found .1)))
       (pair s t fit lengths sound size mask i (w .found) (w .aligned) (w .sized) (w .room))
@@ -122,7 +122,7 @@ pub lends-ready : (s : BuddySettings) (h : Heap) (objects size mask : ℕ) (t : 
 lends-ready s h objects size mask t fit lengths sound i e = lends s t fit lengths sound size mask i (takes s h objects size mask t i e)
 
 -- what is asked looks at no chunk
-pub lends-rest : (s : BuddySettings) (z l i : ℕ) (t : Tables) (chunks : List ℕ) → Lends s z l i t → Lends s z l i (tables (t .head) (t .loans) chunks (t .index) (t .tree))
+pub lends-rest : (s : BuddySettings) (z l i : ℕ) (t : Tables) (chunks : List ℕ) → Lends s z l i t → Lends s z l i (tables (t .head) (t .loans) chunks (t .index) (t .room))
 lends-rest s z l i t chunks r =
     record {
       enters = record { fit = r .enters .fit; serial = r .enters .serial; opens = r .enters .opens };

@@ -46,11 +46,11 @@ goes-on f n e =
     (ltb-true 0 f (and-left (ltb 0 f) (not (eqb n nowhere)) e), eqb-false n nowhere (not-yes (eqb n nowhere) (and-right (ltb 0 f) (not (eqb n nowhere)) e)))
 
 module _ (pairs f l n : ℕ) (t : List ℕ) where
-  pub climb-done : (ltb 0 f && not (eqb n nowhere)) ≡ false → climbed pairs f l n t ≡ record { freed = true; tree = t }
+  pub climb-done : (ltb 0 f && not (eqb n nowhere)) ≡ false → climbed pairs f l n t ≡ record { freed = true; room = t }
   unfolding climbed
   climb-done e = by f refl
     where
-      by : (g : ℕ) → f ≡ g → climbed pairs g l n t ≡ record { freed = true; tree = t }
+      by : (g : ℕ) → f ≡ g → climbed pairs g l n t ≡ record { freed = true; room = t }
       by zero h = refl
       by (suc g) h =
           let o : 0 < f = omega arith in
@@ -67,13 +67,13 @@ module _ (pairs f l n : ℕ) (t : List ℕ) where
 
     step : climbed pairs f l n t
         ≡ cond (eqb w freeWord) (climbed pairs (f - 1) (l + 1) (getD t (pairCell b upAt p) 0) (dropped b p t))
-        (record { freed = false; tree = backed b p (sideIn n) t })
+        (record { freed = false; room = backed b p (sideIn n) t })
     unfolding climbed
     step = by f o
       where
         by : (f : ℕ) → 0 < f → climbed pairs f l n t
             ≡ cond (eqb w freeWord) (climbed pairs (f - 1) (l + 1) (getD t (pairCell b upAt p) 0) (dropped b p t))
-            (record { freed = false; tree = backed b p (sideIn n) t })
+            (record { freed = false; room = backed b p (sideIn n) t })
         by zero o = absurd (omega arith)
         by (suc g) o =
             let i : suc g - 1 ≡ g = omega arith in
@@ -85,7 +85,7 @@ module _ (pairs f l n : ℕ) (t : List ℕ) where
     climb-on z m e t′ d = step ∙ simp (eq-eqb w freeWord z, e, d)
 
     pub climb-stays : (w ≡ freeWord → ⊥) → (q : Bool) → q ≡ isLeft n → (t′ : List ℕ) → t′ ≡ backed b p (sideBy q) t
-        → climbed pairs f l n t ≡ record { freed = false; tree = t′ }
+        → climbed pairs f l n t ≡ record { freed = false; room = t′ }
     climb-stays z q s t′ d = step ∙ simp (ne-eqb w freeWord z, d, s)
 
 -- ---- the split
@@ -96,7 +96,7 @@ up-sum (suc d) lev = omega (arith, up-sum d lev)
 
 module _ (pairs lev c o k n : ℕ) (t : List ℕ) where
   pub split-done : (d : ℕ) → d ≤ 0 → (b : ℕ) → b ≡ levelStart pairs lev → (w : ℕ) → w ≡ loanWord k
-      → (t′ : List ℕ) → t′ ≡ set t (pairCell b (sideAt (sideIn n)) (pairOf n)) w → splitDown pairs lev c o k n d t ≡ record { node = n; tree = t′ }
+      → (t′ : List ℕ) → t′ ≡ set t (pairCell b (sideAt (sideIn n)) (pairOf n)) w → splitDown pairs lev c o k n d t ≡ record { node = n; room = t′ }
   unfolding splitDown worded
   split-done zero h b e w i t′ f = rw (f, e, i) refl
   split-done (suc d) h b e w i t′ f = absurd (omega arith)
@@ -164,5 +164,5 @@ module _ (pairs level above c k b p : ℕ) (t t₁ : List ℕ) (at : b ≡ level
     pub top-node : (n : ℕ) → n ≡ splitDown pairs level c 0 k m above t₁ .node → n ≡ splitChunk pairs level c k above t .node
     top-node n e = e ∙ ap (λ (r : Cut). r .node) top-split
 
-    pub top-tree : (t₂ : List ℕ) → t₂ ≡ splitDown pairs level c 0 k m above t₁ .tree → t₂ ≡ splitChunk pairs level c k above t .tree
-    top-tree t₂ e = e ∙ ap (λ (r : Cut). r .tree) top-split
+    pub top-tree : (t₂ : List ℕ) → t₂ ≡ splitDown pairs level c 0 k m above t₁ .room → t₂ ≡ splitChunk pairs level c k above t .room
+    top-tree t₂ e = e ∙ ap (λ (r : Cut). r .room) top-split

@@ -55,20 +55,20 @@ module _ (s : BuddySettings) (t : Tables) (fit : BuddyIn s) (lengths : Lengths s
 
   module _ (memory : ℕ) where
     abbrev chunky : List ℕ
-    chunky = chunkTables s memory z grown .tree
+    chunky = chunkTables s memory z grown .room
 
     short : Short s chunky
     unfolding chunkTables
     short =
         let long = grown-lengths s t fit lengths sound (grownTo (levelFor s size mask) t) in
-        tree-short s (few-pairs s fit) (chunked s grown fit long memory z .tree) fit (chunked-lengths s grown fit long memory z .tree)
+        tree-short s (few-pairs s fit) (chunked s grown fit long memory z .room) fit (chunked-lengths s grown fit long memory z .room)
 
     -- a chunk's words are past the levels
     all-room : Roomy (s .pairs) lev (chunkTaken s grown .place) 0 nowhere (suc under) chunky
     unfolding chunkTables
     all-room =
         let long = grown-lengths s t fit lengths sound (grownTo (levelFor s size mask) t) in
-        roomy s (grown .tree) lev (chunkTaken s grown .place) 0 (suc under) nowhere (chunked s grown fit long memory z .tree) (omega (arith, height, low)) (inr refl) short
+        roomy s (grown .room) lev (chunkTaken s grown .place) 0 (suc under) nowhere (chunked s grown fit long memory z .room) (omega (arith, height, low)) (inr refl) short
         (λ j h g. chunked-level s grown fit long memory z j (omega (arith, height, low)))
         (λ j h g. grown-sound s t fit lengths sound size mask z b .good j (omega (arith, height)))
         (λ j h g. pair s t fit lengths sound size mask z b j h (omega (arith, height)))

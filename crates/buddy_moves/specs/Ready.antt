@@ -30,9 +30,9 @@ pub record Lends (s : BuddySettings) (z l i : ℕ) (t : Tables) : Type 0 where
   pub enters : Enters s t
   pub below : l ≤ i
   pub low : i < levelsMost
-  pub pair : ringHead (levelFrom s i) (t .tree) < pairsMost
+  pub pair : ringHead (levelFrom s i) (t .room) < pairsMost
   pub offset : headEnt s t i .off ≤ 2 ^ 62
-  pub roomy : Roomy (s .pairs) l (loanFrom s z t i .chunk) (loanFrom s z t i .offset) (readyNode (s .pairs) i (t .tree)) (i - l) (acquired (levelFrom s i) freeWord (t .tree))
+  pub roomy : Roomy (s .pairs) l (loanFrom s z t i .chunk) (loanFrom s z t i .offset) (readyNode (s .pairs) i (t .room)) (i - l) (acquired (levelFrom s i) freeWord (t .room))
 
 -- a chunk can be added, and serve as much
 pub record Serves (s : BuddySettings) (l memory bytes : ℕ) (t : Tables) : Type 0 where
@@ -40,11 +40,11 @@ pub record Serves (s : BuddySettings) (l memory bytes : ℕ) (t : Tables) : Type
   pub below : l < levelsIn t
   pub low : levelsIn t ≤ levelsMost
   pub chunk : chunkTaken s t .place < chunksMost
-  pub pair : pairTaken (levelFrom s (levelsIn t - 1)) (t .tree) .place < pairsMost
+  pub pair : pairTaken (levelFrom s (levelsIn t - 1)) (t .room) .place < pairsMost
   -- the chunk's own pair, which is entered first, and those behind it
-  pub own : pairTaken (levelFrom s (up (levelsIn t - l - 1) l)) (chunkTables s memory bytes t .tree) .place < pairsMost
-  pub roomy : Roomy (s .pairs) l (chunkTaken s t .place) 0 (leftNext (s .pairs) (up (levelsIn t - l - 1) l) (chunkTables s memory bytes t .tree)) (levelsIn t - l - 1)
-      (added (levelFrom s (up (levelsIn t - l - 1) l)) (chunkTaken s t .place) 0 nowhere freeWord (chunkTables s memory bytes t .tree))
+  pub own : pairTaken (levelFrom s (up (levelsIn t - l - 1) l)) (chunkTables s memory bytes t .room) .place < pairsMost
+  pub roomy : Roomy (s .pairs) l (chunkTaken s t .place) 0 (leftNext (s .pairs) (up (levelsIn t - l - 1) l) (chunkTables s memory bytes t .room)) (levelsIn t - l - 1)
+      (added (levelFrom s (up (levelsIn t - l - 1) l)) (chunkTaken s t .place) 0 nowhere freeWord (chunkTables s memory bytes t .room))
 
 -- the block that word w of the index leads to can be taken back
 pub record Backs (s : BuddySettings) (b : Block) (w : ℕ) (t : Tables) : Type 0 where

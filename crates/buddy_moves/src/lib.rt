@@ -36,7 +36,7 @@ fn twin_word(tree: &[u64], base: usize, n: u64) -> u64
 pub fn climb(tree: &mut [u64], pairs: usize, level: usize, levels: usize, node: u64) -> bool
     requires { ⌜ (pairs ≤ pairsMost) × (level + levels ≤ levelsMost) ⌝ }
     ensures { λ r. ⌜ r ≡ climbed pairs levels level node (now (tree .entry)) .freed ⌝ }
-    ensures { λ _. ⌜ now (tree .exit) ≡ climbed pairs levels level node (now (tree .entry)) .tree ⌝ }
+    ensures { λ _. ⌜ now (tree .exit) ≡ climbed pairs levels level node (now (tree .entry)) .room ⌝ }
 {
     let mut l = level;
     let mut left = levels;
@@ -84,7 +84,7 @@ pub fn split_down(
     requires { ⌜ (pairs ≤ pairsMost) × (level + above ≤ levelsMost) × (loan < loansMost) ⌝ }
     requires { ⌜ Roomy pairs level chunk offset node above (now tree) ⌝ }
     ensures { λ r. ⌜ r ≡ splitDown pairs level chunk offset loan node above (now (tree .entry)) .node ⌝ }
-    ensures { λ _. ⌜ now (tree .exit) ≡ splitDown pairs level chunk offset loan node above (now (tree .entry)) .tree ⌝ }
+    ensures { λ _. ⌜ now (tree .exit) ≡ splitDown pairs level chunk offset loan node above (now (tree .entry)) .room ⌝ }
 {
     let mut d = above;
     let mut n = node;
@@ -121,7 +121,7 @@ pub fn split_chunk(
     requires { ⌜ (pairs ≤ pairsMost) × (level + above < levelsMost) × (loan < loansMost) × (pairTaken (levelStart pairs (up above level)) (now tree) .place < pairsMost) ⌝ }
     requires { ⌜ Roomy pairs level chunk 0 (leftNext pairs (up above level) (now tree)) above (added (levelStart pairs (up above level)) chunk 0 nowhere freeWord (now tree)) ⌝ }
     ensures { λ r. ⌜ r ≡ splitChunk pairs level chunk loan above (now (tree .entry)) .node ⌝ }
-    ensures { λ _. ⌜ now (tree .exit) ≡ splitChunk pairs level chunk loan above (now (tree .entry)) .tree ⌝ }
+    ensures { λ _. ⌜ now (tree .exit) ≡ splitChunk pairs level chunk loan above (now (tree .entry)) .room ⌝ }
 {
     let base = level_from(pairs, level + above);
     let p = buddy_levels::add_pair(tree, base, chunk, 0, NOWHERE, FREE_WORD);

@@ -70,7 +70,7 @@ lower x p n m w o = by (lt-or-le x n)
     by (inr h) = le-ltb x m (above h) ∙ sym (le-ltb x n h)
 
 module _ (s : BuddySettings) (t : Tables) (fit : BuddyIn s) (lengths : Lengths s t) (c o size : ℕ) (cut : Cut)
-    (long : length (cut .tree) ≡ length (t .tree)) where
+    (long : length (cut .room) ≡ length (t .room)) where
   abbrev k : ℕ
   k = takenOf (placesIn t) (t .index) .place
 
@@ -86,7 +86,7 @@ module _ (s : BuddySettings) (t : Tables) (fit : BuddyIn s) (lengths : Lengths s
       (entered (placesIn t) (t .index) new (t .loans))
       (t .chunks)
       (enteredIndex (s .store .loans) (placesIn t) (givenIn t + 1) (t .index))
-      (set (cut .tree) (nodesFrom s + k) (cut .node))
+      (set (cut .room) (nodesFrom s + k) (cut .node))
 
   booked-long : Lengths s booked
   booked-long = record {
@@ -94,7 +94,7 @@ module _ (s : BuddySettings) (t : Tables) (fit : BuddyIn s) (lengths : Lengths s
     loans = entered-long (placesIn t) (t .index) new (t .loans) ∙ lengths .loans;
     chunks = lengths .chunks;
     index = entered-wide (s .store .loans) (placesIn t) (givenIn t + 1) (t .index) ∙ lengths .index;
-    tree = length-set (cut .tree) (nodesFrom s + k) (cut .node) ∙ long ∙ lengths .tree;
+    room = length-set (cut .room) (nodesFrom s + k) (cut .node) ∙ long ∙ lengths .room;
   }
 
   pub booked-lengths : Lengths s (bookedTables s c o size cut t)
@@ -125,7 +125,7 @@ module _ (s : BuddySettings) (t : Tables) (fit : BuddyIn s) (lengths : Lengths s
 
   module _ (lev : ℕ) (K : Kept s t) (place : takenOf (placesIn t) (t .index) .place < s .store .loans)
       (level : levelOf size (s .minimal) ≡ lev) (is : size ≡ bytes (s .minimal) lev) (at-units : o % (s .store .atom + 1) ≡ 0) (size-units : size % (s .store .atom + 1) ≡ 0)
-      (past : (i : ℕ) → chunksFrom s ≤ i → getD (cut .tree) i 0 ≡ getD (t .tree) i 0) where
+      (past : (i : ℕ) → chunksFrom s ≤ i → getD (cut .room) i 0 ≡ getD (t .room) i 0) where
     few : s .store .loans < nowhere
     few = omega (arith, fit .store .loans-most)
 
@@ -134,11 +134,11 @@ module _ (s : BuddySettings) (t : Tables) (fit : BuddyIn s) (lengths : Lengths s
 
     -- ---- words of the tree
 
-    node-here : getD (booked .tree) (nodesFrom s + k) 0 ≡ cut .node
-    node-here = getD-set-same (cut .tree) (nodesFrom s + k) (cut .node) 0 (omega (arith, long, lengths .tree))
+    node-here : getD (booked .room) (nodesFrom s + k) 0 ≡ cut .node
+    node-here = getD-set-same (cut .room) (nodesFrom s + k) (cut .node) 0 (omega (arith, long, lengths .room))
 
-    tree-other : (i : ℕ) → chunksFrom s ≤ i → (i ≡ nodesFrom s + k → ⊥) → getD (booked .tree) i 0 ≡ getD (t .tree) i 0
-    tree-other i h n = getD-set-other (cut .tree) (nodesFrom s + k) i (cut .node) 0 n ∙ past i h
+    tree-other : (i : ℕ) → chunksFrom s ≤ i → (i ≡ nodesFrom s + k → ⊥) → getD (booked .room) i 0 ≡ getD (t .room) i 0
+    tree-other i h n = getD-set-other (cut .room) (nodesFrom s + k) i (cut .node) 0 n ∙ past i h
 
     -- ---- words of the loans
 
@@ -201,9 +201,9 @@ module _ (s : BuddySettings) (t : Tables) (fit : BuddyIn s) (lengths : Lengths s
     held-low b h = omega (arith, ltb-true b (chunkPlacesIn t) (and-left (ltb b (chunkPlacesIn t)) (not (eqb (chunkSizeIn t b) 0)) h), K .chunks-parted .limit)
 
     top : (b : ℕ) → topIn s booked b ≡ topIn s t b
-    top b = ap (λ (x : Bool). cond x (getD (booked .tree) (cellOf (placeAt s topAt) placeWords b) 0) 0) (held b) ∙ by (told (heldIn t b))
+    top b = ap (λ (x : Bool). cond x (getD (booked .room) (cellOf (placeAt s topAt) placeWords b) 0) 0) (held b) ∙ by (told (heldIn t b))
       where
-        by : (heldIn t b ≡ true) ⊎ (heldIn t b ≡ false) → cond (heldIn t b) (getD (booked .tree) (cellOf (placeAt s topAt) placeWords b) 0) 0 ≡ topIn s t b
+        by : (heldIn t b ≡ true) ⊎ (heldIn t b ≡ false) → cond (heldIn t b) (getD (booked .room) (cellOf (placeAt s topAt) placeWords b) 0) 0 ≡ topIn s t b
         by (inl h) =
             let l : b < s .store .chunks = held-low b h in
             rw h (tree-other (cellOf (placeAt s topAt) placeWords b) (omega arith) (λ e. omega arith))
@@ -243,7 +243,7 @@ module _ (s : BuddySettings) (t : Tables) (fit : BuddyIn s) (lengths : Lengths s
 
     -- ---- the whole: W are the levels of the tree that was cut
 
-    module _ (T : ℕ → Tree) (W : ℕ → List ℕ) (levels : (i : ℕ) → i < levelsMost → part (s .pairs) i (cut .tree) ≡ W i)
+    module _ (T : ℕ → Tree) (W : ℕ → List ℕ) (levels : (i : ℕ) → i < levelsMost → part (s .pairs) i (cut .room) ≡ W i)
         (A : Stores.Sound (s .minimal) (levelOps (s .pairs) (few-pairs s fit)) (record {
           count = levelsIn t;
           levels = W;
@@ -258,7 +258,7 @@ module _ (s : BuddySettings) (t : Tables) (fit : BuddyIn s) (lengths : Lengths s
       booked-store : Stores.Sound (s .minimal) (levelOps (s .pairs) (few-pairs s fit)) (storeOf s (few-pairs s fit) booked) T
       booked-store =
           sound-as (s .minimal) (levelOps (s .pairs) (few-pairs s fit)) (minimal-pos s fit) _ (storeOf s (few-pairs s fit) booked) T A count
-          (λ i h. let l : i < levelsMost = omega (arith, K .levels-most) in part-set s i (nodesFrom s + k) (cut .node) (cut .tree) l (omega arith) ∙ levels i l)
+          (λ i h. let l : i < levelsMost = omega (arith, K .levels-most) in part-set s i (nodesFrom s + k) (cut .node) (cut .room) l (omega arith) ∙ levels i l)
           loaned live high top
 
       pub booked-sound : Sound s (bookedTables s c o size cut t)

@@ -58,19 +58,19 @@ module _ (s : BuddySettings) (t : Tables) (fit : BuddyIn s) (lengths : Lengths s
   small = few-pairs s fit
 
   -- a level that is fresh is good, and has no pair
-  fresh-part : (i : ℕ) → i < levelsMost → length (part (s .pairs) i (t .tree)) ≡ levelWords (s .pairs)
-  fresh-part i h = part-length (s .pairs) i (t .tree) (omega (arith, levels-in s i h, lengths .tree))
+  fresh-part : (i : ℕ) → i < levelsMost → length (part (s .pairs) i (t .room)) ≡ levelWords (s .pairs)
+  fresh-part i h = part-length (s .pairs) i (t .room) (omega (arith, levels-in s i h, lengths .room))
 
-  level-good : (i : ℕ) (v : List ℕ) → i < levelsMost → v ≡ freshLevel 0 (part (s .pairs) i (t .tree)) → levelOps (s .pairs) (few-pairs s fit) .Good v
+  level-good : (i : ℕ) (v : List ℕ) → i < levelsMost → v ≡ freshLevel 0 (part (s .pairs) i (t .room)) → levelOps (s .pairs) (few-pairs s fit) .Good v
   level-good i v h e =
-      let p : List ℕ = part (s .pairs) i (t .tree) in
+      let p : List ℕ = part (s .pairs) i (t .room) in
       let l : length p ≡ levelWords (s .pairs) = fresh-part i h in
       rw e (fresh-length 0 p ∙ l, fresh-good 0 p (omega arith) (s .pairs))
 
-  level-none : (i p : ℕ) (v : List ℕ) → i < levelsMost → v ≡ freshLevel 0 (part (s .pairs) i (t .tree)) → pairIn 0 v p .tag ≡ 0
+  level-none : (i p : ℕ) (v : List ℕ) → i < levelsMost → v ≡ freshLevel 0 (part (s .pairs) i (t .room)) → pairIn 0 v p .tag ≡ 0
   level-none i p v h e =
-      let l : length (part (s .pairs) i (t .tree)) ≡ levelWords (s .pairs) = fresh-part i h in
-      ap (λ (w : List ℕ). pairIn 0 w p .tag) e ∙ ap (λ (x : Ent). x .tag) (fresh-none 0 (part (s .pairs) i (t .tree)) (omega arith) p)
+      let l : length (part (s .pairs) i (t .room)) ≡ levelWords (s .pairs) = fresh-part i h in
+      ap (λ (w : List ℕ). pairIn 0 w p .tag) e ∙ ap (λ (x : Ent). x .tag) (fresh-none 0 (part (s .pairs) i (t .room)) (omega arith) p)
 
   -- ---- set-up
 
@@ -82,7 +82,7 @@ module _ (s : BuddySettings) (t : Tables) (fit : BuddyIn s) (lengths : Lengths s
         loans = lengths .loans;
         chunks = lengths .chunks;
         index = fresh-wide (t .index) ∙ lengths .index;
-        tree = length-set (freshLevels s 0 (initialLevels s) (t .tree)) (chunksFrom s) nowhere ∙ freshened-long s 0 (initialLevels s) (t .tree) ∙ lengths .tree;
+        room = length-set (freshLevels s 0 (initialLevels s) (t .room)) (chunksFrom s) nowhere ∙ freshened-long s 0 (initialLevels s) (t .room) ∙ lengths .room;
       }
 
   fresh-held : (c : ℕ) → heldIn (freshTables s t) c ≡ false
@@ -93,24 +93,24 @@ module _ (s : BuddySettings) (t : Tables) (fit : BuddyIn s) (lengths : Lengths s
   unfolding freshTables
   fresh-live k = rw (le-ltb k 0 (omega arith))
 
-  none-vacated : getD (freshTables s t .tree) (chunksFrom s) 0 ≡ nowhere
+  none-vacated : getD (freshTables s t .room) (chunksFrom s) 0 ≡ nowhere
   unfolding freshTables
   none-vacated =
-      getD-set-same (freshLevels s 0 (initialLevels s) (t .tree)) (chunksFrom s) nowhere 0
-      (omega (arith, freshened-long s 0 (initialLevels s) (t .tree), lengths .tree))
+      getD-set-same (freshLevels s 0 (initialLevels s) (t .room)) (chunksFrom s) nowhere 0
+      (omega (arith, freshened-long s 0 (initialLevels s) (t .room), lengths .room))
 
   module _ (few : initialLevels s ≤ levelsMost) where
-    fresh-level : (i : ℕ) → i < initialLevels s → part (s .pairs) i (freshTables s t .tree) ≡ freshLevel 0 (part (s .pairs) i (t .tree))
+    fresh-level : (i : ℕ) → i < initialLevels s → part (s .pairs) i (freshTables s t .room) ≡ freshLevel 0 (part (s .pairs) i (t .room))
     unfolding freshTables
     fresh-level i h =
-        part-set s i (chunksFrom s) nowhere (freshLevels s 0 (initialLevels s) (t .tree)) (omega arith) (omega arith)
-        ∙ freshened s 0 (initialLevels s) (t .tree) (omega arith) .inside i (omega arith) (omega arith)
+        part-set s i (chunksFrom s) nowhere (freshLevels s 0 (initialLevels s) (t .room)) (omega arith) (omega arith)
+        ∙ freshened s 0 (initialLevels s) (t .room) (omega arith) .inside i (omega arith) (omega arith)
 
     fresh-store : Stores.Sound (s .minimal) (levelOps (s .pairs) small) (storeOf s small (freshTables s t)) (λ (c : ℕ). free)
     unfolding freshTables
     fresh-store =
         let u : Tables = freshTables s t in
-        let W : ℕ → List ℕ = λ i. part (s .pairs) i (u .tree) in
+        let W : ℕ → List ℕ = λ i. part (s .pairs) i (u .room) in
         sound-as (s .minimal) (levelOps (s .pairs) small) (minimal-pos s fit)
         (record { count = initialLevels s; levels = W; loans = loanIn s u; live = λ k. false; high = λ c. 0; top = λ c. 0 })
         (storeOf s small u) (λ (c : ℕ). free)
@@ -150,15 +150,15 @@ module _ (s : BuddySettings) (t : Tables) (fit : BuddyIn s) (lengths : Lengths s
           loans = lengths .loans;
           chunks = lengths .chunks;
           index = lengths .index;
-          tree = freshened-long s (levelsIn t) (n - levelsIn t) (t .tree) ∙ lengths .tree;
+          room = freshened-long s (levelsIn t) (n - levelsIn t) (t .room) ∙ lengths .room;
         }
 
     module _ (n : ℕ) (more : levelsIn t ≤ n) (most : n ≤ levelsMost) where
       abbrev grown : Tables
-      grown = tables (set (t .head) levelsAt n) (t .loans) (t .chunks) (t .index) (freshLevels s (levelsIn t) (n - levelsIn t) (t .tree))
+      grown = tables (set (t .head) levelsAt n) (t .loans) (t .chunks) (t .index) (freshLevels s (levelsIn t) (n - levelsIn t) (t .room))
 
-      made : Freshened s (levelsIn t) (n - levelsIn t) (t .tree) (freshLevels s (levelsIn t) (n - levelsIn t) (t .tree))
-      made = freshened s (levelsIn t) (n - levelsIn t) (t .tree) (omega arith)
+      made : Freshened s (levelsIn t) (n - levelsIn t) (t .room) (freshLevels s (levelsIn t) (n - levelsIn t) (t .room))
+      made = freshened s (levelsIn t) (n - levelsIn t) (t .room) (omega arith)
 
       word : (k : ℕ) → (k ≡ levelsAt → ⊥) → getD (grown .head) k 0 ≡ getD (t .head) k 0
       word k o = getD-set-other (t .head) levelsAt k n 0 o
@@ -183,7 +183,7 @@ module _ (s : BuddySettings) (t : Tables) (fit : BuddyIn s) (lengths : Lengths s
 
       top : (c : ℕ) → topIn s grown c ≡ topIn s t c
       top c =
-          ap (λ (b : Bool). cond b (getD (grown .tree) (cellOf (placeAt s topAt) placeWords c) 0) 0) (held c)
+          ap (λ (b : Bool). cond b (getD (grown .room) (cellOf (placeAt s topAt) placeWords c) 0) 0) (held c)
           ∙ ap (λ (w : ℕ). cond (heldIn t c) w 0) (made .past (cellOf (placeAt s topAt) placeWords c) (omega arith))
 
       loaned : (k : ℕ) → loanIn s grown k ≡ loanIn s t k
@@ -195,10 +195,10 @@ module _ (s : BuddySettings) (t : Tables) (fit : BuddyIn s) (lengths : Lengths s
       grown-store =
           let O = levelOps (s .pairs) small in
           let T : ℕ → Tree = λ c. cond (heldIn t c) (sound .standing .trees c) free in
-          let W : ℕ → List ℕ = λ i. part (s .pairs) i (grown .tree) in
+          let W : ℕ → List ℕ = λ i. part (s .pairs) i (grown .room) in
           let u : Store (s .minimal) O = record { count = levelsIn t; levels = W; loans = loanIn s t; live = liveIn t; high = highIn s t; top = topIn s t } in
           let A : Stores.Sound (s .minimal) O u T = sound-levels (s .minimal) O (minimal-pos s fit) (storeOf s small t) T (sound-store s small t fit lengths sound) W (λ i h. made .below i h) in
-          let fresh : (i : ℕ) → levelsIn t ≤ i → i < n → W i ≡ freshLevel 0 (part (s .pairs) i (t .tree)) = λ i k h. made .inside i k (omega arith) in
+          let fresh : (i : ℕ) → levelsIn t ≤ i → i < n → W i ≡ freshLevel 0 (part (s .pairs) i (t .room)) = λ i k h. made .inside i k (omega arith) in
           let B = grown-sound (s .minimal) O (minimal-pos s fit) u T A n more (λ i k h. level-good i (W i) (omega arith) (fresh i k h)) (λ i p k h. level-none i p (W i) (omega arith) (fresh i k h)) in
           sound-as (s .minimal) O (minimal-pos s fit) (grownTo (s .minimal) O n u) (storeOf s small grown) T B count (λ i h. refl) loaned live high top
 
@@ -262,31 +262,31 @@ module _ (s : BuddySettings) (t : Tables) (fit : BuddyIn s) (lengths : Lengths s
       grown-slab = sym (slab n more most)
 
       -- a new level has no ready side
-      pub grown-head : (j : ℕ) → j < n → (j < levelsIn t → ringHead (levelFrom s j) (t .tree) ≡ nowhere) → ringHead (levelFrom s j) (grownTables s n t .tree) ≡ nowhere
+      pub grown-head : (j : ℕ) → j < n → (j < levelsIn t → ringHead (levelFrom s j) (t .room) ≡ nowhere) → ringHead (levelFrom s j) (grownTables s n t .room) ≡ nowhere
       unfolding grownTables
       grown-head j h f =
-          let u = freshLevels s (levelsIn t) (n - levelsIn t) (t .tree) in
+          let u = freshLevels s (levelsIn t) (n - levelsIn t) (t .room) in
           part-head (s .pairs) j u
           ∙ ⊎-elim
-          (λ k. ap (ringHead 0) (made n more most .below j k) ∙ sym (part-head (s .pairs) j (t .tree)) ∙ f k)
-          (λ k. ap (ringHead 0) (made n more most .inside j k (omega arith)) ∙ fresh-head 0 (part (s .pairs) j (t .tree)) (omega (arith, fresh-part j (omega arith))))
+          (λ k. ap (ringHead 0) (made n more most .below j k) ∙ sym (part-head (s .pairs) j (t .room)) ∙ f k)
+          (λ k. ap (ringHead 0) (made n more most .inside j k (omega arith)) ∙ fresh-head 0 (part (s .pairs) j (t .room)) (omega (arith, fresh-part j (omega arith))))
           (lt-or-le j (levelsIn t))
 
-      place-there : (j : ℕ) → j < n → (j < levelsIn t → pairTaken (levelFrom s j) (t .tree) .place < s .pairs) → pairTaken 0 (part (s .pairs) j (grownTables s n t .tree)) .place < s .pairs
+      place-there : (j : ℕ) → j < n → (j < levelsIn t → pairTaken (levelFrom s j) (t .room) .place < s .pairs) → pairTaken 0 (part (s .pairs) j (grownTables s n t .room)) .place < s .pairs
       unfolding grownTables
       place-there j h f = ⊎-elim
-          (λ k. let e : pairTaken 0 (part (s .pairs) j (grown n more most .tree)) .place ≡ pairTaken (levelFrom s j) (t .tree) .place =
-          ap (λ (x : List ℕ). pairTaken 0 x .place) (made n more most .below j k) ∙ sym (ap (λ (x : Taken). x .place) (part-taken (s .pairs) j (t .tree) (sound .good j k))) in
+          (λ k. let e : pairTaken 0 (part (s .pairs) j (grown n more most .room)) .place ≡ pairTaken (levelFrom s j) (t .room) .place =
+          ap (λ (x : List ℕ). pairTaken 0 x .place) (made n more most .below j k) ∙ sym (ap (λ (x : Taken). x .place) (part-taken (s .pairs) j (t .room) (sound .good j k))) in
           omega (arith, e, f k))
-          (λ k. let e : pairTaken 0 (part (s .pairs) j (grown n more most .tree)) .place ≡ 0 =
-          ap (λ (x : List ℕ). pairTaken 0 x .place) (made n more most .inside j k (omega arith)) ∙ fresh-taken 0 (part (s .pairs) j (t .tree)) (omega (arith, fresh-part j (omega arith))) in
+          (λ k. let e : pairTaken 0 (part (s .pairs) j (grown n more most .room)) .place ≡ 0 =
+          ap (λ (x : List ℕ). pairTaken 0 x .place) (made n more most .inside j k (omega arith)) ∙ fresh-taken 0 (part (s .pairs) j (t .room)) (omega (arith, fresh-part j (omega arith))) in
           omega (arith, e, fit .pairs-some))
           (lt-or-le j (levelsIn t))
 
       -- and all its pair places
-      pub grown-place : (j : ℕ) → j < n → (j < levelsIn t → pairTaken (levelFrom s j) (t .tree) .place < s .pairs) → pairTaken (levelFrom s j) (grownTables s n t .tree) .place < s .pairs
+      pub grown-place : (j : ℕ) → j < n → (j < levelsIn t → pairTaken (levelFrom s j) (t .room) .place < s .pairs) → pairTaken (levelFrom s j) (grownTables s n t .room) .place < s .pairs
       grown-place j h f =
-          let v = part (s .pairs) j (grownTables s n t .tree) in
+          let v = part (s .pairs) j (grownTables s n t .room) in
           let G = grown-tables-sound n more most .good j (omega (arith, grown-count)) in
-          let e : pairTaken (levelFrom s j) (grownTables s n t .tree) .place ≡ pairTaken 0 v .place = ap (λ (x : Taken). x .place) (part-taken (s .pairs) j (grownTables s n t .tree) G) in
+          let e : pairTaken (levelFrom s j) (grownTables s n t .room) .place ≡ pairTaken 0 v .place = ap (λ (x : Taken). x .place) (part-taken (s .pairs) j (grownTables s n t .room) G) in
           omega (arith, e, place-there j h f)

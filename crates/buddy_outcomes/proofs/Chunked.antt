@@ -68,14 +68,14 @@ module _ (s : BuddySettings) (t : Tables) (fit : BuddyIn s) (lengths : Lengths s
   topCell = cellOf (placeAt s topAt) placeWords p
 
   abbrev topWord : ℕ
-  topWord = 2 * pairTaken (levelFrom s (levelsIn t - 1)) (t .tree) .place + 2
+  topWord = 2 * pairTaken (levelFrom s (levelsIn t - 1)) (t .room) .place + 2
 
   abbrev pub chunked : Tables
   chunked =
       tables (set (t .head) chunkPlacesAt q) (t .loans)
       (set (set (t .chunks) (cellOf memoryAt chunkWords p) memory) (cellOf chunkSizeAt chunkWords p) z)
       (t .index)
-      (set (set (t .tree) (chunksFrom s) (chunkTaken s t .slab .vacant)) topCell topWord)
+      (set (set (t .room) (chunksFrom s) (chunkTaken s t .slab .vacant)) topCell topWord)
 
   pub chunked-lengths : Lengths s chunked
   chunked-lengths = record {
@@ -83,7 +83,7 @@ module _ (s : BuddySettings) (t : Tables) (fit : BuddyIn s) (lengths : Lengths s
     loans = lengths .loans;
     chunks = length-set (set (t .chunks) (cellOf memoryAt chunkWords p) memory) (cellOf chunkSizeAt chunkWords p) z ∙ length-set (t .chunks) (cellOf memoryAt chunkWords p) memory ∙ lengths .chunks;
     index = lengths .index;
-    tree = length-set (set (t .tree) (chunksFrom s) (chunkTaken s t .slab .vacant)) topCell topWord ∙ length-set (t .tree) (chunksFrom s) (chunkTaken s t .slab .vacant) ∙ lengths .tree;
+    room = length-set (set (t .room) (chunksFrom s) (chunkTaken s t .slab .vacant)) topCell topWord ∙ length-set (t .room) (chunksFrom s) (chunkTaken s t .slab .vacant) ∙ lengths .room;
   }
 
   -- ---- words of the head
@@ -100,22 +100,22 @@ module _ (s : BuddySettings) (t : Tables) (fit : BuddyIn s) (lengths : Lengths s
   pub chunked-places : placesIn chunked ≡ placesIn t
   chunked-places = head-other placesAt (λ e. omega arith)
 
-  pub chunked-level : (i : ℕ) → i < levelsMost → part (s .pairs) i (chunked .tree) ≡ part (s .pairs) i (t .tree)
-  chunked-level i h = part-set s i topCell topWord (set (t .tree) (chunksFrom s) (chunkTaken s t .slab .vacant)) h (omega arith) ∙ part-set s i (chunksFrom s) (chunkTaken s t .slab .vacant) (t .tree) h (omega arith)
+  pub chunked-level : (i : ℕ) → i < levelsMost → part (s .pairs) i (chunked .room) ≡ part (s .pairs) i (t .room)
+  chunked-level i h = part-set s i topCell topWord (set (t .room) (chunksFrom s) (chunkTaken s t .slab .vacant)) h (omega arith) ∙ part-set s i (chunksFrom s) (chunkTaken s t .slab .vacant) (t .room) h (omega arith)
 
   -- ---- words of the tree
 
-  tree-other : (i : ℕ) → (i ≡ chunksFrom s → ⊥) → (i ≡ topCell → ⊥) → getD (chunked .tree) i 0 ≡ getD (t .tree) i 0
-  tree-other i a b = getD-set-other (set (t .tree) (chunksFrom s) (chunkTaken s t .slab .vacant)) topCell i topWord 0 b ∙ getD-set-other (t .tree) (chunksFrom s) i (chunkTaken s t .slab .vacant) 0 a
+  tree-other : (i : ℕ) → (i ≡ chunksFrom s → ⊥) → (i ≡ topCell → ⊥) → getD (chunked .room) i 0 ≡ getD (t .room) i 0
+  tree-other i a b = getD-set-other (set (t .room) (chunksFrom s) (chunkTaken s t .slab .vacant)) topCell i topWord 0 b ∙ getD-set-other (t .room) (chunksFrom s) i (chunkTaken s t .slab .vacant) 0 a
 
   module _ (room : chunkTaken s t .place < s .store .chunks) where
-    tree-vacated : getD (chunked .tree) (chunksFrom s) 0 ≡ chunkTaken s t .slab .vacant
+    tree-vacated : getD (chunked .room) (chunksFrom s) 0 ≡ chunkTaken s t .slab .vacant
     tree-vacated =
-        getD-set-other (set (t .tree) (chunksFrom s) (chunkTaken s t .slab .vacant)) topCell (chunksFrom s) topWord 0 (λ e. omega arith)
-        ∙ getD-set-same (t .tree) (chunksFrom s) (chunkTaken s t .slab .vacant) 0 (omega (arith, lengths .tree))
+        getD-set-other (set (t .room) (chunksFrom s) (chunkTaken s t .slab .vacant)) topCell (chunksFrom s) topWord 0 (λ e. omega arith)
+        ∙ getD-set-same (t .room) (chunksFrom s) (chunkTaken s t .slab .vacant) 0 (omega (arith, lengths .room))
 
-    tree-top : getD (chunked .tree) (cellOf (placeAt s topAt) placeWords (chunkTaken s t .place)) 0 ≡ topWord
-    tree-top = getD-set-same (set (t .tree) (chunksFrom s) (chunkTaken s t .slab .vacant)) topCell topWord 0 (omega (arith, length-set (t .tree) (chunksFrom s) (chunkTaken s t .slab .vacant), lengths .tree))
+    tree-top : getD (chunked .room) (cellOf (placeAt s topAt) placeWords (chunkTaken s t .place)) 0 ≡ topWord
+    tree-top = getD-set-same (set (t .room) (chunksFrom s) (chunkTaken s t .slab .vacant)) topCell topWord 0 (omega (arith, length-set (t .room) (chunksFrom s) (chunkTaken s t .slab .vacant), lengths .room))
 
     -- ---- the loans are the same
 
@@ -163,7 +163,7 @@ module _ (s : BuddySettings) (t : Tables) (fit : BuddyIn s) (lengths : Lengths s
       some e = omega (arith, bytes-pos (s .minimal) (levelsIn t) (minimal-pos s fit))
 
       places-where : ((p ≡ chunkPlacesIn t) × (q ≡ chunkPlacesIn t + 1)) ⊎ ((p < chunkPlacesIn t) × (vacantChunk t p ≡ true) × (q ≡ chunkPlacesIn t))
-      places-where = inserted-where (vacantChunk t) (t .tree) (placeAt s afterAt) placeWords (chunkSlab s t) (s .store .chunks) (sound .chunks-parted) few
+      places-where = inserted-where (vacantChunk t) (t .room) (placeAt s afterAt) placeWords (chunkSlab s t) (s .store .chunks) (sound .chunks-parted) few
 
       pub taken-low : ((p ≡ chunkPlacesIn t) × (q ≡ chunkPlacesIn t + 1)) ⊎ ((p < chunkPlacesIn t) × (q ≡ chunkPlacesIn t))
       taken-low = ⊎-elim (λ w. inl w) (λ w. inr (w .0, w .2)) places-where
@@ -196,12 +196,12 @@ module _ (s : BuddySettings) (t : Tables) (fit : BuddyIn s) (lengths : Lengths s
       top-other : (b : ℕ) → (b ≡ p → ⊥) → topIn s chunked b ≡ topIn s t b
       top-other b n =
           let e = tree-other (cellOf (placeAt s topAt) placeWords b) (λ e. omega arith) (λ e. n (omega arith)) in
-          ap (λ (x : Bool). cond x (getD (chunked .tree) (cellOf (placeAt s topAt) placeWords b) 0) 0) (held-other b n) ∙ ap (λ (w : ℕ). cond (heldIn t b) w 0) e
+          ap (λ (x : Bool). cond x (getD (chunked .room) (cellOf (placeAt s topAt) placeWords b) 0) 0) (held-other b n) ∙ ap (λ (w : ℕ). cond (heldIn t b) w 0) e
 
       top-here : topIn s chunked p ≡ topWord
-      top-here = ap (λ (x : Bool). cond x (getD (chunked .tree) topCell 0) 0) held-here ∙ tree-top
+      top-here = ap (λ (x : Bool). cond x (getD (chunked .room) topCell 0) 0) held-here ∙ tree-top
 
-      pub chunked-top : (b : ℕ) → topIn s chunked b ≡ with (topIn s t) (chunkTaken s t .place) (2 * pairTaken (levelFrom s (levelsIn t - 1)) (t .tree) .place + 2) b
+      pub chunked-top : (b : ℕ) → topIn s chunked b ≡ with (topIn s t) (chunkTaken s t .place) (2 * pairTaken (levelFrom s (levelsIn t - 1)) (t .room) .place + 2) b
       chunked-top b = ⊎-elim (λ e. rw (eq-eqb b p e) (ap (topIn s chunked) e ∙ top-here)) (λ n. rw (ne-eqb b p n) (top-other b n)) (same? b p)
 
       -- ---- the slab of chunk places
@@ -217,11 +217,11 @@ module _ (s : BuddySettings) (t : Tables) (fit : BuddyIn s) (lengths : Lengths s
 
       chunks-parted : Parted (vacantChunk chunked) (chunkAfter s chunked) (chunkSlab s chunked) (s .store .chunks)
       chunks-parted =
-          let h : headOr (chunkPlacesIn t) (sound .chunks-parted .chained) < s .store .chunks = omega (arith, insert-last (vacantChunk t) (t .tree) (placeAt s afterAt) placeWords (chunkSlab s t) (s .store .chunks) (sound .chunks-parted) few, room) in
+          let h : headOr (chunkPlacesIn t) (sound .chunks-parted .chained) < s .store .chunks = omega (arith, insert-last (vacantChunk t) (t .room) (placeAt s afterAt) placeWords (chunkSlab s t) (s .store .chunks) (sound .chunks-parted) few, room) in
           subst (λ (y : Slab). Parted (vacantChunk chunked) (chunkAfter s chunked) y (s .store .chunks)) slab
           (parted-same (changed (vacantChunk t) p false) (vacantChunk chunked) (chunkAfter s t) (chunkAfter s chunked) (chunkTaken s t .slab) (s .store .chunks) (λ x g. vacant-now x)
           (λ x g. tree-other (cellOf (placeAt s afterAt) placeWords x) (λ e. omega arith) (λ e. omega arith))
-          (inserted-parted (vacantChunk t) (t .tree) (placeAt s afterAt) placeWords (chunkSlab s t) (s .store .chunks) (sound .chunks-parted) few h))
+          (inserted-parted (vacantChunk t) (t .room) (placeAt s afterAt) placeWords (chunkSlab s t) (s .store .chunks) (sound .chunks-parted) few h))
 
       -- ---- all but the trees
 

@@ -52,12 +52,12 @@ none-found s t l zero f = refl
 none-found s t l (suc n) f =
     rw (eq-eqb (ringHead (levelFrom s l) t) Slab.nowhere (f l (omega arith) (omega arith))) (none-found s t (suc l) n (λ j h k. f j (omega arith) (omega arith)))
 
-all-room : (s : BuddySettings) (t : Tables) (l n : ℕ) → ((j : ℕ) → l ≤ j → j < l + n → pairTaken (levelFrom s j) (t .tree) .place < s .pairs) → pairsRoom s t l n ≡ true
+all-room : (s : BuddySettings) (t : Tables) (l n : ℕ) → ((j : ℕ) → l ≤ j → j < l + n → pairTaken (levelFrom s j) (t .room) .place < s .pairs) → pairsRoom s t l n ≡ true
 unfolding pairsRoom
 all-room s t l zero f = refl
 all-room s t l (suc n) f =
     and-both (pairRoom s t l) (pairsRoom s t (suc l) n)
-    (or-right (leb (levelsIn t) l) _ (lt-ltb (pairTaken (levelFrom s l) (t .tree) .place) (s .pairs) (f l (omega arith) (omega arith))))
+    (or-right (leb (levelsIn t) l) _ (lt-ltb (pairTaken (levelFrom s l) (t .room) .place) (s .pairs) (f l (omega arith) (omega arith))))
     (all-room s t (suc l) n (λ j h k. f j (omega arith) (omega arith)))
 
 -- ---- an order comes of a plan to buy
@@ -120,7 +120,7 @@ module _ (s : BuddySettings) (a : Account) (size mask : ℕ) (t : Tables) where
     none : foundFrom s (levelFor s size mask) g ≡ nowhere
     unfolding foundFrom
     none =
-        none-found s (g .tree) (levelFor s size mask) (levelsIn g - levelFor s size mask)
+        none-found s (g .room) (levelFor s size mask) (levelsIn g - levelFor s size mask)
         (λ j h k. empty s t fit lengths sound size mask z bought j h (omega arith))
 
     -- levels grow once

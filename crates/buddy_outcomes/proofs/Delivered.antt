@@ -83,17 +83,17 @@ module _ (s : BuddySettings) (t : Tables) (fit : BuddyIn s) (lengths : Lengths s
   pub chunk-room : chunkTaken s (grownTables s n t) .place < s .store .chunks
   chunk-room =
       let e : chunkTaken s (grownTables s n t) .place ≡ chunkTaken s t .place =
-      ap (λ (z : Slab). inserted z (grownTables s n t .tree) (placeAt s afterAt) placeWords .place) (grown-slab s t fit lengths sound n more most)
-      ∙ place-same _ (grownTables s n t .tree) (t .tree) (placeAt s afterAt) placeWords in
+      ap (λ (z : Slab). inserted z (grownTables s n t .room) (placeAt s afterAt) placeWords .place) (grown-slab s t fit lengths sound n more most)
+      ∙ place-same _ (grownTables s n t .room) (t .room) (placeAt s afterAt) placeWords in
       omega (arith, e, room-chunk s t size mask Ask.nowhere (b .room) refl)
 
-  pub empty : (j : ℕ) → levelFor s size mask ≤ j → j < levelsIn (grownTables s n t) → ringHead (levelFrom s j) (grownTables s n t .tree) ≡ Slab.nowhere
+  pub empty : (j : ℕ) → levelFor s size mask ≤ j → j < levelsIn (grownTables s n t) → ringHead (levelFrom s j) (grownTables s n t .room) ≡ Slab.nowhere
   unfolding foundFrom
   empty j h g =
       grown-head s t fit lengths sound n more most j (omega (arith, count))
-      (λ k. search-none s (t .tree) (levelFor s size mask) (levelsIn t - levelFor s size mask) (b .found) j h (omega arith))
+      (λ k. search-none s (t .room) (levelFor s size mask) (levelsIn t - levelFor s size mask) (b .found) j h (omega arith))
 
-  pub pair : (j : ℕ) → levelFor s size mask ≤ j → j < levelsIn (grownTables s n t) → pairTaken (levelFrom s j) (grownTables s n t .tree) .place < s .pairs
+  pub pair : (j : ℕ) → levelFor s size mask ≤ j → j < levelsIn (grownTables s n t) → pairTaken (levelFrom s j) (grownTables s n t .room) .place < s .pairs
   pair j h g =
       grown-place s t fit lengths sound n more most j (omega (arith, count)) (λ k. room-pair s t size mask Ask.nowhere (b .room) j h (omega (arith, count)) k)
 

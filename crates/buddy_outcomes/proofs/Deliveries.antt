@@ -56,13 +56,13 @@ grown-rings s t fit lengths sound n more most W rings l h = ⊎-elim old new (lt
     low : l < n
     low = omega (arith, h, grown-count s t fit lengths sound n more most)
 
-    old : l < levelsIn t → Ringed (levelFrom s l) (s .pairs) (grownTables s n t .tree) (ringsGrown (levelsIn t) W l)
+    old : l < levelsIn t → Ringed (levelFrom s l) (s .pairs) (grownTables s n t .room) (ringsGrown (levelsIn t) W l)
     old k =
         rw (lt-ltb l (levelsIn t) k)
         (ringed-part (s .pairs) l _ (W l)
-        (subst (λ (x : List ℕ). Ringed 0 (s .pairs) x (W l)) (sym (freshened s (levelsIn t) (n - levelsIn t) (t .tree) (omega arith) .below l k)) (part-ringed (s .pairs) l (t .tree) (W l) (rings l k))))
+        (subst (λ (x : List ℕ). Ringed 0 (s .pairs) x (W l)) (sym (freshened s (levelsIn t) (n - levelsIn t) (t .room) (omega arith) .below l k)) (part-ringed (s .pairs) l (t .room) (W l) (rings l k))))
 
-    new : levelsIn t ≤ l → Ringed (levelFrom s l) (s .pairs) (grownTables s n t .tree) (ringsGrown (levelsIn t) W l)
+    new : levelsIn t ≤ l → Ringed (levelFrom s l) (s .pairs) (grownTables s n t .room) (ringsGrown (levelsIn t) W l)
     new k =
         rw (le-ltb l (levelsIn t) k)
         (record { rings = record { ring = record { closed = tt; distinct = tt }; first = grown-head s t fit lengths sound n more most l low (λ z. absurd (omega arith)) }; below = tt })
@@ -107,13 +107,13 @@ module _ (s : BuddySettings) (t : Tables) (fit : BuddyIn s) (lengths : Lengths s
 
   -- each level from the block's on has a new pair alone, and the others are as they were
   pub arrived-rings : (W : ℕ → List ℕ) → Rings s (grownTables s (grownTo (levelFor s size mask) t) t) W
-      → Rings s (servedTables s (sizeFor s size mask) (levelFor s size mask) memory z (grownTables s (grownTo (levelFor s size mask) t) t)) (ringsLent (λ (j : ℕ). pairTaken (levelFrom s j) (grownTables s (grownTo (levelFor s size mask) t) t .tree) .place) (levelFor s size mask) (levelsIn (grownTables s (grownTo (levelFor s size mask) t) t)) W)
+      → Rings s (servedTables s (sizeFor s size mask) (levelFor s size mask) memory z (grownTables s (grownTo (levelFor s size mask) t) t)) (ringsLent (λ (j : ℕ). pairTaken (levelFrom s j) (grownTables s (grownTo (levelFor s size mask) t) t .room) .place) (levelFor s size mask) (levelsIn (grownTables s (grownTo (levelFor s size mask) t) t)) W)
   unfolding servedTables chunkTables
   arrived-rings W rings =
       let c = chunkTaken s g .place in
       let k = takenOf (placesIn g) (g .index) .place in
       let d = levelsIn g - lev - 1 in
-      let r = served-rings s (few-pairs s fit) g fit g-lengths g-sound W rings (u .tree) (chunked-lengths s g fit g-lengths memory z .tree) (chunked-level s g fit g-lengths memory z) lev d c k top
+      let r = served-rings s (few-pairs s fit) g fit g-lengths g-sound W rings (u .room) (chunked-lengths s g fit g-lengths memory z .room) (chunked-level s g fit g-lengths memory z) lev d c k top
       (λ i x y. Delivered.pair s t fit lengths sound size mask z b i x y) in
       booked-rings s u (omega (arith, chunked-count s g fit g-lengths memory z, g-sound .levels-most)) c 0 (sizeFor s size mask) _ _
       (λ l h. r l (omega (arith, h, chunked-count s g fit g-lengths memory z)))
@@ -149,7 +149,7 @@ module _ (s : BuddySettings) (a : Account) (o : Outcome) (t : Tables) (serial nu
   pub deliver-rings : (W : ℕ → List ℕ) → Rings s t W
       → (k : KeptOrder) × (a .order ≡ Kept k)
       × Rings s (deliverOf s a o t .tables)
-      (ringsLent (λ (j : ℕ). pairTaken (levelFrom s j) (asOrdered s k t .tree) .place) (levelFor s (k .ask .size) (k .ask .mask)) (levelsIn (asOrdered s k t)) (ringsGrown (levelsIn t) W))
+      (ringsLent (λ (j : ℕ). pairTaken (levelFrom s j) (asOrdered s k t .room) .place) (levelFor s (k .ask .size) (k .ask .mask)) (levelsIn (asOrdered s k t)) (ringsGrown (levelsIn t) W))
   deliver-rings W rings =
       let v = deliver-came s a o t serial number offset len q in
       let k = v .order in
@@ -160,6 +160,6 @@ module _ (s : BuddySettings) (a : Account) (o : Outcome) (t : Tables) (serial nu
       let r = grown-rings s t fit len-of (v .sound) (grownTo (levelFor s (k .ask .size) (k .ask .mask)) t) more most W rings in (
         k,
         v .ordered,
-        subst (λ (u : Tables). Rings s u (ringsLent (λ (j : ℕ). pairTaken (levelFrom s j) (asOrdered s k t .tree) .place) (levelFor s (k .ask .size) (k .ask .mask)) (levelsIn (asOrdered s k t)) (ringsGrown (levelsIn t) W))) (sym (v .left))
+        subst (λ (u : Tables). Rings s u (ringsLent (λ (j : ℕ). pairTaken (levelFrom s j) (asOrdered s k t .room) .place) (levelFor s (k .ask .size) (k .ask .mask)) (levelsIn (asOrdered s k t)) (ringsGrown (levelsIn t) W))) (sym (v .left))
             (arrived-rings s t fit len-of (v .sound) (k .ask .size) (k .ask .mask) (k .order .size) (v .memory) (v .bought) (ringsGrown (levelsIn t) W) r),
       )

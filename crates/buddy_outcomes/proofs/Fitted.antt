@@ -140,7 +140,7 @@ module _ (s : BuddySettings) (t : Tables) (fit : BuddyIn s) (lengths : Lengths s
       go (inr e) = let k : l < 0 = rw e at h in absurd (omega arith)
 
   -- a level with a ready side has a fitting place for every level up to it
-  pub found-fits : (z lev d : ℕ) → z ≡ bytes (s .minimal) lev → up d lev < levelsIn t → (ringHead (levelFrom s (up d lev)) (t .tree) ≡ nowhere → ⊥)
+  pub found-fits : (z lev d : ℕ) → z ≡ bytes (s .minimal) lev → up d lev < levelsIn t → (ringHead (levelFrom s (up d lev)) (t .room) ≡ nowhere → ⊥)
       → Stretch z t (headEnt s t (up d lev) .chunk) (baseOf (s .minimal) (headEnt s t (up d lev)) (up d lev))
   found-fits z lev d is below some =
       let u = s .minimal in
@@ -175,7 +175,7 @@ module _ (s : BuddySettings) (t : Tables) (fit : BuddyIn s) (lengths : Lengths s
       ⊎-elim (λ g. inl (omega arith)) (λ g. inr (omega arith)) (f .quiet (w .0) live (i .0))
 
   -- a fitting place shows at a level
-  fits-found : (z lev c x : ℕ) → z ≡ bytes (s .minimal) lev → Stretch z t c x → (i : ℕ) × (lev ≤ i) × (i < levelsIn t) × (ringHead (levelFrom s i) (t .tree) ≡ nowhere → ⊥)
+  fits-found : (z lev c x : ℕ) → z ≡ bytes (s .minimal) lev → Stretch z t c x → (i : ℕ) × (lev ≤ i) × (i < levelsIn t) × (ringHead (levelFrom s i) (t .room) ≡ nowhere → ⊥)
   fits-found z lev c x is f =
       let u = s .minimal in
       let pu = minimal-pos s fit in
@@ -201,12 +201,12 @@ needs-when s t fit lengths sound size mask aligned sized = (none, some (foundFro
     none : foundFrom s (levelFor s size mask) t ≡ Ask.nowhere → Needed s size mask t
     none e f =
         let r = fits-found s t fit lengths sound (sizeFor s size mask) lev (f .chunk .number) (f .start) (size-level s fit size mask sized) (fits-stretch s t (sizeFor s size mask) f) in
-        r .3 (search-none s (t .tree) lev (levelsIn t - lev) e (r .0) (r .1) (omega (arith, r .1, r .2)))
+        r .3 (search-none s (t .room) lev (levelsIn t - lev) e (r .0) (r .1) (omega (arith, r .1, r .2)))
 
     some : (g : Found) → foundFrom s (levelFor s size mask) t ≡ g → Needed s size mask t → foundFrom s (levelFor s size mask) t ≡ Ask.nowhere
     some Ask.nowhere e n = e
     some (at i) e n =
-        let r = search-at s (t .tree) lev (levelsIn t - lev) i e in
+        let r = search-at s (t .room) lev (levelsIn t - lev) i e in
         let h : up (i - lev) lev ≡ i = omega (arith, up-add (i - lev) lev, r .0) in
         absurd (n (stretch-fits s t (sizeFor s size mask) _ _ (found-fits s t fit lengths sound (sizeFor s size mask) lev (i - lev) (size-level s fit size mask sized) (omega (arith, h, r .0, r .1)) (rw h (r .2)))))
 

@@ -116,7 +116,7 @@ module _ (s : BuddySettings) (t : Tables) (fit : BuddyIn s) (lengths : Lengths s
   index′ = struckIndex w (t .index)
 
   abbrev after : Bool → Tables
-  after = tablesBy s t c (r .tree) loans′ index′
+  after = tablesBy s t c (r .room) loans′ index′
 
   -- its loans
   live-left : (f : Bool) (j : ℕ) → liveIn (after f) j ≡ with (liveIn t) k false j
@@ -157,26 +157,26 @@ module _ (s : BuddySettings) (t : Tables) (fit : BuddyIn s) (lengths : Lengths s
 
     record Climbs (x : Climbed) : Type 0 where
       freed : x .freed ≡ q .freed
-      levels : (i : ℕ) → i < levelsMost → part (s .pairs) i (x .tree) ≡ q .levels i
-      same : (i : ℕ) → chunksFrom s ≤ i → getD (x .tree) i 0 ≡ getD (t .tree) i 0
-      long : length (x .tree) ≡ length (t .tree)
+      levels : (i : ℕ) → i < levelsMost → part (s .pairs) i (x .room) ≡ q .levels i
+      same : (i : ℕ) → chunksFrom s ≤ i → getD (x .room) i 0 ≡ getD (t .room) i 0
+      long : length (x .room) ≡ length (t .room)
 
     climb-is : Climbs r
     climb-is =
         let z = climbed-is s small t fit lengths sound k live in
-        subst (λ (y : ℕ). Climbs (climbed (s .pairs) (levelsIn t - levelOf y (s .minimal)) (levelOf y (s .minimal)) (getD (t .tree) (nodesFrom s + k) 0) (t .tree))) (says .size)
+        subst (λ (y : ℕ). Climbs (climbed (s .pairs) (levelsIn t - levelOf y (s .minimal)) (levelOf y (s .minimal)) (getD (t .room) (nodesFrom s + k) 0) (t .room))) (says .size)
         (record { freed = z .0; levels = z .1; same = z .2; long = z .3 })
 
-    past : Past s t c (r .tree)
+    past : Past s t c (r .room)
     past = record { same = climb-is .same; long = climb-is .long; inside = omega (arith, place .0, sound .chunks-parted .limit) }
 
     after-lengths : (f : Bool) → Lengths s (after f)
     after-lengths f = record {
       head = lengths .head;
       loans = struck-long w (t .index) (t .loans) ∙ lengths .loans;
-      chunks = chunks-by s t c (r .tree) loans′ index′ lengths past f ∙ lengths .chunks;
+      chunks = chunks-by s t c (r .room) loans′ index′ lengths past f ∙ lengths .chunks;
       index = struck-wide w (t .index) ∙ lengths .index;
-      tree = tree-by s t c (r .tree) loans′ index′ lengths past f ∙ lengths .tree;
+      room = tree-by s t c (r .room) loans′ index′ lengths past f ∙ lengths .room;
     }
 
     loan-left : (f : Bool) (j : ℕ) → (j ≡ k → ⊥) → loanIn s (after f) j ≡ loanIn s t j
@@ -184,7 +184,7 @@ module _ (s : BuddySettings) (t : Tables) (fit : BuddyIn s) (lengths : Lengths s
         let chunk = cell-left f 1 j (omega arith) o in
         let at = cell-left f 2 j (omega arith) o in
         let size = cell-left f sizeAt j (omega arith) o in
-        let node = word-by s t c (r .tree) loans′ index′ lengths past f (nodesFrom s + j) (omega arith) (λ z. omega (arith, past .inside)) in
+        let node = word-by s t c (r .room) loans′ index′ lengths past f (nodesFrom s + j) (omega arith) (λ z. omega (arith, past .inside)) in
         (λ i. record { chunk = chunk i; at = at i; lev = levelOf (size i) (s .minimal); node = node i })
 
     -- ---- the store that the tables hold is the one with the loan returned
@@ -200,11 +200,11 @@ module _ (s : BuddySettings) (t : Tables) (fit : BuddyIn s) (lengths : Lengths s
           count = refl;
           levels = λ i h.
               let m : i < levelsMost = omega (arith, sound .levels-most) in
-              part-by s t c (r .tree) loans′ index′ lengths past f i m ∙ climb-is .levels i m;
+              part-by s t c (r .room) loans′ index′ lengths past f i m ∙ climb-is .levels i m;
           loans = λ j h. loan-left f j (still j h .0);
           live = live-left f;
-          high = λ x. high-by s t c (r .tree) loans′ index′ lengths past f x ∙ by (highIn s t) x;
-          top = λ x. top-by s t c (r .tree) loans′ index′ lengths past f x ∙ by (topIn s t) x;
+          high = λ x. high-by s t c (r .room) loans′ index′ lengths past f x ∙ by (highIn s t) x;
+          top = λ x. top-by s t c (r .room) loans′ index′ lengths past f x ∙ by (topIn s t) x;
         }
 
     abbrev trees : ℕ → Tree
@@ -223,7 +223,7 @@ module _ (s : BuddySettings) (t : Tables) (fit : BuddyIn s) (lengths : Lengths s
     sizes : (f : Bool) → Sizes s (after f)
     sizes f = record {
       chunks = λ x h.
-          let z = still-held s t c (r .tree) loans′ index′ lengths past f x h in
+          let z = still-held s t c (r .room) loans′ index′ lengths past f x h in
           let y = sound .standing .sized x (z .0) in
           (z .1 ∙ y .0 ∙ ap (bytes (s .minimal)) (sym (z .2)), rw (z .2) (y .1), rw (z .2) (y .2));
       loans = λ j h.
@@ -234,15 +234,15 @@ module _ (s : BuddySettings) (t : Tables) (fit : BuddyIn s) (lengths : Lengths s
     after-sound : (f : Bool) → r .freed ≡ f → Sound s (after f)
     after-sound f e =
         let T = store-trees s small (after f) trees fit (after-lengths f) (store-sound f e) (sizes f) (sound .levels-most) in
-        let memory = memory-by s t c (r .tree) loans′ index′ lengths past f in
-        let was : (x : ℕ) → heldIn (after f) x ≡ true → heldIn t x ≡ true = λ x h. still-held s t c (r .tree) loans′ index′ lengths past f x h .0 in
+        let memory = memory-by s t c (r .room) loans′ index′ lengths past f in
+        let was : (x : ℕ) → heldIn (after f) x ≡ true → heldIn t x ≡ true = λ x h. still-held s t c (r .room) loans′ index′ lengths past f x h .0 in
         record {
           marked = sound .marked;
           levels-least = sound .levels-least;
           levels-most = sound .levels-most;
           loans-parted = after-parted;
           chained = after-chained;
-          chunks-parted = parted-by s t c (r .tree) loans′ index′ lengths past f (place .0) (place .1) (sound .chunks-parted);
+          chunks-parted = parted-by s t c (r .room) loans′ index′ lengths past f (place .0) (place .1) (sound .chunks-parted);
           memories-differ = λ x y h g m. sound .memories-differ x y (was x h) (was y g) (sym (memory x) ∙ m ∙ memory y);
           good = T .1;
           standing = T .0;
@@ -267,9 +267,9 @@ module _ (s : BuddySettings) (t : Tables) (fit : BuddyIn s) (lengths : Lengths s
   -- a chunk that is held still was so, and is as long as it was
   pub given-held : (x : ℕ) → heldIn (givenTables s b (wordFor s b t) t) x ≡ true → (heldIn t x ≡ true) × (chunkSizeIn (givenTables s b (wordFor s b t) t) x ≡ chunkSizeIn t x)
   unfolding givenTables
-  given-held x h = let z = still-held s t c (r .tree) loans′ index′ lengths (past few-pairs) (r .freed) x h in (z .0, z .1)
+  given-held x h = let z = still-held s t c (r .room) loans′ index′ lengths (past few-pairs) (r .freed) x h in (z .0, z .1)
 
   -- memory numbers stay as they were
   pub given-memory : (x : ℕ) → memoryIn (givenTables s b (wordFor s b t) t) x ≡ memoryIn t x
   unfolding givenTables
-  given-memory x = memory-by s t c (r .tree) loans′ index′ lengths (past few-pairs) (r .freed) x
+  given-memory x = memory-by s t c (r .room) loans′ index′ lengths (past few-pairs) (r .freed) x

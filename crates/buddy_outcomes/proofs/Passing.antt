@@ -26,13 +26,13 @@ lengths-are s t e =
       loans = eqb-true _ _ (r .1 .0);
       chunks = eqb-true _ _ (r .1 .1 .0);
       index = eqb-true _ _ (r .1 .1 .1 .0);
-      tree = eqb-true _ _ (r .1 .1 .1 .1 .0);
+      room = eqb-true _ _ (r .1 .1 .1 .1 .0);
     }
 
 pub are-lengths : (s : BuddySettings) (t : Tables) → Lengths s t → lengthsOk s t ≡ true
 unfolding lengthsOk
 are-lengths s t w =
-    each-all (lengthsRow s t) (eq-eqb _ _ (w .head), (eq-eqb _ _ (w .loans), (eq-eqb _ _ (w .chunks), (eq-eqb _ _ (w .index), (eq-eqb _ _ (w .tree), tt)))))
+    each-all (lengthsRow s t) (eq-eqb _ _ (w .head), (eq-eqb _ _ (w .loans), (eq-eqb _ _ (w .chunks), (eq-eqb _ _ (w .index), (eq-eqb _ _ (w .room), tt)))))
 
 -- what test 1 says
 pub record Lent (s : BuddySettings) (a : Account) (t : Tables) : Type 0 where

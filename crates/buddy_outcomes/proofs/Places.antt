@@ -22,20 +22,20 @@ use Rattle.buddy_outcomes.proofs.Taken as Taken
 
 module _ (s : BuddySettings) (t : Tables) (fit : BuddyIn s) (sound : Sound s t) (j : ℕ) (below : j < levelsIn t) where
   -- where the ring has no head no pair has a free side
-  none-ready : ringHead (levelFrom s j) (t .tree) ≡ nowhere → (p : ℕ) → 1 < pairsIn s t j p .tag → ⊥
+  none-ready : ringHead (levelFrom s j) (t .room) ≡ nowhere → (p : ℕ) → 1 < pairsIn s t j p .tag → ⊥
   none-ready e p h =
       let G = sound .good j below in
-      mem-head (levelFrom s j) (s .pairs) (t .tree) G (few-pairs s fit) p (ready-mem (levelFrom s j) (s .pairs) (t .tree) G p h) e
+      mem-head (levelFrom s j) (s .pairs) (t .room) G (few-pairs s fit) p (ready-mem (levelFrom s j) (s .pairs) (t .room) G p h) e
 
   -- the head is a pair in use, with one ready side
-  head-pair : (ringHead (levelFrom s j) (t .tree) ≡ nowhere → ⊥)
-      → (headEnt s t j ≡ pairsIn s t j (ringHead (levelFrom s j) (t .tree))) × (1 < pairsIn s t j (ringHead (levelFrom s j) (t .tree)) .tag)
+  head-pair : (ringHead (levelFrom s j) (t .room) ≡ nowhere → ⊥)
+      → (headEnt s t j ≡ pairsIn s t j (ringHead (levelFrom s j) (t .room))) × (1 < pairsIn s t j (ringHead (levelFrom s j) (t .room)) .tag)
   head-pair some =
       let G = sound .good j below in
-      let p = ringHead (levelFrom s j) (t .tree) in
-      let m = head-mem (levelFrom s j) (s .pairs) (t .tree) G some in
-      let e : pairsIn s t j p ≡ entOf (levelFrom s j) (t .tree) p = pair-used (levelFrom s j) (t .tree) p (G .below p m) in
-      let f : pairsIn s t j p .tag ≡ entOf (levelFrom s j) (t .tree) p .tag = ap (λ (x : Ent). x .tag) e in
+      let p = ringHead (levelFrom s j) (t .room) in
+      let m = head-mem (levelFrom s j) (s .pairs) (t .room) G some in
+      let e : pairsIn s t j p ≡ entOf (levelFrom s j) (t .room) p = pair-used (levelFrom s j) (t .room) p (G .below p m) in
+      let f : pairsIn s t j p .tag ≡ entOf (levelFrom s j) (t .room) p .tag = ap (λ (x : Ent). x .tag) e in
       (sym e, omega (arith, f, G .ready p m))
 
 -- "Search upward; the first level with a ready side ends the search": no level from the ask's own on, below the one that serves,
@@ -43,9 +43,9 @@ module _ (s : BuddySettings) (t : Tables) (fit : BuddyIn s) (sound : Sound s t) 
 pub taken-first : (s : BuddySettings) (a : Account) (size mask : ℕ) (t : Tables) (serial chunk offset len : ℕ) → askOf s a size mask t .said ≡ Paper.block serial chunk offset len
     → (i : ℕ) × (levelFor s size mask ≤ i) × (i < levelsIn t)
     × ((j : ℕ) → levelFor s size mask ≤ j → j < i → (p : ℕ) → 1 < pairsIn s t j p .tag → ⊥)
-    × (1 < pairsIn s t i (ringHead (levelFrom s i) (t .tree)) .tag)
-    × (chunk ≡ pairsIn s t i (ringHead (levelFrom s i) (t .tree)) .chunk)
-    × (offset ≡ baseOf (s .minimal) (pairsIn s t i (ringHead (levelFrom s i) (t .tree))) i)
+    × (1 < pairsIn s t i (ringHead (levelFrom s i) (t .room)) .tag)
+    × (chunk ≡ pairsIn s t i (ringHead (levelFrom s i) (t .room)) .chunk)
+    × (offset ≡ baseOf (s .minimal) (pairsIn s t i (ringHead (levelFrom s i) (t .room))) i)
 taken-first s a size mask t serial chunk offset len q =
     let v = ask-served s a size mask t serial chunk offset len q in
     let i = v .level in

@@ -40,7 +40,7 @@ use Rattle.buddy_outcomes.specs.Deliver as D
 use Rattle.buddy_outcomes.specs.Deliver.{Arrival, arrivalOf, deliverGateOf, carryFate, planDeliver, carryDeliver, deliverOf}
 use Rattle.buddy_outcomes.specs.Return.{wordFor, onLoanOk, releasedBy, climbFor, givenTables, decideReturn, planReturn, carryReturn, returnOf}
 use Rattle.buddy_outcomes.specs.Return as R
-use Rattle.buddy_outcomes.specs.SetUp.{setUp, fitOk, planSetUp, carrySetUp, setUpOf}
+use Rattle.buddy_outcomes.specs.SetUp.{begun, fitOk, planSetUp, carrySetUp, setUpOf}
 use Rattle.buddy_outcomes.specs.Refusals.{buddyWords}
 use Rattle.store_rules.specs.Rows.{Stale, askRows, askTests, gateRows, listRows, returnRows, setUpRows}
 use Rattle.buddy_outcomes.proofs.Gated.{gate-decided, list-decided}
@@ -54,13 +54,13 @@ use Rattle.buddy_rules.proofs.Viewed.{live-loan}
 -- ---- set-up
 
 -- a refused set-up leaves every word as it was
-pub set-up-leaves : (s : BuddySettings) (t : Tables) (n : ℕ) (back : List ℕ) → setUpOf s t .said ≡ Paper.refusal n back → setUpOf s t ≡ setUp (Paper.refusal n []) t
+pub set-up-leaves : (s : BuddySettings) (t : Tables) (n : ℕ) (back : List ℕ) → setUpOf s t .said ≡ Paper.refusal n back → setUpOf s t ≡ begun (Paper.refusal n []) t
 unfolding setUpOf carrySetUp
 set-up-leaves s t n back = by (planSetUp s t)
   where
-    by : (v : Verdict) → carrySetUp s t v .said ≡ Paper.refusal n back → carrySetUp s t v ≡ setUp (Paper.refusal n []) t
+    by : (v : Verdict) → carrySetUp s t v .said ≡ Paper.refusal n back → carrySetUp s t v ≡ begun (Paper.refusal n []) t
     by pass e = not-refused Paper.ready n back refl e
-    by (refuse m) e = ap (λ (k : ℕ). setUp (Paper.refusal k []) t) (said-number m n [] back e)
+    by (refuse m) e = ap (λ (k : ℕ). begun (Paper.refusal k []) t) (said-number m n [] back e)
 
 -- set-up is refused only by 1, exactly when a value or a length is outside the table
 pub set-up-refused : (s : BuddySettings) (t : Tables) (n : ℕ) → (setUpOf s t .said ≡ Paper.refusal n []) ↔ Given (setUpRows buddyWords s t) n

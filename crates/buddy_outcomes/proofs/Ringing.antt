@@ -60,11 +60,11 @@ module _ (s : BuddySettings) (t : Tables) where
       ∙ getD-set-other (t .head) givenAt levelsAt (givenIn t + 1) 0 (λ e. omega arith)
 
   -- a loan entered in the book leaves the rings that the tree has then
-  pub booked-rings : levelsIn t ≤ levelsMost → (c o size : ℕ) (cut : Cut) (Q : ℕ → List ℕ) → ((l : ℕ) → l < levelsIn t → Ringed (levelFrom s l) (s .pairs) (cut .tree) (Q l)) → Rings s (bookedTables s c o size cut t) Q
+  pub booked-rings : levelsIn t ≤ levelsMost → (c o size : ℕ) (cut : Cut) (Q : ℕ → List ℕ) → ((l : ℕ) → l < levelsIn t → Ringed (levelFrom s l) (s .pairs) (cut .room) (Q l)) → Rings s (bookedTables s c o size cut t) Q
   unfolding bookedTables
   booked-rings most c o size cut Q r l h =
       let k : l < levelsIn t = omega (arith, h, booked-levels c o size cut) in
-      ringed-set s l (nodesFrom s + takenOf (placesIn t) (t .index) .place) (cut .node) (cut .tree) (Q l) (omega arith) (omega arith) (r l k)
+      ringed-set s l (nodesFrom s + takenOf (placesIn t) (t .index) .place) (cut .node) (cut .room) (Q l) (omega arith) (omega arith) (r l k)
 
 module _ (s : BuddySettings) (t : Tables) (fit : BuddyIn s) (lengths : Lengths s t) (sound : Sound s t) (size mask i : ℕ) (w : Takes s size mask t i) (W : ℕ → List ℕ) (rings : Rings s t W) where
   abbrev lev : ℕ
@@ -72,14 +72,14 @@ module _ (s : BuddySettings) (t : Tables) (fit : BuddyIn s) (lengths : Lengths s
 
   -- where the new pairs stand
   abbrev newPlaces : ℕ → ℕ
-  newPlaces j = pairTaken (levelFrom s j) (t .tree) .place
+  newPlaces j = pairTaken (levelFrom s j) (t .room) .place
 
   abbrev tablesAt : ℕ → ℕ → Tables
   tablesAt x n =
       bookedTables s (headEnt s t x .chunk) (baseOf (s .minimal) (headEnt s t x) x) (sizeFor s size mask)
-      (splitDown (s .pairs) lev (headEnt s t x .chunk) (baseOf (s .minimal) (headEnt s t x) x) (takenOf (placesIn t) (t .index) .place) (readyNode (s .pairs) x (t .tree)) n (acquired (levelFrom s x) 0 (t .tree))) t
+      (splitDown (s .pairs) lev (headEnt s t x .chunk) (baseOf (s .minimal) (headEnt s t x) x) (takenOf (placesIn t) (t .index) .place) (readyNode (s .pairs) x (t .room)) n (acquired (levelFrom s x) 0 (t .room))) t
 
-  pub taken-rings : Rings s (takenTables s (sizeFor s size mask) (levelFor s size mask) t i) (ringsLent (λ (j : ℕ). pairTaken (levelFrom s j) (t .tree) .place) (levelFor s size mask) i W)
+  pub taken-rings : Rings s (takenTables s (sizeFor s size mask) (levelFor s size mask) t i) (ringsLent (λ (j : ℕ). pairTaken (levelFrom s j) (t .room) .place) (levelFor s size mask) i W)
   unfolding takenTables
   taken-rings =
       let f = Taken.first s t fit lengths sound size mask i (w .found) (w .aligned) (w .sized) (w .room) in
@@ -94,10 +94,10 @@ module _ (s : BuddySettings) (t : Tables) (fit : BuddyIn s) (lengths : Lengths s
 -- alone, and the other rings are as they were
 pub ask-rings : (s : BuddySettings) (a : Account) (size mask : ℕ) (t : Tables) (serial chunk offset len : ℕ) → askOf s a size mask t .said ≡ Paper.block serial chunk offset len
     → (W : ℕ → List ℕ) → Rings s t W
-    → (i : ℕ) × (foundFrom s (levelFor s size mask) t ≡ at i) × Rings s (askOf s a size mask t .tables) (ringsLent (λ (j : ℕ). pairTaken (levelFrom s j) (t .tree) .place) (levelFor s size mask) i W)
+    → (i : ℕ) × (foundFrom s (levelFor s size mask) t ≡ at i) × Rings s (askOf s a size mask t .tables) (ringsLent (λ (j : ℕ). pairTaken (levelFrom s j) (t .room) .place) (levelFor s size mask) i W)
 ask-rings s a size mask t serial chunk offset len q W rings =
     let v = ask-served s a size mask t serial chunk offset len q in
-    let Q : ℕ → List ℕ = ringsLent (λ (j : ℕ). pairTaken (levelFrom s j) (t .tree) .place) (levelFor s size mask) (v .level) W in (
+    let Q : ℕ → List ℕ = ringsLent (λ (j : ℕ). pairTaken (levelFrom s j) (t .room) .place) (levelFor s size mask) (v .level) W in (
       v .level,
       v .taken .found,
       subst (λ (u : Tables). Rings s u Q) (sym (ap (λ (r : Out Tables). r .tables) (v .left)))
@@ -119,9 +119,9 @@ module _ (s : BuddySettings) (a : Account) (size mask : ℕ) (t : Tables) (seria
   -- i is the level that the search found
   module _ (i : ℕ) (found : foundFrom s (levelFor s size mask) t ≡ at i) where
     -- level l had the ring R, and has what becomes of it
-    now : (l : ℕ) → l < levelsIn t → (R Q : List ℕ) → Ringed (levelFrom s l) (s .pairs) (t .tree) R
-        → ((W : ℕ → List ℕ) → W l ≡ R → ringsLent (λ (j : ℕ). pairTaken (levelFrom s j) (t .tree) .place) (levelFor s size mask) i W l ≡ Q)
-        → Ringed (levelFrom s l) (s .pairs) (askOf s a size mask t .tables .tree) Q
+    now : (l : ℕ) → l < levelsIn t → (R Q : List ℕ) → Ringed (levelFrom s l) (s .pairs) (t .room) R
+        → ((W : ℕ → List ℕ) → W l ≡ R → ringsLent (λ (j : ℕ). pairTaken (levelFrom s j) (t .room) .place) (levelFor s size mask) i W l ≡ Q)
+        → Ringed (levelFrom s l) (s .pairs) (askOf s a size mask t .tables .room) Q
     now l low R Q r f =
         let v = ask-served s a size mask t serial chunk offset len q in
         let S = v .passed .sound in
@@ -129,10 +129,10 @@ module _ (s : BuddySettings) (a : Account) (size mask : ℕ) (t : Tables) (seria
         let W-rings = sound-rings s t S in
         let y = ask-rings s a size mask t serial chunk offset len q W W-rings in
         let z : y .0 ≡ i = ap foundLevel (sym (y .1) ∙ found) in
-        let e : W l ≡ R = ringed-one (levelFrom s l) (s .pairs) (t .tree) (W l) R (few-pairs s (v .passed .lent .settings)) (W-rings l low) r in
-        let g : ringsLent (λ (j : ℕ). pairTaken (levelFrom s j) (t .tree) .place) (levelFor s size mask) (y .0) W l ≡ Q =
-        ap (λ (k : ℕ). ringsLent (λ (j : ℕ). pairTaken (levelFrom s j) (t .tree) .place) (levelFor s size mask) k W l) z ∙ f W e in
-        subst (Ringed (levelFrom s l) (s .pairs) (askOf s a size mask t .tables .tree)) g (y .2 l (omega (arith, low, ask-levels)))
+        let e : W l ≡ R = ringed-one (levelFrom s l) (s .pairs) (t .room) (W l) R (few-pairs s (v .passed .lent .settings)) (W-rings l low) r in
+        let g : ringsLent (λ (j : ℕ). pairTaken (levelFrom s j) (t .room) .place) (levelFor s size mask) (y .0) W l ≡ Q =
+        ap (λ (k : ℕ). ringsLent (λ (j : ℕ). pairTaken (levelFrom s j) (t .room) .place) (levelFor s size mask) k W l) z ∙ f W e in
+        subst (Ringed (levelFrom s l) (s .pairs) (askOf s a size mask t .tables .room)) g (y .2 l (omega (arith, low, ask-levels)))
 
     between : (levelFor s size mask ≤ i) × (i < levelsIn t)
     between =
@@ -143,26 +143,26 @@ module _ (s : BuddySettings) (a : Account) (size mask : ℕ) (t : Tables) (seria
         (omega (arith, z, f .0), omega (arith, z, f .1))
 
     -- "Acquire takes the head pair's ready side; the head becomes its next"
-    pub ask-head : (p : ℕ) (R : List ℕ) → Ringed (levelFrom s i) (s .pairs) (t .tree) (p ∷ R) → Ringed (levelFrom s i) (s .pairs) (askOf s a size mask t .tables .tree) R
+    pub ask-head : (p : ℕ) (R : List ℕ) → Ringed (levelFrom s i) (s .pairs) (t .room) (p ∷ R) → Ringed (levelFrom s i) (s .pairs) (askOf s a size mask t .tables .room) R
     unfolding tailOf
     ask-head p R r = now i (between .1) (p ∷ R) R r (λ W e. lent-here _ (levelFor s size mask) i W ∙ ap tailOf e)
 
     -- "The taken node is split down to the level, always keeping the left": on each level between a new pair, ready at its right, is the ring
-    pub ask-split : (l : ℕ) → levelFor s size mask ≤ l → l < i → Ringed (levelFrom s l) (s .pairs) (askOf s a size mask t .tables .tree) (pairTaken (levelFrom s l) (t .tree) .place ∷ [])
+    pub ask-split : (l : ℕ) → levelFor s size mask ≤ l → l < i → Ringed (levelFrom s l) (s .pairs) (askOf s a size mask t .tables .room) (pairTaken (levelFrom s l) (t .room) .place ∷ [])
     ask-split l h k =
         let S = ask-served s a size mask t serial chunk offset len q .passed .sound in
         let low : l < levelsIn t = omega (arith, between .1) in
-        now l low (ringsOf s t S l) (pairTaken (levelFrom s l) (t .tree) .place ∷ []) (sound-rings s t S l low) (λ W e. lent-new _ (levelFor s size mask) i W l h k)
+        now l low (ringsOf s t S l) (pairTaken (levelFrom s l) (t .room) .place ∷ []) (sound-rings s t S l low) (λ W e. lent-new _ (levelFor s size mask) i W l h k)
 
     -- every other ring stays
-    pub ask-others : (l : ℕ) → l < levelsIn t → (l < levelFor s size mask) ⊎ (i < l) → (R : List ℕ) → Ringed (levelFrom s l) (s .pairs) (t .tree) R → Ringed (levelFrom s l) (s .pairs) (askOf s a size mask t .tables .tree) R
+    pub ask-others : (l : ℕ) → l < levelsIn t → (l < levelFor s size mask) ⊎ (i < l) → (R : List ℕ) → Ringed (levelFrom s l) (s .pairs) (t .room) R → Ringed (levelFrom s l) (s .pairs) (askOf s a size mask t .tables .room) R
     ask-others l low h R r = now l low R R r (λ W e. lent-other _ (levelFor s size mask) i W l (between .0) h ∙ e)
 
 -- ---- a return
 
 -- the node of the block that comes back, and its level
 abbrev pub nodeBack : BuddySettings → Block → Tables → ℕ
-nodeBack s b t = getD (t .tree) (nodesFrom s + getD (t .index) (wordFor s b t) 0) 0
+nodeBack s b t = getD (t .room) (nodesFrom s + getD (t .index) (wordFor s b t) 0) 0
 
 abbrev pub levelBack : BuddySettings → Block → ℕ
 levelBack s b = levelOf (b .size) (s .minimal)
@@ -175,10 +175,10 @@ module _ (s : BuddySettings) (t : Tables) (fit : BuddyIn s) (lengths : Lengths s
   k = getD (t .index) (wordFor s b t) 0
 
   -- the rings of the climb
-  climb-left : (l : ℕ) → l < levelsIn t → Ringed (levelFrom s l) (s .pairs) (climbFor s b (wordFor s b t) t .tree) (Q l)
+  climb-left : (l : ℕ) → l < levelsIn t → Ringed (levelFrom s l) (s .pairs) (climbFor s b (wordFor s b t) t .room) (Q l)
   climb-left l h =
       let e : loanIn s t k .lev ≡ levelBack s b = ap (λ (z : ℕ). levelOf z (s .minimal)) (Given.says s t fit lengths sound b on .size) in
-      subst (λ (x : ℕ). Ringed (levelFrom s l) (s .pairs) (climbed (s .pairs) (levelsIn t - x) x (nodeBack s b t) (t .tree) .tree) (ringsBack (pairsIn s t) (levelsIn t - x) x (nodeBack s b t) W l)) e
+      subst (λ (x : ℕ). Ringed (levelFrom s l) (s .pairs) (climbed (s .pairs) (levelsIn t - x) x (nodeBack s b t) (t .room) .room) (ringsBack (pairsIn s t) (levelsIn t - x) x (nodeBack s b t) W l)) e
       (climbed-rings s (few-pairs s fit) t fit lengths sound W rings k (Given.live s t fit lengths sound b on) l h)
 
   pub given-rings : Rings s (givenTables s b (wordFor s b t) t) (ringsBack (pairsIn s t) (levelsIn t - levelBack s b) (levelBack s b) (nodeBack s b t) W)
@@ -188,7 +188,7 @@ module _ (s : BuddySettings) (t : Tables) (fit : BuddyIn s) (lengths : Lengths s
       low : l < levelsMost
       low = omega (arith, sound .levels-most)
 
-      out : Ringed (levelFrom s l) (s .pairs) (vacatedTree s (b .chunk) (climbFor s b (wordFor s b t) t .tree)) (Q l)
+      out : Ringed (levelFrom s l) (s .pairs) (vacatedTree s (b .chunk) (climbFor s b (wordFor s b t) t .room)) (Q l)
       out = ringed-set s l _ _ _ (Q l) low (omega arith) (ringed-set s l _ _ _ (Q l) low (omega arith) (climb-left l h))
 
 -- a return that is taken: on the way up from the block's node each pair whose twin is ready goes out of its ring, the last pair that
@@ -207,7 +207,7 @@ return-rings s a b t list n q W rings = go (returnOf s a b t list) (return-comes
 -- the same, ring by ring: n is the node that the block is
 module _ (s : BuddySettings) (a : Account) (b : Block) (t : Tables) (list : List ℕ) (m : ℕ) (q : returnOf s a b t list .said ≡ Paper.released m) where
   abbrev after : List ℕ
-  after = returnOf s a b t list .tables .tree
+  after = returnOf s a b t list .tables .room
 
   abbrev n : ℕ
   n = nodeBack s b t
@@ -224,19 +224,19 @@ module _ (s : BuddySettings) (a : Account) (b : Block) (t : Tables) (list : List
       go _ (Returned.denied k) e = not-refused (Paper.released m) k [] refl (sym e)
       go _ (Returned.takes p on) e = (p, on, ap levelsIn (given-tables s a b t list (wordFor s b t)))
 
-  now-back : (l : ℕ) → l < levelsIn t → (R Q : List ℕ) → Ringed (levelFrom s l) (s .pairs) (t .tree) R
+  now-back : (l : ℕ) → l < levelsIn t → (R Q : List ℕ) → Ringed (levelFrom s l) (s .pairs) (t .room) R
       → ((W : ℕ → List ℕ) → W l ≡ R → ringsBack (pairsIn s t) (levelsIn t - levelBack s b) (levelBack s b) (nodeBack s b t) W l ≡ Q)
-      → Ringed (levelFrom s l) (s .pairs) (returnOf s a b t list .tables .tree) Q
+      → Ringed (levelFrom s l) (s .pairs) (returnOf s a b t list .tables .room) Q
   now-back l low R Q r f =
       let v = return-taken in
       let S = v .0 .sound in
       let W = ringsOf s t S in
       let W-rings = sound-rings s t S in
-      let e : W l ≡ R = ringed-one (levelFrom s l) (s .pairs) (t .tree) (W l) R (few-pairs s (v .0 .lent .settings)) (W-rings l low) r in
+      let e : W l ≡ R = ringed-one (levelFrom s l) (s .pairs) (t .room) (W l) R (few-pairs s (v .0 .lent .settings)) (W-rings l low) r in
       subst (Ringed (levelFrom s l) (s .pairs) after) (f W e) (return-rings s a b t list m q W W-rings l (omega (arith, low, v .2)))
 
   -- rings of levels below the block's stay
-  pub return-below : (l : ℕ) → l < levelsIn t → l < levelBack s b → (R : List ℕ) → Ringed (levelFrom s l) (s .pairs) (t .tree) R → Ringed (levelFrom s l) (s .pairs) (returnOf s a b t list .tables .tree) R
+  pub return-below : (l : ℕ) → l < levelsIn t → l < levelBack s b → (R : List ℕ) → Ringed (levelFrom s l) (s .pairs) (t .room) R → Ringed (levelFrom s l) (s .pairs) (returnOf s a b t list .tables .room) R
   return-below l low h R r = now-back l low R R r (λ W e. back-below (pairsIn s t) (levelsIn t - high) high n W l h ∙ e)
 
   -- the block is a side of pair n / 2
@@ -259,19 +259,19 @@ module _ (s : BuddySettings) (a : Account) (b : Block) (t : Tables) (list : List
 
     -- "A returned side of an exhausted pair joins the ring before the head, or as head if the ring is empty": the pair's other side is taken
     module _ (taken : word (other (sideIn (nodeBack s b t))) (pairsIn s t (levelBack s b) (nodeBack s b t / 2)) ≡ 0 → ⊥) where
-      pub return-joins : (R : List ℕ) → Ringed (levelFrom s (levelBack s b)) (s .pairs) (t .tree) R → Ringed (levelFrom s (levelBack s b)) (s .pairs) (returnOf s a b t list .tables .tree) (R ++ (nodeBack s b t / 2 ∷ []))
+      pub return-joins : (R : List ℕ) → Ringed (levelFrom s (levelBack s b)) (s .pairs) (t .room) R → Ringed (levelFrom s (levelBack s b)) (s .pairs) (returnOf s a b t list .tables .room) (R ++ (nodeBack s b t / 2 ∷ []))
       return-joins R r =
           now-back high under R (R ++ (n / 2 ∷ [])) r
           (λ W e. steps W high ∙ ap (λ (Q : ℕ → List ℕ). Q high) (back-joins (pairsIn s t) W (levelsIn t - high - 1) high n side taken) ∙ rw (eq-eqb high high refl) (ap (λ (l : List ℕ). l ++ (n / 2 ∷ [])) e))
 
       -- and every other ring stays
-      pub return-others : (l : ℕ) → l < levelsIn t → (l ≡ levelBack s b → ⊥) → (R : List ℕ) → Ringed (levelFrom s l) (s .pairs) (t .tree) R → Ringed (levelFrom s l) (s .pairs) (returnOf s a b t list .tables .tree) R
+      pub return-others : (l : ℕ) → l < levelsIn t → (l ≡ levelBack s b → ⊥) → (R : List ℕ) → Ringed (levelFrom s l) (s .pairs) (t .room) R → Ringed (levelFrom s l) (s .pairs) (returnOf s a b t list .tables .room) R
       return-others l low ne R r =
           now-back l low R R r (λ W e. steps W l ∙ ap (λ (Q : ℕ → List ℕ). Q l) (back-joins (pairsIn s t) W (levelsIn t - high - 1) high n side taken) ∙ rw (ne-eqb l high ne) e)
 
     -- "When its twin is ready, the pair goes, the head becomes that pair's next even if it wasn't the head": the pair's other side is free
     pub return-merges : word (other (sideIn (nodeBack s b t))) (pairsIn s t (levelBack s b) (nodeBack s b t / 2)) ≡ 0 → (x y : List ℕ)
-        → Ringed (levelFrom s (levelBack s b)) (s .pairs) (t .tree) (x ++ (nodeBack s b t / 2 ∷ y)) → Ringed (levelFrom s (levelBack s b)) (s .pairs) (returnOf s a b t list .tables .tree) (y ++ x)
+        → Ringed (levelFrom s (levelBack s b)) (s .pairs) (t .room) (x ++ (nodeBack s b t / 2 ∷ y)) → Ringed (levelFrom s (levelBack s b)) (s .pairs) (returnOf s a b t list .tables .room) (y ++ x)
     return-merges twin x y r =
         let d : NotIn (n / 2) x = mem-not (n / 2) x (λ i. distinct-out (n / 2) x y (r .rings .ring .distinct) (mem-left (n / 2) x y i)) in
         now-back high under (x ++ (n / 2 ∷ y)) (y ++ x) r

@@ -71,20 +71,20 @@ module _ (s : BuddySettings) (t : Tables) (sound : Sound s t) where
 
   -- a level's ring has exactly the pairs in use with one free side
   pub ring-exactly : (l : ℕ) (below : l < levelsIn t) (p : ℕ) → Mem p (sound .good l below .ring)
-      ↔ ((p < getD (t .tree) (levelFrom s l + usedAt) 0) × (0 < pairsIn s t l p .tag) × OneFree (pairsIn s t l p))
+      ↔ ((p < getD (t .room) (levelFrom s l + usedAt) 0) × (0 < pairsIn s t l p .tag) × OneFree (pairsIn s t l p))
   ring-exactly l below p = (there, back)
     where
-      same : p < getD (t .tree) (levelFrom s l + usedAt) 0 → pairsIn s t l p .tag ≡ entOf (levelFrom s l) (t .tree) p .tag
-      same h = ap (λ (e : Ent). e .tag) (pair-used (levelFrom s l) (t .tree) p h)
+      same : p < getD (t .room) (levelFrom s l + usedAt) 0 → pairsIn s t l p .tag ≡ entOf (levelFrom s l) (t .room) p .tag
+      same h = ap (λ (e : Ent). e .tag) (pair-used (levelFrom s l) (t .room) p h)
 
-      there : Mem p (sound .good l below .ring) → (p < getD (t .tree) (levelFrom s l + usedAt) 0) × (0 < pairsIn s t l p .tag) × OneFree (pairsIn s t l p)
+      there : Mem p (sound .good l below .ring) → (p < getD (t .room) (levelFrom s l + usedAt) 0) × (0 < pairsIn s t l p .tag) × OneFree (pairsIn s t l p)
       there m =
           let h = sound .good l below .below p m in
           let g : 1 < pairsIn s t l p .tag = omega (arith, same h, sound .good l below .ready p m) in
           let k : 0 < pairsIn s t l p .tag = omega arith in
           (h, k, used-tells l p below k .0 g)
 
-      back : (p < getD (t .tree) (levelFrom s l + usedAt) 0) × (0 < pairsIn s t l p .tag) × OneFree (pairsIn s t l p) → Mem p (sound .good l below .ring)
+      back : (p < getD (t .room) (levelFrom s l + usedAt) 0) × (0 < pairsIn s t l p .tag) × OneFree (pairsIn s t l p) → Mem p (sound .good l below .ring)
       back w = let g : 1 < pairsIn s t l p .tag = used-tells l p below (w .1) .1 (w .2) in sound .good l below .all p (w .0) (omega (arith, same (w .0)))
 
   -- and none of them twice
@@ -99,21 +99,21 @@ module _ (s : BuddySettings) (t : Tables) (sound : Sound s t) where
 
   -- a pair place that was used: a pair stands there, which is that of a node of a held chunk's tree and lies in that chunk, or it
   -- is vacant and in its level's chain, never both
-  pub place-either : (l : ℕ) (below : l < levelsIn t) (p : ℕ) → p < getD (t .tree) (levelFrom s l + usedAt) 0
+  pub place-either : (l : ℕ) (below : l < levelsIn t) (p : ℕ) → p < getD (t .room) (levelFrom s l + usedAt) 0
       → ((0 < pairsIn s t l p .tag) × (heldIn t (pairsIn s t l p .chunk) ≡ true) × (l < highIn s t (pairsIn s t l p .chunk)) × (pairsIn s t l p .off < chunkSizeIn t (pairsIn s t l p .chunk))
       × Met (s .minimal) (pairsIn s t) (highIn s t (pairsIn s t l p .chunk)) 0 nowhere (topIn s t (pairsIn s t l p .chunk)) (sound .standing .trees (pairsIn s t l p .chunk)) l p
       × (Mem p (sound .good l below .parted .chained) → ⊥))
       ⊎ ((pairsIn s t l p .tag ≡ 0) × Mem p (sound .good l below .parted .chained))
   place-either l below p h =
-      let e : pairsIn s t l p .tag ≡ entOf (levelFrom s l) (t .tree) p .tag = ap (λ (x : Ent). x .tag) (pair-used (levelFrom s l) (t .tree) p h) in
+      let e : pairsIn s t l p .tag ≡ entOf (levelFrom s l) (t .room) p .tag = ap (λ (x : Ent). x .tag) (pair-used (levelFrom s l) (t .room) p h) in
       let P = sound .good l below .parted in
       ⊎-elim
-      (λ z. inr (e ∙ z, P .all p h (eq-eqb (entOf (levelFrom s l) (t .tree) p .tag) 0 z)))
+      (λ z. inr (e ∙ z, P .all p h (eq-eqb (entOf (levelFrom s l) (t .room) p .tag) 0 z)))
       (λ z.
       let g : 0 < pairsIn s t l p .tag = omega arith in
       let o = sound .standing .owned l p below g in
-      inl (g, o .0, o .1, o .2, used-met l p below g, not-chained _ _ _ _ P p (ne-eqb (entOf (levelFrom s l) (t .tree) p .tag) 0 z)))
-      (same? (entOf (levelFrom s l) (t .tree) p .tag) 0)
+      inl (g, o .0, o .1, o .2, used-met l p below g, not-chained _ _ _ _ P p (ne-eqb (entOf (levelFrom s l) (t .room) p .tag) 0 z)))
+      (same? (entOf (levelFrom s l) (t .room) p .tag) 0)
 
   -- a loan place that was used: a loan stands there, or it is vacant and in the chain, never both
   pub loan-place-either : (k : ℕ) → k < placesIn t

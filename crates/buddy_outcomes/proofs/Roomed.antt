@@ -85,18 +85,18 @@ module _ (s : BuddySettings) (t : Tables) (fit : BuddyIn s) (sound : Sound s t) 
   pub chunk-left : (chunkTaken s t .place < s .store .chunks) ↔ (heldCount t (chunkPlacesIn t) < s .store .chunks)
   unfolding heldCount
   chunk-left =
-      slab-room (vacantChunk t) (t .tree) (placeAt s afterAt) placeWords (chunkSlab s t) (s .store .chunks) (heldCount t (chunkPlacesIn t)) (sound .chunks-parted) (omega (arith, fit .store .chunks-most))
+      slab-room (vacantChunk t) (t .room) (placeAt s afterAt) placeWords (chunkSlab s t) (s .store .chunks) (heldCount t (chunkPlacesIn t)) (sound .chunks-parted) (omega (arith, fit .store .chunks-most))
       (used-and-vacant (heldCount t) (heldIn t) (vacantChunk t) refl (λ n. refl) (chunkPlacesIn t) held-used)
 
   module _ (l : ℕ) (below : l < levelsIn t) where
     abbrev used : ℕ
-    used = getD (t .tree) (levelFrom s l + usedAt) 0
+    used = getD (t .room) (levelFrom s l + usedAt) 0
 
     abbrev free : ℕ → Bool
-    free = vacantIn (levelFrom s l) (t .tree)
+    free = vacantIn (levelFrom s l) (t .room)
 
     pair-used : (n : ℕ) → n < used → ltb 0 (pairsIn s t l n .tag) ≡ not (free n)
-    pair-used n h = rw (lt-ltb n used h) (some-tag (entOf (levelFrom s l) (t .tree) n .tag))
+    pair-used n h = rw (lt-ltb n used h) (some-tag (entOf (levelFrom s l) (t .room) n .tag))
 
     -- a place that was never used has no pair
     past : (n : ℕ) → used ≤ n → pairCount s t l n ≡ pairCount s t l used
@@ -110,12 +110,12 @@ module _ (s : BuddySettings) (t : Tables) (fit : BuddyIn s) (sound : Sound s t) 
             let a : _≡_ {A = ℕ} (cond (ltb 0 (pairsIn s t l n .tag)) 1 0) 0 = ap (λ (x : Ent). cond (ltb 0 (x .tag)) 1 0) e in
             omega (arith, a, ih)
 
-    pub pair-left : (pairTaken (levelFrom s l) (t .tree) .place < s .pairs) ↔ (pairCount s t l (s .pairs) < s .pairs)
+    pub pair-left : (pairTaken (levelFrom s l) (t .room) .place < s .pairs) ↔ (pairCount s t l (s .pairs) < s .pairs)
     unfolding pairCount
     pair-left =
         let P = sound .good l below .parted in
         let c : pairCount s t l (s .pairs) ≡ pairCount s t l used = past (s .pairs) (P .limit) in
-        slab-room free (t .tree) (fieldAt (levelFrom s l) offAt) pairWords (slabIn (levelFrom s l) (t .tree)) (s .pairs) (pairCount s t l (s .pairs)) P (omega (arith, fit .pairs-most))
+        slab-room free (t .room) (fieldAt (levelFrom s l) offAt) pairWords (slabIn (levelFrom s l) (t .room)) (s .pairs) (pairCount s t l (s .pairs)) P (omega (arith, fit .pairs-most))
         (omega (arith, c, used-and-vacant (pairCount s t l) (λ (n : ℕ). ltb 0 (pairsIn s t l n .tag)) free refl (λ n. refl) used pair-used))
 
 -- ---- where a test fails
@@ -150,7 +150,7 @@ module _ (s : BuddySettings) (t : Tables) (fit : BuddyIn s) (sound : Sound s t) 
   pair-off l = (there, λ w. or-off (leb (levelsIn t) l) (ltb taken (s .pairs)) (lt-leb (levelsIn t) l (w .0)) (full (w .0) .1 (w .1)))
     where
       taken : ℕ
-      taken = pairTaken (levelFrom s l) (t .tree) .place
+      taken = pairTaken (levelFrom s l) (t .room) .place
 
       full : l < levelsIn t → (ltb taken (s .pairs) ≡ false) ↔ (s .pairs ≤ pairCount s t l (s .pairs))
       full h = off-room taken (pairCount s t l (s .pairs)) (s .pairs) (pair-left s t fit sound l h)
@@ -162,40 +162,40 @@ module _ (s : BuddySettings) (t : Tables) (fit : BuddyIn s) (sound : Sound s t) 
           (h, full h .0 (r .1))
 
   -- a level has a ready side exactly when its ring has a head
-  ready-none : (j : ℕ) → j < levelsIn t → ringHead (levelFrom s j) (t .tree) ≡ nowhere → (p : ℕ) → 1 < pairsIn s t j p .tag → ⊥
+  ready-none : (j : ℕ) → j < levelsIn t → ringHead (levelFrom s j) (t .room) ≡ nowhere → (p : ℕ) → 1 < pairsIn s t j p .tag → ⊥
   ready-none j h e p k = ⊎-elim inside outside (lt-or-le p used)
     where
       used : ℕ
-      used = getD (t .tree) (levelFrom s j + usedAt) 0
+      used = getD (t .room) (levelFrom s j + usedAt) 0
 
       outside : used ≤ p → ⊥
       outside i =
           let n : pairsIn s t j p ≡ noPair = rw (le-ltb p used i) in
           let z : pairsIn s t j p .tag ≡ 0 = ap (λ (x : Ent). x .tag) n in omega arith
 
-      in-ring : (R : List ℕ) → ringHead (levelFrom s j) (t .tree) ≡ headOr nowhere R → ((x : ℕ) → Mem x R → x < used) → Mem p R → ⊥
+      in-ring : (R : List ℕ) → ringHead (levelFrom s j) (t .room) ≡ headOr nowhere R → ((x : ℕ) → Mem x R → x < used) → Mem p R → ⊥
       in-ring [] f b m = m
       in-ring (x ∷ R) f b m = let a = b x (inl refl) in omega (arith, e, f, sound .good j h .parted .limit, fit .pairs-most)
 
       inside : p < used → ⊥
       inside i =
-          let n : pairsIn s t j p ≡ entOf (levelFrom s j) (t .tree) p = rw (lt-ltb p used i) in
-          let z : pairsIn s t j p .tag ≡ entOf (levelFrom s j) (t .tree) p .tag = ap (λ (x : Ent). x .tag) n in
+          let n : pairsIn s t j p ≡ entOf (levelFrom s j) (t .room) p = rw (lt-ltb p used i) in
+          let z : pairsIn s t j p .tag ≡ entOf (levelFrom s j) (t .room) p .tag = ap (λ (x : Ent). x .tag) n in
           let G = sound .good j h in
           in-ring (G .ring) (G .rings .first) (G .below) (G .all p i (omega arith))
 
-  ready-some : (j : ℕ) → j < levelsIn t → (ringHead (levelFrom s j) (t .tree) ≡ nowhere → ⊥) → (p : ℕ) × (1 < pairsIn s t j p .tag)
+  ready-some : (j : ℕ) → j < levelsIn t → (ringHead (levelFrom s j) (t .room) ≡ nowhere → ⊥) → (p : ℕ) × (1 < pairsIn s t j p .tag)
   ready-some j h f = let G = sound .good j h in by (G .ring) (G .rings .first) (G .below) (G .ready)
     where
       used : ℕ
-      used = getD (t .tree) (levelFrom s j + usedAt) 0
+      used = getD (t .room) (levelFrom s j + usedAt) 0
 
-      by : (R : List ℕ) → ringHead (levelFrom s j) (t .tree) ≡ headOr nowhere R → ((x : ℕ) → Mem x R → x < used) → ((x : ℕ) → Mem x R → 1 < entOf (levelFrom s j) (t .tree) x .tag)
+      by : (R : List ℕ) → ringHead (levelFrom s j) (t .room) ≡ headOr nowhere R → ((x : ℕ) → Mem x R → x < used) → ((x : ℕ) → Mem x R → 1 < entOf (levelFrom s j) (t .room) x .tag)
           → (p : ℕ) × (1 < pairsIn s t j p .tag)
       by [] e b r = absurd (f e)
       by (x ∷ R) e b r =
-          let n : pairsIn s t j x ≡ entOf (levelFrom s j) (t .tree) x = rw (lt-ltb x used (b x (inl refl))) in
-          let z : pairsIn s t j x .tag ≡ entOf (levelFrom s j) (t .tree) x .tag = ap (λ (y : Ent). y .tag) n in
+          let n : pairsIn s t j x ≡ entOf (levelFrom s j) (t .room) x = rw (lt-ltb x used (b x (inl refl))) in
+          let z : pairsIn s t j x .tag ≡ entOf (levelFrom s j) (t .room) x .tag = ap (λ (y : Ent). y .tag) n in
           (x, omega (arith, r x (inl refl)))
 
   module _ (size mask : ℕ) where
@@ -210,11 +210,11 @@ module _ (s : BuddySettings) (t : Tables) (fit : BuddyIn s) (sound : Sound s t) 
       (λ w. record {
         from = w .0;
         there = w .1;
-        none = λ j p h k. ready-none j (omega (arith, w .1)) (search-none s (t .tree) lev (levelsIn t - lev) e j h (omega (arith, w .1))) p;
+        none = λ j p h k. ready-none j (omega (arith, w .1)) (search-none s (t .room) lev (levelsIn t - lev) e j h (omega (arith, w .1))) p;
       }),
     )
     splits-when (at i) e l =
-        let r = search-at s (t .tree) lev (levelsIn t - lev) i e in
+        let r = search-at s (t .room) lev (levelsIn t - lev) i e in
         let b : i < levelsIn t = omega (arith, r .0, r .1) in
         let p = ready-some i b (r .2) in (
           (λ w. (w .from, w .there, ⊎-elim (λ k. k) (λ k. absurd (w .none i (p .0) (r .0) k (p .1))) (lt-or-le l i))),

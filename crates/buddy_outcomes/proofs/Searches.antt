@@ -83,12 +83,12 @@ module _ (s : BuddySettings) (t : Tables) where
         ltb-true (chunkTaken s t .place) (s .store .chunks) (rw e at r)
 
     -- a level that is there has a vacant pair place
-    pub room-pair : (j : ℕ) → levelFor s size mask ≤ j → j < splitFrom (levelFor s size mask) t f → j < levelsIn t → pairTaken (levelFrom s j) (t .tree) .place < s .pairs
+    pub room-pair : (j : ℕ) → levelFor s size mask ≤ j → j < splitFrom (levelFor s size mask) t f → j < levelsIn t → pairTaken (levelFrom s j) (t .room) .place < s .pairs
     unfolding roomOk
     room-pair j h k l =
         let r : pairs ≡ true = and-right chunk pairs (and-right place (chunk && pairs) room) in
         let e = room-each (levelFor s size mask) (splitFrom (levelFor s size mask) t f - levelFor s size mask) r j h (omega arith) in
         ⊎-elim
         (λ z. absurd (omega (arith, leb-true (levelsIn t) j z)))
-        (λ z. ltb-true (pairTaken (levelFrom s j) (t .tree) .place) (s .pairs) z)
-        (or-cases (leb (levelsIn t) j) (ltb (pairTaken (levelFrom s j) (t .tree) .place) (s .pairs)) e)
+        (λ z. ltb-true (pairTaken (levelFrom s j) (t .room) .place) (s .pairs) z)
+        (or-cases (leb (levelsIn t) j) (ltb (pairTaken (levelFrom s j) (t .room) .place) (s .pairs)) e)

@@ -43,8 +43,8 @@ use Rattle.buddy_outcomes.proofs.Chunked.{chunked, chunked-lengths, chu
 module _ (s : BuddySettings) (t : Tables) (fit : BuddyIn s) (lengths : Lengths s t) (sound : Sound s t) (size lev d memory z : ℕ)
     (top : levelsIn t ≡ up (suc d) lev) (is-chunk : z ≡ bytes (s .minimal) (levelsIn t))
     (chunk-room : chunkTaken s t .place < s .store .chunks)
-    (none : (j : ℕ) → lev ≤ j → j ≤ up d lev → ringHead (levelFrom s j) (t .tree) ≡ nowhere)
-    (room : (j : ℕ) → lev ≤ j → j ≤ up d lev → pairTaken (levelFrom s j) (t .tree) .place < s .pairs) where
+    (none : (j : ℕ) → lev ≤ j → j ≤ up d lev → ringHead (levelFrom s j) (t .room) ≡ nowhere)
+    (room : (j : ℕ) → lev ≤ j → j ≤ up d lev → pairTaken (levelFrom s j) (t .room) .place < s .pairs) where
   abbrev c : ℕ
   c = chunkTaken s t .place
 
@@ -55,10 +55,10 @@ module _ (s : BuddySettings) (t : Tables) (fit : BuddyIn s) (lengths : Lengths s
   u = chunked s t fit lengths memory z
 
   abbrev cut : Cut
-  cut = splitChunk (s .pairs) lev c k d (u .tree)
+  cut = splitChunk (s .pairs) lev c k d (u .room)
 
   abbrev W : ℕ → List ℕ
-  W i = part (s .pairs) i (t .tree)
+  W i = part (s .pairs) i (t .room)
 
   abbrev W′ : ℕ → List ℕ
   W′ = grow (s .minimal) (levelOps (s .pairs) (few-pairs s fit)) W lev c 0 k nowhere (suc d) .levels
@@ -66,15 +66,15 @@ module _ (s : BuddySettings) (t : Tables) (fit : BuddyIn s) (lengths : Lengths s
   tall : 0 < levelsIn t
   tall = omega (arith, top)
 
-  room-in : (j : ℕ) → lev ≤ j → j ≤ up d lev → levelOps (s .pairs) (few-pairs s fit) .Room (part (s .pairs) j (t .tree))
+  room-in : (j : ℕ) → lev ≤ j → j ≤ up d lev → levelOps (s .pairs) (few-pairs s fit) .Room (part (s .pairs) j (t .room))
   room-in j h g = level-room s t fit sound j (omega (arith, top)) (room j h g)
 
   -- what is cut
-  is-cut : (cut .node ≡ nodeOf (pairTaken 0 (part (s .pairs) lev (t .tree)) .place) L) × ((i : ℕ) → i < levelsMost → part (s .pairs) i (cut .tree) ≡ W′ i)
-      × ((i : ℕ) → chunksFrom s ≤ i → getD (cut .tree) i 0 ≡ getD (u .tree) i 0) × (length (cut .tree) ≡ length (u .tree))
+  is-cut : (cut .node ≡ nodeOf (pairTaken 0 (part (s .pairs) lev (t .room)) .place) L) × ((i : ℕ) → i < levelsMost → part (s .pairs) i (cut .room) ≡ W′ i)
+      × ((i : ℕ) → chunksFrom s ≤ i → getD (cut .room) i 0 ≡ getD (u .room) i 0) × (length (cut .room) ≡ length (u .room))
   is-cut =
-      grown-in s (few-pairs s fit) (u .tree) W fit (chunked-lengths s t fit lengths memory z .tree) (chunked-level s t fit lengths memory z) lev d c k (omega (arith, top, sound .levels-most))
-      (λ i h g. part-good (s .pairs) i (t .tree) .0 (sound .good i (omega (arith, top)))) room-in
+      grown-in s (few-pairs s fit) (u .room) W fit (chunked-lengths s t fit lengths memory z .room) (chunked-level s t fit lengths memory z) lev d c k (omega (arith, top, sound .levels-most))
+      (λ i h g. part-good (s .pairs) i (t .room) .0 (sound .good i (omega (arith, top)))) room-in
 
   served-long : Lengths s (bookedTables s c 0 size cut u)
   served-long = booked-lengths s u fit (chunked-lengths s t fit lengths memory z) c 0 size cut (is-cut .3)
@@ -117,14 +117,14 @@ module _ (s : BuddySettings) (t : Tables) (fit : BuddyIn s) (lengths : Lengths s
   high-as b = chunked-high s t fit lengths memory z chunk-room sound tall is-chunk b ∙ ap (λ (x : ℕ). with (highIn s t) c x b) top
 
   abbrev topWord : ℕ
-  topWord = 2 * pairTaken (levelFrom s (levelsIn t - 1)) (t .tree) .place + 2
+  topWord = 2 * pairTaken (levelFrom s (levelsIn t - 1)) (t .room) .place + 2
 
   word-as : topWord ≡ grow (s .minimal) (levelOps (s .pairs) (few-pairs s fit)) W lev c 0 k nowhere (suc d) .top
   unfolding grow
   word-as =
       let e : levelsIn t - 1 ≡ up d lev = omega (arith, top) in
-      ap (λ (l : ℕ). 2 * pairTaken (levelFrom s l) (t .tree) .place + 2) e
-      ∙ ap (λ (x : Taken). 2 * x .place + 2) (part-taken (s .pairs) (up d lev) (t .tree) (sound .good (up d lev) (omega (arith, top))))
+      ap (λ (l : ℕ). 2 * pairTaken (levelFrom s l) (t .room) .place + 2) e
+      ∙ ap (λ (x : Taken). 2 * x .place + 2) (part-taken (s .pairs) (up d lev) (t .room) (sound .good (up d lev) (omega (arith, top))))
 
   top-as : (b : ℕ) → topIn s u b ≡ with (topIn s t) c (grow (s .minimal) (levelOps (s .pairs) (few-pairs s fit)) W lev c 0 k nowhere (suc d) .top) b
   top-as b = chunked-top s t fit lengths memory z chunk-room sound tall is-chunk b ∙ ap (λ (x : ℕ). with (topIn s t) c x b) word-as
@@ -153,8 +153,8 @@ module _ (s : BuddySettings) (t : Tables) (fit : BuddyIn s) (lengths : Lengths s
 
 module _ (s : BuddySettings) (t : Tables) (fit : BuddyIn s) (lengths : Lengths s t) (sound : Sound s t)
     (size mask memory : ℕ) (sized : sizeOk s size mask ≡ true) (tall : levelFor s size mask < levelsIn t) (new : (c : ℕ) → heldIn t c ≡ true → memoryIn t c ≡ memory → ⊥)
-    (empty : (j : ℕ) → levelFor s size mask ≤ j → j < levelsIn t → ringHead (levelFrom s j) (t .tree) ≡ nowhere)
-    (pair : (j : ℕ) → levelFor s size mask ≤ j → j < levelsIn t → pairTaken (levelFrom s j) (t .tree) .place < s .pairs)
+    (empty : (j : ℕ) → levelFor s size mask ≤ j → j < levelsIn t → ringHead (levelFrom s j) (t .room) ≡ nowhere)
+    (pair : (j : ℕ) → levelFor s size mask ≤ j → j < levelsIn t → pairTaken (levelFrom s j) (t .room) .place < s .pairs)
     (place : takenOf (placesIn t) (t .index) .place < s .store .loans) (chunk-room : chunkTaken s t .place < s .store .chunks) where
   abbrev lev : ℕ
   lev = levelFor s size mask

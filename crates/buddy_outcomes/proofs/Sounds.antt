@@ -25,7 +25,7 @@ use Rattle.buddy_rules.specs.Sound.{Sound}
 use Rattle.buddy_rules.specs.Test.{soundOk}
 use Rattle.buddy_outcomes.specs.Gate.{inTableOk, accountOk, gateOf}
 use Rattle.buddy_outcomes.specs.Ask.{Found, nowhere, at, grownTo, foundFrom, sizeOk, roomOk, countOk, objectsOk, askRow, planned, decideAsk, grownTables, deniedTables, carryAsk, deny, planAsk, askOf, levelFor}
-use Rattle.buddy_outcomes.specs.SetUp.{setUp, freshTables, fitOk, planSetUp, carrySetUp, setUpOf}
+use Rattle.buddy_outcomes.specs.SetUp.{begun, freshTables, fitOk, planSetUp, carrySetUp, setUpOf}
 use Rattle.buddy_outcomes.proofs.Passing.{gate-passed, lengths-are}
 use Rattle.buddy_outcomes.proofs.Rounds.{initial-few, level-low}
 use Rattle.buddy_outcomes.proofs.Changed.{fresh-sound, grown-tables-sound}
@@ -34,7 +34,7 @@ use Rattle.buddy_outcomes.proofs.Taken.{taken-sound}
 -- ---- set-up
 
 -- what fits is set up
-set-up-fit : (s : BuddySettings) (t : Tables) → fitOk s t ≡ true → setUpOf s t ≡ setUp Paper.ready (freshTables s t)
+set-up-fit : (s : BuddySettings) (t : Tables) → fitOk s t ≡ true → setUpOf s t ≡ begun Paper.ready (freshTables s t)
 unfolding setUpOf planSetUp carrySetUp
 set-up-fit s t e = ap (λ (b : Bool). carrySetUp s t (first ((b, 1) ∷ []))) e
 

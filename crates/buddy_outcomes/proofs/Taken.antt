@@ -79,19 +79,19 @@ module _ (s : BuddySettings) (t : Tables) (fit : BuddyIn s) (sound : Sound s t) 
 
 -- what is true of level j in the table is true of its words alone
 module _ (s : BuddySettings) (t : Tables) (fit : BuddyIn s) (sound : Sound s t) (j : ℕ) where
-  pub level-some : (ringHead (levelFrom s j) (t .tree) ≡ nowhere → ⊥) → levelOps (s .pairs) (few-pairs s fit) .Some (part (s .pairs) j (t .tree))
-  level-some f e = f (part-head (s .pairs) j (t .tree) ∙ e)
+  pub level-some : (ringHead (levelFrom s j) (t .room) ≡ nowhere → ⊥) → levelOps (s .pairs) (few-pairs s fit) .Some (part (s .pairs) j (t .room))
+  level-some f e = f (part-head (s .pairs) j (t .room) ∙ e)
 
-  pub level-empty : ringHead (levelFrom s j) (t .tree) ≡ nowhere → levelOps (s .pairs) (few-pairs s fit) .Some (part (s .pairs) j (t .tree)) → ⊥
-  level-empty e f = f (sym (part-head (s .pairs) j (t .tree)) ∙ e)
+  pub level-empty : ringHead (levelFrom s j) (t .room) ≡ nowhere → levelOps (s .pairs) (few-pairs s fit) .Some (part (s .pairs) j (t .room)) → ⊥
+  level-empty e f = f (sym (part-head (s .pairs) j (t .room)) ∙ e)
 
-  pub level-room : j < levelsIn t → pairTaken (levelFrom s j) (t .tree) .place < s .pairs → pairTaken 0 (part (s .pairs) j (t .tree)) .place < s .pairs
-  level-room h k = let e = part-taken (s .pairs) j (t .tree) (sound .good j h) in rw (← e) k
+  pub level-room : j < levelsIn t → pairTaken (levelFrom s j) (t .room) .place < s .pairs → pairTaken 0 (part (s .pairs) j (t .room)) .place < s .pairs
+  level-room h k = let e = part-taken (s .pairs) j (t .room) (sound .good j h) in rw (← e) k
 
 module _ (s : BuddySettings) (t : Tables) (fit : BuddyIn s) (lengths : Lengths s t) (sound : Sound s t) (size lev d : ℕ)
-    (below : up d lev < levelsIn t) (some : ringHead (levelFrom s (up d lev)) (t .tree) ≡ nowhere → ⊥)
-    (none : (j : ℕ) → lev ≤ j → j < up d lev → ringHead (levelFrom s j) (t .tree) ≡ nowhere)
-    (room : (j : ℕ) → lev ≤ j → j < up d lev → pairTaken (levelFrom s j) (t .tree) .place < s .pairs) where
+    (below : up d lev < levelsIn t) (some : ringHead (levelFrom s (up d lev)) (t .room) ≡ nowhere → ⊥)
+    (none : (j : ℕ) → lev ≤ j → j < up d lev → ringHead (levelFrom s j) (t .room) ≡ nowhere)
+    (room : (j : ℕ) → lev ≤ j → j < up d lev → pairTaken (levelFrom s j) (t .room) .place < s .pairs) where
   abbrev k : ℕ
   k = takenOf (placesIn t) (t .index) .place
 
@@ -99,18 +99,18 @@ module _ (s : BuddySettings) (t : Tables) (fit : BuddyIn s) (lengths : Lengths s
   e = headEnt s t (up d lev)
 
   abbrev cut : Cut
-  cut = splitDown (s .pairs) lev (e .chunk) (baseOf (s .minimal) e (up d lev)) k (readyNode (s .pairs) (up d lev) (t .tree)) d (acquired (levelFrom s (up d lev)) 0 (t .tree))
+  cut = splitDown (s .pairs) lev (e .chunk) (baseOf (s .minimal) e (up d lev)) k (readyNode (s .pairs) (up d lev) (t .room)) d (acquired (levelFrom s (up d lev)) 0 (t .room))
 
-  some-in : levelOps (s .pairs) (few-pairs s fit) .Some (part (s .pairs) (up d lev) (t .tree))
+  some-in : levelOps (s .pairs) (few-pairs s fit) .Some (part (s .pairs) (up d lev) (t .room))
   some-in = level-some s t fit sound (up d lev) some
 
-  room-in : (j : ℕ) → lev ≤ j → j < up d lev → levelOps (s .pairs) (few-pairs s fit) .Room (part (s .pairs) j (t .tree))
+  room-in : (j : ℕ) → lev ≤ j → j < up d lev → levelOps (s .pairs) (few-pairs s fit) .Room (part (s .pairs) j (t .room))
   room-in j h g = level-room s t fit sound j (omega arith) (room j h g)
 
   before : Stores.Sound (s .minimal) (levelOps (s .pairs) (few-pairs s fit)) (storeOf s (few-pairs s fit) t) (λ (c : ℕ). cond (heldIn t c) (sound .standing .trees c) free)
   before = sound-store s (few-pairs s fit) t fit lengths sound
 
-  cut-long : length (cut .tree) ≡ length (t .tree)
+  cut-long : length (cut .room) ≡ length (t .room)
   cut-long = lent-is s (few-pairs s fit) t fit lengths sound lev d k below some-in room-in .3
 
   lent-lengths : Lengths s (bookedTables s (e .chunk) (baseOf (s .minimal) e (up d lev)) size cut t)
@@ -173,9 +173,9 @@ module _ (s : BuddySettings) (t : Tables) (fit : BuddyIn s) (lengths : Lengths s
   abbrev lev : ℕ
   lev = levelFor s size mask
 
-  pub first : (lev ≤ i) × (i < levelsIn t) × (ringHead (levelFrom s i) (t .tree) ≡ nowhere → ⊥) × ((j : ℕ) → lev ≤ j → j < i → ringHead (levelFrom s j) (t .tree) ≡ nowhere)
+  pub first : (lev ≤ i) × (i < levelsIn t) × (ringHead (levelFrom s i) (t .room) ≡ nowhere → ⊥) × ((j : ℕ) → lev ≤ j → j < i → ringHead (levelFrom s j) (t .room) ≡ nowhere)
   unfolding foundFrom
-  first = let r = search-at s (t .tree) lev (levelsIn t - lev) i found in (r .0, omega (arith, r .0, r .1), r .2, r .3)
+  first = let r = search-at s (t .room) lev (levelsIn t - lev) i found in (r .0, omega (arith, r .0, r .1), r .2, r .3)
 
   pub height : up (i - lev) lev ≡ i
   height = omega (arith, up-add (i - lev) lev, first .0)
@@ -184,18 +184,18 @@ module _ (s : BuddySettings) (t : Tables) (fit : BuddyIn s) (lengths : Lengths s
   abbrev tablesAt : ℕ → ℕ → Tables
   tablesAt x n =
       bookedTables s (headEnt s t x .chunk) (baseOf (s .minimal) (headEnt s t x) x) (sizeFor s size mask)
-      (splitDown (s .pairs) lev (headEnt s t x .chunk) (baseOf (s .minimal) (headEnt s t x) x) (takenOf (placesIn t) (t .index) .place) (readyNode (s .pairs) x (t .tree)) n (acquired (levelFrom s x) 0 (t .tree))) t
+      (splitDown (s .pairs) lev (headEnt s t x .chunk) (baseOf (s .minimal) (headEnt s t x) x) (takenOf (placesIn t) (t .index) .place) (readyNode (s .pairs) x (t .room)) n (acquired (levelFrom s x) 0 (t .room))) t
 
   below : up (i - lev) lev < levelsIn t
   below = omega (arith, height, first .1)
 
-  some : ringHead (levelFrom s (up (i - lev) lev)) (t .tree) ≡ nowhere → ⊥
+  some : ringHead (levelFrom s (up (i - lev) lev)) (t .room) ≡ nowhere → ⊥
   some = rw height (first .2)
 
-  none : (j : ℕ) → lev ≤ j → j < up (i - lev) lev → ringHead (levelFrom s j) (t .tree) ≡ nowhere
+  none : (j : ℕ) → lev ≤ j → j < up (i - lev) lev → ringHead (levelFrom s j) (t .room) ≡ nowhere
   none j h g = first .3 j h (omega (arith, height))
 
-  pub pair : (j : ℕ) → lev ≤ j → j < up (i - lev) lev → pairTaken (levelFrom s j) (t .tree) .place < s .pairs
+  pub pair : (j : ℕ) → lev ≤ j → j < up (i - lev) lev → pairTaken (levelFrom s j) (t .room) .place < s .pairs
   pair j h g = room-pair s t size mask (at i) room j h (omega (arith, height)) (omega (arith, below))
 
   pub taken-sound : Sound s (takenTables s (sizeFor s size mask) (levelFor s size mask) t i)

@@ -33,8 +33,8 @@ part-past pairs i j v t h =
 
 -- tree is t's but for the levels, and c is a chunk place
 pub record Past (s : BuddySettings) (t : Tables) (c : ℕ) (tree : List ℕ) : Type 0 where
-  pub same : (i : ℕ) → chunksFrom s ≤ i → getD tree i 0 ≡ getD (t .tree) i 0
-  pub long : length tree ≡ length (t .tree)
+  pub same : (i : ℕ) → chunksFrom s ≤ i → getD tree i 0 ≡ getD (t .room) i 0
+  pub long : length tree ≡ length (t .room)
   pub inside : c < s .store .chunks
 
 module _ (s : BuddySettings) (t : Tables) (c : ℕ) (tree loans index : List ℕ) where
@@ -51,14 +51,14 @@ module _ (s : BuddySettings) (t : Tables) (c : ℕ) (tree loans index : List ℕ
   module _ (lengths : Lengths s t) (p : Past s t c tree) where
     -- ---- the tree
 
-    pub part-by : (f : Bool) (i : ℕ) → i < levelsMost → part (s .pairs) i (tablesBy f .tree) ≡ part (s .pairs) i tree
+    pub part-by : (f : Bool) (i : ℕ) → i < levelsMost → part (s .pairs) i (tablesBy f .room) ≡ part (s .pairs) i tree
     unfolding vacatedTree
     part-by true i h =
         let k : levelWords (s .pairs) * (i + 1) ≤ chunksFrom s = levels-in s i h in
         part-past (s .pairs) i (chunksFrom s) c linked k ∙ part-past (s .pairs) i after (getD tree (chunksFrom s) 0) tree (omega arith)
     part-by false i h = refl
 
-    pub word-by : (f : Bool) (j : ℕ) → chunksFrom s < j → (j ≡ cellOf (placeAt s afterAt) placeWords c → ⊥) → getD (tablesBy f .tree) j 0 ≡ getD (t .tree) j 0
+    pub word-by : (f : Bool) (j : ℕ) → chunksFrom s < j → (j ≡ cellOf (placeAt s afterAt) placeWords c → ⊥) → getD (tablesBy f .room) j 0 ≡ getD (t .room) j 0
     unfolding vacatedTree
     word-by true j h n =
         getD-set-other linked (chunksFrom s) j c 0 (λ e. omega arith)
@@ -66,7 +66,7 @@ module _ (s : BuddySettings) (t : Tables) (c : ℕ) (tree loans index : List ℕ
         ∙ p .same j (omega arith)
     word-by false j h n = p .same j (omega arith)
 
-    pub tree-by : (f : Bool) → length (tablesBy f .tree) ≡ length (t .tree)
+    pub tree-by : (f : Bool) → length (tablesBy f .room) ≡ length (t .room)
     unfolding vacatedTree
     tree-by true = length-set linked (chunksFrom s) c ∙ length-set tree after (getD tree (chunksFrom s) 0) ∙ p .long
     tree-by false = p .long
@@ -109,7 +109,7 @@ module _ (s : BuddySettings) (t : Tables) (c : ℕ) (tree loans index : List ℕ
 
     top-stays : (f : Bool) (x : ℕ) → Stays f x → topIn s (tablesBy f) x ≡ topIn s t x
     top-stays f x z =
-        ap (λ (h : Bool). cond h (getD (tablesBy f .tree) (cellOf (placeAt s topAt) placeWords x) 0) 0) (held-stays f x z)
+        ap (λ (h : Bool). cond h (getD (tablesBy f .room) (cellOf (placeAt s topAt) placeWords x) 0) 0) (held-stays f x z)
         ∙ ap (λ (v : ℕ). cond (heldIn t x) v 0) (word-by f (cellOf (placeAt s topAt) placeWords x) (omega arith) (λ e. omega arith))
 
     -- what is held still was so, and is as it was
@@ -132,7 +132,7 @@ module _ (s : BuddySettings) (t : Tables) (c : ℕ) (tree loans index : List ℕ
     pub top-by : (f : Bool) (x : ℕ) → topIn s (tablesBy f) x ≡ with (topIn s t) c (cond f 0 (topIn s t c)) x
     top-by f x = ⊎-elim
         (λ z. top-stays f x z ∙ with-stays f (topIn s t) x (z .1))
-        (λ z. ap (λ (h : Bool). cond h (getD (tablesBy f .tree) (cellOf (placeAt s topAt) placeWords x) 0) 0) (z .0) ∙ with-leaves f (topIn s t) x (z .1) (z .2))
+        (λ z. ap (λ (h : Bool). cond h (getD (tablesBy f .room) (cellOf (placeAt s topAt) placeWords x) 0) 0) (z .0) ∙ with-leaves f (topIn s t) x (z .1) (z .2))
         (chunk-cases f x)
 
     -- ---- their places
@@ -145,13 +145,13 @@ module _ (s : BuddySettings) (t : Tables) (c : ℕ) (tree loans index : List ℕ
         let at = placeAt s afterAt in
         let free = vacantChunk t in
         let t′ = tablesBy true in
-        let v = getD (t .tree) (chunksFrom s) 0 in
+        let v = getD (t .room) (chunksFrom s) 0 in
         let Q = parted-same free free (chunkAfter s t) (linkAt tree at placeWords) (chunkSlab s t) m (λ x i. refl) (λ x i. p .same (cellOf at placeWords x) (omega arith)) P in
-        let R = removed-parted free tree at placeWords (chunkSlab s t) m c Q h u (omega (arith, p .long, p .inside, lengths .tree)) (omega arith) in
+        let R = removed-parted free tree at placeWords (chunkSlab s t) m c Q h u (omega (arith, p .long, p .inside, lengths .room)) (omega arith) in
         let link : (x : ℕ) → chunkAfter s t′ x ≡ linkAt (set tree after v) at placeWords x = λ x.
         getD-set-other linked (chunksFrom s) (cellOf at placeWords x) c 0 (λ e. omega arith)
         ∙ ap (λ (y : ℕ). linkAt (set tree after y) at placeWords x) (p .same (chunksFrom s) (omega arith)) in
-        let first : getD (t′ .tree) (chunksFrom s) 0 ≡ c = getD-set-same linked (chunksFrom s) c 0 (omega (arith, length-set tree after (getD tree (chunksFrom s) 0), p .long, lengths .tree)) in
+        let first : getD (t′ .room) (chunksFrom s) 0 ≡ c = getD-set-same linked (chunksFrom s) c 0 (omega (arith, length-set tree after (getD tree (chunksFrom s) 0), p .long, lengths .room)) in
         subst (λ (y : ℕ). Parted (vacantChunk t′) (chunkAfter s t′) (record { places = chunkPlacesIn t; vacant = y }) m) (sym first)
         (parted-same (changed free c true) (vacantChunk t′) (linkAt (set tree after v) at placeWords) (chunkAfter s t′) (record { places = chunkPlacesIn t; vacant = c }) m
         (λ x i. vacant-set (t .chunks) chunkSizeAt chunkWords c 0 x (omega arith) cell-in) (λ x i. link x) R)

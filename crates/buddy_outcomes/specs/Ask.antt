@@ -60,7 +60,7 @@ searchFrom s t l zero = nowhere
 searchFrom s t l (suc n) = cond (eqb (ringHead (levelFrom s l) t) Slab.nowhere) (searchFrom s t (suc l) n) (at l)
 
 unfoldable pub foundFrom : BuddySettings → ℕ → Tables → Found
-foundFrom s l t = searchFrom s (t .tree) l (levelsIn t - l)
+foundFrom s l t = searchFrom s (t .room) l (levelsIn t - l)
 
 abbrev pub needs : Found → Bool
 needs nowhere = true
@@ -86,7 +86,7 @@ sizeOk s size mask = ltb 0 size && fitsAt levelsMost s (sizeFor s size mask)
 
 -- a level has a vacant pair place, or is not there yet
 abbrev pub pairRoom : BuddySettings → Tables → ℕ → Bool
-pairRoom s t l = leb (levelsIn t) l || ltb (pairTaken (levelFrom s l) (t .tree) .place) (s .pairs)
+pairRoom s t l = leb (levelsIn t) l || ltb (pairTaken (levelFrom s l) (t .room) .place) (s .pairs)
 
 -- of the levels from l on, n of them
 unfoldable pub pairsRoom : BuddySettings → Tables → ℕ → ℕ → Bool
@@ -95,7 +95,7 @@ pairsRoom s t l (suc n) = pairRoom s t l && pairsRoom s t (suc l) n
 
 -- the chunk place that is taken next
 abbrev pub chunkTaken : BuddySettings → Tables → Taken
-chunkTaken s t = inserted (chunkSlab s t) (t .tree) (placeAt s afterAt) placeWords
+chunkTaken s t = inserted (chunkSlab s t) (t .room) (placeAt s afterAt) placeWords
 
 -- 8: "no loan place; or a chunk is needed and no chunk place is vacant; or a level that needs a new pair has none"
 unfoldable pub roomOk : BuddySettings → ℕ → Tables → Found → Bool
@@ -138,7 +138,7 @@ freshLevels s l (suc n) t = freshLevels s (suc l) n (freshLevel (levelFrom s l) 
 
 unfoldable pub grownTables : BuddySettings → ℕ → Tables → Tables
 grownTables s n t =
-    tables (set (t .head) levelsAt n) (t .loans) (t .chunks) (t .index) (freshLevels s (levelsIn t) (n - levelsIn t) (t .tree))
+    tables (set (t .head) levelsAt n) (t .loans) (t .chunks) (t .index) (freshLevels s (levelsIn t) (n - levelsIn t) (t .room))
 
 -- a loan of this chunk, offset and size is entered in the book, and its node beside the tree, which is then `tree`
 unfoldable pub bookedTables : BuddySettings → ℕ → ℕ → ℕ → Cut → Tables → Tables
@@ -148,11 +148,11 @@ bookedTables s c o size cut t =
     (entered (placesIn t) (t .index) (loan (givenIn t + 1) c o size) (t .loans))
     (t .chunks)
     (enteredIndex (s .store .loans) (placesIn t) (givenIn t + 1) (t .index))
-    (set (cut .tree) (nodesFrom s + takenOf (placesIn t) (t .index) .place) (cut .node))
+    (set (cut .room) (nodesFrom s + takenOf (placesIn t) (t .index) .place) (cut .node))
 
 -- the head pair's entry of level i, whose ready side serves
 abbrev pub headEnt : BuddySettings → Tables → ℕ → Ent
-headEnt s t i = entOf (levelFrom s i) (t .tree) (ringHead (levelFrom s i) (t .tree))
+headEnt s t i = entOf (levelFrom s i) (t .room) (ringHead (levelFrom s i) (t .room))
 
 -- the loan of z bytes that it gives
 abbrev pub loanFrom : BuddySettings → ℕ → Tables → ℕ → Loan
@@ -162,8 +162,8 @@ loanFrom s z t i = loan (givenIn t + 1) (headEnt s t i .chunk) (baseOf (s .minim
 unfoldable pub takenTables : BuddySettings → ℕ → ℕ → Tables → ℕ → Tables
 takenTables s z l t i =
     bookedTables s (loanFrom s z t i .chunk) (loanFrom s z t i .offset) z
-    (splitDown (s .pairs) l (loanFrom s z t i .chunk) (loanFrom s z t i .offset) (takenOf (placesIn t) (t .index) .place) (readyNode (s .pairs) i (t .tree)) (i - l)
-    (acquired (levelFrom s i) freeWord (t .tree)))
+    (splitDown (s .pairs) l (loanFrom s z t i .chunk) (loanFrom s z t i .offset) (takenOf (placesIn t) (t .index) .place) (readyNode (s .pairs) i (t .room)) (i - l)
+    (acquired (levelFrom s i) freeWord (t .room)))
     t
 
 -- "9 in a buddy store leaves the levels grown as the ask needs", an ask of level l

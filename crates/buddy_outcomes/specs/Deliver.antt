@@ -48,8 +48,8 @@ chunkTables s memory z t =
     (t .loans)
     (set (set (t .chunks) (cellOf memoryAt chunkWords (chunkTaken s t .place)) memory) (cellOf chunkSizeAt chunkWords (chunkTaken s t .place)) z)
     (t .index)
-    (set (set (t .tree) (chunksFrom s) (chunkTaken s t .slab .vacant)) (cellOf (placeAt s topAt) placeWords (chunkTaken s t .place))
-    (splitWord (pairTaken (levelFrom s (levelsIn t - 1)) (t .tree) .place)))
+    (set (set (t .room) (chunksFrom s) (chunkTaken s t .slab .vacant)) (cellOf (placeAt s topAt) placeWords (chunkTaken s t .place))
+    (splitWord (pairTaken (levelFrom s (levelsIn t - 1)) (t .room) .place)))
 
 abbrev pub loanIn : BuddySettings → ℕ → ℕ → Tables → Loan
 loanIn s size mask t = loan (givenIn t + 1) (chunkTaken s t .place) 0 (sizeFor s size mask)
@@ -58,7 +58,7 @@ loanIn s size mask t = loan (givenIn t + 1) (chunkTaken s t .place) 0 (sizeFor s
 unfoldable pub servedTables : BuddySettings → ℕ → ℕ → ℕ → ℕ → Tables → Tables
 servedTables s z l memory bytes t =
     bookedTables s (chunkTaken s t .place) 0 z
-    (splitChunk (s .pairs) l (chunkTaken s t .place) (takenOf (placesIn t) (t .index) .place) (levelsIn t - l - 1) (chunkTables s memory bytes t .tree))
+    (splitChunk (s .pairs) l (chunkTaken s t .place) (takenOf (placesIn t) (t .index) .place) (levelsIn t - l - 1) (chunkTables s memory bytes t .room))
     (chunkTables s memory bytes t)
 
 -- the levels as the order raised them

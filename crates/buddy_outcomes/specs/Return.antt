@@ -29,7 +29,7 @@ onLoanOk s b t = Returns.onLoanOk (t .loans) (t .index) (s .store .loans) (place
 
 -- the climb from node n of level l
 abbrev pub climbFrom : BuddySettings → ℕ → ℕ → Tables → Climbed
-climbFrom s l n t = climbed (s .pairs) (levelsIn t - l) l n (t .tree)
+climbFrom s l n t = climbed (s .pairs) (levelsIn t - l) l n (t .room)
 
 -- and that from the node of the block's loan, to which the word w leads
 abbrev pub climbFor : BuddySettings → Block → ℕ → Tables → Climbed
@@ -46,7 +46,7 @@ givenTables s b w t =
     (struck w (t .index) (t .loans))
     (cond (climbFor s b w t .freed) (set (t .chunks) (cellOf chunkSizeAt chunkWords (b .chunk)) 0) (t .chunks))
     (struckIndex w (t .index))
-    (cond (climbFor s b w t .freed) (vacatedTree s (b .chunk) (climbFor s b w t .tree)) (climbFor s b w t .tree))
+    (cond (climbFor s b w t .freed) (vacatedTree s (b .chunk) (climbFor s b w t .room)) (climbFor s b w t .room))
 
 -- ---- the call
 

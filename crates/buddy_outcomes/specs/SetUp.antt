@@ -4,21 +4,14 @@ use mathlib.Core.List.{List, [], _∷_}
 use Prim.Native.Nat.{ℕ}
 use lib.ListN.{set}
 use Rattle.counter.specs.Gate.{Verdict, pass, refuse, first}
-use Rattle.counter.specs.Paper.{Said}
 use Rattle.counter.specs.Paper as Paper
 use Rattle.counter.specs.Table.{buddyOk}
 use Rattle.counter.specs.declared.settings.BuddySettings.{BuddySettings}
 use Rattle.slab.specs.Slab.{nowhere}
 use Rattle.book_rules.specs.Book.{freshIndex}
+pub use Rattle.store_rules.specs.Tables.{Begun, begun}
 use Rattle.buddy_rules.specs.Tables.{Tables, tables, mark, lengthsOk, chunksFrom, initialLevels}
 use Rattle.buddy_outcomes.specs.Ask.{freshLevels}
-
-pub record SetUp : Type 0 where
-  pub said : Said
-  pub tables : Tables
-
-abbrev pub setUp : Said → Tables → SetUp
-setUp s t = record { said = s; tables = t }
 
 -- the mark; nothing given, and "Initial levels"; no place used
 abbrev pub freshHead : BuddySettings → List ℕ
@@ -28,7 +21,7 @@ freshHead s = mark ∷ 0 ∷ initialLevels s ∷ 0 ∷ 0 ∷ []
 unfoldable pub freshTables : BuddySettings → Tables → Tables
 freshTables s t =
     tables (freshHead s) (t .loans) (t .chunks) (freshIndex (t .index))
-    (set (freshLevels s 0 (initialLevels s) (t .tree)) (chunksFrom s) nowhere)
+    (set (freshLevels s 0 (initialLevels s) (t .room)) (chunksFrom s) nowhere)
 
 -- 1, but for the account, which set-up does not take
 unfoldable pub fitOk : BuddySettings → Tables → Bool
@@ -39,10 +32,10 @@ unfoldable pub planSetUp : BuddySettings → Tables → Verdict
 planSetUp s t = first ((fitOk s t, 1) ∷ [])
 
 -- a refused set-up leaves every word as it was
-unfoldable pub carrySetUp : BuddySettings → Tables → Verdict → SetUp
-carrySetUp s t (refuse n) = setUp (Paper.refusal n []) t
-carrySetUp s t pass = setUp Paper.ready (freshTables s t)
+unfoldable pub carrySetUp : BuddySettings → Tables → Verdict → Begun
+carrySetUp s t (refuse n) = begun (Paper.refusal n []) t
+carrySetUp s t pass = begun Paper.ready (freshTables s t)
 
 -- what set-up says and leaves, for every input
-unfoldable pub setUpOf : BuddySettings → Tables → SetUp
+unfoldable pub setUpOf : BuddySettings → Tables → Begun
 setUpOf s t = carrySetUp s t (planSetUp s t)

@@ -33,7 +33,7 @@ abbrev pub storeOf : (s : BuddySettings) (small : s .pairs ≤ 2 ^ 32) → Table
 storeOf s small t =
     record {
       count = levelsIn t;
-      levels = λ (i : ℕ). part (s .pairs) i (t .tree);
+      levels = λ (i : ℕ). part (s .pairs) i (t .room);
       loans = loanIn s t;
       live = liveIn t;
       high = highIn s t;
@@ -53,14 +53,14 @@ treeIn t T c = cond (heldIn t c) (T c) free
 
 module _ (s : BuddySettings) (small : s .pairs ≤ 2 ^ 32) (t : Tables) where
   abbrev level : ℕ → List ℕ
-  level i = part (s .pairs) i (t .tree)
+  level i = part (s .pairs) i (t .room)
 
   -- what a level says by itself it says in the table
-  pair-alone : (i p : ℕ) → Good (levelFrom s i) (s .pairs) (t .tree) → pairsIn s t i p ≡ pairIn 0 (level i) p
-  pair-alone i p G = part-pair (s .pairs) i (t .tree) p (G .parted .limit)
+  pair-alone : (i p : ℕ) → Good (levelFrom s i) (s .pairs) (t .room) → pairsIn s t i p ≡ pairIn 0 (level i) p
+  pair-alone i p G = part-pair (s .pairs) i (t .room) p (G .parted .limit)
 
-  level-good : (i : ℕ) → Lengths s t → i < levelsMost → Good (levelFrom s i) (s .pairs) (t .tree) → levelOps (s .pairs) small .Good (level i)
-  level-good i len h G = (part-length (s .pairs) i (t .tree) (omega (arith, levels-in s i h, len .tree)), part-good (s .pairs) i (t .tree) .0 G)
+  level-good : (i : ℕ) → Lengths s t → i < levelsMost → Good (levelFrom s i) (s .pairs) (t .room) → levelOps (s .pairs) small .Good (level i)
+  level-good i len h G = (part-length (s .pairs) i (t .room) (omega (arith, levels-in s i h, len .room)), part-good (s .pairs) i (t .room) .0 G)
 
   -- ---- the abstract store of a sound one
 
@@ -114,7 +114,7 @@ module _ (s : BuddySettings) (small : s .pairs ≤ 2 ^ 32) (t : Tables) where
     sound-store = record {
       good = λ i h. level-good i len (omega (arith, S .levels-most)) (S .good i h);
       small = λ i p h k.
-          let q : p < s .pairs = used-below 0 (s .pairs) (level i) (part-good (s .pairs) i (t .tree) .0 (S .good i h)) p (tagged-used 0 (level i) p k) in
+          let q : p < s .pairs = used-below 0 (s .pairs) (level i) (part-good (s .pairs) i (t .room) .0 (S .good i h)) p (tagged-used 0 (level i) p k) in
           omega arith;
       tall = tall;
       held = held;
@@ -147,10 +147,10 @@ pub record Sizes (s : BuddySettings) (t : Tables) : Type 0 where
 
 module _ (s : BuddySettings) (small : s .pairs ≤ 2 ^ 32) (t : Tables) (T : ℕ → Tree) (fit : BuddyIn s) (len : Lengths s t)
     (A : Stores.Sound (s .minimal) (levelOps (s .pairs) small) (storeOf s small t) T) (Z : Sizes s t) where
-  good : (l : ℕ) → l < levelsIn t → Good (levelFrom s l) (s .pairs) (t .tree)
-  good l h = part-good (s .pairs) l (t .tree) .1 (A .good l h .1)
+  good : (l : ℕ) → l < levelsIn t → Good (levelFrom s l) (s .pairs) (t .room)
+  good l h = part-good (s .pairs) l (t .room) .1 (A .good l h .1)
 
-  same : (i p : ℕ) → i < levelsIn t → pairIn 0 (part (s .pairs) i (t .tree)) p ≡ pairsIn s t i p
+  same : (i p : ℕ) → i < levelsIn t → pairIn 0 (part (s .pairs) i (t .room)) p ≡ pairsIn s t i p
   same i p h = sym (pair-alone s small t i p (good i h))
 
   -- a chunk with a level is held
@@ -176,7 +176,7 @@ module _ (s : BuddySettings) (small : s .pairs ≤ 2 ^ 32) (t : Tables) (T : ℕ
     wf = λ c h. A .wf c;
     rep = λ c h.
         frame (s .minimal) (entries (levelOps (s .pairs) small) (storeOf s small t .levels)) (pairsIn s t) (loanIn s t) c (highIn s t c) 0 nowhere (topIn s t c) (T c) (minimal-pos s fit)
-        (λ i p k. let e : pairsIn s t i p ≡ pairIn 0 (part (s .pairs) i (t .tree)) p = sym (same i p (omega (arith, A .tall c))) in ((λ x y. e), (λ x y. e)))
+        (λ i p k. let e : pairsIn s t i p ≡ pairIn 0 (part (s .pairs) i (t .room)) p = sym (same i p (omega (arith, A .tall c))) in ((λ x y. e), (λ x y. e)))
         (A .rep c);
     owned = λ l p h k.
         let e = same l p h in
@@ -198,5 +198,5 @@ module _ (s : BuddySettings) (small : s .pairs ≤ 2 ^ 32) (t : Tables) (T : ℕ
           go (loan k) f = refl
           go (split a b) f = refl
 
-  pub store-trees : levelsIn t ≤ levelsMost → Trees s t × ((l : ℕ) → l < levelsIn t → Good (levelFrom s l) (s .pairs) (t .tree))
+  pub store-trees : levelsIn t ≤ levelsMost → Trees s t × ((l : ℕ) → l < levelsIn t → Good (levelFrom s l) (s .pairs) (t .room))
   store-trees h = (stand, good)

@@ -104,8 +104,8 @@ module _ (s : BuddySettings) (small : s .pairs ≤ 2 ^ 32) where
   -- the words are those of the levels, and the others are as they were
   abbrev Alike : List ℕ → Climbed → Out (levelOps (s .pairs) small) → Type 0
   Alike t r q =
-      (r .freed ≡ q .freed) × ((i : ℕ) → i < levelsMost → part (s .pairs) i (r .tree) ≡ q .levels i)
-      × ((i : ℕ) → chunksFrom s ≤ i → getD (r .tree) i 0 ≡ getD t i 0) × (length (r .tree) ≡ length t)
+      (r .freed ≡ q .freed) × ((i : ℕ) → i < levelsMost → part (s .pairs) i (r .room) ≡ q .levels i)
+      × ((i : ℕ) → chunksFrom s ≤ i → getD (r .room) i 0 ≡ getD t i 0) × (length (r .room) ≡ length t)
 
   abbrev Agree : List ℕ → (ℕ → List ℕ) → Type 0
   Agree t W = (i : ℕ) → i < levelsMost → part (s .pairs) i t ≡ W i
@@ -146,7 +146,7 @@ module _ (s : BuddySettings) (small : s .pairs ≤ 2 ^ 32) where
       → Rest f (suc l) → Step (entries (levelOps (s .pairs) small) W) l n (Path (entries (levelOps (s .pairs) small) W) f (suc l) (pairIn 0 (W l) (n / 2) .up)) → (e d : Ent) → e ≡ d → d ≡ pairIn 0 (W l) (n / 2)
       → Alike t
       (cond (eqb (word (other (sideIn n)) e) 0) (climbed (s .pairs) f (suc l) (e .up) (dropped (levelFrom s l) (n / 2) t))
-      (record { freed = false; tree = backed (levelFrom s l) (n / 2) (sideIn n) t }))
+      (record { freed = false; room = backed (levelFrom s l) (n / 2) (sideIn n) t }))
       (cond (eqb (word (other (sideIn n)) d) 0) (climb (levelOps (s .pairs) small) (put (levelOps (s .pairs) small) W l (dropped 0 (n / 2) (W l))) f (suc l) (d .up))
       (out (levelOps (s .pairs) small) false (put (levelOps (s .pairs) small) W l (backed 0 (n / 2) (sideIn n) (W l)))))
   climb-step f l n t W h a g rest z e d q m = rw q (go (told (eqb (word (other (sideIn n)) d) 0)))
@@ -160,7 +160,7 @@ module _ (s : BuddySettings) (small : s .pairs ≤ 2 ^ 32) where
       go : (eqb (word (other (sideIn n)) d) 0 ≡ true) ⊎ (eqb (word (other (sideIn n)) d) 0 ≡ false)
           → Alike t
           (cond (eqb (word (other (sideIn n)) d) 0) (climbed (s .pairs) f (suc l) (d .up) (dropped (levelFrom s l) (n / 2) t))
-          (record { freed = false; tree = backed (levelFrom s l) (n / 2) (sideIn n) t }))
+          (record { freed = false; room = backed (levelFrom s l) (n / 2) (sideIn n) t }))
           (cond (eqb (word (other (sideIn n)) d) 0) (climb (levelOps (s .pairs) small) (put (levelOps (s .pairs) small) W l (dropped 0 (n / 2) (W l))) f (suc l) (d .up))
           (out (levelOps (s .pairs) small) false (put (levelOps (s .pairs) small) W l (backed 0 (n / 2) (sideIn n) (W l)))))
       go (inl y) =
@@ -196,10 +196,10 @@ module _ (s : BuddySettings) (small : s .pairs ≤ 2 ^ 32) where
 
   pub climbed-is : (t : Tables) → BuddyIn s → Lengths s t → Sound s t → (k : ℕ) → liveIn t k ≡ true
       → let f = levelsIn t - loanIn s t k .lev in
-      let r = climbed (s .pairs) f (loanIn s t k .lev) (loanIn s t k .node) (t .tree) in
-      let q = climb (levelOps (s .pairs) small) (λ (i : ℕ). part (s .pairs) i (t .tree)) f (loanIn s t k .lev) (loanIn s t k .node) in
-      (r .freed ≡ q .freed) × ((i : ℕ) → i < levelsMost → part (s .pairs) i (r .tree) ≡ q .levels i)
-      × ((i : ℕ) → chunksFrom s ≤ i → getD (r .tree) i 0 ≡ getD (t .tree) i 0) × (length (r .tree) ≡ length (t .tree))
+      let r = climbed (s .pairs) f (loanIn s t k .lev) (loanIn s t k .node) (t .room) in
+      let q = climb (levelOps (s .pairs) small) (λ (i : ℕ). part (s .pairs) i (t .room)) f (loanIn s t k .lev) (loanIn s t k .node) in
+      (r .freed ≡ q .freed) × ((i : ℕ) → i < levelsMost → part (s .pairs) i (r .room) ≡ q .levels i)
+      × ((i : ℕ) → chunksFrom s ≤ i → getD (r .room) i 0 ≡ getD (t .room) i 0) × (length (r .room) ≡ length (t .room))
   climbed-is t fit len S k h =
       let u = s .minimal in
       let A = sound-store s small t fit len S in
@@ -209,7 +209,7 @@ module _ (s : BuddySettings) (small : s .pairs ≤ 2 ^ 32) where
       let m : levelsIn t ≤ levelsMost = S .levels-most in
       let x : highIn s t c ≤ levelsIn t = A .tall c in
       let z : loanIn s t k .lev ≤ highIn s t c = has-in u (highIn s t c) 0 T y (A .has k h) .2 in
-      climb-is (levelsIn t - loanIn s t k .lev) (loanIn s t k .lev) (loanIn s t k .node) (t .tree) (λ (i : ℕ). part (s .pairs) i (t .tree)) (omega arith) (λ i j. refl)
+      climb-is (levelsIn t - loanIn s t k .lev) (loanIn s t k .lev) (loanIn s t k .node) (t .room) (λ (i : ℕ). part (s .pairs) i (t .room)) (omega arith) (λ i j. refl)
       (λ i j b. A .good i (omega arith) .1)
       (path-loan u (entries (levelOps (s .pairs) small) (storeOf s small t .levels)) (loanIn s t) c (highIn s t c) 0 nowhere (topIn s t c) (levelsIn t - highIn s t c) T y k (levelsIn t - loanIn s t k .lev) (A .rep c) (A .has k h) refl (omega arith)
       (path-top (entries (levelOps (s .pairs) small) (storeOf s small t .levels)) (levelsIn t - highIn s t c) (highIn s t c)))

@@ -105,13 +105,13 @@ module _ (s : BuddySettings) (t : Tables) where
     pairs-few = omega (arith, fit .pairs-most)
 
     -- a pair in use has a place within the limit
-    small : ((l : ℕ) → l < levelsIn t → Good (levelFrom s l) (s .pairs) (t .tree)) → (l p : ℕ) → l < levelsIn t → 0 < pairsIn s t l p .tag → 2 * p + 1 < nowhere
+    small : ((l : ℕ) → l < levelsIn t → Good (levelFrom s l) (s .pairs) (t .room)) → (l p : ℕ) → l < levelsIn t → 0 < pairsIn s t l p .tag → 2 * p + 1 < nowhere
     small g l p h e =
-        ⊎-elim (λ q. omega (arith, ltb-true p (getD (t .tree) (levelFrom s l + usedAt) 0) q, g l h .parted .limit, fit .pairs-most))
+        ⊎-elim (λ q. omega (arith, ltb-true p (getD (t .room) (levelFrom s l + usedAt) 0) q, g l h .parted .limit, fit .pairs-most))
         (λ q. absurd (omega (arith, e, ap (λ (x : ℕ). x) (none q))))
-        (told (ltb p (getD (t .tree) (levelFrom s l + usedAt) 0)))
+        (told (ltb p (getD (t .room) (levelFrom s l + usedAt) 0)))
       where
-        none : ltb p (getD (t .tree) (levelFrom s l + usedAt) 0) ≡ false → pairsIn s t l p .tag ≡ 0
+        none : ltb p (getD (t .room) (levelFrom s l + usedAt) 0) ≡ false → pairsIn s t l p .tag ≡ 0
         none q = rw q refl
 
     pub tables-yes : soundOk s t ≡ true → Sound s t
@@ -123,8 +123,8 @@ module _ (s : BuddySettings) (t : Tables) where
         let low : placesIn t < nowhere = omega (arith, few, fit .store .loans-most) in
         let chunks : chunkPlacesIn t ≤ s .store .chunks = few-of (vacantChunk t) (chunkAfter s t) (chunkPlacesIn t) (chunkSlab s t .vacant) (s .store .chunks) (at .1 .1 .1 .1 .1 .0) in
         let rest = at .1 .1 .1 .1 .1 .1 in
-        let good : (l : ℕ) → l < levelsIn t → Good (levelFrom s l) (s .pairs) (t .tree) =
-        λ l h. good-yes (levelFrom s l) (s .pairs) (t .tree) pairs-few (every-yes (λ (i : ℕ). goodOk (levelFrom s i) (s .pairs) (t .tree)) (levelsIn t) l (rest .1 .0) h) in
+        let good : (l : ℕ) → l < levelsIn t → Good (levelFrom s l) (s .pairs) (t .room) =
+        λ l h. good-yes (levelFrom s l) (s .pairs) (t .room) pairs-few (every-yes (λ (i : ℕ). goodOk (levelFrom s i) (s .pairs) (t .room)) (levelsIn t) l (rest .1 .0) h) in
         record {
           marked = eqb-true (getD (t .head) markAt 0) mark (at .0);
           levels-least = leb-true (initialLevels s) (levelsIn t) (at .1 .0);
@@ -157,7 +157,7 @@ module _ (s : BuddySettings) (t : Tables) where
                     (
                       memories-all (S .memories-differ),
                       (
-                        every-all (λ (i : ℕ). goodOk (levelFrom s i) (s .pairs) (t .tree)) (levelsIn t) (λ l h. good-all (levelFrom s l) (s .pairs) (t .tree) pairs-few (S .good l h)),
+                        every-all (λ (i : ℕ). goodOk (levelFrom s i) (s .pairs) (t .room)) (levelsIn t) (λ l h. good-all (levelFrom s l) (s .pairs) (t .room) pairs-few (S .good l h)),
                         (trees-all s t fit (S .levels-most) (small (S .good)) (omega (arith, S .loans-parted .limit, fit .store .loans-most)) (S .standing), (units-all (S .loans-units), tt)),
                       ),
                     ),

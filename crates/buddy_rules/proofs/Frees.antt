@@ -311,8 +311,8 @@ module _ (s : BuddySettings) (t : Tables) (fit : BuddyIn s) (sound : Sound s t) 
     (λ m.
         let z = there r m in
         let G = sound .good (z .level) (z .low) in
-        let k = tagged-used (levelFrom s (z .level)) (t .tree) (z .pair) (omega (arith, z .ready)) in
-        (z .level, z .low, z .pair, G .all (z .pair) k (omega (arith, z .ready, ap (λ (e : Ent). e .tag) (pair-used (levelFrom s (z .level)) (t .tree) (z .pair) k))), z .is)),
+        let k = tagged-used (levelFrom s (z .level)) (t .room) (z .pair) (omega (arith, z .ready)) in
+        (z .level, z .low, z .pair, G .all (z .pair) k (omega (arith, z .ready, ap (λ (e : Ent). e .tag) (pair-used (levelFrom s (z .level)) (t .room) (z .pair) k))), z .is)),
     (λ w.
         let G = sound .good (w .0) (w .1) in
         let k = G .below (w .2) (w .3) in
@@ -320,7 +320,7 @@ module _ (s : BuddySettings) (t : Tables) (fit : BuddyIn s) (sound : Sound s t) 
           level = w .0;
           low = w .1;
           pair = w .2;
-          ready = omega (arith, G .ready (w .2) (w .3), ap (λ (e : Ent). e .tag) (pair-used (levelFrom s (w .0)) (t .tree) (w .2) k));
+          ready = omega (arith, G .ready (w .2) (w .3), ap (λ (e : Ent). e .tag) (pair-used (levelFrom s (w .0)) (t .room) (w .2) k));
           is = w .4;
         })),
   )

@@ -48,17 +48,17 @@ module _ (s : BuddySettings) (t : Tables) where
   unfolding ringsOf
   sound-rings S l h = by (lt-or-le l (levelsIn t))
     where
-      by : (z : (l < levelsIn t) ⊎ (levelsIn t ≤ l)) → Ringed (levelFrom s l) (s .pairs) (t .tree) (⊎-elim (λ (h : l < levelsIn t). S .good l h .ring) (λ (h : levelsIn t ≤ l). []) z)
-      by (inl k) = good-ringed (levelFrom s l) (s .pairs) (t .tree) (S .good l k)
+      by : (z : (l < levelsIn t) ⊎ (levelsIn t ≤ l)) → Ringed (levelFrom s l) (s .pairs) (t .room) (⊎-elim (λ (h : l < levelsIn t). S .good l h .ring) (λ (h : levelsIn t ≤ l). []) z)
+      by (inl k) = good-ringed (levelFrom s l) (s .pairs) (t .room) (S .good l k)
       by (inr k) = absurd (omega arith)
 
   module _ (small : s .pairs ≤ 2 ^ 32) where
     pub rings-one : (W Q : ℕ → List ℕ) → Rings s t W → Rings s t Q → (l : ℕ) → l < levelsIn t → W l ≡ Q l
-    rings-one W Q r q l h = ringed-one (levelFrom s l) (s .pairs) (t .tree) (W l) (Q l) small (r l h) (q l h)
+    rings-one W Q r q l h = ringed-one (levelFrom s l) (s .pairs) (t .room) (W l) (Q l) small (r l h) (q l h)
 
     -- they are those that Sound has, whichever way it was shown
     pub rings-good : (S : Sound s t) (W : ℕ → List ℕ) → Rings s t W → (l : ℕ) (h : l < levelsIn t) → S .good l h .ring ≡ W l
-    rings-good S W r l h = ringed-one (levelFrom s l) (s .pairs) (t .tree) (S .good l h .ring) (W l) small (good-ringed (levelFrom s l) (s .pairs) (t .tree) (S .good l h)) (r l h)
+    rings-good S W r l h = ringed-one (levelFrom s l) (s .pairs) (t .room) (S .good l h .ring) (W l) small (good-ringed (levelFrom s l) (s .pairs) (t .room) (S .good l h)) (r l h)
 
 -- ---- how to read what becomes of them
 
@@ -261,7 +261,7 @@ module _ (pairs : ℕ) (few : pairs ≤ 2 ^ 32) where
 module _ (s : BuddySettings) (small : s .pairs ≤ 2 ^ 32) (t : Tables) (fit : BuddyIn s) (len : Lengths s t) (S : Sound s t) (W : ℕ → List ℕ) (rings : Rings s t W) where
   -- the climb of a return
   pub climbed-rings : (k : ℕ) → liveIn t k ≡ true → (l : ℕ) → l < levelsIn t
-      → Ringed (levelFrom s l) (s .pairs) (climbed (s .pairs) (levelsIn t - loanIn s t k .lev) (loanIn s t k .lev) (loanIn s t k .node) (t .tree) .tree)
+      → Ringed (levelFrom s l) (s .pairs) (climbed (s .pairs) (levelsIn t - loanIn s t k .lev) (loanIn s t k .lev) (loanIn s t k .node) (t .room) .room)
       (ringsBack (pairsIn s t) (levelsIn t - loanIn s t k .lev) (loanIn s t k .lev) (loanIn s t k .node) W l)
   climbed-rings k live l h =
       let lev = loanIn s t k .lev in
@@ -270,45 +270,45 @@ module _ (s : BuddySettings) (small : s .pairs ≤ 2 ^ 32) (t : Tables) (fit : B
       let A = sound-store s small t fit len S in
       let P = loan-path s small t fit len S k live in
       let r = climb-rings (s .pairs) small f lev n (pairsIn s t) (storeOf s small t .levels) W (levelsIn t) (omega (arith, P .0))
-      (λ i p a b. sym (part-pair (s .pairs) i (t .tree) p (S .good i b .parted .limit)))
-      (λ i a b. A .good i b) (P .1) (λ j b. part-ringed (s .pairs) j (t .tree) (W j) (rings j b)) l h in
+      (λ i p a b. sym (part-pair (s .pairs) i (t .room) p (S .good i b .parted .limit)))
+      (λ i a b. A .good i b) (P .1) (λ j b. part-ringed (s .pairs) j (t .room) (W j) (rings j b)) l h in
       ringed-part (s .pairs) l _ _ (subst (λ (v : List ℕ). Ringed 0 (s .pairs) v (ringsBack (pairsIn s t) f lev n W l)) (sym (climbed-is s small t fit len S k live .1 l (omega (arith, S .levels-most)))) r)
 
   -- a ready side of level i split down, d levels, to level lev
-  pub lent-rings : (lev d k : ℕ) → up d lev < levelsIn t → (ringHead (levelFrom s (up d lev)) (t .tree) ≡ nowhere → ⊥)
-      → ((i : ℕ) → lev ≤ i → i < up d lev → pairTaken (levelFrom s i) (t .tree) .place < s .pairs)
-      → let e = entOf (levelFrom s (up d lev)) (t .tree) (ringHead (levelFrom s (up d lev)) (t .tree)) in
-      let r = splitDown (s .pairs) lev (e .chunk) (baseOf (s .minimal) e (up d lev)) k (readyNode (s .pairs) (up d lev) (t .tree)) d (acquired (levelFrom s (up d lev)) 0 (t .tree)) in
-      (l : ℕ) → l < levelsIn t → Ringed (levelFrom s l) (s .pairs) (r .tree) (ringsLent (λ (j : ℕ). pairTaken (levelFrom s j) (t .tree) .place) lev (up d lev) W l)
+  pub lent-rings : (lev d k : ℕ) → up d lev < levelsIn t → (ringHead (levelFrom s (up d lev)) (t .room) ≡ nowhere → ⊥)
+      → ((i : ℕ) → lev ≤ i → i < up d lev → pairTaken (levelFrom s i) (t .room) .place < s .pairs)
+      → let e = entOf (levelFrom s (up d lev)) (t .room) (ringHead (levelFrom s (up d lev)) (t .room)) in
+      let r = splitDown (s .pairs) lev (e .chunk) (baseOf (s .minimal) e (up d lev)) k (readyNode (s .pairs) (up d lev) (t .room)) d (acquired (levelFrom s (up d lev)) 0 (t .room)) in
+      (l : ℕ) → l < levelsIn t → Ringed (levelFrom s l) (s .pairs) (r .room) (ringsLent (λ (j : ℕ). pairTaken (levelFrom s j) (t .room) .place) lev (up d lev) W l)
   unfolding ringsLent
   lent-rings lev d k below some room l h =
       let A = sound-store s small t fit len S in
       let U = storeOf s small t .levels in
-      let newPlace : (i : ℕ) → i < levelsIn t → pairTaken (levelFrom s i) (t .tree) .place ≡ pairTaken 0 (U i) .place = λ i b. ap (λ z. z .place) (part-taken (s .pairs) i (t .tree) (S .good i b)) in
-      let some-in : ringHead 0 (U (up d lev)) ≡ nowhere → ⊥ = λ e. some (part-head (s .pairs) (up d lev) (t .tree) ∙ e) in
+      let newPlace : (i : ℕ) → i < levelsIn t → pairTaken (levelFrom s i) (t .room) .place ≡ pairTaken 0 (U i) .place = λ i b. ap (λ z. z .place) (part-taken (s .pairs) i (t .room) (S .good i b)) in
+      let some-in : ringHead 0 (U (up d lev)) ≡ nowhere → ⊥ = λ e. some (part-head (s .pairs) (up d lev) (t .room) ∙ e) in
       let room-in : (i : ℕ) → lev ≤ i → i < up d lev → pairTaken 0 (U i) .place < s .pairs = λ i a b. let e = newPlace i (omega arith) in rw (← e) (room i a b) in
-      let r = lend-rings (s .pairs) small (s .minimal) lev d k U W (levelsIn t) below (λ i b. A .good i b) some-in room-in (λ j b. part-ringed (s .pairs) j (t .tree) (W j) (rings j b)) l h in
+      let r = lend-rings (s .pairs) small (s .minimal) lev d k U W (levelsIn t) below (λ i b. A .good i b) some-in room-in (λ j b. part-ringed (s .pairs) j (t .room) (W j) (rings j b)) l h in
       let i = up d lev in
       ringed-part (s .pairs) l _ _
-      (subst (λ (v : List ℕ). Ringed 0 (s .pairs) v (cond (eqb l i) (tailOf (W l)) (cond (leb lev l && ltb l i) (pairTaken (levelFrom s l) (t .tree) .place ∷ []) (W l))))
+      (subst (λ (v : List ℕ). Ringed 0 (s .pairs) v (cond (eqb l i) (tailOf (W l)) (cond (leb lev l && ltb l i) (pairTaken (levelFrom s l) (t .room) .place ∷ []) (W l))))
       (sym (lent-is s small t fit len S lev d k below some-in room-in .1 l (omega (arith, S .levels-most))))
       (subst (λ (q : ℕ). Ringed 0 (s .pairs) (lend (s .minimal) (levelOps (s .pairs) small) U lev d k l) (cond (eqb l i) (tailOf (W l)) (cond (leb lev l && ltb l i) (q ∷ []) (W l)))) (sym (newPlace l h)) r))
 
   -- a new chunk's left end lent: x is the tree with the chunk entered
-  pub served-rings : (x : List ℕ) → length x ≡ treeWords s → ((i : ℕ) → i < levelsMost → part (s .pairs) i x ≡ part (s .pairs) i (t .tree)) → (lev d c k : ℕ) → levelsIn t ≡ up (suc d) lev
-      → ((i : ℕ) → lev ≤ i → i < levelsIn t → pairTaken (levelFrom s i) (t .tree) .place < s .pairs)
-      → (l : ℕ) → l < levelsIn t → Ringed (levelFrom s l) (s .pairs) (splitChunk (s .pairs) lev c k d x .tree) (ringsLent (λ (j : ℕ). pairTaken (levelFrom s j) (t .tree) .place) lev (levelsIn t) W l)
+  pub served-rings : (x : List ℕ) → length x ≡ treeWords s → ((i : ℕ) → i < levelsMost → part (s .pairs) i x ≡ part (s .pairs) i (t .room)) → (lev d c k : ℕ) → levelsIn t ≡ up (suc d) lev
+      → ((i : ℕ) → lev ≤ i → i < levelsIn t → pairTaken (levelFrom s i) (t .room) .place < s .pairs)
+      → (l : ℕ) → l < levelsIn t → Ringed (levelFrom s l) (s .pairs) (splitChunk (s .pairs) lev c k d x .room) (ringsLent (λ (j : ℕ). pairTaken (levelFrom s j) (t .room) .place) lev (levelsIn t) W l)
   unfolding ringsLent
   served-rings x long same lev d c k top room l h =
       let A = sound-store s small t fit len S in
       let U = storeOf s small t .levels in
       let i = levelsIn t in
-      let newPlace : (j : ℕ) → j < levelsIn t → pairTaken (levelFrom s j) (t .tree) .place ≡ pairTaken 0 (U j) .place = λ j b. ap (λ z. z .place) (part-taken (s .pairs) j (t .tree) (S .good j b)) in
+      let newPlace : (j : ℕ) → j < levelsIn t → pairTaken (levelFrom s j) (t .room) .place ≡ pairTaken 0 (U j) .place = λ j b. ap (λ z. z .place) (part-taken (s .pairs) j (t .room) (S .good j b)) in
       let room-in : (j : ℕ) → lev ≤ j → j < levelsIn t → pairTaken 0 (U j) .place < s .pairs = λ j a b. let e = newPlace j b in rw (← e) (room j a b) in
-      let r = grow-all (s .pairs) small (s .minimal) lev c 0 k nowhere (suc d) U W (levelsIn t) top (λ j b. A .good j b) room-in (λ j b. part-ringed (s .pairs) j (t .tree) (W j) (rings j b)) l h in
+      let r = grow-all (s .pairs) small (s .minimal) lev c 0 k nowhere (suc d) U W (levelsIn t) top (λ j b. A .good j b) room-in (λ j b. part-ringed (s .pairs) j (t .room) (W j) (rings j b)) l h in
       let cut = grown-in s small x U fit long same lev d c k (omega (arith, top, S .levels-most)) (λ j a b. A .good j (omega (arith, top)) .1) (λ j a b. room-in j a (omega (arith, top))) in
       ringed-part (s .pairs) l _ _
-      (subst (λ (v : List ℕ). Ringed 0 (s .pairs) v (cond (eqb l i) (tailOf (W l)) (cond (leb lev l && ltb l i) (pairTaken (levelFrom s l) (t .tree) .place ∷ []) (W l))))
+      (subst (λ (v : List ℕ). Ringed 0 (s .pairs) v (cond (eqb l i) (tailOf (W l)) (cond (leb lev l && ltb l i) (pairTaken (levelFrom s l) (t .room) .place ∷ []) (W l))))
       (sym (cut .1 l (omega (arith, S .levels-most))))
       (subst (λ (q : ℕ). Ringed 0 (s .pairs) (grow (s .minimal) (levelOps (s .pairs) small) U lev c 0 k nowhere (suc d) .levels l) (cond (eqb l i) (tailOf (W l)) (cond (leb lev l && ltb l i) (q ∷ []) (W l)))) (sym (newPlace l h)) r))
 

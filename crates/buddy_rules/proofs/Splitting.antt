@@ -42,11 +42,11 @@ module _ (s : BuddySettings) (small : s .pairs ≤ 2 ^ 32) (lev c o k : ℕ) whe
   -- what the split leaves: the levels below node n are the chain's, n has its word, and nothing else changes
   record Chain (W : ℕ → List ℕ) (n d : ℕ) (t : List ℕ) (r : Cut) : Type 0 where
     pub node : r .node ≡ loanNode (s .minimal) (levelOps (s .pairs) small) W lev n d
-    pub below : (i : ℕ) → i < up d lev → part (s .pairs) i (r .tree) ≡ chain W n d .levels i
-    pub here : part (s .pairs) (up d lev) (r .tree) ≡ part (s .pairs) (up d lev) (worded (s .pairs) (up d lev) n (chain W n d .top) t)
-    pub above : (i : ℕ) → up d lev < i → part (s .pairs) i (r .tree) ≡ part (s .pairs) i t
-    pub past : (i : ℕ) → chunksFrom s ≤ i → getD (r .tree) i 0 ≡ getD t i 0
-    pub long : length (r .tree) ≡ length t
+    pub below : (i : ℕ) → i < up d lev → part (s .pairs) i (r .room) ≡ chain W n d .levels i
+    pub here : part (s .pairs) (up d lev) (r .room) ≡ part (s .pairs) (up d lev) (worded (s .pairs) (up d lev) n (chain W n d .top) t)
+    pub above : (i : ℕ) → up d lev < i → part (s .pairs) i (r .room) ≡ part (s .pairs) i t
+    pub past : (i : ℕ) → chunksFrom s ≤ i → getD (r .room) i 0 ≡ getD t i 0
+    pub long : length (r .room) ≡ length t
 
   chain-above : (W : ℕ → List ℕ) (n d j : ℕ) → up d lev ≤ j → chain W n d .levels j ≡ W j
   chain-above W n d j h = grow-above (s .minimal) (levelOps (s .pairs) small) (λ (i : ℕ). record { chunk = 0; at = 0; lev = 0; node = 0 }) W lev c o k n d j h
@@ -165,89 +165,89 @@ module _ (s : BuddySettings) (small : s .pairs ≤ 2 ^ 32) where
       → ((i : ℕ) → lev ≤ i → i ≤ up d lev → Good 0 (s .pairs) (W i)) → ((i : ℕ) → lev ≤ i → i ≤ up d lev → levelOps (s .pairs) small .Room (W i))
       → let r = splitDown (s .pairs) lev c 0 k nowhere (suc d) t in
       (r .node ≡ nodeOf (levelOps (s .pairs) small .newPlace (W lev)) L)
-      × ((i : ℕ) → i < levelsMost → part (s .pairs) i (r .tree) ≡ grow (s .minimal) (levelOps (s .pairs) small) W lev c 0 k nowhere (suc d) .levels i)
-      × ((i : ℕ) → chunksFrom s ≤ i → getD (r .tree) i 0 ≡ getD t i 0) × (length (r .tree) ≡ length t)
+      × ((i : ℕ) → i < levelsMost → part (s .pairs) i (r .room) ≡ grow (s .minimal) (levelOps (s .pairs) small) W lev c 0 k nowhere (suc d) .levels i)
+      × ((i : ℕ) → chunksFrom s ≤ i → getD (r .room) i 0 ≡ getD t i 0) × (length (r .room) ≡ length t)
   grown-as t W fit len a lev d c k h g room = (X .node, levels, X .past, X .long)
     where
       X : Chain s small lev c 0 k W nowhere (suc d) t (splitDown (s .pairs) lev c 0 k nowhere (suc d) t)
       X = split-is s small lev c 0 k (suc d) nowhere t W (omega arith) (inr refl) (tree-short t fit len) (λ i j. a i (omega arith)) (λ i j b. g i j (omega arith)) (λ i j b. room i j (omega arith))
 
-      same : (i : ℕ) → i < levelsMost → up (suc d) lev ≤ i → part (s .pairs) i (splitDown (s .pairs) lev c 0 k nowhere (suc d) t .tree) ≡ part (s .pairs) i t
+      same : (i : ℕ) → i < levelsMost → up (suc d) lev ≤ i → part (s .pairs) i (splitDown (s .pairs) lev c 0 k nowhere (suc d) t .room) ≡ part (s .pairs) i t
       same i l j = ⊎-elim
           (λ e. rw e (X .here ∙ ap (part (s .pairs) (up (suc d) lev)) (worded-top s (up (suc d) lev) nowhere (chain s small lev c 0 k W nowhere (suc d) .top) t refl (tree-short t fit len))))
           (λ e. X .above i (omega arith))
           (same? i (up (suc d) lev))
 
-      levels : (i : ℕ) → i < levelsMost → part (s .pairs) i (splitDown (s .pairs) lev c 0 k nowhere (suc d) t .tree) ≡ chain s small lev c 0 k W nowhere (suc d) .levels i
+      levels : (i : ℕ) → i < levelsMost → part (s .pairs) i (splitDown (s .pairs) lev c 0 k nowhere (suc d) t .room) ≡ chain s small lev c 0 k W nowhere (suc d) .levels i
       levels i l = ⊎-elim (X .below i) (λ j. same i l j ∙ a i l ∙ sym (chain-above s small lev c 0 k W nowhere (suc d) i j)) (lt-or-le i (up (suc d) lev))
 
   pub grown-in : (t : List ℕ) (W : ℕ → List ℕ) → BuddyIn s → length t ≡ treeWords s → ((i : ℕ) → i < levelsMost → part (s .pairs) i t ≡ W i) → (lev d c k : ℕ) → up d lev < levelsMost
       → ((i : ℕ) → lev ≤ i → i ≤ up d lev → Good 0 (s .pairs) (W i)) → ((i : ℕ) → lev ≤ i → i ≤ up d lev → levelOps (s .pairs) small .Room (W i))
       → let r = splitChunk (s .pairs) lev c k d t in
       (r .node ≡ nodeOf (levelOps (s .pairs) small .newPlace (W lev)) L)
-      × ((i : ℕ) → i < levelsMost → part (s .pairs) i (r .tree) ≡ grow (s .minimal) (levelOps (s .pairs) small) W lev c 0 k nowhere (suc d) .levels i)
-      × ((i : ℕ) → chunksFrom s ≤ i → getD (r .tree) i 0 ≡ getD t i 0) × (length (r .tree) ≡ length t)
+      × ((i : ℕ) → i < levelsMost → part (s .pairs) i (r .room) ≡ grow (s .minimal) (levelOps (s .pairs) small) W lev c 0 k nowhere (suc d) .levels i)
+      × ((i : ℕ) → chunksFrom s ≤ i → getD (r .room) i 0 ≡ getD t i 0) × (length (r .room) ≡ length t)
   grown-in t W fit len a lev d c k h g room =
       subst (λ (r : Cut).
       (r .node ≡ nodeOf (levelOps (s .pairs) small .newPlace (W lev)) L)
-      × ((i : ℕ) → i < levelsMost → part (s .pairs) i (r .tree) ≡ grow (s .minimal) (levelOps (s .pairs) small) W lev c 0 k nowhere (suc d) .levels i)
-      × ((i : ℕ) → chunksFrom s ≤ i → getD (r .tree) i 0 ≡ getD t i 0) × (length (r .tree) ≡ length t))
+      × ((i : ℕ) → i < levelsMost → part (s .pairs) i (r .room) ≡ grow (s .minimal) (levelOps (s .pairs) small) W lev c 0 k nowhere (suc d) .levels i)
+      × ((i : ℕ) → chunksFrom s ≤ i → getD (r .room) i 0 ≡ getD t i 0) × (length (r .room) ≡ length t))
       (first-split t (tree-short t fit len) lev d c k) (grown-as t W fit len a lev d c k h g room)
 
   -- ---- the head's ready side at level i
 
-  module _ (t : Tables) (S : Sound s t) (i : ℕ) (h : i < levelsIn t) (some : levelOps (s .pairs) small .Some (part (s .pairs) i (t .tree))) where
+  module _ (t : Tables) (S : Sound s t) (i : ℕ) (h : i < levelsIn t) (some : levelOps (s .pairs) small .Some (part (s .pairs) i (t .room))) where
     abbrev headEntry : Ent
-    headEntry = entOf (levelFrom s i) (t .tree) (ringHead (levelFrom s i) (t .tree))
+    headEntry = entOf (levelFrom s i) (t .room) (ringHead (levelFrom s i) (t .room))
 
-    head-some : ringHead (levelFrom s i) (t .tree) ≡ nowhere → ⊥
-    head-some e = some (sym (part-head (s .pairs) i (t .tree)) ∙ e)
+    head-some : ringHead (levelFrom s i) (t .room) ≡ nowhere → ⊥
+    head-some e = some (sym (part-head (s .pairs) i (t .room)) ∙ e)
 
-    pub head-used : ringHead (levelFrom s i) (t .tree) < getD (t .tree) (levelFrom s i + usedAt) 0
-    head-used = S .good i h .below _ (head-mem (levelFrom s i) (s .pairs) (t .tree) (S .good i h) head-some)
+    pub head-used : ringHead (levelFrom s i) (t .room) < getD (t .room) (levelFrom s i + usedAt) 0
+    head-used = S .good i h .below _ (head-mem (levelFrom s i) (s .pairs) (t .room) (S .good i h) head-some)
 
-    pub head-low : ringHead (levelFrom s i) (t .tree) < s .pairs
-    head-low = used-below (levelFrom s i) (s .pairs) (t .tree) (S .good i h) _ head-used
+    pub head-low : ringHead (levelFrom s i) (t .room) < s .pairs
+    head-low = used-below (levelFrom s i) (s .pairs) (t .room) (S .good i h) _ head-used
 
     -- its pair says the same in the table and in its level
-    pub head-is : entOf (levelFrom s i) (t .tree) (ringHead (levelFrom s i) (t .tree)) ≡ headEnt (s .minimal) (levelOps (s .pairs) small) (storeOf s small t) i
+    pub head-is : entOf (levelFrom s i) (t .room) (ringHead (levelFrom s i) (t .room)) ≡ headEnt (s .minimal) (levelOps (s .pairs) small) (storeOf s small t) i
     head-is =
-        sym (pair-used (levelFrom s i) (t .tree) (ringHead (levelFrom s i) (t .tree)) head-used)
-        ∙ part-pair (s .pairs) i (t .tree) (ringHead (levelFrom s i) (t .tree)) (S .good i h .parted .limit)
-        ∙ ap (pairIn 0 (part (s .pairs) i (t .tree))) (part-head (s .pairs) i (t .tree))
+        sym (pair-used (levelFrom s i) (t .room) (ringHead (levelFrom s i) (t .room)) head-used)
+        ∙ part-pair (s .pairs) i (t .room) (ringHead (levelFrom s i) (t .room)) (S .good i h .parted .limit)
+        ∙ ap (pairIn 0 (part (s .pairs) i (t .room))) (part-head (s .pairs) i (t .room))
 
-    pub ready-is : readyNode (s .pairs) i (t .tree) ≡ headNode (s .minimal) (levelOps (s .pairs) small) (storeOf s small t .levels) i
-    ready-is = ap₂ nodeOf (part-head (s .pairs) i (t .tree)) (ap (λ (e : Ent). sideOf (e .tag)) head-is)
+    pub ready-is : readyNode (s .pairs) i (t .room) ≡ headNode (s .minimal) (levelOps (s .pairs) small) (storeOf s small t .levels) i
+    ready-is = ap₂ nodeOf (part-head (s .pairs) i (t .room)) (ap (λ (e : Ent). sideOf (e .tag)) head-is)
 
-    pub acquire-in : Within (s .pairs) i (t .tree) (acquired (levelFrom s i) 0 (t .tree)) (acquired 0 0 (part (s .pairs) i (t .tree)))
-    acquire-in = part-acquired (s .pairs) i (t .tree) (S .good i h) 0 head-some
+    pub acquire-in : Within (s .pairs) i (t .room) (acquired (levelFrom s i) 0 (t .room)) (acquired 0 0 (part (s .pairs) i (t .room)))
+    acquire-in = part-acquired (s .pairs) i (t .room) (S .good i h) 0 head-some
 
     -- the side taken gets its word
-    taken-in : (w : ℕ) → part (s .pairs) i (worded (s .pairs) i (readyNode (s .pairs) i (t .tree)) w (acquired (levelFrom s i) 0 (t .tree))) ≡ acquired 0 w (part (s .pairs) i (t .tree))
+    taken-in : (w : ℕ) → part (s .pairs) i (worded (s .pairs) i (readyNode (s .pairs) i (t .room)) w (acquired (levelFrom s i) 0 (t .room))) ≡ acquired 0 w (part (s .pairs) i (t .room))
     taken-in w =
-        let p = ringHead (levelFrom s i) (t .tree) in
-        let v : List ℕ = part (s .pairs) i (t .tree) in
+        let p = ringHead (levelFrom s i) (t .room) in
+        let v : List ℕ = part (s .pairs) i (t .room) in
         let d = sideOf (headEntry .tag) in
-        let n = readyNode (s .pairs) i (t .tree) in
+        let n = readyNode (s .pairs) i (t .room) in
         let x : n / 2 ≡ p = node-pair p d in
         let y : sideIn n ≡ d = node-side p d in
-        let z : headEntry ≡ entOf 0 v (ringHead 0 v) = part-ent (s .pairs) i (t .tree) p head-low ∙ ap (entOf 0 v) (part-head (s .pairs) i (t .tree)) in
-        let cell : pairCell 0 (sideAt (sideIn n)) (n / 2) ≡ pairCell 0 (sideAt (sideOf (entOf 0 v (ringHead 0 v) .tag))) (ringHead 0 v) = ap₂ (λ (b : Side) (q : ℕ). pairCell 0 (sideAt b) q) (y ∙ ap (λ (e : Ent). sideOf (e .tag)) z) (x ∙ part-head (s .pairs) i (t .tree)) in
-        worded-in s i n w (acquired (levelFrom s i) 0 (t .tree)) (rw x head-low) .here
+        let z : headEntry ≡ entOf 0 v (ringHead 0 v) = part-ent (s .pairs) i (t .room) p head-low ∙ ap (entOf 0 v) (part-head (s .pairs) i (t .room)) in
+        let cell : pairCell 0 (sideAt (sideIn n)) (n / 2) ≡ pairCell 0 (sideAt (sideOf (entOf 0 v (ringHead 0 v) .tag))) (ringHead 0 v) = ap₂ (λ (b : Side) (q : ℕ). pairCell 0 (sideAt b) q) (y ∙ ap (λ (e : Ent). sideOf (e .tag)) z) (x ∙ part-head (s .pairs) i (t .room)) in
+        worded-in s i n w (acquired (levelFrom s i) 0 (t .room)) (rw x head-low) .here
         ∙ ap₂ (λ (a : List ℕ) (q : ℕ). set a q w) (acquire-in .here) cell
         ∙ acquired-again 0 w v
 
   -- ---- a loan out of it
 
-  pub lent-is : (t : Tables) → BuddyIn s → Lengths s t → Sound s t → (lev d k : ℕ) → up d lev < levelsIn t → levelOps (s .pairs) small .Some (part (s .pairs) (up d lev) (t .tree))
-      → ((i : ℕ) → lev ≤ i → i < up d lev → levelOps (s .pairs) small .Room (part (s .pairs) i (t .tree)))
+  pub lent-is : (t : Tables) → BuddyIn s → Lengths s t → Sound s t → (lev d k : ℕ) → up d lev < levelsIn t → levelOps (s .pairs) small .Some (part (s .pairs) (up d lev) (t .room))
+      → ((i : ℕ) → lev ≤ i → i < up d lev → levelOps (s .pairs) small .Room (part (s .pairs) i (t .room)))
       → let O = levelOps (s .pairs) small in
       let W = storeOf s small t .levels in
-      let e = entOf (levelFrom s (up d lev)) (t .tree) (ringHead (levelFrom s (up d lev)) (t .tree)) in
-      let r = splitDown (s .pairs) lev (e .chunk) (baseOf (s .minimal) e (up d lev)) k (readyNode (s .pairs) (up d lev) (t .tree)) d (acquired (levelFrom s (up d lev)) 0 (t .tree)) in
+      let e = entOf (levelFrom s (up d lev)) (t .room) (ringHead (levelFrom s (up d lev)) (t .room)) in
+      let r = splitDown (s .pairs) lev (e .chunk) (baseOf (s .minimal) e (up d lev)) k (readyNode (s .pairs) (up d lev) (t .room)) d (acquired (levelFrom s (up d lev)) 0 (t .room)) in
       (r .node ≡ loanNode (s .minimal) O W lev (headNode (s .minimal) O W (up d lev)) d)
-      × ((i : ℕ) → i < levelsMost → part (s .pairs) i (r .tree) ≡ lend (s .minimal) O W lev d k i)
-      × ((i : ℕ) → chunksFrom s ≤ i → getD (r .tree) i 0 ≡ getD (t .tree) i 0) × (length (r .tree) ≡ length (t .tree))
+      × ((i : ℕ) → i < levelsMost → part (s .pairs) i (r .room) ≡ lend (s .minimal) O W lev d k i)
+      × ((i : ℕ) → chunksFrom s ≤ i → getD (r .room) i 0 ≡ getD (t .room) i 0) × (length (r .room) ≡ length (t .room))
   unfolding lend
   lent-is t fit len S lev d k h some room = (X .node ∙ ap (λ (z : ℕ). loanNode (s .minimal) (levelOps (s .pairs) small) (storeOf s small t .levels) lev z d) (ready-is t S (up d lev) h some), levels, (λ i j. X .past i j ∙ D .past i j), X .long ∙ D .long)
     where
@@ -255,10 +255,10 @@ module _ (s : BuddySettings) (small : s .pairs ≤ 2 ^ 32) where
       m = up d lev
 
       e : Ent
-      e = entOf (levelFrom s (up d lev)) (t .tree) (ringHead (levelFrom s (up d lev)) (t .tree))
+      e = entOf (levelFrom s (up d lev)) (t .room) (ringHead (levelFrom s (up d lev)) (t .room))
 
       n : ℕ
-      n = readyNode (s .pairs) (up d lev) (t .tree)
+      n = readyNode (s .pairs) (up d lev) (t .room)
 
       W : ℕ → List ℕ
       W = storeOf s small t .levels
@@ -267,26 +267,26 @@ module _ (s : BuddySettings) (small : s .pairs ≤ 2 ^ 32) where
       low = omega (arith, S .levels-most)
 
       t₁ : List ℕ
-      t₁ = acquired (levelFrom s (up d lev)) 0 (t .tree)
+      t₁ = acquired (levelFrom s (up d lev)) 0 (t .room)
 
       r : Cut
       r = splitDown (s .pairs) lev (e .chunk) (baseOf (s .minimal) e (up d lev)) k n d t₁
 
-      D : Left s (up d lev) (t .tree) t₁
-      D = within-left s (up d lev) (t .tree) t₁ _ low (acquire-in t S (up d lev) h some)
+      D : Left s (up d lev) (t .room) t₁
+      D = within-left s (up d lev) (t .room) t₁ _ low (acquire-in t S (up d lev) h some)
 
       fits : Fits s (up d lev) n
-      fits = inl (low, rw (node-pair (ringHead (levelFrom s (up d lev)) (t .tree)) (sideOf (e .tag))) (head-low t S (up d lev) h some))
+      fits = inl (low, rw (node-pair (ringHead (levelFrom s (up d lev)) (t .room)) (sideOf (e .tag))) (head-low t S (up d lev) h some))
 
       X : Chain s small lev (e .chunk) (baseOf (s .minimal) e (up d lev)) k W n d t₁ r
-      X = split-is s small lev (e .chunk) (baseOf (s .minimal) e (up d lev)) k d n t₁ W (omega arith) fits (rw (D .long) (tree-short (t .tree) fit (len .tree)))
-          (λ i j. D .others i (λ b. omega arith)) (λ i j b. part-good (s .pairs) i (t .tree) .0 (S .good i (omega arith))) room
+      X = split-is s small lev (e .chunk) (baseOf (s .minimal) e (up d lev)) k d n t₁ W (omega arith) fits (rw (D .long) (tree-short (t .room) fit (len .room)))
+          (λ i j. D .others i (λ b. omega arith)) (λ i j b. part-good (s .pairs) i (t .room) .0 (S .good i (omega arith))) room
 
       -- the chain that the abstract loan has
       g : Ent → ℕ → Grown (s .minimal) (levelOps (s .pairs) small)
       g a b = chain s small lev (a .chunk) (baseOf (s .minimal) a (up d lev)) k W b d
 
-      one : (i : ℕ) → i < levelsMost → part (s .pairs) i (r .tree) ≡ cond (eqb i (up d lev)) (acquired 0 (g e n .top) (g e n .levels (up d lev))) (g e n .levels i)
+      one : (i : ℕ) → i < levelsMost → part (s .pairs) i (r .room) ≡ cond (eqb i (up d lev)) (acquired 0 (g e n .top) (g e n .levels (up d lev))) (g e n .levels i)
       one i j = ⊎-elim
           (λ z. rw (eq-eqb i (up d lev) z, z)
           (X .here ∙ taken-in t S (up d lev) h some (g e n .top) ∙ ap (acquired 0 (g e n .top)) (sym (chain-above s small lev (e .chunk) (baseOf (s .minimal) e (up d lev)) k W n d (up d lev) (omega arith)))))
@@ -294,5 +294,5 @@ module _ (s : BuddySettings) (small : s .pairs ≤ 2 ^ 32) where
           (λ b. X .above i (omega arith) ∙ D .others i z ∙ sym (chain-above s small lev (e .chunk) (baseOf (s .minimal) e (up d lev)) k W n d i b)) (lt-or-le i (up d lev))))
           (same? i (up d lev))
 
-      levels : (i : ℕ) → i < levelsMost → part (s .pairs) i (r .tree) ≡ lend (s .minimal) (levelOps (s .pairs) small) W lev d k i
+      levels : (i : ℕ) → i < levelsMost → part (s .pairs) i (r .room) ≡ lend (s .minimal) (levelOps (s .pairs) small) W lev d k i
       levels i j = one i j ∙ ap₂ (λ (a : Ent) (b : ℕ). cond (eqb i (up d lev)) (acquired 0 (g a b .top) (g a b .levels (up d lev))) (g a b .levels i)) (head-is t S (up d lev) h some) (ready-is t S (up d lev) h some)

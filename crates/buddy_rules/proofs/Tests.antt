@@ -145,7 +145,7 @@ module _ (s : BuddySettings) (t : Tables) where
 
   -- how many pair places of level l were ever used: a pair in use is at one of them
   abbrev used : ℕ → ℕ
-  used l = getD (t .tree) (levelFrom s l + usedAt) 0
+  used l = getD (t .room) (levelFrom s l + usedAt) 0
 
   pair-place : (l p : ℕ) → 0 < pairsIn s t l p .tag → p < used l
   pair-place l p h = go (told (ltb p (used l)))

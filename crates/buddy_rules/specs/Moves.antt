@@ -15,12 +15,12 @@ use Rattle.buddy_rules.specs.Tables.{levelStart}
 -- whether the climb came out above the chunk's top, and the tree
 pub record Climbed : Type 0 where
   pub freed : Bool
-  pub tree : List ℕ
+  pub room : List ℕ
 
 -- the node that is lent, and the tree
 pub record Cut : Type 0 where
   pub node : ℕ
-  pub tree : List ℕ
+  pub room : List ℕ
 
 module _ (pairs : ℕ) where
   -- ---- a return
@@ -28,12 +28,12 @@ module _ (pairs : ℕ) where
   -- node n of level l was given back, with at most f levels to climb: "When its twin is ready, the pair goes, .. and the return
   -- goes on one level up", else the pair is ready at that side
   unfoldable pub climbed : ℕ → ℕ → ℕ → List ℕ → Climbed
-  climbed zero l n t = record { freed = true; tree = t }
+  climbed zero l n t = record { freed = true; room = t }
   climbed (suc f) l n t =
-      cond (eqb n nowhere) (record { freed = true; tree = t })
+      cond (eqb n nowhere) (record { freed = true; room = t })
       (cond (eqb (word (other (sideIn n)) (entOf (levelStart pairs l) t (pairOf n))) freeWord)
       (climbed f (suc l) (entOf (levelStart pairs l) t (pairOf n) .up) (dropped (levelStart pairs l) (pairOf n) t))
-      (record { freed = false; tree = backed (levelStart pairs l) (pairOf n) (sideIn n) t }))
+      (record { freed = false; room = backed (levelStart pairs l) (pairOf n) (sideIn n) t }))
 
   -- ---- a loan
 
@@ -51,7 +51,7 @@ module _ (pairs : ℕ) where
 
   -- node n, d levels above lev, at o of chunk c, is split down to level lev and lent as k: "always keeping the left"
   unfoldable pub splitDown : ℕ → ℕ → ℕ → ℕ → ℕ → ℕ → List ℕ → Cut
-  splitDown lev c o k n zero t = record { node = n; tree = worded lev n (loanWord k) t }
+  splitDown lev c o k n zero t = record { node = n; room = worded lev n (loanWord k) t }
   splitDown lev c o k n (suc d) t = splitDown lev c o k (leftNext (up d lev) t) d (splitInto (up d lev) c o n t)
 
   -- a new chunk c, whose pair is d levels above lev: that pair is entered, and its left node split down and lent as k. The word of

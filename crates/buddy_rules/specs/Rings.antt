@@ -14,7 +14,7 @@ use Rattle.buddy_rules.specs.Moves.{sideIn}
 
 -- W l are the pairs of level l's ring in its order
 abbrev pub Rings : BuddySettings → Tables → (ℕ → List ℕ) → Type 0
-Rings s t W = (l : ℕ) → l < levelsIn t → Ringed (levelFrom s l) (s .pairs) (t .tree) (W l)
+Rings s t W = (l : ℕ) → l < levelsIn t → Ringed (levelFrom s l) (s .pairs) (t .room) (W l)
 
 -- a block of level lev is lent out of level i: "the head becomes its next" there; each level from lev to below i, which had no ready
 -- pair, has a new one, at the place `newPlace` of it; the other rings stay

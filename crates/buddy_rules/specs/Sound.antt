@@ -47,7 +47,7 @@ pub record Sound (s : BuddySettings) (t : Tables) : Type 0 where
   -- "held memory numbers differ"
   pub memories-differ : (c d : ℕ) → heldIn t c ≡ true → heldIn t d ≡ true → memoryIn t c ≡ memoryIn t d → c ≡ d
   -- "rings .. agree": of each level, the ring has exactly the pairs with one free side, and used and vacant places part
-  pub good : (l : ℕ) → l < levelsIn t → Good (levelFrom s l) (s .pairs) (t .tree)
+  pub good : (l : ℕ) → l < levelsIn t → Good (levelFrom s l) (s .pairs) (t .room)
   pub standing : Trees s t
   -- "alignment to atom and node size": where a node lies follows from its tree, and a loan is of whole atom units
   pub loans-units : (k : ℕ) → liveIn t k ≡ true → (loanIn s t k .at % (s .store .atom + 1) ≡ 0) × (loanCell t sizeAt k % (s .store .atom + 1) ≡ 0)

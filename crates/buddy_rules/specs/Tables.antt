@@ -14,19 +14,10 @@ use Rattle.counter.specs.declared.settings.BuddySettings.{BuddySettings}
 use Rattle.slab.specs.Slab.{vacantAt, linkAt}
 use Rattle.slab.specs.declared.Slab.{Slab}
 use Rattle.store_rules.specs.Loans.{loanWords, chunkAt, offsetAt, sizeAt}
+pub use Rattle.store_rules.specs.Tables.{Tables, tables}
 use Rattle.book_rules.specs.Book.{indexWords, entryWords, vacantAfterAt, nextOf, slabOf, firstIn}
 use Rattle.buddy_rules.specs.Nodes.{Ent, Loan}
 use Rattle.buddy_rules.specs.Level.{levelWords, pairIn}
-
-pub record Tables : Type 0 where
-  pub head : List ℕ
-  pub loans : List ℕ
-  pub chunks : List ℕ
-  pub index : List ℕ
-  pub tree : List ℕ
-
-abbrev pub tables : List ℕ → List ℕ → List ℕ → List ℕ → List ℕ → Tables
-tables h l c i r = record { head = h; loans = l; chunks = c; index = i; tree = r }
 
 -- ---- head: a mark; serials given, levels now; loan places and chunk places ever used
 
@@ -119,7 +110,7 @@ lengthsRow s t =
     ∷ eqb (length (t .loans)) (loanWords * s .store .loans)
     ∷ eqb (length (t .chunks)) (chunkWords * s .store .chunks)
     ∷ eqb (length (t .index)) (indexWords (s .store .loans))
-    ∷ eqb (length (t .tree)) (treeWords s)
+    ∷ eqb (length (t .room)) (treeWords s)
     ∷ []
 
 unfoldable pub lengthsOk : BuddySettings → Tables → Bool
@@ -130,13 +121,13 @@ pub record Lengths (s : BuddySettings) (t : Tables) : Type 0 where
   pub loans : length (t .loans) ≡ loanWords * s .store .loans
   pub chunks : length (t .chunks) ≡ chunkWords * s .store .chunks
   pub index : length (t .index) ≡ indexWords (s .store .loans)
-  pub tree : length (t .tree) ≡ treeWords s
+  pub room : length (t .room) ≡ treeWords s
 
 -- ---- what they say
 
 -- the pairs of each level
 abbrev pub pairsIn : BuddySettings → Tables → ℕ → ℕ → Ent
-pairsIn s t l p = pairIn (levelFrom s l) (t .tree) p
+pairsIn s t l p = pairIn (levelFrom s l) (t .room) p
 
 -- the loan at a place, and whether there is one
 abbrev pub loanCell : Tables → ℕ → ℕ → ℕ
@@ -144,7 +135,7 @@ loanCell t f k = getD (t .loans) (cellOf f loanWords k) 0
 
 -- the node of the loan at a place
 abbrev pub nodeOfLoan : BuddySettings → Tables → ℕ → ℕ
-nodeOfLoan s t k = getD (t .tree) (nodesFrom s + k) 0
+nodeOfLoan s t k = getD (t .room) (nodesFrom s + k) 0
 
 abbrev pub loanIn : BuddySettings → Tables → ℕ → Loan
 loanIn s t k =
@@ -166,7 +157,7 @@ abbrev pub highIn : BuddySettings → Tables → ℕ → ℕ
 highIn s t c = cond (heldIn t c) (levelOf (chunkSizeIn t c) (s .minimal)) 0
 
 abbrev pub topIn : BuddySettings → Tables → ℕ → ℕ
-topIn s t c = cond (heldIn t c) (getD (t .tree) (cellOf (placeAt s topAt) placeWords c) 0) 0
+topIn s t c = cond (heldIn t c) (getD (t .room) (cellOf (placeAt s topAt) placeWords c) 0) 0
 
 -- the memory numbers of the chunks at the first n places
 unfoldable pub memories : Tables → ℕ → List ℕ
@@ -178,10 +169,10 @@ abbrev pub vacantChunk : Tables → ℕ → Bool
 vacantChunk t = vacantAt (t .chunks) chunkSizeAt chunkWords
 
 abbrev pub chunkAfter : BuddySettings → Tables → ℕ → ℕ
-chunkAfter s t = linkAt (t .tree) (placeAt s afterAt) placeWords
+chunkAfter s t = linkAt (t .room) (placeAt s afterAt) placeWords
 
 abbrev pub chunkSlab : BuddySettings → Tables → Slab
-chunkSlab s t = record { places = chunkPlacesIn t; vacant = getD (t .tree) (chunksFrom s) 0 }
+chunkSlab s t = record { places = chunkPlacesIn t; vacant = getD (t .room) (chunksFrom s) 0 }
 
 -- the book of loans
 abbrev pub vacantLoan : Tables → ℕ → Bool

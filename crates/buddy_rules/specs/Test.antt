@@ -80,7 +80,7 @@ module _ (s : BuddySettings) (t : Tables) where
   unfoldable pub treesOk : Bool
   treesOk =
       every chunkOk (chunkPlacesIn t)
-      && (every (λ (l : ℕ). every (pairOk l) (getD (t .tree) (levelFrom s l + usedAt) 0)) (levelsIn t) && every loanOk (placesIn t))
+      && (every (λ (l : ℕ). every (pairOk l) (getD (t .room) (levelFrom s l + usedAt) 0)) (levelsIn t) && every loanOk (placesIn t))
 
   -- no two held chunks have one memory number, by comparing each with each: the code sorts
   unfoldable pub memoriesOk : Bool
@@ -102,7 +102,7 @@ module _ (s : BuddySettings) (t : Tables) where
       ∷ chainsOk (vacantLoan t) (chainStart t) (chainNext t) (serialOf (t .loans)) (s .store .loans) (placesIn t) (givenIn t)
       ∷ partedOk (vacantChunk t) (chunkAfter s t) (chunkSlab s t) (s .store .chunks)
       ∷ memoriesOk
-      ∷ every (λ (l : ℕ). goodOk (levelFrom s l) (s .pairs) (t .tree)) (levelsIn t)
+      ∷ every (λ (l : ℕ). goodOk (levelFrom s l) (s .pairs) (t .room)) (levelsIn t)
       ∷ treesOk
       ∷ every unitsOk (placesIn t)
       ∷ []

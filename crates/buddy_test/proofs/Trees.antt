@@ -25,17 +25,17 @@ module _ (s : BuddySettings) (levels places held : ℕ) (loans chunks tree : Lis
   loansPart = every (loanOk (partSettings (s .minimal) (s .pairs) (s .store .chunks)) (partTables levels places held loans chunks tree)) places
 
 parts : (s : BuddySettings) (t : Tables)
-    → treesOk s t ≡ (chunksPart s (levelsIn t) (placesIn t) (chunkPlacesIn t) (t .loans) (t .chunks) (t .tree)
-    && (pairsPart s (levelsIn t) (placesIn t) (chunkPlacesIn t) (t .loans) (t .chunks) (t .tree) && loansPart s (levelsIn t) (placesIn t) (chunkPlacesIn t) (t .loans) (t .chunks) (t .tree)))
+    → treesOk s t ≡ (chunksPart s (levelsIn t) (placesIn t) (chunkPlacesIn t) (t .loans) (t .chunks) (t .room)
+    && (pairsPart s (levelsIn t) (placesIn t) (chunkPlacesIn t) (t .loans) (t .chunks) (t .room) && loansPart s (levelsIn t) (placesIn t) (chunkPlacesIn t) (t .loans) (t .chunks) (t .room)))
 unfolding treesOk
 parts s t =
-    let chunked : every (chunkOk s t) (chunkPlacesIn t) ≡ chunksPart s (levelsIn t) (placesIn t) (chunkPlacesIn t) (t .loans) (t .chunks) (t .tree) =
-    every-same (chunkOk s t) (chunkOk s (partTables (levelsIn t) (placesIn t) (chunkPlacesIn t) (t .loans) (t .chunks) (t .tree))) (chunkPlacesIn t) (λ c h. chunk-shows s t (chunkPlacesIn t) c h h) in
+    let chunked : every (chunkOk s t) (chunkPlacesIn t) ≡ chunksPart s (levelsIn t) (placesIn t) (chunkPlacesIn t) (t .loans) (t .chunks) (t .room) =
+    every-same (chunkOk s t) (chunkOk s (partTables (levelsIn t) (placesIn t) (chunkPlacesIn t) (t .loans) (t .chunks) (t .room))) (chunkPlacesIn t) (λ c h. chunk-shows s t (chunkPlacesIn t) c h h) in
     λ j. chunked j && (pairs-shown s t j && loans-shown s t j)
 
 -- so it reads no more than these
-pub trees-shown : (s : BuddySettings) (t : Tables) → treesOk s t ≡ treesOk s (partTables (levelsIn t) (placesIn t) (chunkPlacesIn t) (t .loans) (t .chunks) (t .tree))
-trees-shown s t = parts s t ∙ sym (parts s (partTables (levelsIn t) (placesIn t) (chunkPlacesIn t) (t .loans) (t .chunks) (t .tree)))
+pub trees-shown : (s : BuddySettings) (t : Tables) → treesOk s t ≡ treesOk s (partTables (levelsIn t) (placesIn t) (chunkPlacesIn t) (t .loans) (t .chunks) (t .room))
+trees-shown s t = parts s t ∙ sym (parts s (partTables (levelsIn t) (placesIn t) (chunkPlacesIn t) (t .loans) (t .chunks) (t .room)))
 
 -- in turn, with what the code was told
 module _ (s : BuddySettings) (levels places held : ℕ) (loans chunks tree : List ℕ) where

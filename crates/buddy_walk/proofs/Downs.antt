@@ -49,7 +49,7 @@ module _ (s : BuddySettings) (t : Tables) where
 
   -- the loan that the words of its place say, its size, and the node that the tree has for it
   module _ (k c l o n : ℕ) (r : Loan) (z i v : ℕ) (is : r ≡ row loanRow k (t .loans)) (size : z ≡ bytes (s .minimal) l)
-      (from : i ≡ nodesFrom s) (node : v ≡ getD (t .tree) (i + k) 0) where
+      (from : i ≡ nodesFrom s) (node : v ≡ getD (t .room) (i + k) 0) where
     cell : (f : ℕ) → getD (drop (loanWords * k) (t .loans)) f 0 ≡ loanCell t f k
     cell f = sym (cell-row (t .loans) f loanWords k)
 
@@ -98,7 +98,7 @@ module _ (s : BuddySettings) (t : Tables) where
 
   -- ---- a pair, whose level begins at b and whose entry is e; r is what the entry's test says, which reads only the entry
 
-  module _ (l c o n p b : ℕ) (e : Ent) (r : Bool) (from : b ≡ levelFrom s l) (is : e ≡ pairIn b (t .tree) p) (tested : r ≡ entryOk (partSettings 0 0 0) (loanPart 0 [] []) e c o n) where
+  module _ (l c o n p b : ℕ) (e : Ent) (r : Bool) (from : b ≡ levelFrom s l) (is : e ≡ pairIn b (t .room) p) (tested : r ≡ entryOk (partSettings 0 0 0) (loanPart 0 [] []) e c o n) where
     abbrev leftOk : Bool
     leftOk = nodeOk s t l c o (nodeOf p L) (e .left)
 
@@ -109,7 +109,7 @@ module _ (s : BuddySettings) (t : Tables) where
     halves-of =
         ap (λ (z : Bool). z && (leftOk && rightOk)) (tested ∙ entry-shows (partSettings 0 0 0) (loanPart 0 [] []) s t e c o n)
         ∙ ap (λ (z : Ent). entryOk s t z c o n && (nodeOk s t l c o (nodeOf p L) (z .left) && nodeOk s t l c (o + bytes (s .minimal) l) (nodeOf p R) (z .right)))
-        (is ∙ ap (λ (z : ℕ). pairIn z (t .tree) p) from)
+        (is ∙ ap (λ (z : ℕ). pairIn z (t .room) p) from)
 
     pub halves-entry : r ≡ false → false ≡ halvesOk s t l c o n p
     halves-entry h = let g : (r && (leftOk && rightOk)) ≡ false = rw h in sym g ∙ halves-of

@@ -16,7 +16,7 @@ module _ (s : BuddySettings) (t : Tables) where
   numbers = partSettings (s .minimal) (s .pairs) (s .store .chunks)
 
   abbrev shown : Tables
-  shown = loanPart (placesIn t) (t .loans) (t .tree)
+  shown = loanPart (placesIn t) (t .loans) (t .room)
 
   -- an entry by itself says all that is asked of it
   pub entry-shows : (z : BuddySettings) (v : Tables) (e : Ent) (c o n : ℕ) → entryOk s t e c o n ≡ entryOk z v e c o n
@@ -40,7 +40,7 @@ module _ (s : BuddySettings) (t : Tables) where
 -- how many chunk places there are matters to a chunk no more than that its own is one of them
 module _ (s : BuddySettings) (t : Tables) (n c : ℕ) (used : c < chunkPlacesIn t) (within : c < n) where
   abbrev others : Tables
-  others = partTables (levelsIn t) (placesIn t) n (t .loans) (t .chunks) (t .tree)
+  others = partTables (levelsIn t) (placesIn t) n (t .loans) (t .chunks) (t .room)
 
   pub chunk-shows : chunkOk s t c ≡ chunkOk s others c
   unfolding chunkOk

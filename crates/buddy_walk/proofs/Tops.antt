@@ -63,7 +63,7 @@ module _ (s : BuddySettings) (t : Tables) (c z : ℕ) (used : c < chunkPlacesIn 
     high-is : highIn s t c ≡ h
     high-is = rw holds (ap (λ (x : ℕ). levelOf x (s .minimal)) (sym size) ∙ sym high)
 
-    top-is : topIn s t c ≡ getD (t .tree) (cellOf (placeAt s topAt) placeWords c) 0
+    top-is : topIn s t c ≡ getD (t .room) (cellOf (placeAt s topAt) placeWords c) 0
     top-is = rw holds
 
     abbrev levelOk : Bool
@@ -78,9 +78,9 @@ module _ (s : BuddySettings) (t : Tables) (c z : ℕ) (used : c < chunkPlacesIn 
     chunk-high e = middle-no (eqb z (bytes (s .minimal) h)) (ltb 0 h) (leb f h) (leb h (levelsIn t)) _ e ∙ chunk-is (topIn s t c) refl
 
     -- b is where the chunk places' words begin, w the word of its top node, y the length of a node of its level
-    module _ (b w y : ℕ) (from : b ≡ chunksFrom s) (top : w ≡ getD (t .tree) (cellOf (b + (1 + topAt)) placeWords c) 0) (long : y ≡ bytes (s .minimal) h) where
+    module _ (b w y : ℕ) (from : b ≡ chunksFrom s) (top : w ≡ getD (t .room) (cellOf (b + (1 + topAt)) placeWords c) 0) (long : y ≡ bytes (s .minimal) h) where
       word : w ≡ topIn s t c
-      word = top ∙ ap (λ (x : ℕ). getD (t .tree) (cellOf (x + (1 + topAt)) placeWords c) 0) from ∙ sym top-is
+      word = top ∙ ap (λ (x : ℕ). getD (t .room) (cellOf (x + (1 + topAt)) placeWords c) 0) from ∙ sym top-is
 
       abbrev wrong : Bool
       wrong = not (eqb z y) || eqb w freeWord
@@ -92,7 +92,7 @@ module _ (s : BuddySettings) (t : Tables) (c z : ℕ) (used : c < chunkPlacesIn 
       chunk-off e = ends-no (eqb z y) (ltb 0 h) (leb f h) (leb h (levelsIn t)) (eqb w freeWord) _ e ∙ row
 
       pub chunk-walk : (r : Bool) → levelOk ≡ true → wrong ≡ false
-          → r ≡ nodeOk (partSettings (s .minimal) (s .pairs) (s .store .chunks)) (loanPart (placesIn t) (t .loans) (t .tree)) h c 0 nowhere w → r ≡ chunkOk s t c
+          → r ≡ nodeOk (partSettings (s .minimal) (s .pairs) (s .store .chunks)) (loanPart (placesIn t) (t .loans) (t .room)) h c 0 nowhere w → r ≡ chunkOk s t c
       chunk-walk r e g k = k ∙ sym (node-shows s t h c 0 nowhere w) ∙ last-is (eqb z y) (ltb 0 h) (leb f h) (leb h (levelsIn t)) (eqb w freeWord) _ e g ∙ row
 
 -- ---- what the calls ask for

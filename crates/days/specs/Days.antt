@@ -75,8 +75,8 @@ opening =
     (mark ∷ 0 ∷ 0 ∷ 4096 ∷ 0 ∷ 0 ∷ [])
     (0 ∷ 0 ∷ 0 ∷ 0 ∷ 0 ∷ 0 ∷ 0 ∷ 0 ∷ 0 ∷ 0 ∷ 0 ∷ 0 ∷ [])
     (0 ∷ 0 ∷ 0 ∷ 0 ∷ 0 ∷ 0 ∷ [])
-    (0 ∷ 0 ∷ 0 ∷ 0 ∷ 0 ∷ 0 ∷ 0 ∷ 0 ∷ 0 ∷ 0 ∷ 0 ∷ 0 ∷ 0 ∷ 0 ∷ 0 ∷ 0 ∷ [])
     (nowhere ∷ nowhere ∷ 9 ∷ 9 ∷ 9 ∷ 9 ∷ 9 ∷ 9 ∷ 9 ∷ 9 ∷ [])
+    (0 ∷ 0 ∷ 0 ∷ 0 ∷ 0 ∷ 0 ∷ 0 ∷ 0 ∷ 0 ∷ 0 ∷ 0 ∷ 0 ∷ 0 ∷ 0 ∷ 0 ∷ 0 ∷ [])
 
 -- the 128 is on loan
 abbrev pub withOne : Tables
@@ -85,8 +85,8 @@ withOne =
     (mark ∷ 1 ∷ 1 ∷ 8192 ∷ 1 ∷ 1 ∷ [])
     (1 ∷ 1 ∷ 3968 ∷ 128 ∷ 0 ∷ 0 ∷ 0 ∷ 0 ∷ 0 ∷ 0 ∷ 0 ∷ 0 ∷ [])
     (1 ∷ 50 ∷ 4096 ∷ 0 ∷ 0 ∷ 0 ∷ [])
-    (1 ∷ 0 ∷ 3968 ∷ 0 ∷ 0 ∷ 0 ∷ 0 ∷ 0 ∷ 0 ∷ 0 ∷ 0 ∷ 0 ∷ 0 ∷ 0 ∷ 0 ∷ 1 ∷ [])
     (nowhere ∷ nowhere ∷ nowhere ∷ 9 ∷ 0 ∷ 9 ∷ 9 ∷ 9 ∷ 9 ∷ 9 ∷ [])
+    (1 ∷ 0 ∷ 3968 ∷ 0 ∷ 0 ∷ 0 ∷ 0 ∷ 0 ∷ 0 ∷ 0 ∷ 0 ∷ 0 ∷ 0 ∷ 0 ∷ 0 ∷ 1 ∷ [])
 
 -- and the 896; the next order raises nothing: 8,192 it is already
 abbrev pub withTwo : Tables
@@ -95,8 +95,8 @@ withTwo =
     (mark ∷ 2 ∷ 1 ∷ 8192 ∷ 2 ∷ 1 ∷ [])
     (1 ∷ 1 ∷ 3968 ∷ 128 ∷ 2 ∷ 1 ∷ 3072 ∷ 896 ∷ 0 ∷ 0 ∷ 0 ∷ 0 ∷ [])
     (1 ∷ 50 ∷ 4096 ∷ 0 ∷ 0 ∷ 0 ∷ [])
-    (1 ∷ 0 ∷ 3072 ∷ 0 ∷ 0 ∷ 0 ∷ 0 ∷ 0 ∷ 0 ∷ 0 ∷ 0 ∷ 0 ∷ 0 ∷ 0 ∷ 0 ∷ 1 ∷ [])
     (nowhere ∷ nowhere ∷ nowhere ∷ 9 ∷ 0 ∷ nowhere ∷ 9 ∷ 1 ∷ 9 ∷ 9 ∷ [])
+    (1 ∷ 0 ∷ 3072 ∷ 0 ∷ 0 ∷ 0 ∷ 0 ∷ 0 ∷ 0 ∷ 0 ∷ 0 ∷ 0 ∷ 0 ∷ 0 ∷ 0 ∷ 1 ∷ [])
 
 -- and the 5,056, of chunk 2
 abbrev pub withThree : Tables
@@ -105,8 +105,8 @@ withThree =
     (mark ∷ 3 ∷ 2 ∷ 16384 ∷ 3 ∷ 2 ∷ [])
     (1 ∷ 1 ∷ 3968 ∷ 128 ∷ 2 ∷ 1 ∷ 3072 ∷ 896 ∷ 3 ∷ 2 ∷ 3136 ∷ 5056 ∷ [])
     (1 ∷ 50 ∷ 4096 ∷ 2 ∷ 51 ∷ 8192 ∷ [])
-    (1 ∷ 0 ∷ 3072 ∷ 2 ∷ 0 ∷ 3136 ∷ 0 ∷ 0 ∷ 0 ∷ 0 ∷ 0 ∷ 0 ∷ 0 ∷ 0 ∷ 0 ∷ 2 ∷ [])
     (nowhere ∷ 2 ∷ nowhere ∷ 9 ∷ 0 ∷ nowhere ∷ 9 ∷ 1 ∷ nowhere ∷ 9 ∷ [])
+    (1 ∷ 0 ∷ 3072 ∷ 2 ∷ 0 ∷ 3136 ∷ 0 ∷ 0 ∷ 0 ∷ 0 ∷ 0 ∷ 0 ∷ 0 ∷ 0 ∷ 0 ∷ 2 ∷ [])
 
 -- the 128 is back
 abbrev pub lessOne : Tables
@@ -115,8 +115,8 @@ lessOne =
     (mark ∷ 3 ∷ 2 ∷ 16384 ∷ 3 ∷ 2 ∷ [])
     (1 ∷ 1 ∷ 3968 ∷ 0 ∷ 2 ∷ 1 ∷ 3072 ∷ 896 ∷ 3 ∷ 2 ∷ 3136 ∷ 5056 ∷ [])
     (1 ∷ 50 ∷ 4096 ∷ 2 ∷ 51 ∷ 8192 ∷ [])
-    (1 ∷ 0 ∷ 3072 ∷ 1 ∷ 3968 ∷ 4096 ∷ 2 ∷ 0 ∷ 3136 ∷ 0 ∷ 0 ∷ 0 ∷ 0 ∷ 0 ∷ 0 ∷ 3 ∷ [])
     (0 ∷ 2 ∷ nowhere ∷ nowhere ∷ nowhere ∷ nowhere ∷ 9 ∷ 1 ∷ nowhere ∷ 9 ∷ [])
+    (1 ∷ 0 ∷ 3072 ∷ 1 ∷ 3968 ∷ 4096 ∷ 2 ∷ 0 ∷ 3136 ∷ 0 ∷ 0 ∷ 0 ∷ 0 ∷ 0 ∷ 0 ∷ 3 ∷ [])
 
 -- and the 896: chunk 1 is gone
 abbrev pub lessTwo : Tables
@@ -125,16 +125,16 @@ lessTwo =
     (mark ∷ 3 ∷ 2 ∷ 16384 ∷ 3 ∷ 1 ∷ [])
     (1 ∷ 1 ∷ 3968 ∷ 0 ∷ 2 ∷ 1 ∷ 3072 ∷ 0 ∷ 3 ∷ 2 ∷ 3136 ∷ 5056 ∷ [])
     (2 ∷ 51 ∷ 8192 ∷ 2 ∷ 51 ∷ 8192 ∷ [])
-    (2 ∷ 0 ∷ 3136 ∷ 2 ∷ 0 ∷ 3136 ∷ 2 ∷ 0 ∷ 3136 ∷ 0 ∷ 0 ∷ 0 ∷ 0 ∷ 0 ∷ 0 ∷ 1 ∷ [])
     (1 ∷ 2 ∷ nowhere ∷ nowhere ∷ nowhere ∷ nowhere ∷ 0 ∷ nowhere ∷ nowhere ∷ 9 ∷ [])
+    (2 ∷ 0 ∷ 3136 ∷ 2 ∷ 0 ∷ 3136 ∷ 2 ∷ 0 ∷ 3136 ∷ 0 ∷ 0 ∷ 0 ∷ 0 ∷ 0 ∷ 0 ∷ 1 ∷ [])
 
 -- ---- the day
 
 pub lending : List Day
 lending =
-    day (left (out (setUpOf list (tables (replicate 6 9) (replicate 12 0) (replicate 6 0) (replicate 16 0) (replicate 10 9)) .said)
+    day (left (out (setUpOf list (tables (replicate 6 9) (replicate 12 0) (replicate 6 0) (replicate 10 9) (replicate 16 0)) .said)
     (account 0 0 0 10 Nothing)
-    (setUpOf list (tables (replicate 6 9) (replicate 12 0) (replicate 6 0) (replicate 16 0) (replicate 10 9)) .tables)))
+    (setUpOf list (tables (replicate 6 9) (replicate 12 0) (replicate 6 0) (replicate 10 9) (replicate 16 0)) .tables)))
     (left (out Paper.ready (account 0 0 0 10 Nothing) opening))
     -- "Ask 100: order 4,096, block 3,968 size 128."
     ∷ day (left (askOf list (account 0 0 0 10 Nothing) 100 0 opening))

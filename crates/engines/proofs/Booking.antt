@@ -27,7 +27,7 @@ use Rattle.heap.proofs.Bounds.{bears-yes, agrees-yes, charged-is}
 use Rattle.store_rules.specs.Outcomes.{Listed, listed, toFree, chargedAccount, backAccount, releasedAccount}
 use Rattle.store_rules.specs.Tests.{coversOk}
 use Rattle.store_rules.proofs.Accounts.{covers-yes, settled-own, settled-other, settled-length}
-use Rattle.engines.specs.Shapes.{Lent}
+use Rattle.engines.specs.Shapes.{Tables}
 use Rattle.engines.specs.Books.{orderSize, accepted, deliveryBooks, deliveryTakes, Booked}
 
 -- what is released was used, so its total ends where that of what was allocated does
@@ -39,7 +39,7 @@ pub not-accepted : (n : ℕ) → (n ≡ 11 → ⊥) → (n ≡ 12 → ⊥) → a
 not-accepted n x y = rw (ne-eqb n 11 x, ne-eqb n 12 y)
 
 -- nothing: the heaps and objects are as they were
-pub still : (h : ℕ) (a : Account) (entries : List Entry) (takes : ℕ) (d : Listed Lent) → d .account .heaps ≡ a .heaps → d .account .objects ≡ a .objects → entries ≡ [] → takes ≡ 0 → toFree (d .said) ≡ 0
+pub still : (h : ℕ) (a : Account) (entries : List Entry) (takes : ℕ) (d : Listed Tables) → d .account .heaps ≡ a .heaps → d .account .objects ≡ a .objects → entries ≡ [] → takes ≡ 0 → toFree (d .said) ≡ 0
     → Booked h a entries takes d
 still i a entries takes d h k b x y =
     let same : (j : ℕ) → heapAt (d .account) j ≡ heapAt a j = λ j. ap (λ (hs : List Heap). cond (ltb j heapsMost) (getD hs j noHeap) noHeap) h in
@@ -58,14 +58,14 @@ module _ (s : StoreSettings) (a : Account) where
   -- ---- a delivery
 
   -- what one books, of what it says
-  abbrev pub Delivery : Outcome → Listed Lent → Type 0
+  abbrev pub Delivery : Outcome → Listed Tables → Type 0
   Delivery o d = Booked (s .heap) a (deliveryBooks o (orderSize (a .order)) (d .said)) (deliveryTakes o (d .said)) d
 
-  abbrev delivered : Said → Account → Lent → Listed Lent
+  abbrev delivered : Said → Account → Tables → Listed Tables
   delivered said b u = listed said b u []
 
   -- one that is refused before its outcome counts
-  pub early-booked : (n : ℕ) (u : Lent) → accepted (Paper.refusal n []) ≡ false → (o : Outcome) → Delivery o (delivered (Paper.refusal n []) a u)
+  pub early-booked : (n : ℕ) (u : Tables) → accepted (Paper.refusal n []) ≡ false → (o : Outcome) → Delivery o (delivered (Paper.refusal n []) a u)
   early-booked n u e O.OutOfDevice = still (s .heap) a _ _ _ refl refl refl refl refl
   early-booked n u e O.OutOfHost = still (s .heap) a _ _ _ refl refl refl refl refl
   early-booked n u e (O.Made m) = still (s .heap) a _ _ _ refl refl (rw e) (rw e) refl
@@ -100,7 +100,7 @@ module _ (s : StoreSettings) (a : Account) (k : KeptOrder) (w : Bears s a k) whe
       (room, ((used, subst (λ (x : Total). value x + z < 2 ^ 128) (sym (c .deallocated)) low), tt))
 
   -- the memory number is accepted
-  pub charged-booked : (m : Memory) (said : Said) (u : Lent) → accepted said ≡ true → toFree said ≡ 0
+  pub charged-booked : (m : Memory) (said : Said) (u : Tables) → accepted said ≡ true → toFree said ≡ 0
       → Delivery s a (O.Made m) (listed said (chargedAccount s a z) u [])
   unfolding chargedAccount
   charged-booked m said u x y =
@@ -115,7 +115,7 @@ module _ (s : StoreSettings) (a : Account) (k : KeptOrder) (w : Bears s a k) whe
       }
 
   -- and given back
-  pub back-booked : (m : Memory) (said : Said) (u : Lent) → accepted said ≡ true → toFree said ≡ 1
+  pub back-booked : (m : Memory) (said : Said) (u : Tables) → accepted said ≡ true → toFree said ≡ 1
       → Delivery s a (O.Made m) (listed said (backAccount s a z) u [])
   unfolding backAccount
   back-booked m said u x y =
@@ -139,7 +139,7 @@ module _ (s : StoreSettings) (a : Account) (low : s .heap < heapsMost) (chunks h
       ((used, below (value (own s a .deallocated)) bytes (own s a .used) (value (own s a .allocated)) (2 ^ 128) used (agrees-yes (own s a) (c .1)) w), tt)
 
   -- it books that release alone, and gives n objects
-  pub release-booked : (entries : List Entry) (takes : ℕ) (u : Lent) (list : List ℕ) → entries ≡ release bytes ∷ [] → takes ≡ 0
+  pub release-booked : (entries : List Entry) (takes : ℕ) (u : Tables) (list : List ℕ) → entries ≡ release bytes ∷ [] → takes ≡ 0
       → Booked (s .heap) a entries takes (listed (Paper.released n) (releasedAccount s a n bytes) u list)
   unfolding releasedAccount
   release-booked entries takes u list b none =

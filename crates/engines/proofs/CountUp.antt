@@ -14,7 +14,7 @@ use Rattle.store_rules.specs.Outcomes.{Listed, listed}
 use Rattle.engines.specs.Engines.{Engine}
 use Rattle.engines.specs.Histories.{State, storeAt, Visit, done, step, run, NoSetUp, serialsAt}
 use Rattle.engines.specs.Serials.{serialSaid, upFrom, Counted}
-use Rattle.engines.specs.Shapes.{Lent, Begun, markOf, Call, setsUp, does, Marked, lentList}
+use Rattle.engines.specs.Shapes.{Tables, Begun, markOf, Call, setsUp, does, Marked, lentList}
 use Rattle.engines.proofs.Visits.{set-up?, set-up-refused, stores-stay, store-here, store-other}
 
 -- ---- numbers that count up
@@ -61,20 +61,20 @@ module _ (K : Type 0) (E : K → Engine) (differ : (i j : K) → E i .shape .mar
   -- ---- over one call
 
   -- of any of the engines, on tables with engine e's mark: the serials given are the next ones, and the mark stays
-  pub call-counts : (e : K) (a : Account) (t : Lent) (f : K) (s : E f .shape .Settings) (c : Call (E f .shape .Own)) → (c ≡ setsUp → does (E f .shape) s a t c .said ≡ Paper.ready → ⊥) → Marked (E e .shape) t
+  pub call-counts : (e : K) (a : Account) (t : Tables) (f : K) (s : E f .shape .Settings) (c : Call (E f .shape .Own)) → (c ≡ setsUp → does (E f .shape) s a t c .said ≡ Paper.ready → ⊥) → Marked (E e .shape) t
       → Counted (E e .shape) t (does (E f .shape) s a t c .tables) (does (E f .shape) s a t c .said)
   call-counts e a t f s c old k = ⊎-elim first later (set-up? c)
     where
       -- a call that is refused
       unmoved : (n : ℕ) (list : List ℕ) → does (E f .shape) s a t c ≡ listed (Paper.refusal n []) a t list → Counted (E e .shape) t (does (E f .shape) s a t c .tables) (does (E f .shape) s a t c .said)
       unmoved n list q =
-          subst (λ (d : Listed Lent). Counted (E e .shape) t (d .tables) (d .said)) (sym q)
+          subst (λ (d : Listed Tables). Counted (E e .shape) t (d .tables) (d .said)) (sym q)
           (record { gives = omega arith; nexts = refl; marks = k })
 
       first : c ≡ setsUp → Counted (E e .shape) t (does (E f .shape) s a t c .tables) (does (E f .shape) s a t c .said)
       first q =
           let d = ap (does (E f .shape) s a t) q in
-          let w = set-up-refused (E f) s t (λ r. old q (ap (λ (x : Listed Lent). x .said) d ∙ r)) in
+          let w = set-up-refused (E f) s t (λ r. old q (ap (λ (x : Listed Tables). x .said) d ∙ r)) in
           unmoved (w .0) [] (d ∙ ap (λ (r : Begun). listed (r .said) a (r .tables) []) (w .1))
 
       own : (c ≡ setsUp → ⊥) → markOf t ≡ E f .shape .mark → Counted (E e .shape) t (does (E f .shape) s a t c .tables) (does (E f .shape) s a t c .said)

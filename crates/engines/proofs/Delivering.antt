@@ -22,7 +22,7 @@ use Rattle.store_rules.specs.declared.Chunk.{Chunk}
 use Rattle.store_rules.proofs.Said.{refuses}
 use Rattle.engines.specs.Engines.{Engine}
 use Rattle.store_rules.specs.Rows.{deliverRows}
-use Rattle.engines.specs.Shapes.{Lent, wordsOf}
+use Rattle.engines.specs.Shapes.{Tables, wordsOf}
 use Rattle.engines.specs.Tells.{Blocked, Ordered}
 use Rattle.engines.proofs.Taking.{ask-passed}
 
@@ -90,7 +90,7 @@ module _ (wanted : Bool) (m : Memory) (fit : m .mapping ≡ asOrdered wanted) wh
 
 -- ---- the delivery
 
-module _ (E : Engine) (s : E .shape .Settings) (a : Account) (size mask : ℕ) (t : Lent) (store z memtype : ℕ) (wanted : Bool)
+module _ (E : Engine) (s : E .shape .Settings) (a : Account) (size mask : ℕ) (t : Tables) (store z memtype : ℕ) (wanted : Bool)
     (told : E .shape .ask s a size mask t .said ≡ Paper.order store z memtype wanted) where
   its : Ordered (E .shape .ask s a size mask t .said)
   its = (store, z, memtype, wanted, told)

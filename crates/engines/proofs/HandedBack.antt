@@ -22,12 +22,12 @@ use Rattle.store_rules.proofs.Releasing.{released-twice, released-none}
 use Rattle.engines.specs.Ends.{Lot, Taken}
 use Rattle.engines.specs.Engines.{Engine}
 use Rattle.engines.specs.Histories.{State, storeAt, Slip, blocksOf, Visit, done, step, run, saids, handBack, handing, toldIn}
-use Rattle.engines.specs.Shapes.{Lent, Shape}
+use Rattle.engines.specs.Shapes.{Tables, Shape}
 use Rattle.engines.proofs.HeapAndObjects.{typed-stays}
 use Rattle.engines.proofs.Visits.{stores-stay, store-here}
 
 -- those left are still on loan after one has come back
-pub lot-left : (E : Shape) (s : E .Settings) (a : Account) (b : Block) (bs : List Block) (t : Lent) (r : Listed Lent) → Lot E (b ∷ bs) t → Taken E s a b t r → Lot E bs (r .tables)
+pub lot-left : (E : Shape) (s : E .Settings) (a : Account) (b : Block) (bs : List Block) (t : Tables) (r : Listed Tables) → Lot E (b ∷ bs) t → Taken E s a b t r → Lot E bs (r .tables)
 lot-left E s a b bs t r lot one =
     record {
       lent = λ c m.
@@ -102,11 +102,11 @@ module _ (K : Type 0) (E : K → Engine) (i : ℕ) (e : K) (s : E e .shape .Sett
     now = store-here K E w v (r .here)
 
     next-account : step K E w v .account ≡ less w (held (step K E w v))
-    next-account = one .account ∙ ap (λ (t : Lent). less w (E e .shape .view s t)) (sym now)
+    next-account = one .account ∙ ap (λ (t : Tables). less w (E e .shape .view s t)) (sym now)
 
     next-goes : Go (held w .chunks) (held (step K E w v) .chunks) (take (toFree (done K E w v .said)) (done K E w v .list))
     next-goes =
-        subst (λ (t : Lent). Go (held w .chunks) (E e .shape .view s t .chunks) (take (toFree (done K E w v .said)) (done K E w v .list))) (sym now)
+        subst (λ (t : Tables). Go (held w .chunks) (E e .shape .view s t .chunks) (take (toFree (done K E w v .said)) (done K E w v .list))) (sym now)
         (one .goes)
 
     next-ready : Ready (step K E w v)
@@ -114,7 +114,7 @@ module _ (K : Type 0) (E : K → Engine) (i : ℕ) (e : K) (s : E e .shape .Sett
         record {
           here = omega (arith, stores-stay K E w v, r .here);
           typed = typed-stays K E w v (r .typed);
-          passes = subst (λ (t : Lent). E e .shape .gate s (step K E w v .account) t ≡ pass) (sym now) (E e .keeps .return-again s (w .account) (storeAt w i) (r .typed) (r .passes) (p .0) (p .1));
+          passes = subst (λ (t : Tables). E e .shape .gate s (step K E w v .account) t ≡ pass) (sym now) (E e .keeps .return-again s (w .account) (storeAt w i) (r .typed) (r .passes) (p .0) (p .1));
         }
 
     next-lot : Lot (E e .shape) (blocksOf ps) (storeAt (step K E w v) i)

@@ -18,7 +18,7 @@ use Rattle.store_rules.specs.declared.Loan.{Loan}
 use Rattle.engines.specs.Engines.{Engine}
 use Rattle.engines.specs.Ledger.{Note, noteOf, ledger, Exactly, Fine}
 use Rattle.engines.specs.Pools.{Slot, ofHead, ofLoans, slots, tableOf, seal, Sealed, Pool, lentFrom, Different, Turn, did, turned, course, NoNewLoans, heardWith, settingUp}
-use Rattle.engines.specs.Shapes.{Lent, Begun, Call, setsUp, does}
+use Rattle.engines.specs.Shapes.{Tables, Begun, Call, setsUp, does}
 use Rattle.engines.proofs.Exact.{none-exactly}
 use Rattle.engines.proofs.Mixing.{each-slot, lent-in?, lent-table, written-length, written-other, written-here, Signed, signed?}
 use Rattle.engines.proofs.Noting.{call-after, refused-unheard}
@@ -53,10 +53,10 @@ module _ (K : Type 0) (E : K → Engine) (Z : (k : K) → Sealed (E k .shape)) (
     abbrev f : K
     f = v .by
 
-    abbrev t : Lent
+    abbrev t : Tables
     t = lentFrom p (v .places)
 
-    abbrev u : Lent
+    abbrev u : Tables
     u = did K E p v .tables
 
     abbrev note : List Note
@@ -73,7 +73,7 @@ module _ (K : Type 0) (E : K → Engine) (Z : (k : K) → Sealed (E k .shape)) (
       before = lent-table p (v .places) z ∙ ap (λ (j : ℕ). getD p j []) q
 
       unchanged : u ≡ t → note ≡ [] → Turned K E Z e bs (tableOf u z) note
-      unchanged c n = still e bs (getD p i []) (tableOf u z) note g (ap (λ (x : Lent). tableOf x z) c ∙ before) n
+      unchanged c n = still e bs (getD p i []) (tableOf u z) note g (ap (λ (x : Tables). tableOf x z) c ∙ before) n
 
       as-set-up : (c : v .call ≡ setsUp) → did K E p v ≡ does (E f .shape) (v .settings) (v .account) t setsUp
       as-set-up c = ap (does (E f .shape) (v .settings) (v .account) t) c
@@ -84,16 +84,16 @@ module _ (K : Type 0) (E : K → Engine) (Z : (k : K) → Sealed (E k .shape)) (
       accepted : v .call ≡ setsUp → E f .shape .setUp (v .settings) t .said ≡ Paper.ready → Turned K E Z e bs (tableOf u z) note
       accepted c r =
           let d = as-set-up c in
-          let s : seal (tableOf u z) ≡ Z f .sign z = ap (λ (x : Listed Lent). seal (tableOf (x .tables) z)) d ∙ Z f .signs (v .settings) t r z in
+          let s : seal (tableOf u z) ≡ Z f .sign z = ap (λ (x : Listed Tables). seal (tableOf (x .tables) z)) d ∙ Z f .signs (v .settings) t r z in
           let none : (x : K) → seal (tableOf u z) ≡ Z x .sign ofLoans → ⊥ =
-          λ x w. old (subst (λ (y : Slot). v .places y ≡ i) (differ f x z ofLoans (sym s ∙ w) .1) q) c (ap (λ (x : Listed Lent). x .said) d ∙ r) in
+          λ x w. old (subst (λ (y : Slot). v .places y ≡ i) (differ f x z ofLoans (sym s ∙ w) .1) q) c (ap (λ (x : Listed Tables). x .said) d ∙ r) in
           let bare : HoldsIn K E Z e bs (tableOf u z) = record { whose = λ x w. absurd (none x w); loans = λ w. absurd (none e w) } in
           still e bs (tableOf u z) (tableOf u z) note bare refl (quiet c)
 
       first : v .call ≡ setsUp → Turned K E Z e bs (tableOf u z) note
       first c =
           ⊎-elim (accepted c)
-          (λ w. unchanged (ap (λ (x : Listed Lent). x .tables) (as-set-up c) ∙ ap (λ (r : Begun). r .tables) (E f .refuses .set-up-leaves (v .settings) t (w .0) (w .1) (w .2))) (quiet c))
+          (λ w. unchanged (ap (λ (x : Listed Tables). x .tables) (as-set-up c) ∙ ap (λ (r : Begun). r .tables) (E f .refuses .set-up-leaves (v .settings) t (w .0) (w .1) (w .2))) (quiet c))
           (E f .tells .set-up-says (v .settings) t)
 
       module _ (c : v .call ≡ setsUp → ⊥) (s : Signed (E f .shape) (Z f) t) where
@@ -138,7 +138,7 @@ module _ (K : Type 0) (E : K → Engine) (Z : (k : K) → Sealed (E k .shape)) (
       later c =
           ⊎-elim (signed c)
           (λ n. let w = Z f .unsigned (v .settings) (v .account) t (v .call) c n in
-          unchanged (ap (λ (d : Listed Lent). d .tables) (w .1)) (unheard (ap (λ (d : Listed Lent). noteOf (v .call) (d .said)) (w .1) ∙ refused-unheard (v .call) (w .0))))
+          unchanged (ap (λ (d : Listed Tables). d .tables) (w .1)) (unheard (ap (λ (d : Listed Tables). noteOf (v .call) (d .said)) (w .1) ∙ refused-unheard (v .call) (w .0))))
           (signed? (E f .shape) (Z f) t)
 
       in-slot : Turned K E Z e bs (tableOf u z) note
@@ -173,7 +173,7 @@ module _ (K : Type 0) (E : K → Engine) (Z : (k : K) → Sealed (E k .shape)) (
     abbrev begun : Pool
     begun = turned K E p (settingUp K E e s a at d)
 
-    abbrev fresh : Lent
+    abbrev fresh : Tables
     fresh = E e .shape .setUp s (lentFrom p at) .tables
 
     empty : HoldsIn K E Z e [] (getD begun (at ofLoans) [])

@@ -20,7 +20,7 @@ use Rattle.engines.specs.Engines.{Engine}
 use Rattle.engines.specs.Pools.{Slot, ofHead, ofLoans, ofChunks, ofIndex, ofRoom, slots, tableOf, seal, Sealed, Pool, lentFrom, written, Different, Turn, did, turned, course, NoNewLoans, handing, GoneFrom}
 use Rattle.store_rules.specs.Rows.{listRows}
 use Rattle.engines.specs.Serials.{Gone}
-use Rattle.engines.specs.Shapes.{Lent, Begun, Call, setsUp, returns, Shape, does, wordsOf}
+use Rattle.engines.specs.Shapes.{Tables, Begun, Call, setsUp, returns, Shape, does, wordsOf}
 use Rattle.engines.proofs.NeverAgain.{no-set-up}
 use Rattle.engines.proofs.Visits.{set-up?}
 
@@ -79,7 +79,7 @@ lent-table p at ofChunks = refl
 lent-table p at ofIndex = refl
 lent-table p at ofRoom = refl
 
-module _ (at : Slot → ℕ) (t : Lent) where
+module _ (at : Slot → ℕ) (t : Tables) where
   pub written-length : (p : Pool) (zs : List Slot) → length (written p at t zs) ≡ length p
   written-length p [] = refl
   written-length p (z ∷ zs) = written-length (set p (at z) (tableOf t z)) zs ∙ length-set p (at z) (tableOf t z)
@@ -123,14 +123,14 @@ written-same p at (z ∷ zs) =
 -- ---- the signs of five tables
 
 module _ (E : Shape) (Z : Sealed E) where
-  abbrev pub Signed : Lent → Type 0
+  abbrev pub Signed : Tables → Type 0
   Signed t = (z : Slot) → seal (tableOf t z) ≡ Z .sign z
 
-  pub signed? : (t : Lent) → Signed t ⊎ (Signed t → ⊥)
+  pub signed? : (t : Tables) → Signed t ⊎ (Signed t → ⊥)
   signed? t = each? (λ z. seal (tableOf t z) ≡ Z .sign z) (λ z. same? (seal (tableOf t z)) (Z .sign z))
 
   -- serial k is gone, in the loans table alone
-  gone-of : (k : ℕ) (t : Lent) → Signed t → k ≤ Z .givenIn (t .loans) → All (λ (l : Loan). l .serial ≡ k → ⊥) (Z .loansIn (t .loans)) → Gone E k t
+  gone-of : (k : ℕ) (t : Tables) → Signed t → k ≤ Z .givenIn (t .loans) → All (λ (l : Loan). l .serial ≡ k → ⊥) (Z .loansIn (t .loans)) → Gone E k t
   gone-of k t g old away =
       record {
         marked = g ofHead ∙ sym (Z .head-sign);
@@ -138,14 +138,14 @@ module _ (E : Shape) (Z : Sealed E) where
         away = subst (All (λ (l : Loan). l .serial ≡ k → ⊥)) (sym (Z .loans-there t)) away;
       }
 
-  gone-old : (k : ℕ) (t : Lent) → Gone E k t → k ≤ Z .givenIn (t .loans)
+  gone-old : (k : ℕ) (t : Tables) → Gone E k t → k ≤ Z .givenIn (t .loans)
   gone-old k t g = subst (λ (n : ℕ). k ≤ n) (Z .given-there t) (g .old)
 
-  gone-away : (k : ℕ) (t : Lent) → Gone E k t → All (λ (l : Loan). l .serial ≡ k → ⊥) (Z .loansIn (t .loans))
+  gone-away : (k : ℕ) (t : Tables) → Gone E k t → All (λ (l : Loan). l .serial ≡ k → ⊥) (Z .loansIn (t .loans))
   gone-away k t g = subst (All (λ (l : Loan). l .serial ≡ k → ⊥)) (Z .loans-there t) (g .away)
 
 -- 1 to 4 are the numbers of a return's first rows
-early : (E : Shape) (s : E .Settings) (a : Account) (t : Lent) (list : List ℕ) (n : ℕ) → Given (listRows (wordsOf E) s a t list) n → (0 < n) × (n ≤ 4)
+early : (E : Shape) (s : E .Settings) (a : Account) (t : Tables) (list : List ℕ) (n : ℕ) → Given (listRows (wordsOf E) s a t list) n → (0 < n) × (n ≤ 4)
 early E s a t list n =
     ⊎-elim (λ w. let e = w .1 in (omega arith, omega arith))
     (λ w. ⊎-elim (λ x. let e = x .1 in (omega arith, omega arith))
@@ -160,10 +160,10 @@ module _ (K : Type 0) (E : K → Engine) (Z : (k : K) → Sealed (E k .shape)) (
     abbrev f : K
     f = v .by
 
-    abbrev t : Lent
+    abbrev t : Tables
     t = lentFrom p (v .places)
 
-    abbrev u : Lent
+    abbrev u : Tables
     u = did K E p v .tables
 
     -- table i is lent in slot z
@@ -172,15 +172,15 @@ module _ (K : Type 0) (E : K → Engine) (Z : (k : K) → Sealed (E k .shape)) (
       before = lent-table p (v .places) z ∙ ap (λ (j : ℕ). getD p j []) q
 
       unchanged : u ≡ t → GoneFrom K E Z e k (tableOf u z)
-      unchanged c = subst (GoneFrom K E Z e k) (sym (ap (λ (x : Lent). tableOf x z) c ∙ before)) g
+      unchanged c = subst (GoneFrom K E Z e k) (sym (ap (λ (x : Tables). tableOf x z) c ∙ before)) g
 
       -- a set-up that is accepted signs it as another than a loans table
       accepted : v .call ≡ setsUp → E f .shape .setUp (v .settings) t .said ≡ Paper.ready → GoneFrom K E Z e k (tableOf u z)
       accepted c r =
           let d = ap (does (E f .shape) (v .settings) (v .account) t) c in
-          let s : seal (tableOf u z) ≡ Z f .sign z = ap (λ (x : Listed Lent). seal (tableOf (x .tables) z)) d ∙ Z f .signs (v .settings) t r z in
+          let s : seal (tableOf u z) ≡ Z f .sign z = ap (λ (x : Listed Tables). seal (tableOf (x .tables) z)) d ∙ Z f .signs (v .settings) t r z in
           let none : (x : K) → seal (tableOf u z) ≡ Z x .sign ofLoans → ⊥ =
-          λ x w. old (subst (λ (y : Slot). v .places y ≡ i) (differ f x z ofLoans (sym s ∙ w) .1) q) c (ap (λ (x : Listed Lent). x .said) d ∙ r) in
+          λ x w. old (subst (λ (y : Slot). v .places y ≡ i) (differ f x z ofLoans (sym s ∙ w) .1) q) c (ap (λ (x : Listed Tables). x .said) d ∙ r) in
           record { whose = λ x w. absurd (none x w); old = λ w. absurd (none e w); away = λ w. absurd (none e w) }
 
       first : v .call ≡ setsUp → GoneFrom K E Z e k (tableOf u z)
@@ -221,7 +221,7 @@ module _ (K : Type 0) (E : K → Engine) (Z : (k : K) → Sealed (E k .shape)) (
 
       later : (v .call ≡ setsUp → ⊥) → GoneFrom K E Z e k (tableOf u z)
       later c =
-          ⊎-elim (signed c) (λ n. unchanged (ap (λ (d : Listed Lent). d .tables) (Z f .unsigned (v .settings) (v .account) t (v .call) c n .1)))
+          ⊎-elim (signed c) (λ n. unchanged (ap (λ (d : Listed Tables). d .tables) (Z f .unsigned (v .settings) (v .account) t (v .call) c n .1)))
           (signed? (E f .shape) (Z f) t)
 
       in-slot : GoneFrom K E Z e k (tableOf u z)
@@ -243,7 +243,7 @@ module _ (K : Type 0) (E : K → Engine) (Z : (k : K) → Sealed (E k .shape)) (
       gone-course e k i (turned K E p v) vs (f .1) (omega (arith, written-length (v .places) (did K E p v .tables) p slots)) (gone-turn e k i p v (f .0) h g)
 
   -- where it is gone from table i, a return of a block of that serial that is lent table i for the loans is refused
-  pub gone-refused : (e : K) (b : Block) (t : List ℕ) → GoneFrom K E Z e (b .serial) t → (g : K) (s : E g .shape .Settings) (a : Account) (u : Lent) (list : List ℕ) → u .loans ≡ t
+  pub gone-refused : (e : K) (b : Block) (t : List ℕ) → GoneFrom K E Z e (b .serial) t → (g : K) (s : E g .shape .Settings) (a : Account) (u : Tables) (list : List ℕ) → u .loans ≡ t
       → (m : ℕ) × (E g .shape .return s a b u list ≡ listed (Paper.refusal m []) a u list) × ((m ≡ 7) ⊎ ((0 < m) × (m ≤ 4)))
   gone-refused e b t gone g s a u list same = ⊎-elim yes not (signed? (E g .shape) (Z g) u)
     where
@@ -267,7 +267,7 @@ module _ (K : Type 0) (E : K → Engine) (Z : (k : K) → Sealed (E k .shape)) (
     all-signed =
         ⊎-elim (λ x. x)
         (λ x. let w = Z e .unsigned s a (lentFrom p at) (returns b list) (no-set-up b list) x in
-        not-refused (E e .shape .return s a b (lentFrom p at) list .said) (w .0) [] (ap refuses taken) (ap (λ (r : Listed Lent). r .said) (w .1)))
+        not-refused (E e .shape .return s a b (lentFrom p at) list .said) (w .0) [] (ap refuses taken) (ap (λ (r : Listed Tables). r .said) (w .1)))
         (signed? (E e .shape) (Z e) (lentFrom p at))
 
     gone-now : GoneFrom K E Z e (b .serial) (getD (turned K E p (handing K E e s a at d b list)) (at ofLoans) [])
@@ -302,4 +302,4 @@ module _ (K : Type 0) (E : K → Engine) (Z : (k : K) → Sealed (E k .shape)) (
         turned K E q (handing K E g s′ a′ at′ d′ b list′) ≡ q
     never-mixed-pool vs f g s′ a′ at′ d′ list′ same =
         let q = course K E (turned K E p (handing K E e s a at d b list)) vs in
-        ap (λ (r : Listed Lent). written q at′ (r .tables) slots) (never-mixed vs f g s′ a′ at′ list′ same .1) ∙ written-same q at′ slots
+        ap (λ (r : Listed Tables). written q at′ (r .tables) slots) (never-mixed vs f g s′ a′ at′ list′ same .1) ∙ written-same q at′ slots

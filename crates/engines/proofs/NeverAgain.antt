@@ -15,7 +15,7 @@ use Rattle.engines.specs.Engines.{Engine}
 use Rattle.engines.specs.Histories.{State, storeAt, Visit, done, step, run, NoSetUp, handBack}
 use Rattle.engines.specs.Serials.{Gone}
 use Rattle.store_rules.specs.Rows.{listRows}
-use Rattle.engines.specs.Shapes.{Lent, markOf, Call, setsUp, returns, does, wordsOf}
+use Rattle.engines.specs.Shapes.{Tables, markOf, Call, setsUp, returns, does, wordsOf}
 use Rattle.engines.proofs.Visits.{set-up?, set-up-stays, stores-stay, store-here, store-other}
 
 -- a return is no set-up
@@ -25,7 +25,7 @@ no-set-up b list e = let z : _≡_ {A = ℕ} 0 1 = cc in omega arith
 -- no two engines have one mark
 module _ (K : Type 0) (E : K → Engine) (differ : (i j : K) → E i .shape .mark ≡ E j .shape .mark → i ≡ j) where
   -- a serial that is gone stays so over one call of any of the engines, with any settings, any account and any arguments
-  pub gone-call : (e : K) (k : ℕ) (a : Account) (t : Lent) (f : K) (s : E f .shape .Settings) (c : Call (E f .shape .Own)) → (c ≡ setsUp → does (E f .shape) s a t c .said ≡ Paper.ready → ⊥) → Gone (E e .shape) k t
+  pub gone-call : (e : K) (k : ℕ) (a : Account) (t : Tables) (f : K) (s : E f .shape .Settings) (c : Call (E f .shape .Own)) → (c ≡ setsUp → does (E f .shape) s a t c .said ≡ Paper.ready → ⊥) → Gone (E e .shape) k t
       → Gone (E e .shape) k (does (E f .shape) s a t c .tables)
   gone-call e k a t f s c old g = ⊎-elim first later (set-up? c)
     where
@@ -33,8 +33,8 @@ module _ (K : Type 0) (E : K → Engine) (differ : (i j : K) → E i .shape .mar
       first : c ≡ setsUp → Gone (E e .shape) k (does (E f .shape) s a t c .tables)
       first q =
           let d = ap (does (E f .shape) s a t) q in
-          let u = set-up-stays (E f) s t (λ r. old q (ap (λ (x : Listed Lent). x .said) d ∙ r)) in
-          subst (Gone (E e .shape) k) (sym (ap (λ (x : Listed Lent). x .tables) d ∙ u)) g
+          let u = set-up-stays (E f) s t (λ r. old q (ap (λ (x : Listed Tables). x .said) d ∙ r)) in
+          subst (Gone (E e .shape) k) (sym (ap (λ (x : Listed Tables). x .tables) d ∙ u)) g
 
       own : (c ≡ setsUp → ⊥) → markOf t ≡ E f .shape .mark → Gone (E e .shape) k (does (E f .shape) s a t c .tables)
       own n m =
@@ -43,7 +43,7 @@ module _ (K : Type 0) (E : K → Engine) (differ : (i j : K) → E i .shape .mar
           subst (λ (x : K). Gone (E x .shape) k (does (E f .shape) s a t c .tables)) q (E f .counts .gone-stays k s a t c n h)
 
       other : (c ≡ setsUp → ⊥) → (markOf t ≡ E f .shape .mark → ⊥) → Gone (E e .shape) k (does (E f .shape) s a t c .tables)
-      other n m = subst (Gone (E e .shape) k) (sym (ap (λ (d : Listed Lent). d .tables) (E f .refuses .foreign s a t c n m .1))) g
+      other n m = subst (Gone (E e .shape) k) (sym (ap (λ (d : Listed Tables). d .tables) (E f .refuses .foreign s a t c n m .1))) g
 
       later : (c ≡ setsUp → ⊥) → Gone (E e .shape) k (does (E f .shape) s a t c .tables)
       later n = ⊎-elim (own n) (other n) (same? (markOf t) (E f .shape .mark))

@@ -14,7 +14,7 @@ use Rattle.store_rules.specs.declared.Loan.{Loan}
 use Rattle.store_rules.proofs.Said.{refuses}
 use Rattle.engines.specs.Engines.{Engine}
 use Rattle.engines.specs.Ledger.{Note, lentNote, backNote, noteOf, ledger, Exactly, Fine}
-use Rattle.engines.specs.Shapes.{Lent, Call, setsUp, asks, delivers, returns, others, does, Marked}
+use Rattle.engines.specs.Shapes.{Tables, Call, setsUp, asks, delivers, returns, others, does, Marked}
 use Rattle.engines.specs.Tells.{lentBy, Joined, Released, Refused}
 use Rattle.engines.proofs.Exact.{same-exactly, more-exactly, less-exactly, more-fine, less-fine}
 use Rattle.engines.proofs.Taking.{return-taken}
@@ -63,21 +63,21 @@ refused-unheard (returns b list) n = refl
 refused-unheard (others c list) n = refl
 
 -- of tables t with engine E's mark, whose loans are the blocks bs: what a call leaves, where ns is heard of it
-pub record After (E : Engine) (bs : List Block) (u : Lent) (ns : List Note) : Type 0 where
+pub record After (E : Engine) (bs : List Block) (u : Tables) (ns : List Note) : Type 0 where
   pub marks : Marked (E .shape) u
   pub loans : Exactly (E .shape .loans u) (ledger bs ns)
   pub fine : Fine bs → Fine (ledger bs ns)
 
 -- nothing
-pub still : (E : Engine) (t u : Lent) (bs : List Block) (ns : List Note) → Marked (E .shape) t → Exactly (E .shape .loans t) bs → u ≡ t → ns ≡ [] → After E bs u ns
+pub still : (E : Engine) (t u : Tables) (bs : List Block) (ns : List Note) → Marked (E .shape) t → Exactly (E .shape .loans t) bs → u ≡ t → ns ≡ [] → After E bs u ns
 still E t u bs ns m S e f =
     record {
       marks = subst (Marked (E .shape)) (sym e) m;
-      loans = subst (λ (xs : List Note). Exactly (E .shape .loans u) (ledger bs xs)) (sym f) (subst (λ (x : Lent). Exactly (E .shape .loans x) bs) (sym e) S);
+      loans = subst (λ (xs : List Note). Exactly (E .shape .loans u) (ledger bs xs)) (sym f) (subst (λ (x : Tables). Exactly (E .shape .loans x) bs) (sym e) S);
       fine = λ w. subst (λ (xs : List Note). Fine (ledger bs xs)) (sym f) w;
     }
 
-module _ (E : Engine) (s : E .shape .Settings) (a : Account) (t : Lent) (m : Marked (E .shape) t) (bs : List Block) (S : Exactly (E .shape .loans t) bs) where
+module _ (E : Engine) (s : E .shape .Settings) (a : Account) (t : Tables) (m : Marked (E .shape) t) (bs : List Block) (S : Exactly (E .shape .loans t) bs) where
   ask-after : (size mask : ℕ) → After E bs (E .shape .ask s a size mask t .tables) (lentNote (E .shape .ask s a size mask t .said))
   ask-after size mask =
       let r = E .shape .ask s a size mask t in
@@ -101,12 +101,12 @@ module _ (E : Engine) (s : E .shape .Settings) (a : Account) (t : Lent) (m : Mar
       }
 
   module _ (b : Block) (list : List ℕ) where
-    abbrev u : Lent
+    abbrev u : Tables
     u = E .shape .return s a b t list .tables
 
     return-refused : Refused (E .shape .return s a b t list .said) → After E bs u (backNote b (E .shape .return s a b t list .said))
     return-refused w =
-        still E t u bs (backNote b (E .shape .return s a b t list .said)) m S (ap (λ (r : Listed Lent). r .tables) (E .refuses .return-leaves s a b t list (w .0) (w .1) (w .2)))
+        still E t u bs (backNote b (E .shape .return s a b t list .said)) m S (ap (λ (r : Listed Tables). r .tables) (E .refuses .return-leaves s a b t list (w .0) (w .1) (w .2)))
         (ap (backNote b) (w .2))
 
     return-accepted : Released (E .shape .return s a b t list .said) → After E bs u (backNote b (E .shape .return s a b t list .said))

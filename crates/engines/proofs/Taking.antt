@@ -20,7 +20,7 @@ use Rattle.store_rules.proofs.Said.{refuses, not-refused}
 use Rattle.engines.specs.Ends.{Taken}
 use Rattle.engines.specs.Engines.{Engine}
 use Rattle.store_rules.specs.Rows.{returnRows, askRows}
-use Rattle.engines.specs.Shapes.{Lent, wordsOf}
+use Rattle.engines.specs.Shapes.{Tables, wordsOf}
 
 -- where no number is given no row's words hold
 pub none-given : (rs : Reasons) → ((n : ℕ) → Given rs n → ⊥) → Clear rs
@@ -29,7 +29,7 @@ none-given (reason words number rest) f =
     let not : words → ⊥ = λ w. f number (inl (w, refl)) in
     (not, none-given rest (λ n g. f n (inr (not, g))))
 
-module _ (E : Engine) (s : E .shape .Settings) (a : Account) (t : Lent) where
+module _ (E : Engine) (s : E .shape .Settings) (a : Account) (t : Tables) where
   -- ---- a return that is not refused
 
   module _ (b : Block) (list : List ℕ) (taken : refuses (E .shape .return s a b t list .said) ≡ false) where

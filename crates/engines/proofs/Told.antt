@@ -17,7 +17,7 @@ use Rattle.store_rules.specs.Outcomes.{Listed}
 use Rattle.engines.specs.Engines.{Engine}
 use Rattle.engines.specs.Histories.{State, storeAt, Visit, done, step, run, NoSetUp}
 use Rattle.engines.specs.Ledger.{Note, lent, back, noteOf, ledger, Exactly, NoSerialTwice, NoByteTwice, Fine, notesAt}
-use Rattle.engines.specs.Shapes.{Lent, markOf, Call, setsUp, does, Marked}
+use Rattle.engines.specs.Shapes.{Tables, markOf, Call, setsUp, does, Marked}
 use Rattle.engines.proofs.CountUp.{setting}
 use Rattle.engines.proofs.Exact.{none-exactly}
 use Rattle.engines.proofs.Noting.{After, still, call-after, refused-unheard}
@@ -33,7 +33,7 @@ ledger-append bs (back b ∷ ms) ns = ledger-append _ ms ns
 module _ (K : Type 0) (E : K → Engine) (differ : (i j : K) → E i .shape .mark ≡ E j .shape .mark → i ≡ j) where
   -- ---- over one call of any of the engines, on tables with engine e's mark
 
-  module _ (e : K) (a : Account) (t : Lent) (m : Marked (E e .shape) t) (bs : List Block) (S : Exactly (E e .shape .loans t) bs) where
+  module _ (e : K) (a : Account) (t : Tables) (m : Marked (E e .shape) t) (bs : List Block) (S : Exactly (E e .shape .loans t) bs) where
     any-call : (f : K) (s : E f .shape .Settings) (c : Call (E f .shape .Own)) → (c ≡ setsUp → does (E f .shape) s a t c .said ≡ Paper.ready → ⊥)
         → After (E e) bs (does (E f .shape) s a t c .tables) (noteOf c (does (E f .shape) s a t c .said))
     any-call f s c n = ⊎-elim own other (same? (markOf t) (E f .shape .mark))
@@ -57,8 +57,8 @@ module _ (K : Type 0) (E : K → Engine) (differ : (i j : K) → E i .shape .mar
             later : (c ≡ setsUp → ⊥) → After (E e) bs (does (E f .shape) s a t c .tables) (noteOf c (does (E f .shape) s a t c .said))
             later q =
                 let w = E f .refuses .foreign s a t c q k in
-                still (E e) t (does (E f .shape) s a t c .tables) bs (noteOf c (does (E f .shape) s a t c .said)) m S (ap (λ (d : Listed Lent). d .tables) (w .1))
-                (ap (λ (d : Listed Lent). noteOf c (d .said)) (w .1) ∙ refused-unheard c (w .0))
+                still (E e) t (does (E f .shape) s a t c .tables) bs (noteOf c (does (E f .shape) s a t c .said)) m S (ap (λ (d : Listed Tables). d .tables) (w .1))
+                (ap (λ (d : Listed Tables). noteOf c (d .said)) (w .1) ∙ refused-unheard c (w .0))
 
   -- ---- over a history
 
@@ -85,7 +85,7 @@ module _ (K : Type 0) (E : K → Engine) (differ : (i j : K) → E i .shape .mar
             let x : storeAt (step K E w v) i ≡ done K E w v .tables = subst (λ (j : ℕ). storeAt (step K E w v) j ≡ done K E w v .tables) q (store-here K E w v (omega arith)) in
             record {
               marks = subst (Marked (E e .shape)) (sym x) (A .marks);
-              loans = subst (λ (ns : List Note). Exactly (E e .shape .loans (storeAt (step K E w v) i)) (ledger bs ns)) (sym z) (subst (λ (u : Lent). Exactly (E e .shape .loans u) (ledger bs (noteOf (v .call) (done K E w v .said)))) (sym x) (A .loans));
+              loans = subst (λ (ns : List Note). Exactly (E e .shape .loans (storeAt (step K E w v) i)) (ledger bs ns)) (sym z) (subst (λ (u : Tables). Exactly (E e .shape .loans u) (ledger bs (noteOf (v .call) (done K E w v .said)))) (sym x) (A .loans));
               fine = λ N. subst (λ (ns : List Note). Fine (ledger bs ns)) (sym z) (A .fine N);
             }
 

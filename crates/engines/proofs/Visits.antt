@@ -11,7 +11,7 @@ use Rattle.counter.specs.declared.answers.Block.{Block}
 use Rattle.counter.specs.declared.answers.Outcome.{Outcome}
 use Rattle.engines.specs.Engines.{Engine}
 use Rattle.engines.specs.Histories.{State, storeAt, Visit, done, step}
-use Rattle.engines.specs.Shapes.{Lent, noTables, Begun, Call, setsUp, asks, delivers, returns, others}
+use Rattle.engines.specs.Shapes.{Tables, noTables, Begun, Call, setsUp, asks, delivers, returns, others}
 
 -- ---- which call is a set-up
 
@@ -35,10 +35,10 @@ set-up? (returns b list) = inr (returns-not b list)
 set-up? (others c list) = inr (others-not c list)
 
 -- one that is not accepted is refused, and leaves the tables
-pub set-up-refused : (E : Engine) (s : E .shape .Settings) (t : Lent) → (E .shape .setUp s t .said ≡ Paper.ready → ⊥) → (n : ℕ) × (E .shape .setUp s t ≡ record { said = Paper.refusal n []; tables = t })
+pub set-up-refused : (E : Engine) (s : E .shape .Settings) (t : Tables) → (E .shape .setUp s t .said ≡ Paper.ready → ⊥) → (n : ℕ) × (E .shape .setUp s t ≡ record { said = Paper.refusal n []; tables = t })
 set-up-refused E s t f = ⊎-elim (λ r. absurd (f r)) (λ w. (w .0, E .refuses .set-up-leaves s t (w .0) (w .1) (w .2))) (E .tells .set-up-says s t)
 
-pub set-up-stays : (E : Engine) (s : E .shape .Settings) (t : Lent) → (E .shape .setUp s t .said ≡ Paper.ready → ⊥) → E .shape .setUp s t .tables ≡ t
+pub set-up-stays : (E : Engine) (s : E .shape .Settings) (t : Tables) → (E .shape .setUp s t .said ≡ Paper.ready → ⊥) → E .shape .setUp s t .tables ≡ t
 set-up-stays E s t f = ap (λ (r : Begun). r .tables) (set-up-refused E s t f .1)
 
 -- ---- stores

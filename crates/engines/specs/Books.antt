@@ -19,7 +19,7 @@ use Rattle.heap.specs.Heap.{Within}
 use Rattle.heap.specs.History.{Entry, charge, release, after, AllFitting}
 use Rattle.store_rules.specs.Outcomes.{Listed, toFree}
 use Rattle.store_rules.specs.Views.{sizes}
-use Rattle.engines.specs.Shapes.{Lent, Call, setsUp, asks, delivers, returns, others, Shape, does}
+use Rattle.engines.specs.Shapes.{Tables, Call, setsUp, asks, delivers, returns, others, Shape, does}
 
 -- the size of the open order
 abbrev pub orderSize : OpenOrder → ℕ
@@ -58,7 +58,7 @@ deliveryTakes O.OutOfHost said = 0
 
 module _ (E : Shape) where
   -- what a call books on the heap of its settings, from what it leaves
-  abbrev pub books : E .Settings → Account → Lent → Call (E .Own) → Listed Lent → List Entry
+  abbrev pub books : E .Settings → Account → Tables → Call (E .Own) → Listed Tables → List Entry
   books s a t setsUp d = []
   books s a t (asks size mask) d = []
   books s a t (delivers o) d = deliveryBooks o (orderSize (a .order)) (d .said)
@@ -74,7 +74,7 @@ module _ (E : Shape) where
   takes (others c list) said = 0
 
 -- a call on heap h books these entries there and takes so many objects
-pub record Booked (h : ℕ) (a : Account) (entries : List Entry) (takes : ℕ) (d : Listed Lent) : Type 0 where
+pub record Booked (h : ℕ) (a : Account) (entries : List Entry) (takes : ℕ) (d : Listed Tables) : Type 0 where
   pub heaps : length (d .account .heaps) ≡ length (a .heaps)
   pub others : (j : ℕ) → (j ≡ h → ⊥) → heapAt (d .account) j ≡ heapAt a j
   pub heap : Typed a → heapAt (d .account) h ≡ after (heapAt a h) entries
@@ -82,5 +82,5 @@ pub record Booked (h : ℕ) (a : Account) (entries : List Entry) (takes : ℕ) (
   pub objects : d .account .objects + takes ≡ a .objects + toFree (d .said)
 
 pub record Books (E : Shape) : Type 0 where
-  pub booked : (s : E .Settings) (a : Account) (t : Lent) (c : Call (E .Own))
+  pub booked : (s : E .Settings) (a : Account) (t : Tables) (c : Call (E .Own))
       → Booked (E .store s .heap) a (books E s a t c (does E s a t c)) (takes E c (does E s a t c .said)) (does E s a t c)

@@ -15,14 +15,14 @@ use Rattle.store_rules.specs.Outcomes.{Listed, toFree}
 use Rattle.engines.specs.Books.{books, takes}
 use Rattle.engines.specs.Engines.{Engine}
 use Rattle.engines.specs.Serials.{serialSaid}
-use Rattle.engines.specs.Shapes.{Lent, noTables, Call, setsUp, returns, does}
+use Rattle.engines.specs.Shapes.{Tables, noTables, Call, setsUp, returns, does}
 
 -- the account, and the tables of each store
 pub record State : Type 0 where
   pub account : Account
-  pub stores : List Lent
+  pub stores : List Tables
 
-abbrev pub storeAt : State → ℕ → Lent
+abbrev pub storeAt : State → ℕ → Tables
 storeAt w i = getD (w .stores) i noTables
 
 -- a block, and the list that is lent for its return
@@ -42,7 +42,7 @@ module _ (K : Type 0) (E : K → Engine) where
     pub settings : E by .shape .Settings
     pub call : Call (E by .shape .Own)
 
-  abbrev pub done : State → Visit → Listed Lent
+  abbrev pub done : State → Visit → Listed Tables
   done w v = does (E (v .by) .shape) (v .settings) (w .account) (storeAt w (v .at)) (v .call)
 
   abbrev pub step : State → Visit → State

@@ -14,7 +14,7 @@ use Rattle.store_rules.specs.Views.{All}
 use Rattle.store_rules.specs.declared.Loan.{Loan}
 use Rattle.engines.specs.Engines.{Engine}
 use Rattle.engines.specs.Ledger.{Note, noteOf}
-use Rattle.engines.specs.Shapes.{Lent, Call, setsUp, returns, Shape, does, lentList}
+use Rattle.engines.specs.Shapes.{Tables, Call, setsUp, returns, Shape, does, lentList}
 
 -- which of a store's five tables
 pub data Slot : Type 0 where
@@ -27,7 +27,7 @@ pub data Slot : Type 0 where
 abbrev pub slots : List Slot
 slots = ofHead ∷ ofLoans ∷ ofChunks ∷ ofIndex ∷ ofRoom ∷ []
 
-abbrev pub tableOf : Lent → Slot → List ℕ
+abbrev pub tableOf : Tables → Slot → List ℕ
 tableOf t ofHead = t .head
 tableOf t ofLoans = t .loans
 tableOf t ofChunks = t .chunks
@@ -46,13 +46,13 @@ pub record Sealed (E : Shape) : Type 0 where
   -- the loans table alone says how many serials were given and which blocks are on loan
   pub givenIn : List ℕ → ℕ
   pub loansIn : List ℕ → List Loan
-  pub given-there : (t : Lent) → E .given t ≡ givenIn (t .loans)
-  pub loans-there : (t : Lent) → E .loans t ≡ loansIn (t .loans)
+  pub given-there : (t : Tables) → E .given t ≡ givenIn (t .loans)
+  pub loans-there : (t : Tables) → E .loans t ≡ loansIn (t .loans)
   -- a set-up that is accepted signs all five, and any other call leaves the five first words
-  pub signs : (s : E .Settings) (t : Lent) → E .setUp s t .said ≡ Paper.ready → (z : Slot) → seal (tableOf (E .setUp s t .tables) z) ≡ sign z
-  pub seals-stay : (s : E .Settings) (a : Account) (t : Lent) (c : Call (E .Own)) → (c ≡ setsUp → ⊥) → (z : Slot) → seal (tableOf (does E s a t c .tables) z) ≡ seal (tableOf t z)
+  pub signs : (s : E .Settings) (t : Tables) → E .setUp s t .said ≡ Paper.ready → (z : Slot) → seal (tableOf (E .setUp s t .tables) z) ≡ sign z
+  pub seals-stay : (s : E .Settings) (a : Account) (t : Tables) (c : Call (E .Own)) → (c ≡ setsUp → ⊥) → (z : Slot) → seal (tableOf (does E s a t c .tables) z) ≡ seal (tableOf t z)
   -- unless each of the five is this engine's for its slot, each call but set-up is refused, by 1, 2 or 3, and leaves everything
-  pub unsigned : (s : E .Settings) (a : Account) (t : Lent) (c : Call (E .Own)) → (c ≡ setsUp → ⊥) → (((z : Slot) → seal (tableOf t z) ≡ sign z) → ⊥)
+  pub unsigned : (s : E .Settings) (a : Account) (t : Tables) (c : Call (E .Own)) → (c ≡ setsUp → ⊥) → (((z : Slot) → seal (tableOf t z) ≡ sign z) → ⊥)
       → (n : ℕ) × (does E s a t c ≡ listed (Paper.refusal n []) a t (lentList c)) × (0 < n) × (n ≤ 3)
 
 -- ---- a pool
@@ -60,12 +60,12 @@ pub record Sealed (E : Shape) : Type 0 where
 abbrev pub Pool : Type 0
 Pool = List (List ℕ)
 
-abbrev pub lentFrom : Pool → (Slot → ℕ) → Lent
+abbrev pub lentFrom : Pool → (Slot → ℕ) → Tables
 lentFrom p at =
     record { head = getD p (at ofHead) []; loans = getD p (at ofLoans) []; chunks = getD p (at ofChunks) []; index = getD p (at ofIndex) []; room = getD p (at ofRoom) [] }
 
 -- the tables of these slots, written where they stand
-abbrev pub written : Pool → (Slot → ℕ) → Lent → List Slot → Pool
+abbrev pub written : Pool → (Slot → ℕ) → Tables → List Slot → Pool
 written p at t [] = p
 written p at t (z ∷ zs) = written (set p (at z) (tableOf t z)) at t zs
 
@@ -82,7 +82,7 @@ module _ (K : Type 0) (E : K → Engine) where
     pub places : Slot → ℕ
     pub different : Different places
 
-  abbrev pub did : Pool → Turn → Listed Lent
+  abbrev pub did : Pool → Turn → Listed Tables
   did p v = does (E (v .by) .shape) (v .settings) (v .account) (lentFrom p (v .places)) (v .call)
 
   abbrev pub turned : Pool → Turn → Pool

@@ -14,7 +14,7 @@ use Rattle.store_rules.specs.Outcomes.{listed}
 use Rattle.store_rules.specs.Views.{All}
 use Rattle.store_rules.specs.declared.Loan.{Loan}
 use Rattle.store_rules.specs.Rows.{listRows}
-use Rattle.engines.specs.Shapes.{Lent, Call, setsUp, Shape, does, Marked, wordsOf}
+use Rattle.engines.specs.Shapes.{Tables, Call, setsUp, Shape, does, Marked, wordsOf}
 
 -- the serial of a block that is lent
 abbrev pub serialSaid : Said → List ℕ
@@ -31,26 +31,26 @@ upFrom g zero = []
 upFrom g (suc n) = (g + 1) ∷ upFrom (g + 1) n
 
 -- serial k was given by this engine in these tables, and no loan of theirs has it
-pub record Gone (E : Shape) (k : ℕ) (t : Lent) : Type 0 where
+pub record Gone (E : Shape) (k : ℕ) (t : Tables) : Type 0 where
   pub marked : Marked E t
   pub old : k ≤ E .given t
   pub away : All (λ (l : Loan). l .serial ≡ k → ⊥) (E .loans t)
 
 -- a call gives as many serials as it lends blocks, the next ones, and the mark stays
-pub record Counted (E : Shape) (t t′ : Lent) (said : Said) : Type 0 where
+pub record Counted (E : Shape) (t t′ : Tables) (said : Said) : Type 0 where
   pub gives : E .given t′ ≡ E .given t + length (serialSaid said)
   pub nexts : serialSaid said ≡ upFrom (E .given t) (length (serialSaid said))
   pub marks : Marked E t′
 
 pub record Counts (E : Shape) : Type 0 where
   -- a store set up has the mark and gave no serial
-  pub begins : (s : E .Settings) (t : Lent) → E .setUp s t .said ≡ Paper.ready → Marked E (E .setUp s t .tables) × (E .given (E .setUp s t .tables) ≡ 0)
-  pub counted : (s : E .Settings) (a : Account) (t : Lent) (c : Call (E .Own)) → (c ≡ setsUp → ⊥) → Marked E t → Counted E t (does E s a t c .tables) (does E s a t c .said)
+  pub begins : (s : E .Settings) (t : Tables) → E .setUp s t .said ≡ Paper.ready → Marked E (E .setUp s t .tables) × (E .given (E .setUp s t .tables) ≡ 0)
+  pub counted : (s : E .Settings) (a : Account) (t : Tables) (c : Call (E .Own)) → (c ≡ setsUp → ⊥) → Marked E t → Counted E t (does E s a t c .tables) (does E s a t c .said)
   -- a serial that is gone stays so
-  pub gone-stays : (k : ℕ) (s : E .Settings) (a : Account) (t : Lent) (c : Call (E .Own)) → (c ≡ setsUp → ⊥) → Gone E k t → Gone E k (does E s a t c .tables)
+  pub gone-stays : (k : ℕ) (s : E .Settings) (a : Account) (t : Tables) (c : Call (E .Own)) → (c ≡ setsUp → ⊥) → Gone E k t → Gone E k (does E s a t c .tables)
   -- a return that was taken leaves the block's serial gone
-  pub released-gone : (s : E .Settings) (a : Account) (b : Block) (t : Lent) (list : List ℕ) (n : ℕ) → E .return s a b t list .said ≡ Paper.released n
+  pub released-gone : (s : E .Settings) (a : Account) (b : Block) (t : Tables) (list : List ℕ) (n : ℕ) → E .return s a b t list .said ≡ Paper.released n
       → Gone E (b .serial) (E .return s a b t list .tables)
   -- and its return is refused from then on, with nothing changed: as 7, or as one of the earlier rows 1 to 4
-  pub gone-refused : (s : E .Settings) (a : Account) (b : Block) (t : Lent) (list : List ℕ) → Gone E (b .serial) t
+  pub gone-refused : (s : E .Settings) (a : Account) (b : Block) (t : Tables) (list : List ℕ) → Gone E (b .serial) t
       → (n : ℕ) × (E .return s a b t list ≡ listed (Paper.refusal n []) a t list) × ((n ≡ 7) ⊎ Given (listRows (wordsOf E) s a t list) n)

@@ -12,28 +12,14 @@ use Rattle.counter.specs.declared.answers.Outcome.{Outcome}
 use Rattle.counter.specs.declared.settings.StoreSettings.{StoreSettings}
 use Rattle.store_rules.specs.Delivery.{Engine}
 use Rattle.store_rules.specs.Outcomes.{Out, Listed, listed}
+pub use Rattle.store_rules.specs.Tables.{Tables, noTables, Begun}
 use Rattle.store_rules.specs.Views.{View}
 use Rattle.store_rules.specs.declared.Loan.{Loan}
 use Rattle.store_rules.specs.Words.{Words}
 
--- every store lends five tables; room is the one that says what of its chunks is free
-pub record Lent : Type 0 where
-  pub head : List ℕ
-  pub loans : List ℕ
-  pub chunks : List ℕ
-  pub index : List ℕ
-  pub room : List ℕ
-
-abbrev pub noTables : Lent
-noTables = record { head = []; loans = []; chunks = []; index = []; room = [] }
-
 -- the first word of the head tells which engine set the tables up
-abbrev pub markOf : Lent → ℕ
+abbrev pub markOf : Tables → ℕ
 markOf t = getD (t .head) 0 0
-
-pub record Begun : Type 0 where
-  pub said : Said
-  pub tables : Lent
 
 -- a call with what it is given: a size and a mask, an outcome, a block and a lent list, or one that only this engine has, with
 -- a lent list
@@ -49,47 +35,47 @@ pub record Shape : Type 1 where
   pub Settings : Type 0
   pub store : Settings → StoreSettings
   pub Own : Type 0
-  pub setUp : Settings → Lent → Begun
-  pub ask : Settings → Account → ℕ → ℕ → Lent → Out Lent
-  pub deliver : Settings → Account → Outcome → Lent → Out Lent
-  pub return : Settings → Account → Block → Lent → List ℕ → Listed Lent
-  pub other : Settings → Account → Own → Lent → List ℕ → Listed Lent
+  pub setUp : Settings → Tables → Begun
+  pub ask : Settings → Account → ℕ → ℕ → Tables → Out Tables
+  pub deliver : Settings → Account → Outcome → Tables → Out Tables
+  pub return : Settings → Account → Block → Tables → List ℕ → Listed Tables
+  pub other : Settings → Account → Own → Tables → List ℕ → Listed Tables
   -- ---- which of 01's engines it is: that decides what becomes of memory that was not mapped
   pub engine : Engine
   -- ---- what its tables say: its mark, how many serials were given, the loans; blocks on loan, held chunks and free pieces
   pub mark : ℕ
-  pub given : Lent → ℕ
-  pub loans : Lent → List Loan
-  pub view : Settings → Lent → View
+  pub given : Tables → ℕ
+  pub loans : Tables → List Loan
+  pub view : Settings → Tables → View
   -- and its counts beside these, which returns leave: of a free list serials and chunk numbers given and the chunk size, of a
   -- buddy serials given and levels
   pub Rest : Type 0
-  pub rest : Settings → Lent → Rest
+  pub rest : Settings → Tables → Rest
   -- ---- when they are sound, and when no held chunk has a fitting free place for a size and a mask; how long the chunk is that
   -- is ordered then
-  pub Sound : Settings → Lent → Type 0
-  pub Needed : Settings → ℕ → ℕ → Lent → Type 0
-  pub orderSize : Settings → ℕ → ℕ → Lent → ℕ
+  pub Sound : Settings → Tables → Type 0
+  pub Needed : Settings → ℕ → ℕ → Tables → Type 0
+  pub orderSize : Settings → ℕ → ℕ → Tables → ℕ
   -- ---- the words of 01's rows that are an engine's own; the rest is said once, in Rows. 1: settings and tables; 5: a mask of the
   -- allowed form that it does not take; 6: the size; 8 and 10: what it may run out of besides
-  pub Fits : Settings → Lent → Type 0
+  pub Fits : Settings → Tables → Type 0
   pub MaskHigh : Settings → ℕ → Type 0
   pub SizeOff : Settings → ℕ → ℕ → Type 0
-  pub Roomless : Settings → ℕ → ℕ → Lent → Type 0
-  pub Numberless : Settings → Lent → Type 0
+  pub Roomless : Settings → ℕ → ℕ → Tables → Type 0
+  pub Numberless : Settings → Tables → Type 0
   -- the rows of a call that only this engine has
-  pub ownRows : Settings → Account → Own → Lent → List ℕ → Reasons
+  pub ownRows : Settings → Account → Own → Tables → List ℕ → Reasons
   -- ---- the tests 1 to 4 of an ask, and of a delivery
-  pub gate : Settings → Account → Lent → Verdict
-  pub deliverGate : Settings → Account → Lent → Verdict
+  pub gate : Settings → Account → Tables → Verdict
+  pub deliverGate : Settings → Account → Tables → Verdict
   -- ---- several blocks come back: the end that 01's rules give
-  pub atOnce : Settings → List Block → Lent → View
+  pub atOnce : Settings → List Block → Tables → View
 
 -- the words of its rows, of the lent tables
 abbrev pub wordsOf : Shape → Words
 wordsOf E =
     record {
-      Tables = Lent;
+      Tables = Tables;
       Settings = E .Settings;
       store = E .store;
       given = E .given;
@@ -106,7 +92,7 @@ wordsOf E =
 
 module _ (E : Shape) where
   -- what a call says and leaves; a call that is lent no list leaves none
-  abbrev pub does : E .Settings → Account → Lent → Call (E .Own) → Listed Lent
+  abbrev pub does : E .Settings → Account → Tables → Call (E .Own) → Listed Tables
   does s a t setsUp = listed (E .setUp s t .said) a (E .setUp s t .tables) []
   does s a t (asks size mask) = listed (E .ask s a size mask t .said) (E .ask s a size mask t .account) (E .ask s a size mask t .tables) []
   does s a t (delivers o) = listed (E .deliver s a o t .said) (E .deliver s a o t .account) (E .deliver s a o t .tables) []
@@ -114,7 +100,7 @@ module _ (E : Shape) where
   does s a t (others c list) = E .other s a c t list
 
   -- tables that this engine set up
-  abbrev pub Marked : Lent → Type 0
+  abbrev pub Marked : Tables → Type 0
   Marked t = markOf t ≡ E .mark
 
 -- the list that a call is lent

@@ -69,7 +69,7 @@ module _ (s : FreeListSettings) (h : Heap) (objects size mask : ℕ) (t : Tables
   room : regionsIn s t < regionsMost s
   room = omega (arith, room-enough s (storeOf s t) fit (sound .store), regions-length s t, chunks-length s t, loans-few s t sound, few)
 
-  pub adds-ready : Adds s (t .head) (t .chunks) (t .regions)
+  pub adds-ready : Adds s (t .head) (t .chunks) (t .room)
   adds-ready =
       record {
         fit = regions-fit s t fit lengths sound;
@@ -94,21 +94,21 @@ module _ (s : FreeListSettings) (h : Heap) (objects size mask : ℕ) (t : Tables
     after-room = omega (arith, after-length, regions-length s t, room)
 
     -- the chunk's region is the last
-    last-region : getD (regionsOf s (deliveredTables s memory z t .regions)) (length (storeOf s t .regions)) noRegion ≡ region (storeOf s t .made + 1) 0 z
+    last-region : getD (regionsOf s (deliveredTables s memory z t .room)) (length (storeOf s t .regions)) noRegion ≡ region (storeOf s t .made + 1) 0 z
     unfolding deliveredTables
     last-region =
-        ap (λ (rs : List Region). getD rs (length (storeOf s t .regions)) noRegion) (laid-regions s after (t .regions) (regions-fit s t fit lengths sound) after-room)
+        ap (λ (rs : List Region). getD rs (length (storeOf s t .regions)) noRegion) (laid-regions s after (t .room) (regions-fit s t fit lengths sound) after-room)
         ∙ last-at (storeOf s t .regions) (region (storeOf s t .made + 1) 0 z) noRegion
 
     pub delivered-ready : (n m : ℕ) (k : Taken) → k ≡ takenOf (placesIn t) (t .index)
-        → Lends s (length (storeOf s t .regions)) (cut m n (region 0 0 z)) (k .place) (deliveredTables s memory z t .head) (t .loans) (deliveredTables s memory z t .regions) (t .index)
+        → Lends s (length (storeOf s t .regions)) (cut m n (region 0 0 z)) (k .place) (deliveredTables s memory z t .head) (t .loans) (deliveredTables s memory z t .room) (t .index)
     unfolding deliveredTables
     delivered-ready n m k g =
         let w = buy-held s h objects size mask t z order .2 in
         let old = regions-fit s t fit lengths sound in
-        let count : getD (laidRegions s after (t .regions)) (regionCountAt s) 0 ≡ length after = laid-count s after (t .regions) old after-room in
+        let count : getD (laidRegions s after (t .room)) (regionCountAt s) 0 ≡ length after = laid-count s after (t .room) old after-room in
         record {
-          fit = laid-fit s after (t .regions) old after-room;
+          fit = laid-fit s after (t .room) old after-room;
           here = omega (arith, count, after-length);
           within = omega (arith, down-enough (z - n) m, ap (λ (r : Region). r .end) last-region);
           serial = omega (arith, given-stays s memory z t, not-spent s h size t nowhere (w .1 .1 .1 .0));
@@ -116,14 +116,14 @@ module _ (s : FreeListSettings) (h : Heap) (objects size mask : ℕ) (t : Tables
         }
 
 -- the region of a chunk that is added is the last
-pub delivered-last : (s : FreeListSettings) (memory z : ℕ) (t : Tables) → Adds s (t .head) (t .chunks) (t .regions)
-    → getD (regionsOf s (deliveredTables s memory z t .regions)) (length (storeOf s t .regions)) noRegion ≡ region (storeOf s t .made + 1) 0 z
+pub delivered-last : (s : FreeListSettings) (memory z : ℕ) (t : Tables) → Adds s (t .head) (t .chunks) (t .room)
+    → getD (regionsOf s (deliveredTables s memory z t .room)) (length (storeOf s t .regions)) noRegion ≡ region (storeOf s t .made + 1) 0 z
 unfolding deliveredTables
 delivered-last s memory z t adds =
     let last = region (storeOf s t .made + 1) 0 z in
     let after = storeOf s t .regions ++ (last ∷ []) in
     let room : length after ≤ regionsMost s = omega (arith, length-append (storeOf s t .regions) (last ∷ []), regions-length s t, adds .room) in
-    ap (λ (rs : List Region). getD rs (length (storeOf s t .regions)) noRegion) (laid-regions s after (t .regions) (adds .fit) room)
+    ap (λ (rs : List Region). getD rs (length (storeOf s t .regions)) noRegion) (laid-regions s after (t .room) (adds .fit) room)
     ∙ last-at (storeOf s t .regions) last noRegion
 
 -- with the numbers that the plan carries

@@ -149,16 +149,16 @@ deliver-ready s a o t (D.Come r b) e c = coming-ready s a o t b r e c
 -- a chunk added does not look at loans and index
 module _ (s : FreeListSettings) (memory z : ℕ) (head loans chunks regions index : List ℕ) where
   abbrev before : Tables
-  before = tables head loans chunks regions index
+  before = tables head loans chunks index regions
 
-  pub added-rest : (h′ c′ r′ : List ℕ) → tables h′ [] c′ r′ [] ≡ deliveredTables s memory z (tables head [] chunks regions [])
-      → tables h′ loans c′ r′ index ≡ deliveredTables s memory z before
+  pub added-rest : (h′ c′ r′ : List ℕ) → tables h′ [] c′ [] r′ ≡ deliveredTables s memory z (tables head [] chunks [] regions)
+      → tables h′ loans c′ index r′ ≡ deliveredTables s memory z before
   unfolding deliveredTables storeOf
-  added-rest h′ c′ r′ e = ap (λ (t : Tables). tables (t .head) loans (t .chunks) (t .regions) index) e
+  added-rest h′ c′ r′ e = ap (λ (t : Tables). tables (t .head) loans (t .chunks) index (t .room)) e
 
-module _ (s : FreeListSettings) (share : Share) (k : KeptOrder) (memory : ℕ) (b : Buying) (head loans chunks regions index : List ℕ) (keeps : KeepReady s k memory (tables head loans chunks regions index) b) where
+module _ (s : FreeListSettings) (share : Share) (k : KeptOrder) (memory : ℕ) (b : Buying) (head loans chunks regions index : List ℕ) (keeps : KeepReady s k memory (tables head loans chunks index regions) b) where
   abbrev start : Tables
-  start = tables head loans chunks regions index
+  start = tables head loans chunks index regions
 
   abbrev added : Tables
   added = deliveredTables s memory (k .order .size) start
@@ -171,13 +171,13 @@ module _ (s : FreeListSettings) (share : Share) (k : KeptOrder) (memory : ℕ) (
 
   -- of the tables that a chunk added leaves
   pub lends-now : (i x : ℕ) (h₁ c₁ r₁ : List ℕ) → i ≡ getD regions (regionCountAt s) 0 → x ≡ downTo (k .order .size - b .size) (b .mask)
-      → tables h₁ [] c₁ r₁ [] ≡ deliveredTables s memory (k .order .size) (tables head [] chunks regions [])
+      → tables h₁ [] c₁ [] r₁ ≡ deliveredTables s memory (k .order .size) (tables head [] chunks [] regions)
       → Lends s i x (b .loan .place) h₁ loans r₁ index
   lends-now i x h₁ c₁ r₁ e d f =
       let g = added-rest s memory (k .order .size) head loans chunks regions index h₁ c₁ r₁ f in
-      subst (λ (t : Tables). Lends s i x (b .loan .place) (t .head) loans (t .regions) index) (sym g)
-      (subst (λ (j : ℕ). Lends s j x (b .loan .place) (added .head) loans (added .regions) index) (sym (last-is i e))
-      (subst (λ (y : ℕ). Lends s last y (b .loan .place) (added .head) loans (added .regions) index) (sym d) (keeps .lends)))
+      subst (λ (t : Tables). Lends s i x (b .loan .place) (t .head) loans (t .room) index) (sym g)
+      (subst (λ (j : ℕ). Lends s j x (b .loan .place) (added .head) loans (added .room) index) (sym (last-is i e))
+      (subst (λ (y : ℕ). Lends s last y (b .loan .place) (added .head) loans (added .room) index) (sym d) (keeps .lends)))
 
   -- the block starts where the kept ask's does
   starts-now : (x : ℕ) → x ≡ downTo (k .order .size - b .size) (b .mask) → x ≡ blockAt s (k .ask .size) (k .ask .mask) added last .start
@@ -192,11 +192,11 @@ module _ (s : FreeListSettings) (share : Share) (k : KeptOrder) (memory : ℕ) (
 
   pub kept-done : (i x : ℕ) (h₁ c₁ r₁ h₂ l₂ r₂ i₂ : List ℕ) (after paid : Share) (order : OpenOrder) (l : Loan) (said : Said) → i ≡ getD regions (regionCountAt s) 0
       → x ≡ downTo (k .order .size - b .size) (b .mask) → paid ≡ chargedShare share (k .order .size)
-      → tables h₁ [] c₁ r₁ [] ≡ deliveredTables s memory (k .order .size) (tables head [] chunks regions [])
-      → l ≡ lentFrom s x (tables h₁ [] [] r₁ []) i
-      → tables h₂ l₂ [] r₂ i₂ ≡ lentTables s x (b .loan) (tables h₁ loans [] r₁ index) i
+      → tables h₁ [] c₁ [] r₁ ≡ deliveredTables s memory (k .order .size) (tables head [] chunks [] regions)
+      → l ≡ lentFrom s x (tables h₁ [] [] [] r₁) i
+      → tables h₂ l₂ [] i₂ r₂ ≡ lentTables s x (b .loan) (tables h₁ loans [] index r₁) i
       → after ≡ paid → order ≡ Nothing → said ≡ blockSaid l → (left : OpenOrder)
-      → out said (holding (s .store) after order) (tables h₂ l₂ c₁ r₂ i₂) ≡ carryFate s (holding (s .store) share left) k start (kept memory)
+      → out said (holding (s .store) after order) (tables h₂ l₂ c₁ i₂ r₂) ≡ carryFate s (holding (s .store) share left) k start (kept memory)
   unfolding carryFate
   kept-done i x h₁ c₁ r₁ h₂ l₂ r₂ i₂ after paid order l said e y p f m g q n d left =
       let size = k .ask .size in

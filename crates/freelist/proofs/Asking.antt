@@ -28,7 +28,7 @@ use Rattle.freelist.proofs.Lending.{lends-ready}
 -- ---- what a passed gate and the plan give
 
 pub ask-ready : (s : FreeListSettings) (a : Account) (size mask : ℕ) (t : Tables) (p : Decided.Plan) → planOf p ≡ planAsk s a size mask t → Planned s size mask t p
-    → AskReady s (tables (t .head) (t .loans) [] (t .regions) (t .index)) p
+    → AskReady s (tables (t .head) (t .loans) [] (t .index) (t .room)) p
 ask-ready s a size mask t (Decides.Refuse r) e c = tt
 ask-ready s a size mask t (Decides.Buy b) e c = tt
 ask-ready s a size mask t (Decides.Take k) e c =
@@ -39,18 +39,18 @@ ask-ready s a size mask t (Decides.Take k) e c =
 
 -- a block lent does not look at chunks
 module _ (s : FreeListSettings) (start i : ℕ) (k : Taken) (head loans chunks regions index : List ℕ) where
-  pub lent-rest : (h′ l′ r′ i′ : List ℕ) → tables h′ l′ [] r′ i′ ≡ lentTables s start k (tables head loans [] regions index) i
-      → tables h′ l′ chunks r′ i′ ≡ lentTables s start k (tables head loans chunks regions index) i
+  pub lent-rest : (h′ l′ r′ i′ : List ℕ) → tables h′ l′ [] i′ r′ ≡ lentTables s start k (tables head loans [] index regions) i
+      → tables h′ l′ chunks i′ r′ ≡ lentTables s start k (tables head loans chunks index regions) i
   unfolding lentTables storeOf
-  lent-rest h′ l′ r′ i′ e = ap (λ (t : Tables). tables (t .head) (t .loans) chunks (t .regions) (t .index)) e
+  lent-rest h′ l′ r′ i′ e = ap (λ (t : Tables). tables (t .head) (t .loans) chunks (t .index) (t .room)) e
 
-  pub loan-rest : (l : Loan) → l ≡ lentFrom s start (tables head [] [] regions []) i → l ≡ lentFrom s start (tables head loans chunks regions index) i
+  pub loan-rest : (l : Loan) → l ≡ lentFrom s start (tables head [] [] [] regions) i → l ≡ lentFrom s start (tables head loans chunks index regions) i
   unfolding storeOf
   loan-rest l e = e
 
 module _ (s : FreeListSettings) (size mask : ℕ) (head loans chunks regions index : List ℕ) (p : Plan ℕ) (a : Account) where
   abbrev now : Tables
-  now = tables head loans chunks regions index
+  now = tables head loans chunks index regions
 
   -- the account that is left goes by what is said
   pub ask-refused : (n : ℕ) (w : Said) → p ≡ deny n → w ≡ Paper.refusal n [] → out w (askLeft a size mask w) now ≡ carryAsk s a size mask now p
@@ -59,8 +59,8 @@ module _ (s : FreeListSettings) (size mask : ℕ) (head loans chunks regions ind
 
   pub ask-taken : (i start : ℕ) (k : Taken) (l : Loan) (w : Said) (h′ l′ r′ i′ : List ℕ) → p ≡ take i
       → start ≡ blockAt s size mask now i .start → k ≡ takenOf (placesIn now) index
-      → l ≡ lentFrom s start (tables head [] [] regions []) i → tables h′ l′ [] r′ i′ ≡ lentTables s start k (tables head loans [] regions index) i
-      → w ≡ blockSaid l → out w (askLeft a size mask w) (tables h′ l′ chunks r′ i′) ≡ carryAsk s a size mask now p
+      → l ≡ lentFrom s start (tables head [] [] [] regions) i → tables h′ l′ [] i′ r′ ≡ lentTables s start k (tables head loans [] index regions) i
+      → w ≡ blockSaid l → out w (askLeft a size mask w) (tables h′ l′ chunks i′ r′) ≡ carryAsk s a size mask now p
   unfolding carryAsk
   ask-taken i start k l w h′ l′ r′ i′ e x y m t g =
       let loan = loan-rest s start i k head loans chunks regions index l m ∙ loan-planned s size mask start i k now x in
@@ -69,10 +69,10 @@ module _ (s : FreeListSettings) (size mask : ℕ) (head loans chunks regions ind
       ∙ (λ j. out (blockSaid (loan j)) a (takenTables s size mask now i)) ∙ ap (carryAsk s a size mask now) (sym e)
 
   pub ask-ordered : (z : ℕ) (w : Said) (h′ : List ℕ) → p ≡ buy z → h′ ≡ set head chunkSizeAt z
-      → w ≡ Paper.orderOf (orderFrom (s .store) z) → out w (askLeft a size mask w) (tables h′ loans chunks regions index) ≡ carryAsk s a size mask now p
+      → w ≡ Paper.orderOf (orderFrom (s .store) z) → out w (askLeft a size mask w) (tables h′ loans chunks index regions) ≡ carryAsk s a size mask now p
   unfolding carryAsk orderedTables
   ask-ordered z w h′ e h k =
-      (λ j. out (k j) (askLeft a size mask (k j)) (tables (h j) loans chunks regions index)) ∙ ap (carryAsk s a size mask now) (sym e)
+      (λ j. out (k j) (askLeft a size mask (k j)) (tables (h j) loans chunks index regions)) ∙ ap (carryAsk s a size mask now) (sym e)
 
 -- ---- the call
 

@@ -42,13 +42,13 @@ regions-stand rs r low =
     }
 
 module _ (s : FreeListSettings) (t : Tables) (fit : FreeListIn s) (sound : SoundTables s t) (b : Block) (lent : onLoanOk s b t ≡ true) where
-  pub backs-ready : lengthsOk s t ≡ true → Backs s b (t .regions)
+  pub backs-ready : lengthsOk s t ≡ true → Backs s b (t .room)
   unfolding storeOf
   backs-ready lengths =
       record {
         fit = regions-fit s t fit lengths sound;
         rise = sound .store .regions-rise;
-        stand = regions-stand (regionsOf s (t .regions)) (sound .store .regions-rise) (region-low s (storeOf s t) fit (sound .store));
+        stand = regions-stand (regionsOf s (t .room)) (sound .store .regions-rise) (region-low s (storeOf s t) fit (sound .store));
         low = omega (arith, block-low s t fit sound b lent);
         short = omega (arith, block-low s t fit sound b lent);
         room = back-room s t fit sound b lent;

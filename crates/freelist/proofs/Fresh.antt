@@ -17,7 +17,7 @@ use Rattle.counter.specs.declared.settings.FreeListSettings.{FreeListSettings}
 use Rattle.counter.proofs.Tables.{free-list-yes}
 use Rattle.freelist_rules.specs.Tables.{Tables, tables, headWords}
 use Rattle.freelist_rules.proofs.Fits.{lengths-are}
-use Rattle.freelist_outcomes.specs.SetUp.{setUp, freshTables, fitOk, planSetUp, carrySetUp, setUpOf}
+use Rattle.freelist_outcomes.specs.SetUp.{begun, freshTables, fitOk, planSetUp, carrySetUp, setUpOf}
 use Rattle.freelist.specs.Ready.{SetUpReady}
 
 -- ---- planned
@@ -43,7 +43,7 @@ module _ (s : FreeListSettings) (t : Tables) where
   unfolding fitOk
   fit-head e = (free-list-yes s (and-left (freeListOk s) _ e), lengths-are s t (and-right (freeListOk s) _ e) .head)
 
-  pub set-up-ready : (p : Gate) → verdictOf p ≡ planSetUp s t → SetUpReady s (tables (t .head) [] [] (t .regions) (t .index)) p
+  pub set-up-ready : (p : Gate) → verdictOf p ≡ planSetUp s t → SetUpReady s (tables (t .head) [] [] (t .index) (t .room)) p
   set-up-ready (G.Shut r) e = tt
   set-up-ready G.Go e = fit-head (passed-fit e)
 
@@ -51,17 +51,17 @@ module _ (s : FreeListSettings) (t : Tables) where
 
 module _ (s : FreeListSettings) (head loans chunks regions index : List ℕ) (v : Verdict) where
   abbrev before : Tables
-  before = tables head loans chunks regions index
+  before = tables head loans chunks index regions
 
-  pub refused-done : (n : ℕ) (said : Said) → v ≡ refuse n → said ≡ Paper.refusal n [] → setUp said before ≡ carrySetUp s before v
+  pub refused-done : (n : ℕ) (said : Said) → v ≡ refuse n → said ≡ Paper.refusal n [] → begun said before ≡ carrySetUp s before v
   unfolding carrySetUp
-  refused-done n said e f = (λ j. setUp (f j) before) ∙ ap (carrySetUp s before) (sym e)
+  refused-done n said e f = (λ j. begun (f j) before) ∙ ap (carrySetUp s before) (sym e)
 
-  pub fresh-done : (h′ r′ i′ : List ℕ) (said : Said) → v ≡ pass → tables h′ [] [] r′ i′ ≡ freshTables s (tables head [] [] regions index) → said ≡ Paper.ready
-      → setUp said (tables h′ loans chunks r′ i′) ≡ carrySetUp s before v
+  pub fresh-done : (h′ r′ i′ : List ℕ) (said : Said) → v ≡ pass → tables h′ [] [] i′ r′ ≡ freshTables s (tables head [] [] index regions) → said ≡ Paper.ready
+      → begun said (tables h′ loans chunks i′ r′) ≡ carrySetUp s before v
   unfolding carrySetUp freshTables
   fresh-done h′ r′ i′ said e p f =
-      (λ j. setUp (f j) (tables (p j .head) loans chunks (p j .regions) (p j .index))) ∙ ap (carrySetUp s before) (sym e)
+      (λ j. begun (f j) (tables (p j .head) loans chunks (p j .index) (p j .room))) ∙ ap (carrySetUp s before) (sym e)
 
 -- ---- the call
 

@@ -37,11 +37,11 @@ opens-below s t fit lengths p below =
 
 module _ (s : FreeListSettings) (h : Heap) (objects size mask : ℕ) (t : Tables) where
   pub lends-ready : FreeListIn s → lengthsOk s t ≡ true → SoundTables s t → (i start : ℕ) (k : Taken) → decideAsk s h objects size mask t ≡ take i
-      → start ≡ blockAt s size mask t i .start → k ≡ takenOf (placesIn t) (t .index) → Lends s i start (k .place) (t .head) (t .loans) (t .regions) (t .index)
+      → start ≡ blockAt s size mask t i .start → k ≡ takenOf (placesIn t) (t .index) → Lends s i start (k .place) (t .head) (t .loans) (t .room) (t .index)
   unfolding storeOf
   lends-ready fit lengths sound i start k e f g =
       let w = take-is s h objects size mask t i e in
-      let r : Region = getD (regionsOf s (t .regions)) i noRegion in
+      let r : Region = getD (regionsOf s (t .room)) i noRegion in
       record {
         fit = regions-fit s t fit lengths sound;
         here = omega (arith, find-fits (maskFor s mask) (sizeFor s size) i (storeOf s t .regions) noRegion (w .0) .0, regions-length s t);

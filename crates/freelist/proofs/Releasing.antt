@@ -26,9 +26,9 @@ use Rattle.freelist_outcomes.proofs.Backs.{returning, Back, block-back, back-ro
 
 -- what a release asks of the counts
 abbrev pub Bounds : FreeListSettings → Tables → Type 0
-Bounds s t = (chunkWords * chunksIn t ≤ length (t .chunks)) × (regionWords * regionsIn s t ≤ length (t .regions)) × (regionsIn s t ≤ loansMost + chunksMost)
+Bounds s t = (chunkWords * chunksIn t ≤ length (t .chunks)) × (regionWords * regionsIn s t ≤ length (t .room)) × (regionsIn s t ≤ loansMost + chunksMost)
 
-bounds : (s : FreeListSettings) (t : Tables) → RegionsFit s (t .regions) → length (t .chunks) ≡ chunkWords * s .store .chunks → chunksIn t ≤ s .store .chunks → Bounds s t
+bounds : (s : FreeListSettings) (t : Tables) → RegionsFit s (t .room) → length (t .chunks) ≡ chunkWords * s .store .chunks → chunksIn t ≤ s .store .chunks → Bounds s t
 bounds s t fit long few =
     (omega arith, omega (arith, fit .count, fit .long), omega (arith, fit .count, fit .settings .store .loans-most, fit .settings .store .chunks-most))
 
@@ -53,9 +53,9 @@ module _ (s : FreeListSettings) (t : Tables) (fit : FreeListIn s) (sound : Sound
     abbrev joined : List Region
     joined = insert (returning b) (storeOf s t .regions)
 
-    after-fit : RegionsFit s (after .regions)
+    after-fit : RegionsFit s (after .room)
     unfolding givenTables
-    after-fit = laid-fit s joined (t .regions) (regions-fit s t fit lengths sound) (back-room s t fit sound b lent)
+    after-fit = laid-fit s joined (t .room) (regions-fit s t fit lengths sound) (back-room s t fit sound b lent)
 
     after-chunks : storeOf s after .chunks ≡ storeOf s t .chunks
     unfolding givenTables storeOf
@@ -63,7 +63,7 @@ module _ (s : FreeListSettings) (t : Tables) (fit : FreeListIn s) (sound : Sound
 
     after-regions : storeOf s after .regions ≡ insert (returning b) (storeOf s t .regions)
     unfolding givenTables storeOf
-    after-regions = laid-regions s joined (t .regions) (regions-fit s t fit lengths sound) (back-room s t fit sound b lent)
+    after-regions = laid-regions s joined (t .room) (regions-fit s t fit lengths sound) (back-room s t fit sound b lent)
 
     pub returned-ready : Releasable (storeOf s after .chunks) (storeOf s after .regions)
     returned-ready =

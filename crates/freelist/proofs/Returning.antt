@@ -91,7 +91,7 @@ module _ (s : FreeListSettings) (share : Share) (t : Tables) (list : List ℕ) (
   cleaned-releases e =
       let p = gate-passed s held t (listOk (s .store) list) e in
       let bounds = cleaned-bounds s t (p .settings) (p .sound) (p .lengths) in
-      let frees : Frees s (t .head) (t .chunks) (t .regions) list =
+      let frees : Frees s (t .head) (t .chunks) (t .room) list =
       record {
         settings = p .settings;
         ready = cleaned-ready s t (p .settings) (p .sound);
@@ -113,7 +113,7 @@ module _ (s : FreeListSettings) (share : Share) (t : Tables) (list : List ℕ) (
     abbrev lent : onLoanOk s b t ≡ true
     lent = on-loan s held b t (listOk (s .store) list) w e
 
-    returned-backs : Backs s b (t .regions)
+    returned-backs : Backs s b (t .room)
     returned-backs = backs-ready s t (gate .settings) (gate .sound) b lent (gate .lengths)
 
     returned-strikes : Strikes w (getD (t .index) w 0) (t .loans) (t .index)
@@ -121,11 +121,11 @@ module _ (s : FreeListSettings) (share : Share) (t : Tables) (list : List ℕ) (
         subst (λ (v : ℕ). Strikes v (getD (t .index) v 0) (t .loans) (t .index)) (sym (word-is s held b t (listOk (s .store) list) w e))
         (strikes-ready s t (gate .settings) (gate .sound) b lent (gate .lengths))
 
-    returned-releases : Releases s (share .objects) true (tables (t .head) (t .loans) (t .chunks) (joined s b (t .regions)) (t .index)) list
+    returned-releases : Releases s (share .objects) true (tables (t .head) (t .loans) (t .chunks) (t .index) (joined s b (t .room))) list
     unfolding givenTables storeOf accountOk holding
     returned-releases =
         let bounds = returned-bounds s t (gate .settings) (gate .sound) b lent (gate .lengths) in
-        let frees : Frees s (t .head) (t .chunks) (joined s b (t .regions)) list =
+        let frees : Frees s (t .head) (t .chunks) (joined s b (t .room)) list =
         record {
           settings = gate .settings;
           ready = returned-ready s t (gate .settings) (gate .sound) b lent (gate .lengths);
@@ -148,14 +148,14 @@ module _ (s : FreeListSettings) (share : Share) (t : Tables) (list : List ℕ) (
 -- chunks released and counted are what a release is defined to leave
 module _ (s : FreeListSettings) (share : Share) (spare : Bool) (head chunks regions list : List ℕ) where
   abbrev begun : Tables
-  begun = tables head [] chunks regions []
+  begun = tables head [] chunks [] regions
 
   pub let-go-done : (count bytes : ℕ) (said : Paper.Said) (after : Share) (h′ c′ r′ l′ : List ℕ)
       → count ≡ length (goneFrom s spare begun) → bytes ≡ bytesOf (goneFrom s spare begun)
-      → tables h′ [] c′ r′ [] ≡ releasedTables s spare begun
+      → tables h′ [] c′ [] r′ ≡ releasedTables s spare begun
       → l′ ≡ sets list 0 (memoriesOf (storeOf s begun .chunks) (goneFrom s spare begun))
       → after ≡ releasedShare share count bytes → said ≡ Paper.released count
-      → listed said (holder (s .store) after) (tables h′ [] c′ r′ []) l′ ≡ releaseOf s (holder (s .store) share) spare begun list
+      → listed said (holder (s .store) after) (tables h′ [] c′ [] r′) l′ ≡ releaseOf s (holder (s .store) share) spare begun list
   unfolding releaseOf
   let-go-done count bytes said after h′ c′ r′ l′ e b t l x y =
       let account = holder (s .store) share in
@@ -164,34 +164,34 @@ module _ (s : FreeListSettings) (share : Share) (spare : Bool) (head chunks regi
       (λ j. listed (y-is j) (x-is j) (t j) (l j))
 
 -- a release looks at neither loans nor index, and leaves them
-pub releases-few : (s : FreeListSettings) (objects : ℕ) (spare : Bool) (t : Tables) (list : List ℕ) → Releases s objects spare t list → Releases s objects spare (tables (t .head) [] (t .chunks) (t .regions) []) list
+pub releases-few : (s : FreeListSettings) (objects : ℕ) (spare : Bool) (t : Tables) (list : List ℕ) → Releases s objects spare t list → Releases s objects spare (tables (t .head) [] (t .chunks) [] (t .room)) list
 unfolding storeOf
 releases-few s objects spare t list r = r
 
 module _ (s : FreeListSettings) (a : Account) (spare : Bool) (said : Paper.Said) (account : Account) (head chunks regions list h′ c′ r′ l′ : List ℕ)
-    (e : listed said account (tables h′ [] c′ r′ []) l′ ≡ releaseOf s a spare (tables head [] chunks regions []) list) where
-  pub beside : (loans index : List ℕ) → listed said account (tables h′ loans c′ r′ index) l′ ≡ releaseOf s a spare (tables head loans chunks regions index) list
+    (e : listed said account (tables h′ [] c′ [] r′) l′ ≡ releaseOf s a spare (tables head [] chunks [] regions) list) where
+  pub beside : (loans index : List ℕ) → listed said account (tables h′ loans c′ index r′) l′ ≡ releaseOf s a spare (tables head loans chunks index regions) list
   unfolding releaseOf releasedTables storeOf
-  beside loans index = ap (λ (y : Listed Tables). listed (y .said) (y .account) (tables (y .tables .head) loans (y .tables .chunks) (y .tables .regions) index) (y .list)) e
+  beside loans index = ap (λ (y : Listed Tables). listed (y .said) (y .account) (tables (y .tables .head) loans (y .tables .chunks) index (y .tables .room)) (y .list)) e
 
 module _ (s : FreeListSettings) (a : Account) (b : Block) (at : ℕ) (loans regions index l′ r′ i′ : List ℕ)
-    (e : tables [] l′ [] r′ i′ ≡ givenTables s b at (tables [] loans [] regions index)) where
+    (e : tables [] l′ [] i′ r′ ≡ givenTables s b at (tables [] loans [] index regions)) where
   pub joined-is : r′ ≡ joined s b regions
   unfolding givenTables storeOf
-  joined-is = ap (λ (x : Tables). x .regions) e
+  joined-is = ap (λ (x : Tables). x .room) e
 
   -- so what is asked of the joined regions holds of them as they are written
-  pub releases-now : (objects : ℕ) (head chunks list : List ℕ) → Releases s objects true (tables head loans chunks (joined s b regions) index) list → Releases s objects true (tables head [] chunks r′ []) list
+  pub releases-now : (objects : ℕ) (head chunks list : List ℕ) → Releases s objects true (tables head loans chunks index (joined s b regions)) list → Releases s objects true (tables head [] chunks [] r′) list
   unfolding storeOf
-  releases-now objects head chunks list r = subst (λ (x : List ℕ). Releases s objects true (tables head [] chunks x []) list) (sym joined-is) r
+  releases-now objects head chunks list r = subst (λ (x : List ℕ). Releases s objects true (tables head [] chunks [] x) list) (sym joined-is) r
 
   pub taken-in : (head chunks list h″ c″ r″ m : List ℕ) (said : Paper.Said) (account : Account)
-      → listed said account (tables h″ [] c″ r″ []) m ≡ releaseOf s a true (tables head [] chunks r′ []) list
-      → listed said account (tables h″ l′ c″ r″ i′) m ≡ releaseOf s a true (givenTables s b at (tables head loans chunks regions index)) list
+      → listed said account (tables h″ [] c″ [] r″) m ≡ releaseOf s a true (tables head [] chunks [] r′) list
+      → listed said account (tables h″ l′ c″ i′ r″) m ≡ releaseOf s a true (givenTables s b at (tables head loans chunks index regions)) list
   unfolding givenTables storeOf
   taken-in head chunks list h″ c″ r″ m said account p =
       beside s a true said account head chunks r′ list h″ c″ r″ m p l′ i′
-      ∙ ap (λ (t : Tables). releaseOf s a true (tables head (t .loans) chunks (t .regions) (t .index)) list) e
+      ∙ ap (λ (t : Tables). releaseOf s a true (tables head (t .loans) chunks (t .index) (t .room)) list) e
 
 module _ (s : FreeListSettings) (share : Share) (t : Tables) (list : List ℕ) where
   abbrev before : Account

@@ -42,7 +42,7 @@ SetUpReady s t Gate.Go = FreeListIn s × (length (t .head) ≡ headWords)
 
 abbrev pub AskReady : FreeListSettings → Tables → Plan → Type 0
 AskReady s t (Refuse r) = Unit {0}
-AskReady s t (Take k) = Lends s (k .region) (k .start) (k .loan .place) (t .head) (t .loans) (t .regions) (t .index)
+AskReady s t (Take k) = Lends s (k .region) (k .start) (k .loan .place) (t .head) (t .loans) (t .room) (t .index)
 AskReady s t (Buy b) = Unit {0}
 
 -- ---- a delivery
@@ -62,8 +62,8 @@ pub record KeepReady (s : FreeListSettings) (k : KeptOrder) (memory : ℕ) (t : 
   pub planned : Planned s (k .ask .size) (k .ask .mask) t (Buy b)
   pub aligned : Ones 63 (b .mask)
   pub small : b .size ≤ k .order .size
-  pub adds : Adds s (t .head) (t .chunks) (t .regions)
-  pub lends : Lends s (length (storeOf s t .regions)) (cut (b .mask) (b .size) (region 0 0 (k .order .size))) (b .loan .place) (deliveredTables s memory (k .order .size) t .head) (t .loans) (deliveredTables s memory (k .order .size) t .regions) (t .index)
+  pub adds : Adds s (t .head) (t .chunks) (t .room)
+  pub lends : Lends s (length (storeOf s t .regions)) (cut (b .mask) (b .size) (region 0 0 (k .order .size))) (b .loan .place) (deliveredTables s memory (k .order .size) t .head) (t .loans) (deliveredTables s memory (k .order .size) t .room) (t .index)
 
 abbrev pub ComingReady : FreeListSettings → Tables → Buying → Coming → Type 0
 ComingReady s t b (Coming.Refuse r) = Unit {0}
@@ -78,7 +78,7 @@ DeliverReady s t (Delivery.Come c b) = ComingReady s t b c
 
 -- the chunks that go can be released, and the device objects allowed again stay within their limit
 abbrev pub Releases : FreeListSettings → ℕ → Bool → Tables → List ℕ → Type 0
-Releases s objects spare t list = Frees s (t .head) (t .chunks) (t .regions) list × (objects + length (goneFrom s spare t) ≤ objectsMost)
+Releases s objects spare t list = Frees s (t .head) (t .chunks) (t .room) list × (objects + length (goneFrom s spare t) ≤ objectsMost)
 
 -- the table of regions with a block's bytes among them
 abbrev pub joined : FreeListSettings → Block → List ℕ → List ℕ
@@ -86,9 +86,9 @@ joined s b regions = laidRegions s (insert (region (b .chunk) (b .offset) (b .of
 
 -- the loan that word w leads to can be struck out, its block go back, and then wholly free chunks go
 pub record TakesBack (s : FreeListSettings) (objects : ℕ) (b : Block) (w : ℕ) (t : Tables) (list : List ℕ) : Type 0 where
-  pub backs : Backs s b (t .regions)
+  pub backs : Backs s b (t .room)
   pub strikes : Strikes w (getD (t .index) w 0) (t .loans) (t .index)
-  pub releases : Releases s objects true (tables (t .head) (t .loans) (t .chunks) (joined s b (t .regions)) (t .index)) list
+  pub releases : Releases s objects true (tables (t .head) (t .loans) (t .chunks) (t .index) (joined s b (t .room))) list
 
 abbrev pub ReturnReady : FreeListSettings → ℕ → Block → Tables → List ℕ → Back → Type 0
 ReturnReady s objects b t list (Back.Refuse r) = Unit {0}

@@ -16,13 +16,13 @@ pub fn ask(
     head: &mut [u64],
     loans: &mut [u64],
     chunks: &[u64],
-    regions: &mut [u64],
     index: &mut [u64],
+    regions: &mut [u64],
 ) -> Asked
-    ensures { λ r. ⌜ out (askSaid (r .answer)) (r .account) (tables (now (head .exit)) (now (loans .exit)) (now (chunks .entry)) (now (regions .exit)) (now (index .exit))) ≡ askOf s a size mask (tables (now (head .entry)) (now (loans .entry)) (now (chunks .entry)) (now (regions .entry)) (now (index .entry))) ⌝ }
+    ensures { λ r. ⌜ out (askSaid (r .answer)) (r .account) (tables (now (head .exit)) (now (loans .exit)) (now (chunks .entry)) (now (index .exit)) (now (regions .exit))) ≡ askOf s a size mask (tables (now (head .entry)) (now (loans .entry)) (now (chunks .entry)) (now (index .entry)) (now (regions .entry))) ⌝ }
 {
     let own = s.store;
     let h = store_accounts::share_of(own, a);
-    let answer = crate::calls::ask(s, h, size, mask, head, loans, chunks, regions, index);
+    let answer = crate::calls::ask(s, h, size, mask, head, loans, chunks, index, regions);
     store::asked(a, size, mask, answer)
 }

@@ -26,13 +26,13 @@ pub fn ask(
     head: &mut [u64],
     loans: &mut [u64],
     chunks: &[u64],
-    regions: &mut [u64],
     index: &mut [u64],
+    regions: &mut [u64],
 ) -> AskAnswer
-    ensures { λ r. ⌜ out (askSaid r) (askLeft (holder (s .store) share) size mask (askSaid r)) (tables (now (head .exit)) (now (loans .exit)) (now (chunks .entry)) (now (regions .exit)) (now (index .exit))) ≡ askOf s (holder (s .store) share) size mask (tables (now (head .entry)) (now (loans .entry)) (now (chunks .entry)) (now (regions .entry)) (now (index .entry))) ⌝ }
+    ensures { λ r. ⌜ out (askSaid r) (askLeft (holder (s .store) share) size mask (askSaid r)) (tables (now (head .exit)) (now (loans .exit)) (now (chunks .entry)) (now (index .exit)) (now (regions .exit))) ≡ askOf s (holder (s .store) share) size mask (tables (now (head .entry)) (now (loans .entry)) (now (chunks .entry)) (now (index .entry)) (now (regions .entry))) ⌝ }
 {
-    let plan = crate::plans::plan_ask(s, share, size, mask, head, loans, chunks, regions, index);
-    crate::carries::carry_ask(s, plan, head, loans, regions, index)
+    let plan = crate::plans::plan_ask(s, share, size, mask, head, loans, chunks, index, regions);
+    crate::carries::carry_ask(s, plan, head, loans, index, regions)
 }
 
 // A delivery: the chunk is added and lent from, or the order is lost.
@@ -44,13 +44,13 @@ pub fn deliver(
     head: &mut [u64],
     loans: &mut [u64],
     chunks: &mut [u64],
-    regions: &mut [u64],
     index: &mut [u64],
+    regions: &mut [u64],
 ) -> DeliveredShare
-    ensures { λ r. ⌜ out (deliverSaid (r .answer)) (holding (s .store) (r .share) (r .order)) (tables (now (head .exit)) (now (loans .exit)) (now (chunks .exit)) (now (regions .exit)) (now (index .exit))) ≡ deliverOf s (holding (s .store) share order) o (tables (now (head .entry)) (now (loans .entry)) (now (chunks .entry)) (now (regions .entry)) (now (index .entry))) ⌝ }
+    ensures { λ r. ⌜ out (deliverSaid (r .answer)) (holding (s .store) (r .share) (r .order)) (tables (now (head .exit)) (now (loans .exit)) (now (chunks .exit)) (now (index .exit)) (now (regions .exit))) ≡ deliverOf s (holding (s .store) share order) o (tables (now (head .entry)) (now (loans .entry)) (now (chunks .entry)) (now (index .entry)) (now (regions .entry))) ⌝ }
 {
-    let plan = crate::plans::plan_deliver(s, share, order, o, head, loans, chunks, regions, index);
-    crate::carries::carry_deliver(s, share, order, plan, head, loans, chunks, regions, index)
+    let plan = crate::plans::plan_deliver(s, share, order, o, head, loans, chunks, index, regions);
+    crate::carries::carry_deliver(s, share, order, plan, head, loans, chunks, index, regions)
 }
 
 // A block comes back. The memory numbers of the chunks that go then stand at the front of `list`.
@@ -61,14 +61,14 @@ pub fn return_block(
     head: &mut [u64],
     loans: &mut [u64],
     chunks: &mut [u64],
-    regions: &mut [u64],
     index: &mut [u64],
+    regions: &mut [u64],
     list: &mut [u64],
 ) -> ReleasedShare
-    ensures { λ r. ⌜ listed (releaseSaid (r .answer)) (holder (s .store) (r .share)) (tables (now (head .exit)) (now (loans .exit)) (now (chunks .exit)) (now (regions .exit)) (now (index .exit))) (now (list .exit)) ≡ returnOf s (holder (s .store) share) b (tables (now (head .entry)) (now (loans .entry)) (now (chunks .entry)) (now (regions .entry)) (now (index .entry))) (now (list .entry)) ⌝ }
+    ensures { λ r. ⌜ listed (releaseSaid (r .answer)) (holder (s .store) (r .share)) (tables (now (head .exit)) (now (loans .exit)) (now (chunks .exit)) (now (index .exit)) (now (regions .exit))) (now (list .exit)) ≡ returnOf s (holder (s .store) share) b (tables (now (head .entry)) (now (loans .entry)) (now (chunks .entry)) (now (index .entry)) (now (regions .entry))) (now (list .entry)) ⌝ }
 {
-    let plan = crate::plans::plan_return(s, share, b, head, loans, chunks, regions, index, list);
-    crate::carries::carry_return(s, share, b, plan, head, loans, chunks, regions, index, list)
+    let plan = crate::plans::plan_return(s, share, b, head, loans, chunks, index, regions, list);
+    crate::carries::carry_return(s, share, b, plan, head, loans, chunks, index, regions, list)
 }
 
 // Every wholly free chunk goes.
@@ -78,12 +78,12 @@ pub fn clean_up(
     head: &mut [u64],
     loans: &[u64],
     chunks: &mut [u64],
-    regions: &mut [u64],
     index: &[u64],
+    regions: &mut [u64],
     list: &mut [u64],
 ) -> ReleasedShare
-    ensures { λ r. ⌜ listed (releaseSaid (r .answer)) (holder (s .store) (r .share)) (tables (now (head .exit)) (now (loans .entry)) (now (chunks .exit)) (now (regions .exit)) (now (index .entry))) (now (list .exit)) ≡ cleanUpOf s (holder (s .store) share) (tables (now (head .entry)) (now (loans .entry)) (now (chunks .entry)) (now (regions .entry)) (now (index .entry))) (now (list .entry)) ⌝ }
+    ensures { λ r. ⌜ listed (releaseSaid (r .answer)) (holder (s .store) (r .share)) (tables (now (head .exit)) (now (loans .entry)) (now (chunks .exit)) (now (index .entry)) (now (regions .exit))) (now (list .exit)) ≡ cleanUpOf s (holder (s .store) share) (tables (now (head .entry)) (now (loans .entry)) (now (chunks .entry)) (now (index .entry)) (now (regions .entry))) (now (list .entry)) ⌝ }
 {
-    let plan = crate::plans::plan_clean_up(s, share, head, loans, chunks, regions, index, list);
-    crate::carries::carry_clean_up(s, share, plan, head, loans, chunks, regions, index, list)
+    let plan = crate::plans::plan_clean_up(s, share, head, loans, chunks, index, regions, list);
+    crate::carries::carry_clean_up(s, share, plan, head, loans, chunks, index, regions, list)
 }

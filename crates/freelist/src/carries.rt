@@ -17,7 +17,7 @@ ghost use Rattle.freelist_rules.specs.Tables.{tables};
 ghost use Rattle.freelist_outcomes.specs.Ask.{carryAsk};
 ghost use Rattle.freelist_outcomes.specs.Deliver.{carryFate, carryDeliver};
 ghost use Rattle.freelist_outcomes.specs.Return.{givenTables, releaseOf, carryReturn, carryCleanUp};
-ghost use Rattle.freelist_outcomes.specs.SetUp.{setUp, carrySetUp};
+ghost use Rattle.freelist_outcomes.specs.SetUp.{begun, carrySetUp};
 ghost use Rattle.freelist_decide.specs.Plans.{planOf, Planned};
 ghost use Rattle.freelist.specs.Deliveries.{deliveryOf};
 ghost use Rattle.freelist.specs.Ready.{SetUpReady, AskReady, KeepReady, ComingReady, DeliverReady, Releases, TakesBack, ReturnReady, CleanUpReady};
@@ -44,11 +44,11 @@ pub fn carry_set_up(
     s: FreeListSettings,
     plan: Gate,
     head: &mut [u64],
-    regions: &mut [u64],
     index: &mut [u64],
+    regions: &mut [u64],
 ) -> SetUpAnswer
-    requires { ⌜ SetUpReady s (tables (now head) [] [] (now regions) (now index)) plan ⌝ }
-    ensures { λ r. ⌜ ((loans chunks : List ℕ) → setUp (setUpSaid r) (tables (now (head .exit)) loans chunks (now (regions .exit)) (now (index .exit))) ≡ carrySetUp s (tables (now (head .entry)) loans chunks (now (regions .entry)) (now (index .entry))) (verdictOf plan)) ⌝ }
+    requires { ⌜ SetUpReady s (tables (now head) [] [] (now index) (now regions)) plan ⌝ }
+    ensures { λ r. ⌜ ((loans chunks : List ℕ) → begun (setUpSaid r) (tables (now (head .exit)) loans chunks (now (index .exit)) (now (regions .exit))) ≡ carrySetUp s (tables (now (head .entry)) loans chunks (now (index .entry)) (now (regions .entry))) (verdictOf plan)) ⌝ }
 {
     match plan {
         Gate::Shut(refusal) => SetUpAnswer::Refused(Refused {
@@ -56,7 +56,7 @@ pub fn carry_set_up(
             free: ToFree::Nothing,
         }),
         Gate::Go => {
-            freelist_place::fresh(s, head, regions, index);
+            freelist_place::fresh(s, head, index, regions);
             SetUpAnswer::Ready
         }
     }
@@ -68,17 +68,17 @@ pub fn carry_ask(
     plan: Plan,
     head: &mut [u64],
     loans: &mut [u64],
-    regions: &mut [u64],
     index: &mut [u64],
+    regions: &mut [u64],
 ) -> AskAnswer
-    requires { ⌜ AskReady s (tables (now head) (now loans) [] (now regions) (now index)) plan ⌝ }
-    ensures { λ r. ⌜ ((a : Account) (size mask : ℕ) (chunks : List ℕ) → Planned s size mask (tables (now (head .entry)) (now (loans .entry)) chunks (now (regions .entry)) (now (index .entry))) plan → out (askSaid r) (askLeft a size mask (askSaid r)) (tables (now (head .exit)) (now (loans .exit)) chunks (now (regions .exit)) (now (index .exit))) ≡ carryAsk s a size mask (tables (now (head .entry)) (now (loans .entry)) chunks (now (regions .entry)) (now (index .entry))) (planOf plan)) ⌝ }
+    requires { ⌜ AskReady s (tables (now head) (now loans) [] (now index) (now regions)) plan ⌝ }
+    ensures { λ r. ⌜ ((a : Account) (size mask : ℕ) (chunks : List ℕ) → Planned s size mask (tables (now (head .entry)) (now (loans .entry)) chunks (now (index .entry)) (now (regions .entry))) plan → out (askSaid r) (askLeft a size mask (askSaid r)) (tables (now (head .exit)) (now (loans .exit)) chunks (now (index .exit)) (now (regions .exit))) ≡ carryAsk s a size mask (tables (now (head .entry)) (now (loans .entry)) chunks (now (index .entry)) (now (regions .entry))) (planOf plan)) ⌝ }
 {
     match plan {
         Plan::Refuse(refusal) => store::refuse_ask(refusal),
         Plan::Take(k) => {
             let loan = k.loan;
-            let l = freelist_place::lend(s, k.region, k.start, loan, head, loans, regions, index);
+            let l = freelist_place::lend(s, k.region, k.start, loan, head, loans, index, regions);
             store::answer_block(l)
         }
         Plan::Buy(b) => {
@@ -99,11 +99,11 @@ fn keep_chunk(
     head: &mut [u64],
     loans: &mut [u64],
     chunks: &mut [u64],
-    regions: &mut [u64],
     index: &mut [u64],
+    regions: &mut [u64],
 ) -> DeliveredShare
-    requires { ⌜ KeepReady s k memory (tables (now head) (now loans) (now chunks) (now regions) (now index)) b ⌝ }
-    ensures { λ r. ⌜ ((order : OpenOrder) → out (deliverSaid (r .answer)) (holding (s .store) (r .share) (r .order)) (tables (now (head .exit)) (now (loans .exit)) (now (chunks .exit)) (now (regions .exit)) (now (index .exit))) ≡ carryFate s (holding (s .store) share order) k (tables (now (head .entry)) (now (loans .entry)) (now (chunks .entry)) (now (regions .entry)) (now (index .entry))) (Fates.kept memory)) ⌝ }
+    requires { ⌜ KeepReady s k memory (tables (now head) (now loans) (now chunks) (now index) (now regions)) b ⌝ }
+    ensures { λ r. ⌜ ((order : OpenOrder) → out (deliverSaid (r .answer)) (holding (s .store) (r .share) (r .order)) (tables (now (head .exit)) (now (loans .exit)) (now (chunks .exit)) (now (index .exit)) (now (regions .exit))) ≡ carryFate s (holding (s .store) share order) k (tables (now (head .entry)) (now (loans .entry)) (now (chunks .entry)) (now (index .entry)) (now (regions .entry))) (Fates.kept memory)) ⌝ }
 {
     let order = k.order;
     let loan = b.loan;
@@ -111,7 +111,7 @@ fn keep_chunk(
     let start = rounding::lower_to_unit(order.size - b.size, b.mask);
     let charged = store_accounts::charged(share, order.size);
     freelist_place::add_chunk(s, memory, order.size, head, chunks, regions);
-    let l = freelist_place::lend(s, i, start, loan, head, loans, regions, index);
+    let l = freelist_place::lend(s, i, start, loan, head, loans, index, regions);
     store::deliver_block(charged, l)
 }
 
@@ -125,11 +125,11 @@ fn carry_coming(
     head: &mut [u64],
     loans: &mut [u64],
     chunks: &mut [u64],
-    regions: &mut [u64],
     index: &mut [u64],
+    regions: &mut [u64],
 ) -> DeliveredShare
-    requires { ⌜ ComingReady s (tables (now head) (now loans) (now chunks) (now regions) (now index)) b coming ⌝ }
-    ensures { λ r. ⌜ out (deliverSaid (r .answer)) (holding (s .store) (r .share) (r .order)) (tables (now (head .exit)) (now (loans .exit)) (now (chunks .exit)) (now (regions .exit)) (now (index .exit))) ≡ carryDeliver s (holding (s .store) share order) (tables (now (head .entry)) (now (loans .entry)) (now (chunks .entry)) (now (regions .entry)) (now (index .entry))) (comingOf coming) ⌝ }
+    requires { ⌜ ComingReady s (tables (now head) (now loans) (now chunks) (now index) (now regions)) b coming ⌝ }
+    ensures { λ r. ⌜ out (deliverSaid (r .answer)) (holding (s .store) (r .share) (r .order)) (tables (now (head .exit)) (now (loans .exit)) (now (chunks .exit)) (now (index .exit)) (now (regions .exit))) ≡ carryDeliver s (holding (s .store) share order) (tables (now (head .entry)) (now (loans .entry)) (now (chunks .entry)) (now (index .entry)) (now (regions .entry))) (comingOf coming) ⌝ }
 {
     match coming {
         Coming::Refuse(r) => store::refuse_delivery(share, order, r),
@@ -144,8 +144,8 @@ fn carry_coming(
                 head,
                 loans,
                 chunks,
-                regions,
                 index,
+                regions,
             )
         }
         Coming::Lose(c) => {
@@ -164,11 +164,11 @@ pub fn carry_deliver(
     head: &mut [u64],
     loans: &mut [u64],
     chunks: &mut [u64],
-    regions: &mut [u64],
     index: &mut [u64],
+    regions: &mut [u64],
 ) -> DeliveredShare
-    requires { ⌜ DeliverReady s (tables (now head) (now loans) (now chunks) (now regions) (now index)) plan ⌝ }
-    ensures { λ r. ⌜ out (deliverSaid (r .answer)) (holding (s .store) (r .share) (r .order)) (tables (now (head .exit)) (now (loans .exit)) (now (chunks .exit)) (now (regions .exit)) (now (index .exit))) ≡ carryDeliver s (holding (s .store) share order) (tables (now (head .entry)) (now (loans .entry)) (now (chunks .entry)) (now (regions .entry)) (now (index .entry))) (deliveryOf plan) ⌝ }
+    requires { ⌜ DeliverReady s (tables (now head) (now loans) (now chunks) (now index) (now regions)) plan ⌝ }
+    ensures { λ r. ⌜ out (deliverSaid (r .answer)) (holding (s .store) (r .share) (r .order)) (tables (now (head .exit)) (now (loans .exit)) (now (chunks .exit)) (now (index .exit)) (now (regions .exit))) ≡ carryDeliver s (holding (s .store) share order) (tables (now (head .entry)) (now (loans .entry)) (now (chunks .entry)) (now (index .entry)) (now (regions .entry))) (deliveryOf plan) ⌝ }
 {
     match plan {
         Delivery::Shut(r) => store::refuse_delivery(share, order, r),
@@ -182,8 +182,8 @@ pub fn carry_deliver(
                 head,
                 loans,
                 chunks,
-                regions,
                 index,
+                regions,
             )
         }
     }
@@ -199,8 +199,8 @@ fn let_go(
     regions: &mut [u64],
     list: &mut [u64],
 ) -> ReleasedShare
-    requires { ⌜ Releases s (share .objects) spare (tables (now head) [] (now chunks) (now regions) []) (now list) ⌝ }
-    ensures { λ r. ⌜ listed (releaseSaid (r .answer)) (holder (s .store) (r .share)) (tables (now (head .exit)) [] (now (chunks .exit)) (now (regions .exit)) []) (now (list .exit)) ≡ releaseOf s (holder (s .store) share) spare (tables (now (head .entry)) [] (now (chunks .entry)) (now (regions .entry)) []) (now (list .entry)) ⌝ }
+    requires { ⌜ Releases s (share .objects) spare (tables (now head) [] (now chunks) [] (now regions)) (now list) ⌝ }
+    ensures { λ r. ⌜ listed (releaseSaid (r .answer)) (holder (s .store) (r .share)) (tables (now (head .exit)) [] (now (chunks .exit)) [] (now (regions .exit))) (now (list .exit)) ≡ releaseOf s (holder (s .store) share) spare (tables (now (head .entry)) [] (now (chunks .entry)) [] (now (regions .entry))) (now (list .entry)) ⌝ }
 {
     let f = freelist_release::release(s, spare, head, chunks, regions, list);
     store::settle(share, f.count, f.bytes)
@@ -215,14 +215,14 @@ fn take_in(
     head: &mut [u64],
     loans: &mut [u64],
     chunks: &mut [u64],
-    regions: &mut [u64],
     index: &mut [u64],
+    regions: &mut [u64],
     list: &mut [u64],
 ) -> ReleasedShare
-    requires { ⌜ TakesBack s (share .objects) b at (tables (now head) (now loans) (now chunks) (now regions) (now index)) (now list) ⌝ }
-    ensures { λ r. ⌜ listed (releaseSaid (r .answer)) (holder (s .store) (r .share)) (tables (now (head .exit)) (now (loans .exit)) (now (chunks .exit)) (now (regions .exit)) (now (index .exit))) (now (list .exit)) ≡ releaseOf s (holder (s .store) share) true (givenTables s b at (tables (now (head .entry)) (now (loans .entry)) (now (chunks .entry)) (now (regions .entry)) (now (index .entry)))) (now (list .entry)) ⌝ }
+    requires { ⌜ TakesBack s (share .objects) b at (tables (now head) (now loans) (now chunks) (now index) (now regions)) (now list) ⌝ }
+    ensures { λ r. ⌜ listed (releaseSaid (r .answer)) (holder (s .store) (r .share)) (tables (now (head .exit)) (now (loans .exit)) (now (chunks .exit)) (now (index .exit)) (now (regions .exit))) (now (list .exit)) ≡ releaseOf s (holder (s .store) share) true (givenTables s b at (tables (now (head .entry)) (now (loans .entry)) (now (chunks .entry)) (now (index .entry)) (now (regions .entry)))) (now (list .entry)) ⌝ }
 {
-    freelist_place::take_back(s, b, at, loans, regions, index);
+    freelist_place::take_back(s, b, at, loans, index, regions);
     let_go(s, share, true, head, chunks, regions, list)
 }
 
@@ -234,16 +234,16 @@ pub fn carry_return(
     head: &mut [u64],
     loans: &mut [u64],
     chunks: &mut [u64],
-    regions: &mut [u64],
     index: &mut [u64],
+    regions: &mut [u64],
     list: &mut [u64],
 ) -> ReleasedShare
-    requires { ⌜ ReturnReady s (share .objects) b (tables (now head) (now loans) (now chunks) (now regions) (now index)) (now list) plan ⌝ }
-    ensures { λ r. ⌜ listed (releaseSaid (r .answer)) (holder (s .store) (r .share)) (tables (now (head .exit)) (now (loans .exit)) (now (chunks .exit)) (now (regions .exit)) (now (index .exit))) (now (list .exit)) ≡ carryReturn s (holder (s .store) share) b (tables (now (head .entry)) (now (loans .entry)) (now (chunks .entry)) (now (regions .entry)) (now (index .entry))) (now (list .entry)) (backOf plan) ⌝ }
+    requires { ⌜ ReturnReady s (share .objects) b (tables (now head) (now loans) (now chunks) (now index) (now regions)) (now list) plan ⌝ }
+    ensures { λ r. ⌜ listed (releaseSaid (r .answer)) (holder (s .store) (r .share)) (tables (now (head .exit)) (now (loans .exit)) (now (chunks .exit)) (now (index .exit)) (now (regions .exit))) (now (list .exit)) ≡ carryReturn s (holder (s .store) share) b (tables (now (head .entry)) (now (loans .entry)) (now (chunks .entry)) (now (index .entry)) (now (regions .entry))) (now (list .entry)) (backOf plan) ⌝ }
 {
     match plan {
         Back::Refuse(refusal) => store::refuse_return(share, refusal),
-        Back::From(at) => take_in(s, share, b, at, head, loans, chunks, regions, index, list),
+        Back::From(at) => take_in(s, share, b, at, head, loans, chunks, index, regions, list),
     }
 }
 
@@ -254,12 +254,12 @@ pub fn carry_clean_up(
     head: &mut [u64],
     loans: &[u64],
     chunks: &mut [u64],
-    regions: &mut [u64],
     index: &[u64],
+    regions: &mut [u64],
     list: &mut [u64],
 ) -> ReleasedShare
-    requires { ⌜ CleanUpReady s (share .objects) (tables (now head) (now loans) (now chunks) (now regions) (now index)) (now list) plan ⌝ }
-    ensures { λ r. ⌜ listed (releaseSaid (r .answer)) (holder (s .store) (r .share)) (tables (now (head .exit)) (now (loans .entry)) (now (chunks .exit)) (now (regions .exit)) (now (index .entry))) (now (list .exit)) ≡ carryCleanUp s (holder (s .store) share) (tables (now (head .entry)) (now (loans .entry)) (now (chunks .entry)) (now (regions .entry)) (now (index .entry))) (now (list .entry)) (verdictOf plan) ⌝ }
+    requires { ⌜ CleanUpReady s (share .objects) (tables (now head) (now loans) (now chunks) (now index) (now regions)) (now list) plan ⌝ }
+    ensures { λ r. ⌜ listed (releaseSaid (r .answer)) (holder (s .store) (r .share)) (tables (now (head .exit)) (now (loans .entry)) (now (chunks .exit)) (now (index .entry)) (now (regions .exit))) (now (list .exit)) ≡ carryCleanUp s (holder (s .store) share) (tables (now (head .entry)) (now (loans .entry)) (now (chunks .entry)) (now (index .entry)) (now (regions .entry))) (now (list .entry)) (verdictOf plan) ⌝ }
 {
     match plan {
         Gate::Shut(refusal) => store::refuse_return(share, refusal),

@@ -16,14 +16,14 @@ pub fn deliver(
     head: &mut [u64],
     loans: &mut [u64],
     chunks: &mut [u64],
-    regions: &mut [u64],
     index: &mut [u64],
+    regions: &mut [u64],
 ) -> Delivered
-    ensures { λ r. ⌜ out (deliverSaid (r .answer)) (r .account) (tables (now (head .exit)) (now (loans .exit)) (now (chunks .exit)) (now (regions .exit)) (now (index .exit))) ≡ deliverOf s a o (tables (now (head .entry)) (now (loans .entry)) (now (chunks .entry)) (now (regions .entry)) (now (index .entry))) ⌝ }
+    ensures { λ r. ⌜ out (deliverSaid (r .answer)) (r .account) (tables (now (head .exit)) (now (loans .exit)) (now (chunks .exit)) (now (index .exit)) (now (regions .exit))) ≡ deliverOf s a o (tables (now (head .entry)) (now (loans .entry)) (now (chunks .entry)) (now (index .entry)) (now (regions .entry))) ⌝ }
 {
     let own = s.store;
     let h = store_accounts::share_of(own, a);
     let order = a.order;
-    let r = crate::calls::deliver(s, h, order, o, head, loans, chunks, regions, index);
+    let r = crate::calls::deliver(s, h, order, o, head, loans, chunks, index, regions);
     store::delivered(own, a, r)
 }

@@ -37,12 +37,12 @@ pub fn plan_set_up(
     head: &[u64],
     loans: &[u64],
     chunks: &[u64],
-    regions: &[u64],
     index: &[u64],
+    regions: &[u64],
 ) -> Gate
-    ensures { λ r. ⌜ verdictOf r ≡ planSetUp s (tables (now (head .entry)) (now (loans .entry)) (now (chunks .entry)) (now (regions .entry)) (now (index .entry))) ⌝ }
+    ensures { λ r. ⌜ verdictOf r ≡ planSetUp s (tables (now (head .entry)) (now (loans .entry)) (now (chunks .entry)) (now (index .entry)) (now (regions .entry))) ⌝ }
 {
-    if freelist_gate::is_fit(s, head, loans, chunks, regions, index) {
+    if freelist_gate::is_fit(s, head, loans, chunks, index, regions) {
         Gate::Go
     } else {
         Gate::Shut(Refusal::Setup)
@@ -57,18 +57,18 @@ pub fn plan_ask(
     head: &[u64],
     loans: &[u64],
     chunks: &[u64],
-    regions: &[u64],
     index: &[u64],
+    regions: &[u64],
 ) -> Plan
-    ensures { λ r. ⌜ planOf r ≡ planAsk s (holder (s .store) share) size mask (tables (now (head .entry)) (now (loans .entry)) (now (chunks .entry)) (now (regions .entry)) (now (index .entry))) ⌝ }
-    ensures { λ r. ⌜ Planned s size mask (tables (now (head .entry)) (now (loans .entry)) (now (chunks .entry)) (now (regions .entry)) (now (index .entry))) r ⌝ }
+    ensures { λ r. ⌜ planOf r ≡ planAsk s (holder (s .store) share) size mask (tables (now (head .entry)) (now (loans .entry)) (now (chunks .entry)) (now (index .entry)) (now (regions .entry))) ⌝ }
+    ensures { λ r. ⌜ Planned s size mask (tables (now (head .entry)) (now (loans .entry)) (now (chunks .entry)) (now (index .entry)) (now (regions .entry))) r ⌝ }
 {
-    let g = freelist_gate::gate(s, share, true, head, loans, chunks, regions, index);
+    let g = freelist_gate::gate(s, share, true, head, loans, chunks, index, regions);
     match g {
         Gate::Shut(refusal) => Plan::Refuse(refusal),
         Gate::Go => {
             let heap = share.heap;
-            freelist_decide::decide(s, heap, share.objects, size, mask, head, regions, index)
+            freelist_decide::decide(s, heap, share.objects, size, mask, head, index, regions)
         }
     }
 }
@@ -81,13 +81,13 @@ pub fn plan_deliver(
     head: &[u64],
     loans: &[u64],
     chunks: &[u64],
-    regions: &[u64],
     index: &[u64],
+    regions: &[u64],
 ) -> Delivery
-    ensures { λ r. ⌜ deliveryOf r ≡ planDeliver s (holding (s .store) share order) o (tables (now (head .entry)) (now (loans .entry)) (now (chunks .entry)) (now (regions .entry)) (now (index .entry))) ⌝ }
-    ensures { λ r. ⌜ Delivers s (tables (now (head .entry)) (now (loans .entry)) (now (chunks .entry)) (now (regions .entry)) (now (index .entry))) r ⌝ }
+    ensures { λ r. ⌜ deliveryOf r ≡ planDeliver s (holding (s .store) share order) o (tables (now (head .entry)) (now (loans .entry)) (now (chunks .entry)) (now (index .entry)) (now (regions .entry))) ⌝ }
+    ensures { λ r. ⌜ Delivers s (tables (now (head .entry)) (now (loans .entry)) (now (chunks .entry)) (now (index .entry)) (now (regions .entry))) r ⌝ }
 {
-    let g = freelist_gate::gate_delivery(s, share, order, head, loans, chunks, regions, index);
+    let g = freelist_gate::gate_delivery(s, share, order, head, loans, chunks, index, regions);
     match g {
         Passing::Shut(refusal) => Delivery::Shut(refusal),
         Passing::Go(b) => {
@@ -105,15 +105,15 @@ pub fn plan_return(
     head: &[u64],
     loans: &[u64],
     chunks: &[u64],
-    regions: &[u64],
     index: &[u64],
+    regions: &[u64],
     list: &[u64],
 ) -> Back
-    ensures { λ r. ⌜ backOf r ≡ planReturn s (holder (s .store) share) b (tables (now (head .entry)) (now (loans .entry)) (now (chunks .entry)) (now (regions .entry)) (now (index .entry))) (listOk (s .store) (now (list .entry))) ⌝ }
+    ensures { λ r. ⌜ backOf r ≡ planReturn s (holder (s .store) share) b (tables (now (head .entry)) (now (loans .entry)) (now (chunks .entry)) (now (index .entry)) (now (regions .entry))) (listOk (s .store) (now (list .entry))) ⌝ }
 {
     let own = s.store;
     let long = own.chunks <= list.len();
-    let g = freelist_gate::gate(s, share, long, head, loans, chunks, regions, index);
+    let g = freelist_gate::gate(s, share, long, head, loans, chunks, index, regions);
     match g {
         Gate::Shut(refusal) => Back::Refuse(refusal),
         Gate::Go => freelist_decide::decide_return(s, b, head, loans, index),
@@ -127,13 +127,13 @@ pub fn plan_clean_up(
     head: &[u64],
     loans: &[u64],
     chunks: &[u64],
-    regions: &[u64],
     index: &[u64],
+    regions: &[u64],
     list: &[u64],
 ) -> Gate
-    ensures { λ r. ⌜ verdictOf r ≡ planCleanUp s (holder (s .store) share) (tables (now (head .entry)) (now (loans .entry)) (now (chunks .entry)) (now (regions .entry)) (now (index .entry))) (listOk (s .store) (now (list .entry))) ⌝ }
+    ensures { λ r. ⌜ verdictOf r ≡ planCleanUp s (holder (s .store) share) (tables (now (head .entry)) (now (loans .entry)) (now (chunks .entry)) (now (index .entry)) (now (regions .entry))) (listOk (s .store) (now (list .entry))) ⌝ }
 {
     let own = s.store;
     let long = own.chunks <= list.len();
-    freelist_gate::gate(s, share, long, head, loans, chunks, regions, index)
+    freelist_gate::gate(s, share, long, head, loans, chunks, index, regions)
 }

@@ -17,15 +17,15 @@ pub fn return_block(
     head: &mut [u64],
     loans: &mut [u64],
     chunks: &mut [u64],
-    regions: &mut [u64],
     index: &mut [u64],
+    regions: &mut [u64],
     list: &mut [u64],
 ) -> Released
-    ensures { λ r. ⌜ listed (releaseSaid (r .answer)) (r .account) (tables (now (head .exit)) (now (loans .exit)) (now (chunks .exit)) (now (regions .exit)) (now (index .exit))) (now (list .exit)) ≡ returnOf s a b (tables (now (head .entry)) (now (loans .entry)) (now (chunks .entry)) (now (regions .entry)) (now (index .entry))) (now (list .entry)) ⌝ }
+    ensures { λ r. ⌜ listed (releaseSaid (r .answer)) (r .account) (tables (now (head .exit)) (now (loans .exit)) (now (chunks .exit)) (now (index .exit)) (now (regions .exit))) (now (list .exit)) ≡ returnOf s a b (tables (now (head .entry)) (now (loans .entry)) (now (chunks .entry)) (now (index .entry)) (now (regions .entry))) (now (list .entry)) ⌝ }
 {
     let own = s.store;
     let h = store_accounts::share_of(own, a);
-    let r = crate::calls::return_block(s, h, b, head, loans, chunks, regions, index, list);
+    let r = crate::calls::return_block(s, h, b, head, loans, chunks, index, regions, list);
     store::released(own, a, r)
 }
 
@@ -36,14 +36,14 @@ pub fn clean_up(
     head: &mut [u64],
     loans: &[u64],
     chunks: &mut [u64],
-    regions: &mut [u64],
     index: &[u64],
+    regions: &mut [u64],
     list: &mut [u64],
 ) -> Released
-    ensures { λ r. ⌜ listed (releaseSaid (r .answer)) (r .account) (tables (now (head .exit)) (now (loans .entry)) (now (chunks .exit)) (now (regions .exit)) (now (index .entry))) (now (list .exit)) ≡ cleanUpOf s a (tables (now (head .entry)) (now (loans .entry)) (now (chunks .entry)) (now (regions .entry)) (now (index .entry))) (now (list .entry)) ⌝ }
+    ensures { λ r. ⌜ listed (releaseSaid (r .answer)) (r .account) (tables (now (head .exit)) (now (loans .entry)) (now (chunks .exit)) (now (index .entry)) (now (regions .exit))) (now (list .exit)) ≡ cleanUpOf s a (tables (now (head .entry)) (now (loans .entry)) (now (chunks .entry)) (now (index .entry)) (now (regions .entry))) (now (list .entry)) ⌝ }
 {
     let own = s.store;
     let h = store_accounts::share_of(own, a);
-    let r = crate::calls::clean_up(s, h, head, loans, chunks, regions, index, list);
+    let r = crate::calls::clean_up(s, h, head, loans, chunks, index, regions, list);
     store::released(own, a, r)
 }

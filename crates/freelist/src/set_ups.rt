@@ -2,7 +2,7 @@
 ghost use mathlib.Core.Path.{_≡_};
 ghost use Rattle.counter.specs.Paper.{setUpSaid};
 ghost use Rattle.freelist_rules.specs.Tables.{tables};
-ghost use Rattle.freelist_outcomes.specs.SetUp.{setUp, setUpOf};
+ghost use Rattle.freelist_outcomes.specs.SetUp.{begun, setUpOf};
 use counter::FreeListSettings;
 use counter::SetUpAnswer;
 
@@ -11,11 +11,11 @@ pub fn set_up(
     head: &mut [u64],
     loans: &[u64],
     chunks: &[u64],
-    regions: &mut [u64],
     index: &mut [u64],
+    regions: &mut [u64],
 ) -> SetUpAnswer
-    ensures { λ r. ⌜ setUp (setUpSaid r) (tables (now (head .exit)) (now (loans .entry)) (now (chunks .entry)) (now (regions .exit)) (now (index .exit))) ≡ setUpOf s (tables (now (head .entry)) (now (loans .entry)) (now (chunks .entry)) (now (regions .entry)) (now (index .entry))) ⌝ }
+    ensures { λ r. ⌜ begun (setUpSaid r) (tables (now (head .exit)) (now (loans .entry)) (now (chunks .entry)) (now (index .exit)) (now (regions .exit))) ≡ setUpOf s (tables (now (head .entry)) (now (loans .entry)) (now (chunks .entry)) (now (index .entry)) (now (regions .entry))) ⌝ }
 {
-    let plan = crate::plans::plan_set_up(s, head, loans, chunks, regions, index);
-    crate::carries::carry_set_up(s, plan, head, regions, index)
+    let plan = crate::plans::plan_set_up(s, head, loans, chunks, index, regions);
+    crate::carries::carry_set_up(s, plan, head, index, regions)
 }

@@ -17,7 +17,7 @@ use Rattle.freelist_decide.specs.declared.deciding.Plan.{Plan}
 
 module _ (s : FreeListSettings) (h : Heap) (objects size mask : ℕ) (t : Tables) where
   abbrev few : Tables
-  few = tables (t .head) [] [] (t .regions) (t .index)
+  few = tables (t .head) [] [] (t .index) (t .room)
 
   same : (f : Found) (v : Verdict) → planned s size few f v ≡ planned s size t f v
   unfolding storeOf
@@ -29,12 +29,12 @@ module _ (s : FreeListSettings) (h : Heap) (objects size mask : ℕ) (t : Tables
   unfolding decideAsk roomOk countOk objectsOk storeOf
   ask-few = same (foundFor s size mask t) (first (askRow s h objects size mask t (foundFor s size mask t)))
 
-pub planned-few : (s : FreeListSettings) (size mask : ℕ) (t : Tables) (p : Plan) → Planned s size mask (tables (t .head) [] [] (t .regions) (t .index)) p → Planned s size mask t p
+pub planned-few : (s : FreeListSettings) (size mask : ℕ) (t : Tables) (p : Plan) → Planned s size mask (tables (t .head) [] [] (t .index) (t .room)) p → Planned s size mask t p
 unfolding storeOf
 planned-few s size mask t p e = e
 
 module _ (s : FreeListSettings) (b : Block) (t : Tables) where
-  pub return-few : decideReturn s b (tables (t .head) (t .loans) [] [] (t .index)) ≡ decideReturn s b t
+  pub return-few : decideReturn s b (tables (t .head) (t .loans) [] (t .index) []) ≡ decideReturn s b t
   unfolding decideReturn onLoanOk
   return-few = refl
 

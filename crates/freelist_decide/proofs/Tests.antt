@@ -31,7 +31,7 @@ use Rattle.freelist_decide.specs.declared.deciding.Plan as Code
 
 module _ (s : FreeListSettings) (head index : List ℕ) where
   abbrev now : Tables
-  now = tables head [] [] [] index
+  now = tables head [] [] index []
 
   -- a loan place is left
   abbrev pub left : Bool
@@ -107,7 +107,7 @@ module _ (s : FreeListSettings) (head index : List ℕ) where
 
 module _ (s : FreeListSettings) (h : Heap) (objects size mask : ℕ) (head regions index : List ℕ) where
   abbrev all : Tables
-  all = tables head [] [] regions index
+  all = tables head [] [] index regions
 
   pub found-is : (f : Found) (m n k : ℕ) → f ≡ find m n (rows regionRow k regions) → m ≡ maskFor s mask → n ≡ sizeFor s size → k ≡ getD regions (regionCountAt s) 0 → f ≡ foundFor s size mask all
   unfolding storeOf
@@ -122,7 +122,7 @@ module _ (s : FreeListSettings) (h : Heap) (objects size mask : ℕ) (head regio
   decide-size e f = rw (e, f) refl
 
   -- of a region that serves, two tests are left
-  fewer : (i : ℕ) (r g : Bool) → planned s 0 (tables head [] [] [] index) (at i) (first ((r, 8) ∷ (g, 10) ∷ [])) ≡ planned s size all (at i) (first ((r, 8) ∷ (g && true, 10) ∷ (true, 9) ∷ []))
+  fewer : (i : ℕ) (r g : Bool) → planned s 0 (tables head [] [] index []) (at i) (first ((r, 8) ∷ (g, 10) ∷ [])) ≡ planned s size all (at i) (first ((r, 8) ∷ (g && true, 10) ∷ (true, 9) ∷ []))
   fewer i true true = refl
   fewer i true false = refl
   fewer i false g = refl
@@ -132,7 +132,7 @@ module _ (s : FreeListSettings) (h : Heap) (objects size mask : ℕ) (head regio
   decide-at i p e f g t = t ∙ rw (e, f, sym g) (fewer i (roomOk s all (at i)) (ltb (getD head givenAt 0) spent))
 
   -- an order's size does not look at the regions
-  same : (v : Verdict) → planned s size (tables head [] [] [] index) nowhere v ≡ planned s size all nowhere v
+  same : (v : Verdict) → planned s size (tables head [] [] index []) nowhere v ≡ planned s size all nowhere v
   unfolding storeOf
   same pass = refl
   same (refuse n) = refl

@@ -61,7 +61,7 @@ fn is_place(s: FreeListSettings, loan: Taken) -> bool
 
 // Region i serves, from `start` on.
 fn decide_take(s: FreeListSettings, i: usize, start: u64, head: &[u64], index: &[u64]) -> Plan
-    ensures { λ r. ⌜ planOf r ≡ planned s 0 (tables (now (head .entry)) [] [] [] (now (index .entry))) (at i) (first ((roomOk s (tables (now (head .entry)) [] [] [] (now (index .entry))) (at i), 8) ∷ (ltb (getD (now (head .entry)) givenAt 0) spent, 10) ∷ [])) ⌝ }
+    ensures { λ r. ⌜ planOf r ≡ planned s 0 (tables (now (head .entry)) [] [] (now (index .entry)) []) (at i) (first ((roomOk s (tables (now (head .entry)) [] [] (now (index .entry)) []) (at i), 8) ∷ (ltb (getD (now (head .entry)) givenAt 0) spent, 10) ∷ [])) ⌝ }
     ensures { λ r. ⌜ ((from : ℕ → ℕ) → (n m : ℕ) → start ≡ from i → Carries from n m (takenOf (getD (now (head .entry)) placesAt 0) (now (index .entry))) r) ⌝ }
 {
     let loan = book::next_place(words::word(head, PLACES_AT), index);
@@ -88,7 +88,7 @@ fn decide_buy(
     head: &[u64],
     index: &[u64],
 ) -> Plan
-    ensures { λ r. ⌜ ((asked : ℕ) → size ≡ sizeFor s asked → planOf r ≡ planned s asked (tables (now (head .entry)) [] [] [] (now (index .entry))) nowhere (first (lateRow s h objects asked (tables (now (head .entry)) [] [] [] (now (index .entry))) nowhere))) ⌝ }
+    ensures { λ r. ⌜ ((asked : ℕ) → size ≡ sizeFor s asked → planOf r ≡ planned s asked (tables (now (head .entry)) [] [] (now (index .entry)) []) nowhere (first (lateRow s h objects asked (tables (now (head .entry)) [] [] (now (index .entry)) []) nowhere))) ⌝ }
     ensures { λ r. ⌜ ((from : ℕ → ℕ) → Carries from size mask (takenOf (getD (now (head .entry)) placesAt 0) (now (index .entry))) r) ⌝ }
 {
     let store = s.store;
@@ -121,12 +121,12 @@ pub fn decide(
     size: u64,
     mask: u64,
     head: &[u64],
-    regions: &[u64],
     index: &[u64],
+    regions: &[u64],
 ) -> Plan
     requires { ⌜ FreeListIn s ⌝ }
-    ensures { λ r. ⌜ planOf r ≡ decideAsk s h objects size mask (tables (now (head .entry)) [] [] (now (regions .entry)) (now (index .entry))) ⌝ }
-    ensures { λ r. ⌜ Planned s size mask (tables (now (head .entry)) [] [] (now (regions .entry)) (now (index .entry))) r ⌝ }
+    ensures { λ r. ⌜ planOf r ≡ decideAsk s h objects size mask (tables (now (head .entry)) [] [] (now (index .entry)) (now (regions .entry))) ⌝ }
+    ensures { λ r. ⌜ Planned s size mask (tables (now (head .entry)) [] [] (now (index .entry)) (now (regions .entry))) r ⌝ }
 {
     if !counter::is_alignment(mask) {
         return Plan::Refuse(Refusal::Mask);

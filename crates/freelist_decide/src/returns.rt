@@ -23,7 +23,7 @@ pub fn decide_return(
     index: &[u64],
 ) -> Back
     requires { ⌜ FreeListIn s × (getD (now head) placesAt 0 ≤ loansMost) ⌝ }
-    ensures { λ r. ⌜ backOf r ≡ decideReturn s b (tables (now (head .entry)) (now (loans .entry)) [] [] (now (index .entry))) ⌝ }
+    ensures { λ r. ⌜ backOf r ≡ decideReturn s b (tables (now (head .entry)) (now (loans .entry)) [] (now (index .entry)) []) ⌝ }
 {
     let own = s.store;
     let places = words::word(head, PLACES_AT);

@@ -26,14 +26,14 @@ use Rattle.store_rules.specs.Outcomes.{Out, out, Listed, listed, listOk, charge
 use Rattle.store_rules.specs.Views.{sizes}
 use Rattle.freelist_rules.specs.Release.{bytesOf}
 use Rattle.freelist_rules.specs.Records.{Store}
-use Rattle.freelist_rules.specs.Tables.{Tables, Lengths, storeOf, SoundTables}
+use Rattle.freelist_rules.specs.Tables.{Lengths, storeOf, SoundTables}
 use Rattle.freelist_rules.proofs.Fits.{lengths-are}
 use Rattle.freelist_rules.proofs.GivesBack.{gone-bytes}
 use Rattle.freelist_outcomes.specs.Gate.{accountOk}
 use Rattle.freelist_outcomes.specs.Ask.{askOf}
 use Rattle.freelist_outcomes.specs.Deliver.{carryFate, deliverOf}
 use Rattle.freelist_outcomes.specs.Return.{wordFor, onLoanOk, givenTables, goneFrom, releasedTables, releaseOf, returnOf, cleanUpOf}
-use Rattle.freelist_outcomes.specs.SetUp.{SetUp, setUpOf}
+use Rattle.freelist_outcomes.specs.SetUp.{Begun, setUpOf}
 use Rattle.store_rules.proofs.Accounts.{lost-nothing}
 use Rattle.freelist_outcomes.proofs.Accounts.{account-is, covers-yes}
 use Rattle.freelist_outcomes.proofs.Changed.{released-store}
@@ -42,31 +42,31 @@ use Rattle.freelist_outcomes.proofs.Comes.{Open, Arrival, early, fated, arrives
 use Rattle.freelist_outcomes.proofs.Given.{given-store, given-lengths, given-sound}
 use Rattle.freelist_outcomes.proofs.Passing.{Passed}
 use Rattle.engines.specs.Books.{releaseBooks, books, takes, Booked, Books}
-use Rattle.engines.specs.Shapes.{Lent, Call, setsUp, asks, delivers, returns, others, does}
+use Rattle.engines.specs.Shapes.{Tables, Call, setsUp, asks, delivers, returns, others, does}
 use Rattle.engines.proofs.Booking.{Bears, not-accepted, still, early-booked, charged-booked, back-booked, release-booked}
-use Rattle.freelist_engine.specs.Shape.{OwnCall, cleansUp, asList, asLent, outAs, listedAs, listShape}
+use Rattle.freelist_engine.specs.Shape.{OwnCall, cleansUp, listShape}
 
 -- the bytes of the chunks that the tables hold
 abbrev heldBytes : FreeListSettings → Tables → ℕ
 heldBytes s t = sizes (storeOf s t .chunks)
 
 module _ (s : FreeListSettings) (a : Account) (t : Tables) where
-  abbrev ListBooked : Call OwnCall → Listed Lent → Type 0
-  ListBooked c d = Booked (s .store .heap) a (books listShape s a (asLent t) c d) (takes listShape c (d .said)) d
+  abbrev ListBooked : Call OwnCall → Listed Tables → Type 0
+  ListBooked c d = Booked (s .store .heap) a (books listShape s a t c d) (takes listShape c (d .said)) d
 
   -- ---- set-up and an ask book nothing
 
-  sets-up-booked : ListBooked setsUp (does listShape s a (asLent t) setsUp)
+  sets-up-booked : ListBooked setsUp (does listShape s a t setsUp)
   sets-up-booked = go (setUpOf s t) (set-up-comes s t)
     where
-      go : (r : SetUp) → SetUpComes s t r → ListBooked setsUp (listed (r .said) a (asLent (r .tables)) [])
+      go : (r : Begun) → SetUpComes s t r → ListBooked setsUp (listed (r .said) a (r .tables) [])
       go _ SetUpComes.denied = still (s .store .heap) a _ _ _ refl refl refl refl refl
       go _ (readies fit lengths) = still (s .store .heap) a _ _ _ refl refl refl refl refl
 
-  abbrev arrived : Out Tables → Listed Lent
-  arrived r = listed (r .said) (r .account) (outAs r .tables) []
+  abbrev arrived : Out Tables → Listed Tables
+  arrived r = listed (r .said) (r .account) (r .tables) []
 
-  asks-booked : (size mask : ℕ) → ListBooked (asks size mask) (does listShape s a (asLent t) (asks size mask))
+  asks-booked : (size mask : ℕ) → ListBooked (asks size mask) (does listShape s a t (asks size mask))
   asks-booked size mask = go (askOf s a size mask t) (ask-comes s a size mask t)
     where
       go : (r : Out Tables) → AskComes s a size mask t r → ListBooked (asks size mask) (arrived r)
@@ -106,17 +106,17 @@ module _ (s : FreeListSettings) (a : Account) (t : Tables) where
         by M.OutOfDevice = charged-booked (s .store) a k bears m _ _ refl refl
         by M.OutOfHost = charged-booked (s .store) a k bears m _ _ refl refl
 
-  delivers-booked : (o : Outcome) → ListBooked (delivers o) (does listShape s a (asLent t) (delivers o))
+  delivers-booked : (o : Outcome) → ListBooked (delivers o) (does listShape s a t (delivers o))
   delivers-booked o = go (deliverOf s a o t) (arrives s a o t)
     where
       go : (r : Out Tables) → Arrival s a o t r → ListBooked (delivers o) (arrived r)
-      go _ (early n x y) = early-booked (s .store) a n (asLent t) (not-accepted n x y) o
+      go _ (early n x y) = early-booked (s .store) a n t (not-accepted n x y) o
       go _ (fated k w f) = fated-booked k w o
 
   -- ---- a release, of tables that hold the same chunks
 
-  abbrev freed : Listed Tables → Listed Lent
-  freed r = listedAs r
+  abbrev freed : Listed Tables → Listed Tables
+  freed r = r
 
   module _ (p : accountOk s a t ≡ true) (fit : FreeListIn s) (u : Tables) (lengths : Lengths s u) (sound : SoundTables s u) (same : storeOf s u .chunks ≡ storeOf s t .chunks) (spare : Bool) where
     abbrev left : Tables
@@ -134,14 +134,14 @@ module _ (s : FreeListSettings) (a : Account) (t : Tables) where
     bytes-are : release (heldBytes s t - heldBytes s left) ∷ [] ≡ release bytes ∷ []
     bytes-are = let e : heldBytes s t - heldBytes s left ≡ bytes = omega (arith, bytes-gone) in rw e
 
-    releases : (c : Call OwnCall) (list : List ℕ) → ((d : Listed Lent) → books listShape s a (asLent t) c d ≡ releaseBooks (heldBytes s t - heldBytes s (asList (d .tables))) (d .said)) → ((said : Said) → takes listShape c said ≡ 0) → ListBooked c (freed (releaseOf s a spare u list))
+    releases : (c : Call OwnCall) (list : List ℕ) → ((d : Listed Tables) → books listShape s a t c d ≡ releaseBooks (heldBytes s t - heldBytes s (d .tables)) (d .said)) → ((said : Said) → takes listShape c said ≡ 0) → ListBooked c (freed (releaseOf s a spare u list))
     unfolding releaseOf
     releases c list books-are takes-none =
         let d = freed (releaseOf s a spare u list) in
         release-booked (s .store) a (fit .store .heap) (length (storeOf s t .chunks)) (heldBytes s t) (sym (account-is s a t) ∙ p) (length (goneFrom s spare u)) bytes (omega (arith, bytes-gone))
-        (books listShape s a (asLent t) c d) (takes listShape c (d .said)) (asLent left) (d .list) (books-are d ∙ bytes-are) (takes-none (d .said))
+        (books listShape s a t c d) (takes listShape c (d .said)) left (d .list) (books-are d ∙ bytes-are) (takes-none (d .said))
 
-  returns-booked : (b : Block) (list : List ℕ) → ListBooked (returns b list) (does listShape s a (asLent t) (returns b list))
+  returns-booked : (b : Block) (list : List ℕ) → ListBooked (returns b list) (does listShape s a t (returns b list))
   returns-booked b list = go (returnOf s a b t list) (return-comes s a b t list)
     where
       back : Passed s a t (listOk (s .store) list) → onLoanOk s b t ≡ true → ListBooked (returns b list) (freed (releaseOf s a true (givenTables s b (wordFor s b t) t) list))
@@ -156,14 +156,14 @@ module _ (s : FreeListSettings) (a : Account) (t : Tables) where
       go _ (ReturnComes.denied n) = still (s .store .heap) a _ _ _ refl refl refl refl refl
       go _ (Comes.takes p on) = back p on
 
-  cleans-up-booked : (list : List ℕ) → ListBooked (others cleansUp list) (does listShape s a (asLent t) (others cleansUp list))
+  cleans-up-booked : (list : List ℕ) → ListBooked (others cleansUp list) (does listShape s a t (others cleansUp list))
   cleans-up-booked list = go (cleanUpOf s a t list) (clean-up-comes s a t list)
     where
       go : (r : Listed Tables) → CleanUpComes s a t list r → ListBooked (others cleansUp list) (freed r)
       go _ (CleanUpComes.denied n) = still (s .store .heap) a _ _ _ refl refl refl refl refl
       go _ (cleans p) = releases (p .covered) (p .settings) t (lengths-are s t (p .lengths)) (p .sound) refl false (others cleansUp list) list (λ d. refl) (λ said. refl)
 
-  list-booked : (c : Call OwnCall) → ListBooked c (does listShape s a (asLent t) c)
+  list-booked : (c : Call OwnCall) → ListBooked c (does listShape s a t c)
   list-booked setsUp = sets-up-booked
   list-booked (asks size mask) = asks-booked size mask
   list-booked (delivers o) = delivers-booked o
@@ -172,4 +172,4 @@ module _ (s : FreeListSettings) (a : Account) (t : Tables) where
 
 -- the free list books as an engine has to
 pub list-books : Books listShape
-list-books = record { booked = λ s a t c. list-booked s a (asList t) c }
+list-books = record { booked = λ s a t c. list-booked s a t c }

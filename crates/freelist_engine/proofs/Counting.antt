@@ -19,7 +19,7 @@ use Rattle.counter.proofs.Reasoned.{given-then}
 use Rattle.store_rules.specs.Loans.{loansOf}
 use Rattle.store_rules.specs.Outcomes.{Listed, listed, listOk}
 use Rattle.engines.specs.Serials.{Gone, Counted, Counts}
-use Rattle.engines.specs.Shapes.{Lent, Call, setsUp, does}
+use Rattle.engines.specs.Shapes.{Call, setsUp, does}
 use Rattle.freelist_rules.specs.Records.{Store}
 use Rattle.freelist_rules.specs.Tables.{Tables, placesIn, storeOf}
 use Rattle.freelist_rules.proofs.Blocks.{returned-is}
@@ -30,39 +30,39 @@ use Rattle.freelist_rules.proofs.Swaps.{settled}
 use Rattle.freelist_outcomes.specs.Refusals.{listWords}
 use Rattle.store_rules.specs.Rows.{Stale, listRows}
 use Rattle.freelist_outcomes.specs.Return.{wordFor, onLoanOk, givenTables, releasedTables, releaseOf, returnOf}
-use Rattle.freelist_outcomes.specs.SetUp.{SetUp, setUpOf}
+use Rattle.freelist_outcomes.specs.SetUp.{Begun, setUpOf}
 use Rattle.freelist_outcomes.proofs.Changed.{fresh-store}
 use Rattle.freelist_outcomes.proofs.Comes.{ReturnComes, takes, return-comes, SetUpComes, readies, set-up-comes}
 use Rattle.freelist_outcomes.proofs.Given.{on-loan-is}
 use Rattle.freelist_outcomes.proofs.Passing.{Passed}
 use Rattle.freelist_outcomes.proofs.Refused.{return-leaves, return-refused}
 use Rattle.freelist_outcomes.proofs.Sounds.{set-up-sound}
-use Rattle.freelist_engine.specs.Shape.{OwnCall, asList, asLent, listedAs, listShape}
+use Rattle.freelist_engine.specs.Shape.{OwnCall, listShape}
 use Rattle.freelist_engine.proofs.Stepping.{Marked, givenOf, Stepped, call-steps, back-store, back-marked}
 
 -- ---- serials that are gone, in the store that the tables hold, whatever the settings
 
 module _ (s : FreeListSettings) (k : ℕ) (t : Tables) where
-  gone-there : Gone listShape k (asLent t) → Rules.Gone k (storeOf s t)
+  gone-there : Gone listShape k t → Rules.Gone k (storeOf s t)
   unfolding storeOf
   gone-there g = record { old = g .old; away = λ l m. g .away l (ordered-out l (loansOf (placesIn t) (t .loans)) m) }
 
-  gone-here : Marked t → Rules.Gone k (storeOf s t) → Gone listShape k (asLent t)
+  gone-here : Marked t → Rules.Gone k (storeOf s t) → Gone listShape k t
   unfolding storeOf
   gone-here has g = record { marked = has; old = g .old; away = λ l m. g .away l (ordered-in l (loansOf (placesIn t) (t .loans)) m) }
 
 -- over one call they stay so
-gone-steps : (k : ℕ) (s : FreeListSettings) (t : Lent) (d : Listed Lent) → Stepped s (asList t) (asList (d .tables)) (d .said) → Gone listShape k t → Gone listShape k (d .tables)
+gone-steps : (k : ℕ) (s : FreeListSettings) (t : Tables) (d : Listed Tables) → Stepped s t (d .tables) (d .said) → Gone listShape k t → Gone listShape k (d .tables)
 gone-steps k s t d S g =
-    ⊎-elim (λ e. subst (λ (u : Tables). Gone listShape k (asLent u)) (sym e) g)
-    (λ cs. gone-here s k (asList (d .tables)) (S .marks (g .marked)) (Rules.gone-calls s k (gone-there s k (asList t) g) cs))
+    ⊎-elim (λ e. subst (λ (u : Tables). Gone listShape k u) (sym e) g)
+    (λ cs. gone-here s k (d .tables) (S .marks (g .marked)) (Rules.gone-calls s k (gone-there s k t g) cs))
     (S .steps)
 
 -- ---- from a return on
 
 module _ (s : FreeListSettings) (a : Account) (b : Block) (t : Tables) (list : List ℕ) where
   -- a return that is taken leaves no loan with the block's serial
-  back-gone : Passed s a t (listOk (s .store) list) → onLoanOk s b t ≡ true → Gone listShape (b .serial) (asLent (releasedTables s true (givenTables s b (wordFor s b t) t)))
+  back-gone : Passed s a t (listOk (s .store) list) → onLoanOk s b t ≡ true → Gone listShape (b .serial) (releasedTables s true (givenTables s b (wordFor s b t) t))
   back-gone p on =
       let v = storeOf s t in
       let m = on-loan-is s t (p .settings) (p .sound) b on in
@@ -76,20 +76,20 @@ module _ (s : FreeListSettings) (a : Account) (b : Block) (t : Tables) (list : L
       } in
       gone-here s (b .serial) (releasedTables s true (givenTables s b (wordFor s b t) t)) (back-marked s a b t (listOk (s .store) list) p on) (subst (Rules.Gone (b .serial)) (sym e) g)
 
-  return-gone : (r : Listed Tables) → ReturnComes s a b t list r → kindOf (r .said) ≡ 3 → Gone listShape (b .serial) (asLent (r .tables))
+  return-gone : (r : Listed Tables) → ReturnComes s a b t list r → kindOf (r .said) ≡ 3 → Gone listShape (b .serial) (r .tables)
   unfolding releaseOf
   return-gone _ (ReturnComes.denied n) e = absurd (omega arith)
   return-gone _ (takes p on) e = back-gone p on
 
   -- and where no loan has it the block is refused
-  gone-refused : Gone listShape (b .serial) (asLent t) → (k : ℕ) × (returnOf s a b t list .said ≡ Paper.refusal k [])
+  gone-refused : Gone listShape (b .serial) t → (k : ℕ) × (returnOf s a b t list .said ≡ Paper.refusal k [])
   gone-refused g = by (returnOf s a b t list) (return-comes s a b t list)
     where
       by : (r : Listed Tables) → ReturnComes s a b t list r → (k : ℕ) × (r .said ≡ Paper.refusal k [])
       by _ (ReturnComes.denied n) = (n, refl)
       by _ (takes p on) = let w = on-loan-is s t (p .settings) (p .sound) b on in absurd (gone-there s (b .serial) t g .away (w .0) (w .1) (w .2 .serial))
 
-  stale-or-earlier : Gone listShape (b .serial) (asLent t) → (k : ℕ) × (returnOf s a b t list ≡ listed (Paper.refusal k []) a t list) × ((k ≡ 7) ⊎ Given (listRows listWords s a t list) k)
+  stale-or-earlier : Gone listShape (b .serial) t → (k : ℕ) × (returnOf s a b t list ≡ listed (Paper.refusal k []) a t list) × ((k ≡ 7) ⊎ Given (listRows listWords s a t list) k)
   stale-or-earlier g =
       let r = gone-refused g in
       let c = given-then (listRows listWords s a t list) (reason (Stale listWords s b t) 7 none) (r .0) (return-refused s a b t list (r .0) .0 (r .1)) in
@@ -97,11 +97,11 @@ module _ (s : FreeListSettings) (a : Account) (b : Block) (t : Tables) (list : L
 
 -- ---- over one call
 
-counted : (s : FreeListSettings) (a : Account) (t : Lent) (c : Call OwnCall) → (c ≡ setsUp → ⊥) → Marked (asList t) → Counted listShape t (does listShape s a t c .tables) (does listShape s a t c .said)
+counted : (s : FreeListSettings) (a : Account) (t : Tables) (c : Call OwnCall) → (c ≡ setsUp → ⊥) → Marked t → Counted listShape t (does listShape s a t c .tables) (does listShape s a t c .said)
 counted s a t c f m = let S = call-steps s a t c f in record { gives = S .gives; nexts = S .nexts; marks = S .marks m }
 
 -- set-up gave none
-fresh-given : (s : FreeListSettings) (t : Tables) (r : SetUp) → SetUpComes s t r → kindOf (r .said) ≡ 0 → givenOf (r .tables) ≡ 0
+fresh-given : (s : FreeListSettings) (t : Tables) (r : Begun) → SetUpComes s t r → kindOf (r .said) ≡ 0 → givenOf (r .tables) ≡ 0
 unfolding storeOf
 fresh-given s t _ SetUpComes.denied e = absurd (omega arith)
 fresh-given s t _ (readies fit lengths) e = ap (λ (v : Store). v .given) (fresh-store s t fit lengths)
@@ -110,9 +110,9 @@ fresh-given s t _ (readies fit lengths) e = ap (λ (v : Store). v .given) (fresh
 pub list-counts : Counts listShape
 list-counts =
     record {
-      begins = λ s t e. (set-up-sound s (asList t) e .marked, fresh-given s (asList t) (setUpOf s (asList t)) (set-up-comes s (asList t)) (ap kindOf e));
+      begins = λ s t e. (set-up-sound s t e .marked, fresh-given s t (setUpOf s t) (set-up-comes s t) (ap kindOf e));
       counted = counted;
       gone-stays = λ k s a t c f g. gone-steps k s t (does listShape s a t c) (call-steps s a t c f) g;
-      released-gone = λ s a b t list n e. return-gone s a b (asList t) list (returnOf s a b (asList t) list) (return-comes s a b (asList t) list) (ap kindOf e);
-      gone-refused = λ s a b t list g. let r = stale-or-earlier s a b (asList t) list g in (r .0, ap listedAs (r .1), r .2);
+      released-gone = λ s a b t list n e. return-gone s a b t list (returnOf s a b t list) (return-comes s a b t list) (ap kindOf e);
+      gone-refused = λ s a b t list g. let r = stale-or-earlier s a b t list g in (r .0, (r .1), r .2);
     }

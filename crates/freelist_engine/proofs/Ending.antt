@@ -16,7 +16,6 @@ use Rattle.store_rules.proofs.Accounts.{covers-yes}
 use Rattle.store_rules.proofs.Lessening.{less-one}
 use Rattle.store_rules.specs.declared.Loan.{Loan}
 use Rattle.engines.specs.Ends.{Lot, Ends}
-use Rattle.engines.specs.Shapes.{Lent}
 use Rattle.freelist_rules.specs.AtOnce.{atOnce}
 use Rattle.freelist_rules.specs.Records.{Store}
 use Rattle.freelist_rules.specs.Place.{Found, nowhere, at}
@@ -31,7 +30,7 @@ use Rattle.freelist_outcomes.specs.Return.{returnOf}
 use Rattle.freelist_outcomes.proofs.Accounts.{account-is}
 use Rattle.freelist_outcomes.proofs.Passing.{Passed, gate-passed}
 use Rattle.freelist_outcomes.proofs.Sounds.{return-sound}
-use Rattle.freelist_engine.specs.Shape.{asList, seen, listShape, countsOf}
+use Rattle.freelist_engine.specs.Shape.{seen, listShape, countsOf}
 use Rattle.freelist_engine.proofs.Handing.{Handed, return-handed}
 
 -- a loan stands in the tables exactly when it stands in the store that they hold
@@ -46,8 +45,8 @@ loan-here s t l m = ordered-out l (loansOf (placesIn t) (t .loans)) m
 block-there : (s : FreeListSettings) (t : Tables) (b : Block) → OnLoan b (loansOf (placesIn t) (t .loans)) → OnLoan b (storeOf s t .loans)
 block-there s t b w = (w .0, loan-there s t (w .0) (w .1), w .2)
 
-lot-there : (s : FreeListSettings) (bs : List Block) (t : Lent) → Lot listShape bs t → AllOnLoan bs (storeOf s (asList t))
-lot-there s bs t lot b m = block-there s (asList t) b (lot .lent b m)
+lot-there : (s : FreeListSettings) (bs : List Block) (t : Tables) → Lot listShape bs t → AllOnLoan bs (storeOf s t)
+lot-there s bs t lot b m = block-there s t b (lot .lent b m)
 
 -- ---- one block
 
@@ -89,18 +88,18 @@ back-counts t (at i) = refl
 
 -- ---- the others after it
 
-next : (s : FreeListSettings) (a : Account) (b : Block) (bs : List Block) (t : Lent) (list : List ℕ) → gateOf s a (asList t) true ≡ pass → Lot listShape (b ∷ bs) t → s .store .chunks ≤ length list
-    → atOnce bs (storeOf s (returnOf s a b (asList t) list .tables)) ≡ atOnce (b ∷ bs) (storeOf s (asList t))
+next : (s : FreeListSettings) (a : Account) (b : Block) (bs : List Block) (t : Tables) (list : List ℕ) → gateOf s a t true ≡ pass → Lot listShape (b ∷ bs) t → s .store .chunks ≤ length list
+    → atOnce bs (storeOf s (returnOf s a b t list .tables)) ≡ atOnce (b ∷ bs) (storeOf s t)
 next s a b bs t list passes lot long =
-    let v : Store = storeOf s (asList t) in
-    let p = gate-passed s a (asList t) true (sym passes) in
+    let v : Store = storeOf s t in
+    let p = gate-passed s a t true (sym passes) in
     let o = lot-there s (b ∷ bs) t lot in
     let lent = o b (List·Memᴰ·head refl) in
-    let e : storeOf s (returnOf s a b (asList t) list .tables) ≡ returned b v = return-handed s a b (asList t) list passes lent long .store in
-    let sound = return-sound s a b (asList t) list (p .sound) .store in
-    let left : AllOnLoan bs (storeOf s (returnOf s a b (asList t) list .tables)) =
+    let e : storeOf s (returnOf s a b t list .tables) ≡ returned b v = return-handed s a b t list passes lent long .store in
+    let sound = return-sound s a b t list (p .sound) .store in
+    let left : AllOnLoan bs (storeOf s (returnOf s a b t list .tables)) =
     subst (AllOnLoan bs) (sym (e ∙ returned-is s (p .settings) b v (p .sound .store) lent)) (left-on-loan b bs v lent (lot .apart) o) in
-    sym (returned-at-once s (p .settings) (storeOf s (returnOf s a b (asList t) list .tables)) sound bs (lot .apart .1) left)
+    sym (returned-at-once s (p .settings) (storeOf s (returnOf s a b t list .tables)) sound bs (lot .apart .1) left)
     ∙ ap (returnedAll bs) e
     ∙ returned-at-once s (p .settings) v (p .sound .store) (b ∷ bs) (lot .apart) o
 
@@ -109,22 +108,22 @@ pub list-ends : Ends listShape
 list-ends =
     record {
       taken = λ s a b t list passes lent long.
-          let there = block-there s (asList t) b lent in
-          let h = handed s a b (asList t) list passes there long in
+          let there = block-there s t b lent in
+          let h = handed s a b t list passes there long in
           record {
             said = h .said;
-            loans = loans-are s a b (asList t) list passes there long;
+            loans = loans-are s a b t list passes there long;
             account = h .account;
             goes = h .goes;
           };
       rest-stays = λ s a b t list passes lent long.
-          let v = storeOf s (asList t) in
-          ap countsOf (return-handed s a b (asList t) list passes (block-there s (asList t) b lent) long .store) ∙ back-counts v (seek b (v .loans));
+          let v = storeOf s t in
+          ap countsOf (return-handed s a b t list passes (block-there s t b lent) long .store) ∙ back-counts v (seek b (v .loans));
       none = λ s a t passes. refl;
       next = λ s a b bs t list passes lot long. ap seen (next s a b bs t list passes lot long);
-      same = λ s a bs cs t passes lot e. ap seen (at-once-same bs cs (storeOf s (asList t)) (λ b. (perm-mem b (Permᴰ·symm e), perm-mem b e)));
-      heap-low = λ s a t passes. gate-passed s a (asList t) true (sym passes) .settings .store .heap;
+      same = λ s a bs cs t passes lot e. ap seen (at-once-same bs cs (storeOf s t) (λ b. (perm-mem b (Permᴰ·symm e), perm-mem b e)));
+      heap-low = λ s a t passes. gate-passed s a t true (sym passes) .settings .store .heap;
       heap-agrees = λ s a t passes.
-          let cs = storeOf s (asList t) .chunks in
-          covers-yes (heapAt a (s .store .heap)) (a .objects) (length cs) (sizes cs) (sym (account-is s a (asList t)) ∙ gate-passed s a (asList t) true (sym passes) .covered) .1;
+          let cs = storeOf s t .chunks in
+          covers-yes (heapAt a (s .store .heap)) (a .objects) (length cs) (sizes cs) (sym (account-is s a t) ∙ gate-passed s a t true (sym passes) .covered) .1;
     }

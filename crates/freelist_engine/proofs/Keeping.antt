@@ -43,7 +43,7 @@ use Rattle.freelist_outcomes.proofs.Fitted.{refusal-block, orders-when}
 use Rattle.freelist_outcomes.proofs.Passing.{gate-passed}
 use Rattle.freelist_outcomes.proofs.Sounds.{set-up-sound, ask-sound, deliver-sound, return-sound, clean-up-sound}
 use Rattle.freelist_outcomes.proofs.Taken.{taken-store}
-use Rattle.freelist_engine.specs.Shape.{OwnCall, cleansUp, asList, ownOf, seen, listShape}
+use Rattle.freelist_engine.specs.Shape.{OwnCall, cleansUp, ownOf, seen, listShape}
 use Rattle.freelist_engine.proofs.Stepping.{givenOf}
 
 -- ---- a call that only a free list has
@@ -79,19 +79,19 @@ seen-loans s t l = (ordered-out l (loansOf (placesIn t) (t .loans)), ordered-in 
 pub list-keeps : Keeps listShape
 list-keeps =
     record {
-      set-up-sound = λ s t e. set-up-sound s (asList t) e;
-      ask-sound = λ s a size mask t sound. ask-sound s a size mask (asList t) sound;
-      deliver-sound = λ s a o t sound. deliver-sound s a o (asList t) sound;
-      return-sound = λ s a b t list sound. return-sound s a b (asList t) list sound;
-      other-sound = λ s a c t list sound. own-sound s a c (asList t) list sound;
-      ask-again = λ s a t typed passes size mask none. ask-again s a (asList t) typed passes size mask none;
-      deliver-again = λ s a o t typed passes none. deliver-again s a o (asList t) typed passes none;
-      return-again = λ s a t typed passes b list. return-again s a (asList t) typed passes b list;
-      other-again = λ s a t typed passes c list. own-again s a (asList t) typed passes c list;
-      passed-sound = λ s a t passes. gate-passed s a (asList t) true (sym passes) .sound;
-      filled = λ s a t passes. gate-passed s a (asList t) true (sym passes) .sound .store .fills;
-      apart = λ s a t passes. apart s (storeOf s (asList t)) (gate-passed s a (asList t) true (sym passes) .sound .store);
-      loans-seen = λ s t. seen-loans s (asList t);
+      set-up-sound = λ s t e. set-up-sound s t e;
+      ask-sound = λ s a size mask t sound. ask-sound s a size mask t sound;
+      deliver-sound = λ s a o t sound. deliver-sound s a o t sound;
+      return-sound = λ s a b t list sound. return-sound s a b t list sound;
+      other-sound = λ s a c t list sound. own-sound s a c t list sound;
+      ask-again = λ s a t typed passes size mask none. ask-again s a t typed passes size mask none;
+      deliver-again = λ s a o t typed passes none. deliver-again s a o t typed passes none;
+      return-again = λ s a t typed passes b list. return-again s a t typed passes b list;
+      other-again = λ s a t typed passes c list. own-again s a t typed passes c list;
+      passed-sound = λ s a t passes. gate-passed s a t true (sym passes) .sound;
+      filled = λ s a t passes. gate-passed s a t true (sym passes) .sound .store .fills;
+      apart = λ s a t passes. apart s (storeOf s t) (gate-passed s a t true (sym passes) .sound .store);
+      loans-seen = λ s t. seen-loans s t;
     }
 
 -- ---- new blocks
@@ -141,14 +141,14 @@ pub list-lends : Lends listShape
 list-lends =
     record {
       ask-block = λ s a size mask t serial number offset len e.
-          let w = ask-block s a size mask (asList t) serial number offset len e in (
-            good-block s size mask (asList t) (storeOf s (asList t)) _ serial number offset len refl refl (ask-chunks s a size mask (asList t) (askOf s a size mask (asList t)) (ask-comes s a size mask (asList t))) (w .0),
+          let w = ask-block s a size mask t serial number offset len e in (
+            good-block s size mask t (storeOf s t) _ serial number offset len refl refl (ask-chunks s a size mask t (askOf s a size mask t) (ask-comes s a size mask t)) (w .0),
             w .1,
           );
       deliver-block = λ s a o t serial number offset len e.
-          let d = deliver-block s a o (asList t) serial number offset len e in
-          let v = delivered s (d .memory .number) (d .kept .order .size) (storeOf s (asList t)) in
-          let cs = deliver-chunks s a o (asList t) (d .kept) (d .memory) (d .ordered) (d .made) serial number offset len (deliverOf s a o (asList t)) (deliver-comes s a o (asList t)) e in
-          (d .kept, d .ordered, good-block s (d .kept .ask .size) (d .kept .ask .mask) (asList t) v _ serial number offset len refl refl cs (d .good), d .charged);
-      orders-when = λ s a size mask t f. orders-when s a size mask (asList t) f;
+          let d = deliver-block s a o t serial number offset len e in
+          let v = delivered s (d .memory .number) (d .kept .order .size) (storeOf s t) in
+          let cs = deliver-chunks s a o t (d .kept) (d .memory) (d .ordered) (d .made) serial number offset len (deliverOf s a o t) (deliver-comes s a o t) e in
+          (d .kept, d .ordered, good-block s (d .kept .ask .size) (d .kept .ask .mask) t v _ serial number offset len refl refl cs (d .good), d .charged);
+      orders-when = λ s a size mask t f. orders-when s a size mask t f;
     }

@@ -20,7 +20,7 @@ use Rattle.store_rules.specs.Outcomes.{Out, out, listed, listOk}
 use Rattle.store_rules.specs.Tests.{noOrder, openFor, gateRow}
 use Rattle.engines.specs.Refuses.{Refuses}
 use Rattle.store_rules.specs.Rows.{gateRows, keptRows}
-use Rattle.engines.specs.Shapes.{Lent, Call, setsUp, asks, delivers, returns, others, does, Marked, lentList, wordsOf}
+use Rattle.engines.specs.Shapes.{Call, setsUp, asks, delivers, returns, others, does, Marked, lentList, wordsOf}
 use Rattle.engines.proofs.Shutting.{shut}
 use Rattle.freelist_rules.specs.Tables.{Tables, mark, markAt, soundRow, soundOk, storeOf}
 use Rattle.freelist_outcomes.specs.Gate.{inTableOk, accountOk, gateOf}
@@ -30,7 +30,7 @@ use Rattle.freelist_outcomes.specs.Refusals.{listWords, seen}
 use Rattle.freelist_outcomes.specs.Return.{planReturn, carryReturn, returnOf, carryCleanUp, cleanUpOf}
 use Rattle.freelist_outcomes.proofs.Gated.{gate-decided}
 use Rattle.freelist_outcomes.proofs.Refused.{kept-decided, set-up-refused, ask-refused, deliver-refused, return-refused, clean-up-refused, set-up-leaves, ask-leaves, deliver-leaves, return-leaves, clean-up-leaves-all, deliver-lost}
-use Rattle.freelist_engine.specs.Shape.{OwnCall, cleansUp, asList, begunAs, outAs, listedAs, ownOf, ownRows, listShape}
+use Rattle.freelist_engine.specs.Shape.{OwnCall, cleansUp, ownOf, ownRows, listShape}
 
 -- ---- tables without the mark
 
@@ -66,15 +66,15 @@ module _ (s : FreeListSettings) (a : Account) (t : Tables) (other : getD (t .hea
   clean-up-shut list = let g = gate-shut (listOk (s .store) list) in let e = g .1 in (g .0, rw e, g .2, g .3)
 
 -- each call but set-up is refused there, by 1, 2 or 3, and leaves everything
-foreign : (s : FreeListSettings) (a : Account) (t : Lent) (c : Call OwnCall) → (c ≡ setsUp → ⊥) → (Marked listShape t → ⊥)
+foreign : (s : FreeListSettings) (a : Account) (t : Tables) (c : Call OwnCall) → (c ≡ setsUp → ⊥) → (Marked listShape t → ⊥)
     → (n : ℕ) × (does listShape s a t c ≡ listed (Paper.refusal n []) a t (lentList c)) × (0 < n) × (n ≤ 3)
 foreign s a t setsUp f m = absurd (f refl)
 foreign s a t (asks size mask) f m =
-    let r = ask-shut s a (asList t) m size mask in (r .0, ap (λ (o : Out Tables). listed (o .said) (o .account) (outAs o .tables) []) (r .1), r .2, r .3)
+    let r = ask-shut s a t m size mask in (r .0, ap (λ (o : Out Tables). listed (o .said) (o .account) (o .tables) []) (r .1), r .2, r .3)
 foreign s a t (delivers x) f m =
-    let r = deliver-shut s a (asList t) m x in (r .0, ap (λ (o : Out Tables). listed (o .said) (o .account) (outAs o .tables) []) (r .1), r .2, r .3)
-foreign s a t (returns b list) f m = let r = return-shut s a (asList t) m b list in (r .0, ap listedAs (r .1), r .2, r .3)
-foreign s a t (others cleansUp list) f m = let r = clean-up-shut s a (asList t) m list in (r .0, ap listedAs (r .1), r .2, r .3)
+    let r = deliver-shut s a t m x in (r .0, ap (λ (o : Out Tables). listed (o .said) (o .account) (o .tables) []) (r .1), r .2, r .3)
+foreign s a t (returns b list) f m = let r = return-shut s a t m b list in (r .0, (r .1), r .2, r .3)
+foreign s a t (others cleansUp list) f m = let r = clean-up-shut s a t m list in (r .0, (r .1), r .2, r .3)
 
 -- ---- a call that only a free list has
 
@@ -86,39 +86,39 @@ own-leaves s a cleansUp t list n back e = clean-up-leaves-all s a t list n back 
 
 -- ---- the tests 1 to 4
 
-gate-clear : (s : FreeListSettings) (a : Account) (t : Lent) → (gateOf s a (asList t) true ≡ pass) ↔ Clear (gateRows (wordsOf listShape) s a t)
+gate-clear : (s : FreeListSettings) (a : Account) (t : Tables) → (gateOf s a t true ≡ pass) ↔ Clear (gateRows (wordsOf listShape) s a t)
 unfolding gateOf
 gate-clear s a t =
-    let u = asList t in
+    let u = t in
     clear-first (gateRow (inTableOk s a u && true) (noOrder (a .order)) (soundOk s u) (accountOk s a u)) (gateRows listWords s a u) (gate-decided s a u)
 
-deliver-clear : (s : FreeListSettings) (a : Account) (t : Lent) → (deliverGateOf s a (asList t) ≡ pass) ↔ Clear (keptRows (wordsOf listShape) s a t)
+deliver-clear : (s : FreeListSettings) (a : Account) (t : Tables) → (deliverGateOf s a t ≡ pass) ↔ Clear (keptRows (wordsOf listShape) s a t)
 unfolding deliverGateOf
 deliver-clear s a t =
-    let u = asList t in
+    let u = t in
     clear-first (gateRow (inTableOk s a u) (openFor (s .store .number) (a .order)) (soundOk s u && stillOk s a u (a .order)) (accountOk s a u)) (keptRows listWords s a u) (kept-decided s a u)
 
 -- the free list refuses as an engine has to
 pub list-refuses : Refuses listShape
 list-refuses =
     record {
-      set-up-refused = λ s t n. set-up-refused s (asList t) n;
-      ask-refused = λ s a size mask t n. ask-refused s a size mask (asList t) n;
-      deliver-refused = λ s a o t n. deliver-refused s a o (asList t) n;
-      return-refused = λ s a b t list n. return-refused s a b (asList t) list n;
-      other-refused = λ s a c t list n. own-refused s a c (asList t) list n;
+      set-up-refused = λ s t n. set-up-refused s t n;
+      ask-refused = λ s a size mask t n. ask-refused s a size mask t n;
+      deliver-refused = λ s a o t n. deliver-refused s a o t n;
+      return-refused = λ s a b t list n. return-refused s a b t list n;
+      other-refused = λ s a c t list n. own-refused s a c t list n;
       gate-clear = gate-clear;
       deliver-clear = deliver-clear;
-      set-up-leaves = λ s t n back e. ap begunAs (set-up-leaves s (asList t) n back e);
-      ask-leaves = λ s a size mask t n back e _. ap outAs (ask-leaves s a size mask (asList t) n back e);
-      deliver-leaves = λ s a o t n back e x y. ap outAs (deliver-leaves s a o (asList t) n back e x y);
-      return-leaves = λ s a b t list n back e. ap listedAs (return-leaves s a b (asList t) list n back e);
-      other-leaves = λ s a c t list n back e. ap listedAs (own-leaves s a c (asList t) list n back e);
+      set-up-leaves = λ s t n back e. (set-up-leaves s t n back e);
+      ask-leaves = λ s a size mask t n back e _. (ask-leaves s a size mask t n back e);
+      deliver-leaves = λ s a o t n back e x y. (deliver-leaves s a o t n back e x y);
+      return-leaves = λ s a b t list n back e. (return-leaves s a b t list n back e);
+      other-leaves = λ s a c t list n back e. (own-leaves s a c t list n back e);
       nine-leaves = λ s a size mask t back e.
-          let r = ask-leaves s a size mask (asList t) 9 back e in
+          let r = ask-leaves s a size mask t 9 back e in
           (ap (λ (o : Out Tables). o .account) r, ap (λ (o : Out Tables). seen (storeOf s (o .tables))) r);
       lost-leaves = λ s a o t k n back its e number.
-          let r = deliver-lost s a o (asList t) k n back its e number in
+          let r = deliver-lost s a o t k n back its e number in
           (ap (λ (x : Out Tables). x .account) r, ap (λ (x : Out Tables). seen (storeOf s (x .tables))) r);
       foreign = foreign;
     }

@@ -18,7 +18,7 @@ use Rattle.freelist_rules.specs.Place.{sizeFor, maskFor, Found, nowhere, at}
 use Rattle.freelist_rules.specs.Records.{Store}
 use Rattle.freelist_rules.specs.Steps.{lent, raised, delivered, released, takenBack, returned}
 use Rattle.freelist_rules.specs.Seek.{seek}
-use Rattle.freelist_rules.specs.Tables.{Tables, mark, markAt, givenAt, storeOf}
+use Rattle.freelist_rules.specs.Tables.{mark, markAt, givenAt, storeOf}
 use Rattle.freelist_rules.proofs.Blocks.{returned-is}
 use Rattle.freelist_rules.proofs.Fits.{lengths-are}
 use Rattle.freelist_rules.proofs.NeverAgain as Rules
@@ -33,8 +33,8 @@ use Rattle.freelist_outcomes.proofs.Changed.{ordered-store, ordered-sound, rele
 use Rattle.freelist_outcomes.proofs.Arrives.{arrived-store, lent-store, lent-tables-sound}
 use Rattle.freelist_outcomes.proofs.Comes.{AskComes, lends, orders, ask-comes, DeliverComes, keeps, loses, deliver-comes, ReturnComes, takes, return-comes, CleanUpComes, cleans, clean-up-comes}
 use Rattle.engines.specs.Serials.{serialSaid, upFrom}
-use Rattle.engines.specs.Shapes.{Lent, Call, setsUp, asks, delivers, returns, others, does}
-use Rattle.freelist_engine.specs.Shape.{OwnCall, cleansUp, asList, listShape}
+use Rattle.engines.specs.Shapes.{Tables, Call, setsUp, asks, delivers, returns, others, does}
+use Rattle.freelist_engine.specs.Shape.{OwnCall, cleansUp, listShape}
 
 -- tables with the free list's mark, and how many serials they say were given
 abbrev pub Marked : Tables → Type 0
@@ -151,10 +151,10 @@ module _ (s : FreeListSettings) (t : Tables) where
       }
 
 -- every call but set-up is such a step
-pub call-steps : (s : FreeListSettings) (a : Account) (t : Lent) (c : Call OwnCall) → (c ≡ setsUp → ⊥)
-    → Stepped s (asList t) (asList (does listShape s a t c .tables)) (does listShape s a t c .said)
+pub call-steps : (s : FreeListSettings) (a : Account) (t : Tables) (c : Call OwnCall) → (c ≡ setsUp → ⊥)
+    → Stepped s t (does listShape s a t c .tables) (does listShape s a t c .said)
 call-steps s a t setsUp f = absurd (f refl)
-call-steps s a t (asks size mask) f = ask-stepped s (asList t) a size mask (askOf s a size mask (asList t)) (ask-comes s a size mask (asList t))
-call-steps s a t (delivers o) f = deliver-stepped s (asList t) a o (deliverOf s a o (asList t)) (deliver-comes s a o (asList t))
-call-steps s a t (returns b list) f = return-stepped s (asList t) a b list (returnOf s a b (asList t) list) (return-comes s a b (asList t) list)
-call-steps s a t (others cleansUp list) f = clean-up-stepped s (asList t) a list (cleanUpOf s a (asList t) list) (clean-up-comes s a (asList t) list)
+call-steps s a t (asks size mask) f = ask-stepped s t a size mask (askOf s a size mask t) (ask-comes s a size mask t)
+call-steps s a t (delivers o) f = deliver-stepped s t a o (deliverOf s a o t) (deliver-comes s a o t)
+call-steps s a t (returns b list) f = return-stepped s t a b list (returnOf s a b t list) (return-comes s a b t list)
+call-steps s a t (others cleansUp list) f = clean-up-stepped s t a list (cleanUpOf s a t list) (clean-up-comes s a t list)

@@ -25,7 +25,6 @@ use Rattle.store_rules.specs.declared.Chunk.{Chunk}
 use Rattle.store_rules.specs.declared.Loan.{Loan}
 use Rattle.store_rules.specs.declared.Region.{Region}
 use Rattle.store_rules.proofs.Amid.{amid-member}
-use Rattle.engines.specs.Shapes.{Lent}
 use Rattle.engines.specs.Tells.{lentBy, Same, Joined, Blocked, Ordered, Released, Refused, Tells}
 use Rattle.engines.proofs.Joins.{blockOf, own-block, none-joined, joined-same}
 use Rattle.freelist_rules.specs.Place.{sizeFor, maskFor, lentLoan, putLoan}
@@ -38,18 +37,18 @@ use Rattle.freelist_rules.proofs.Ordered.{put-in}
 use Rattle.freelist_outcomes.specs.Ask.{raisedFor, loanFrom, askOf}
 use Rattle.freelist_outcomes.specs.Deliver.{carryFate, deliverOf}
 use Rattle.freelist_outcomes.specs.Return.{releaseOf, returnOf, cleanUpOf}
-use Rattle.freelist_outcomes.specs.SetUp.{SetUp, freshTables, setUpOf}
+use Rattle.freelist_outcomes.specs.SetUp.{Begun, freshTables, setUpOf}
 use Rattle.freelist_outcomes.proofs.Arrives.{arrived, arrived-store, lent-store}
 use Rattle.freelist_outcomes.proofs.Changed.{ordered-store, released-store}
 use Rattle.freelist_outcomes.proofs.Comes.{AskComes, lends, orders, ask-comes, DeliverComes, keeps, loses, deliver-comes, ReturnComes, takes, return-comes, CleanUpComes, cleans, clean-up-comes, SetUpComes, readies, set-up-comes}
 use Rattle.freelist_outcomes.proofs.Fitted.{refusal-block, same-block}
 use Rattle.freelist_outcomes.proofs.Taken.{taken-store}
-use Rattle.freelist_engine.specs.Shape.{OwnCall, cleansUp, asList, listShape, ownOf}
+use Rattle.freelist_engine.specs.Shape.{OwnCall, cleansUp, listShape, ownOf}
 use Rattle.freelist_engine.proofs.Keeping.{list-keeps, ask-chunks}
 
 -- ---- the forms of its answers
 
-set-up-says : (s : FreeListSettings) (t : Tables) (r : SetUp) → SetUpComes s t r → (r .said ≡ Paper.ready) ⊎ Refused (r .said)
+set-up-says : (s : FreeListSettings) (t : Tables) (r : Begun) → SetUpComes s t r → (r .said ≡ Paper.ready) ⊎ Refused (r .said)
 set-up-says s t _ SetUpComes.denied = inr (1, [], refl)
 set-up-says s t _ (readies fit lengths) = inl refl
 
@@ -122,20 +121,20 @@ clean-up-leaves s a t list _ (cleans p) = ap (λ (x : Store). x .loans) (release
 own-leaves : (s : FreeListSettings) (a : Account) (c : OwnCall) (t : Tables) (list : List ℕ) → storeOf s (ownOf s a c t list .tables) .loans ≡ storeOf s t .loans
 own-leaves s a cleansUp t list = clean-up-leaves s a t list (cleanUpOf s a t list) (clean-up-comes s a t list)
 
-fresh-none : (s : FreeListSettings) (t : Tables) (r : SetUp) → SetUpComes s t r → kindOf (r .said) ≡ 0 → loansOf (placesIn (r .tables)) (r .tables .loans) ≡ []
+fresh-none : (s : FreeListSettings) (t : Tables) (r : Begun) → SetUpComes s t r → kindOf (r .said) ≡ 0 → loansOf (placesIn (r .tables)) (r .tables .loans) ≡ []
 unfolding freshTables loansOf
 fresh-none s t _ SetUpComes.denied e = absurd (omega arith)
 fresh-none s t _ (readies fit lengths) e = refl
 
 -- the loans as the tables have them
-seen-joined : (s : FreeListSettings) (t u : Lent) (said : Said) → Lends s (asList t) (asList u) said → Joined (listShape .loans u) (listShape .loans t) (lentBy said)
+seen-joined : (s : FreeListSettings) (t u : Tables) (said : Said) → Lends s t u said → Joined (listShape .loans u) (listShape .loans t) (lentBy said)
 seen-joined s t u said j =
-    joined-same (listShape .loans u) (storeOf s (asList u) .loans) (listShape .loans t) (storeOf s (asList t) .loans) (lentBy said)
+    joined-same (listShape .loans u) (storeOf s u .loans) (listShape .loans t) (storeOf s t .loans) (lentBy said)
     (λ l. Iff·symm (list-keeps .loans-seen s u l))
     (λ l. Iff·symm (list-keeps .loans-seen s t l))
     j
 
-seen-same : (s : FreeListSettings) (t u : Lent) → storeOf s (asList u) .loans ≡ storeOf s (asList t) .loans → Same (listShape .loans u) (listShape .loans t)
+seen-same : (s : FreeListSettings) (t u : Tables) → storeOf s u .loans ≡ storeOf s t .loans → Same (listShape .loans u) (listShape .loans t)
 seen-same s t u e l =
     let there = list-keeps .loans-seen s u l in
     let here = list-keeps .loans-seen s t l in
@@ -179,19 +178,19 @@ deliver-arrives s a o t serial number offset len _ (keeps k m f w new) e =
 pub list-tells : Tells listShape
 list-tells =
     record {
-      set-up-says = λ s t. set-up-says s (asList t) (setUpOf s (asList t)) (set-up-comes s (asList t));
-      ask-says = λ s a size mask t. ask-says s a size mask (asList t) (askOf s a size mask (asList t)) (ask-comes s a size mask (asList t));
-      deliver-says = λ s a o t. deliver-says s a o (asList t) (deliverOf s a o (asList t)) (deliver-comes s a o (asList t));
-      return-says = λ s a b t list. return-says s a b (asList t) list (returnOf s a b (asList t) list) (return-comes s a b (asList t) list);
-      other-says = λ s a c t list. own-says s a c (asList t) list;
-      fresh = λ s t e. fresh-none s (asList t) (setUpOf s (asList t)) (set-up-comes s (asList t)) (ap kindOf e);
+      set-up-says = λ s t. set-up-says s t (setUpOf s t) (set-up-comes s t);
+      ask-says = λ s a size mask t. ask-says s a size mask t (askOf s a size mask t) (ask-comes s a size mask t);
+      deliver-says = λ s a o t. deliver-says s a o t (deliverOf s a o t) (deliver-comes s a o t);
+      return-says = λ s a b t list. return-says s a b t list (returnOf s a b t list) (return-comes s a b t list);
+      other-says = λ s a c t list. own-says s a c t list;
+      fresh = λ s t e. fresh-none s t (setUpOf s t) (set-up-comes s t) (ap kindOf e);
       ask-loans = λ s a size mask t.
           seen-joined s t (listShape .ask s a size mask t .tables) (listShape .ask s a size mask t .said)
-          (ask-lends s a size mask (asList t) (askOf s a size mask (asList t)) (ask-comes s a size mask (asList t)));
+          (ask-lends s a size mask t (askOf s a size mask t) (ask-comes s a size mask t));
       deliver-loans = λ s a o t.
           seen-joined s t (listShape .deliver s a o t .tables) (listShape .deliver s a o t .said)
-          (deliver-lends s a o (asList t) (deliverOf s a o (asList t)) (deliver-comes s a o (asList t)));
-      other-loans = λ s a c t list. seen-same s t (listShape .other s a c t list .tables) (own-leaves s a c (asList t) list);
-      ask-chunks = λ s a size mask t. sym (ask-chunks s a size mask (asList t) (askOf s a size mask (asList t)) (ask-comes s a size mask (asList t)));
-      deliver-chunks = λ s a o t serial number offset len e. deliver-arrives s a o (asList t) serial number offset len (deliverOf s a o (asList t)) (deliver-comes s a o (asList t)) e;
+          (deliver-lends s a o t (deliverOf s a o t) (deliver-comes s a o t));
+      other-loans = λ s a c t list. seen-same s t (listShape .other s a c t list .tables) (own-leaves s a c t list);
+      ask-chunks = λ s a size mask t. sym (ask-chunks s a size mask t (askOf s a size mask t) (ask-comes s a size mask t));
+      deliver-chunks = λ s a o t serial number offset len e. deliver-arrives s a o t serial number offset len (deliverOf s a o t) (deliver-comes s a o t) e;
     }

@@ -12,7 +12,7 @@ use Rattle.store_rules.specs.Delivery.{freeList}
 use Rattle.store_rules.specs.Loans.{loansOf}
 use Rattle.store_rules.specs.Outcomes.{Out, out, Listed, listed}
 use Rattle.store_rules.specs.Rows.{listRows}
-use Rattle.engines.specs.Shapes.{Lent, Begun, Shape}
+use Rattle.engines.specs.Shapes.{Shape}
 use Rattle.freelist_rules.specs.AtOnce.{atOnce}
 use Rattle.freelist_rules.specs.Records.{Store}
 use Rattle.freelist_rules.specs.Tables.{Tables, tables, Lengths, mark, givenAt, placesIn, storeOf, SoundTables}
@@ -22,27 +22,11 @@ use Rattle.freelist_outcomes.specs.Deliver.{deliverGateOf, deliverOf}
 use Rattle.freelist_outcomes.specs.Refusals.{SizeOff, Needed, listWords}
 pub use Rattle.freelist_outcomes.specs.Refusals.{seen}
 use Rattle.freelist_outcomes.specs.Return.{returnOf, cleanUpOf}
-use Rattle.freelist_outcomes.specs.SetUp.{SetUp, setUpOf}
+use Rattle.freelist_outcomes.specs.SetUp.{setUpOf}
 
 -- a call that only a free list has
 pub data OwnCall : Type 0 where
   cleansUp : OwnCall
-
--- its regions are what says which room is free
-abbrev pub asList : Lent → Tables
-asList t = tables (t .head) (t .loans) (t .chunks) (t .room) (t .index)
-
-abbrev pub asLent : Tables → Lent
-asLent t = record { head = t .head; loans = t .loans; chunks = t .chunks; index = t .index; room = t .regions }
-
-abbrev pub begunAs : SetUp → Begun
-begunAs r = record { said = r .said; tables = asLent (r .tables) }
-
-abbrev pub outAs : Out Tables → Out Lent
-outAs r = out (r .said) (r .account) (asLent (r .tables))
-
-abbrev pub listedAs : Listed Tables → Listed Lent
-listedAs r = listed (r .said) (r .account) (asLent (r .tables)) (r .list)
 
 abbrev pub ownOf : FreeListSettings → Account → OwnCall → Tables → List ℕ → Listed Tables
 ownOf s a cleansUp t list = cleanUpOf s a t list
@@ -66,28 +50,28 @@ listShape =
       Settings = FreeListSettings;
       store = λ s. s .store;
       Own = OwnCall;
-      setUp = λ s t. begunAs (setUpOf s (asList t));
-      ask = λ s a size mask t. outAs (askOf s a size mask (asList t));
-      deliver = λ s a o t. outAs (deliverOf s a o (asList t));
-      return = λ s a b t list. listedAs (returnOf s a b (asList t) list);
-      other = λ s a c t list. listedAs (ownOf s a c (asList t) list);
+      setUp = setUpOf;
+      ask = askOf;
+      deliver = deliverOf;
+      return = returnOf;
+      other = ownOf;
       engine = freeList;
       mark = mark;
       given = λ t. getD (t .head) givenAt 0;
-      loans = λ t. loansOf (placesIn (asList t)) (t .loans);
-      view = λ s t. seen (storeOf s (asList t));
+      loans = λ t. loansOf (placesIn t) (t .loans);
+      view = λ s t. seen (storeOf s t);
       Rest = Counts;
-      rest = λ s t. countsOf (storeOf s (asList t));
-      Sound = λ s t. SoundTables s (asList t);
-      Needed = λ s size mask t. Needed s size mask (asList t);
-      orderSize = λ s size mask t. raisedFor s size (asList t);
-      Fits = λ s t. FreeListIn s × Lengths s (asList t);
+      rest = λ s t. countsOf (storeOf s t);
+      Sound = λ s t. SoundTables s t;
+      Needed = λ s size mask t. Needed s size mask t;
+      orderSize = λ s size mask t. raisedFor s size t;
+      Fits = λ s t. FreeListIn s × Lengths s t;
       MaskHigh = λ s mask. ⊥;
       SizeOff = λ s size mask. SizeOff s size;
       Roomless = λ s size mask t. ⊥;
-      Numberless = λ s t. spent ≤ storeOf s (asList t) .made;
-      ownRows = λ s a c t list. ownRows s a c (asList t) list;
-      gate = λ s a t. gateOf s a (asList t) true;
-      deliverGate = λ s a t. deliverGateOf s a (asList t);
-      atOnce = λ s bs t. seen (atOnce bs (storeOf s (asList t)));
+      Numberless = λ s t. spent ≤ storeOf s t .made;
+      ownRows = λ s a c t list. ownRows s a c t list;
+      gate = λ s a t. gateOf s a t true;
+      deliverGate = λ s a t. deliverGateOf s a t;
+      atOnce = λ s bs t. seen (atOnce bs (storeOf s t));
     }

@@ -54,7 +54,7 @@ module _ (s : FreeListSettings) (k : KeptOrder) where
 
 module _ (s : FreeListSettings) (h : Heap) (objects : ℕ) (k : KeptOrder) (t : Tables) where
   abbrev pub still : Bool
-  still = leadsTo (s .store) (k .order) (decideAsk s h objects (k .ask .size) (k .ask .mask) (tables (t .head) [] [] (t .regions) (t .index)))
+  still = leadsTo (s .store) (k .order) (decideAsk s h objects (k .ask .size) (k .ask .mask) (tables (t .head) [] [] (t .index) (t .room)))
 
   still-is : still ≡ leadsTo (s .store) (k .order) (decideAsk s h objects (k .ask .size) (k .ask .mask) t)
   still-is = ap (leadsTo (s .store) (k .order)) (ask-few s h objects (k .ask .size) (k .ask .mask) t)
@@ -117,10 +117,10 @@ module _ (s : FreeListSettings) (share : Share) (order : OpenOrder) (t : Tables)
 -- ---- what it tells
 
 module _ (s : FreeListSettings) (k : KeptOrder) (t : Tables) where
-  pub bought-for : (b : Buying) (p : Code.Plan) → p ≡ Buy b → Planned s (k .ask .size) (k .ask .mask) (tables (t .head) [] [] (t .regions) (t .index)) p
+  pub bought-for : (b : Buying) (p : Code.Plan) → p ≡ Buy b → Planned s (k .ask .size) (k .ask .mask) (tables (t .head) [] [] (t .index) (t .room)) p
       → b .order ≡ k .order .size → (b .order ≡ k .order .size) × Planned s (k .ask .size) (k .ask .mask) t (Buy b)
   bought-for b p e c z =
-      (z, planned-few s (k .ask .size) (k .ask .mask) t (Buy b) (subst (λ (x : Code.Plan). Planned s (k .ask .size) (k .ask .mask) (tables (t .head) [] [] (t .regions) (t .index)) x) e c))
+      (z, planned-few s (k .ask .size) (k .ask .mask) t (Buy b) (subst (λ (x : Code.Plan). Planned s (k .ask .size) (k .ask .mask) (tables (t .head) [] [] (t .index) (t .room)) x) e c))
 
   -- of the order that is open
   pub open-for : (order : OpenOrder) (j : KeptOrder) (r : Passing) → order ≡ Kept j → BoughtFor s j t r → order ≡ Kept k → BoughtFor s k t r

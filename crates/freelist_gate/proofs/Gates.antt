@@ -35,7 +35,7 @@ use Rattle.freelist_gate.specs.Gates.{storeGate}
 
 module _ (s : FreeListSettings) (t : Tables) where
   pub lengths-is : (count : ℕ) → count ≡ regionCountAt s
-      → ((((eqb (length (t .head)) headWords && eqb (length (t .loans)) (loanWords * s .store .loans)) && eqb (length (t .chunks)) (chunkWords * s .store .chunks)) && eqb (length (t .regions)) (count + 1)) && eqb (length (t .index)) (indexWords (s .store .loans))) ≡ lengthsOk s t
+      → ((((eqb (length (t .head)) headWords && eqb (length (t .loans)) (loanWords * s .store .loans)) && eqb (length (t .chunks)) (chunkWords * s .store .chunks)) && eqb (length (t .index)) (indexWords (s .store .loans))) && eqb (length (t .room)) (count + 1)) ≡ lengthsOk s t
   unfolding lengthsOk
   lengths-is count e = rw e refl
 

@@ -44,19 +44,19 @@ fn gate_kept(
     head: &[u64],
     loans: &[u64],
     chunks: &[u64],
-    regions: &[u64],
     index: &[u64],
+    regions: &[u64],
 ) -> Passing
-    requires { ⌜ FreeListIn s × (lengthsOk s (tables (now head) (now loans) (now chunks) (now regions) (now index)) ≡ true) ⌝ }
-    ensures { λ r. ⌜ passOf r ≡ keptGate s h objects k (tables (now (head .entry)) (now (loans .entry)) (now (chunks .entry)) (now (regions .entry)) (now (index .entry))) ⌝ }
-    ensures { λ r. ⌜ BoughtFor s k (tables (now (head .entry)) (now (loans .entry)) (now (chunks .entry)) (now (regions .entry)) (now (index .entry))) r ⌝ }
+    requires { ⌜ FreeListIn s × (lengthsOk s (tables (now head) (now loans) (now chunks) (now index) (now regions)) ≡ true) ⌝ }
+    ensures { λ r. ⌜ passOf r ≡ keptGate s h objects k (tables (now (head .entry)) (now (loans .entry)) (now (chunks .entry)) (now (index .entry)) (now (regions .entry))) ⌝ }
+    ensures { λ r. ⌜ BoughtFor s k (tables (now (head .entry)) (now (loans .entry)) (now (chunks .entry)) (now (index .entry)) (now (regions .entry))) r ⌝ }
 {
-    if !freelist_test::is_sound(s, head, loans, chunks, regions, index) {
+    if !freelist_test::is_sound(s, head, loans, chunks, index, regions) {
         return Passing::Shut(Refusal::Torn);
     }
     let ask = k.ask;
     let order = k.order;
-    let plan = freelist_decide::decide(s, h, objects, ask.size, ask.mask, head, regions, index);
+    let plan = freelist_decide::decide(s, h, objects, ask.size, ask.mask, head, index, regions);
     match plan {
         Plan::Refuse(_) => Passing::Shut(Refusal::Torn),
         Plan::Take(_) => Passing::Shut(Refusal::Torn),
@@ -80,13 +80,13 @@ pub fn gate_delivery(
     head: &[u64],
     loans: &[u64],
     chunks: &[u64],
-    regions: &[u64],
     index: &[u64],
+    regions: &[u64],
 ) -> Passing
-    ensures { λ r. ⌜ passOf r ≡ deliverGateOf s (holding (s .store) share order) (tables (now (head .entry)) (now (loans .entry)) (now (chunks .entry)) (now (regions .entry)) (now (index .entry))) ⌝ }
-    ensures { λ r. ⌜ ((k : KeptOrder) → order ≡ Kept k → BoughtFor s k (tables (now (head .entry)) (now (loans .entry)) (now (chunks .entry)) (now (regions .entry)) (now (index .entry))) r) ⌝ }
+    ensures { λ r. ⌜ passOf r ≡ deliverGateOf s (holding (s .store) share order) (tables (now (head .entry)) (now (loans .entry)) (now (chunks .entry)) (now (index .entry)) (now (regions .entry))) ⌝ }
+    ensures { λ r. ⌜ ((k : KeptOrder) → order ≡ Kept k → BoughtFor s k (tables (now (head .entry)) (now (loans .entry)) (now (chunks .entry)) (now (index .entry)) (now (regions .entry))) r) ⌝ }
 {
-    if !is_in_table(s, share, head, loans, chunks, regions, index) {
+    if !is_in_table(s, share, head, loans, chunks, index, regions) {
         return Passing::Shut(Refusal::Setup);
     }
     let own = s.store;
@@ -104,8 +104,8 @@ pub fn gate_delivery(
             head,
             loans,
             chunks,
-            regions,
             index,
+            regions,
         ),
     }
 }

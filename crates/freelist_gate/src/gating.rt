@@ -32,19 +32,19 @@ pub fn lengths_fit(
     head: &[u64],
     loans: &[u64],
     chunks: &[u64],
-    regions: &[u64],
     index: &[u64],
+    regions: &[u64],
 ) -> bool
     requires { ⌜ FreeListIn s ⌝ }
-    ensures { λ r. ⌜ r ≡ lengthsOk s (tables (now (head .entry)) (now (loans .entry)) (now (chunks .entry)) (now (regions .entry)) (now (index .entry))) ⌝ }
+    ensures { λ r. ⌜ r ≡ lengthsOk s (tables (now (head .entry)) (now (loans .entry)) (now (chunks .entry)) (now (index .entry)) (now (regions .entry))) ⌝ }
 {
     let store = s.store;
     let count = freelist_regions::count_at(s);
     (head.len() == HEAD_WORDS)
         & (loans.len() == LOAN_WORDS * store.loans)
         & (chunks.len() == CHUNK_WORDS * store.chunks)
-        & (regions.len() == count + 1)
         & (index.len() == 1 + ENTRY_WORDS * store.loans)
+        & (regions.len() == count + 1)
 }
 
 // Whether a store with these settings can be set up in these tables: test 1, but for the account.
@@ -53,13 +53,13 @@ pub fn is_fit(
     head: &[u64],
     loans: &[u64],
     chunks: &[u64],
-    regions: &[u64],
     index: &[u64],
+    regions: &[u64],
 ) -> bool
-    ensures { λ r. ⌜ r ≡ fitOk s (tables (now (head .entry)) (now (loans .entry)) (now (chunks .entry)) (now (regions .entry)) (now (index .entry))) ⌝ }
+    ensures { λ r. ⌜ r ≡ fitOk s (tables (now (head .entry)) (now (loans .entry)) (now (chunks .entry)) (now (index .entry)) (now (regions .entry))) ⌝ }
 {
     if s.in_table() {
-        lengths_fit(s, head, loans, chunks, regions, index)
+        lengths_fit(s, head, loans, chunks, index, regions)
     } else {
         false
     }
@@ -72,14 +72,14 @@ pub fn is_in_table(
     head: &[u64],
     loans: &[u64],
     chunks: &[u64],
-    regions: &[u64],
     index: &[u64],
+    regions: &[u64],
 ) -> bool
-    ensures { λ r. ⌜ r ≡ inTableOk s (holder (s .store) share) (tables (now (head .entry)) (now (loans .entry)) (now (chunks .entry)) (now (regions .entry)) (now (index .entry))) ⌝ }
+    ensures { λ r. ⌜ r ≡ inTableOk s (holder (s .store) share) (tables (now (head .entry)) (now (loans .entry)) (now (chunks .entry)) (now (index .entry)) (now (regions .entry))) ⌝ }
 {
     if s.in_table() {
         let heap = share.heap;
-        let fit = lengths_fit(s, head, loans, chunks, regions, index);
+        let fit = lengths_fit(s, head, loans, chunks, index, regions);
         share.bounded & (counter::heap_in_table(heap) & fit)
     } else {
         false
@@ -117,13 +117,13 @@ fn gate_store(
     head: &[u64],
     loans: &[u64],
     chunks: &[u64],
-    regions: &[u64],
     index: &[u64],
+    regions: &[u64],
 ) -> Gate
-    requires { ⌜ FreeListIn s × (lengthsOk s (tables (now head) (now loans) (now chunks) (now regions) (now index)) ≡ true) ⌝ }
-    ensures { λ r. ⌜ verdictOf r ≡ storeGate s h objects (tables (now (head .entry)) (now (loans .entry)) (now (chunks .entry)) (now (regions .entry)) (now (index .entry))) ⌝ }
+    requires { ⌜ FreeListIn s × (lengthsOk s (tables (now head) (now loans) (now chunks) (now index) (now regions)) ≡ true) ⌝ }
+    ensures { λ r. ⌜ verdictOf r ≡ storeGate s h objects (tables (now (head .entry)) (now (loans .entry)) (now (chunks .entry)) (now (index .entry)) (now (regions .entry))) ⌝ }
 {
-    if !freelist_test::is_sound(s, head, loans, chunks, regions, index) {
+    if !freelist_test::is_sound(s, head, loans, chunks, index, regions) {
         return Gate::Shut(Refusal::Torn);
     }
     if !is_covered(h, objects, head, chunks) {
@@ -140,12 +140,12 @@ pub fn gate(
     head: &[u64],
     loans: &[u64],
     chunks: &[u64],
-    regions: &[u64],
     index: &[u64],
+    regions: &[u64],
 ) -> Gate
-    ensures { λ r. ⌜ verdictOf r ≡ gateOf s (holder (s .store) share) (tables (now (head .entry)) (now (loans .entry)) (now (chunks .entry)) (now (regions .entry)) (now (index .entry))) list ⌝ }
+    ensures { λ r. ⌜ verdictOf r ≡ gateOf s (holder (s .store) share) (tables (now (head .entry)) (now (loans .entry)) (now (chunks .entry)) (now (index .entry)) (now (regions .entry))) list ⌝ }
 {
-    let lent = is_in_table(s, share, head, loans, chunks, regions, index);
+    let lent = is_in_table(s, share, head, loans, chunks, index, regions);
     if !(lent & list) {
         return Gate::Shut(Refusal::Setup);
     }
@@ -153,5 +153,5 @@ pub fn gate(
         return Gate::Shut(Refusal::Order);
     }
     let heap = share.heap;
-    gate_store(s, heap, share.objects, head, loans, chunks, regions, index)
+    gate_store(s, heap, share.objects, head, loans, chunks, index, regions)
 }

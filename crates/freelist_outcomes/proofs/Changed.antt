@@ -52,11 +52,11 @@ module _ (s : FreeListSettings) (t : Tables) (fit : FreeListIn s) (lengths : Len
   -- no region is counted
   fresh-count : regionsIn s (freshTables s t) ≡ 0
   unfolding freshTables
-  fresh-count = getD-set-same (t .regions) (regionCountAt s) 0 0 (omega (arith, lengths .regions))
+  fresh-count = getD-set-same (t .room) (regionCountAt s) 0 0 (omega (arith, lengths .room))
 
   pub fresh-store : storeOf s (freshTables s t) ≡ fresh s
   unfolding freshTables storeOf loansOf ordered
-  fresh-store = ap (λ (n : ℕ). record { given = 0; made = 0; size = s .start; loans = []; chunks = []; regions = rows regionRow n (set (t .regions) (regionCountAt s) 0) }) fresh-count
+  fresh-store = ap (λ (n : ℕ). record { given = 0; made = 0; size = s .start; loans = []; chunks = []; regions = rows regionRow n (set (t .room) (regionCountAt s) 0) }) fresh-count
 
   pub fresh-tables-sound : SoundTables s (freshTables s t)
   unfolding freshTables
@@ -77,11 +77,11 @@ module _ (s : FreeListSettings) (t : Tables) (fit : FreeListIn s) (lengths : Len
 
     abbrev changed : ℕ → ℕ → ℕ → List ℕ → List ℕ → Tables
     changed made size held chunks regions =
-        tables (getD (t .head) markAt 0 ∷ getD (t .head) givenAt 0 ∷ made ∷ size ∷ placesIn t ∷ held ∷ []) (t .loans) chunks regions (t .index)
+        tables (getD (t .head) markAt 0 ∷ getD (t .head) givenAt 0 ∷ made ∷ size ∷ placesIn t ∷ held ∷ []) (t .loans) chunks (t .index) regions
 
-    changed-lengths : (made size held : ℕ) (chunks regions : List ℕ) → length chunks ≡ length (t .chunks) → length regions ≡ length (t .regions) → Lengths s (changed made size held chunks regions)
+    changed-lengths : (made size held : ℕ) (chunks regions : List ℕ) → length chunks ≡ length (t .chunks) → length regions ≡ length (t .room) → Lengths s (changed made size held chunks regions)
     changed-lengths made size held chunks regions c r =
-        record { head = refl; loans = lengths .loans; chunks = c ∙ lengths .chunks; regions = r ∙ lengths .regions; index = lengths .index }
+        record { head = refl; loans = lengths .loans; chunks = c ∙ lengths .chunks; room = r ∙ lengths .room; index = lengths .index }
 
     changed-sound : (made size held : ℕ) (chunks regions : List ℕ) → held ≤ s .store .chunks → getD regions (regionCountAt s) 0 ≤ regionsMost s → Sound s (storeOf s (changed made size held chunks regions))
         → SoundTables s (changed made size held chunks regions)
@@ -90,9 +90,9 @@ module _ (s : FreeListSettings) (t : Tables) (fit : FreeListIn s) (lengths : Len
 
     -- ---- an order for this size raises the chunk size and nothing else
 
-    ordered-is : (z : ℕ) → orderedTables z t ≡ changed (getD (t .head) madeAt 0) z (chunksIn t) (t .chunks) (t .regions)
+    ordered-is : (z : ℕ) → orderedTables z t ≡ changed (getD (t .head) madeAt 0) z (chunksIn t) (t .chunks) (t .room)
     unfolding orderedTables
-    ordered-is z = ap (λ (h : List ℕ). tables (set h chunkSizeAt z) (t .loans) (t .chunks) (t .regions) (t .index)) (six-words (t .head) (lengths .head))
+    ordered-is z = ap (λ (h : List ℕ). tables (set h chunkSizeAt z) (t .loans) (t .chunks) (t .index) (t .room)) (six-words (t .head) (lengths .head))
 
     pub ordered-store : (z : ℕ) → storeOf s (orderedTables z t) ≡ raised z (storeOf s t)
     unfolding storeOf
@@ -103,7 +103,7 @@ module _ (s : FreeListSettings) (t : Tables) (fit : FreeListIn s) (lengths : Len
     ordered-sound size =
         let z = raisedFor s size t in
         subst (SoundTables s) (sym (ordered-is z)) (
-        changed-sound (getD (t .head) madeAt 0) z (chunksIn t) (t .chunks) (t .regions) (sound .chunks-fit) (sound .regions-fit)
+        changed-sound (getD (t .head) madeAt 0) z (chunksIn t) (t .chunks) (t .room) (sound .chunks-fit) (sound .regions-fit)
         (raised-sound s (storeOf s t) (sound .store) (sizeFor s size))
         )
 
@@ -113,30 +113,30 @@ module _ (s : FreeListSettings) (t : Tables) (fit : FreeListIn s) (lengths : Len
     next made size cs rs = record { given = storeOf s t .given; made = made; size = size; loans = storeOf s t .loans; chunks = cs; regions = rs }
 
     abbrev laidTables : ℕ → ℕ → List Chunk → List Region → Tables
-    laidTables made size cs rs = changed made size (length cs) (laid chunkRow cs (t .chunks)) (laidRegions s rs (t .regions))
+    laidTables made size cs rs = changed made size (length cs) (laid chunkRow cs (t .chunks)) (laidRegions s rs (t .room))
 
     module _ (made size : ℕ) (cs : List Chunk) (rs : List Region) (few : length cs ≤ s .store .chunks) (w : Sound s (next made size cs rs)) where
       -- regions are no more than loans and chunks
       room : length rs ≤ regionsMost s
       room = omega (arith, room-enough s (next made size cs rs) fit w, loans-few s t sound)
 
-      before : RegionsFit s (t .regions)
-      before = record { settings = fit; long = lengths .regions; count = sound .regions-fit }
+      before : RegionsFit s (t .room)
+      before = record { settings = fit; long = lengths .room; count = sound .regions-fit }
 
       laid-lengths : Lengths s (laidTables made size cs rs)
       laid-lengths =
-          changed-lengths made size (length cs) (laid chunkRow cs (t .chunks)) (laidRegions s rs (t .regions))
+          changed-lengths made size (length cs) (laid chunkRow cs (t .chunks)) (laidRegions s rs (t .room))
           (length-laid chunkRow cs (t .chunks) (omega (arith, lengths .chunks)))
-          (laid-long s rs (t .regions) before room ∙ sym (lengths .regions))
+          (laid-long s rs (t .room) before room ∙ sym (lengths .room))
 
       laid-store : storeOf s (laidTables made size cs rs) ≡ next made size cs rs
       unfolding storeOf
-      laid-store = (λ j. next made size (rows-laid chunkRow cs (t .chunks) j) (laid-regions s rs (t .regions) before room j))
+      laid-store = (λ j. next made size (rows-laid chunkRow cs (t .chunks) j) (laid-regions s rs (t .room) before room j))
 
       laid-sound : SoundTables s (laidTables made size cs rs)
       laid-sound =
-          changed-sound made size (length cs) (laid chunkRow cs (t .chunks)) (laidRegions s rs (t .regions)) few
-          (omega (arith, laid-count s rs (t .regions) before room, room))
+          changed-sound made size (length cs) (laid chunkRow cs (t .chunks)) (laidRegions s rs (t .room)) few
+          (omega (arith, laid-count s rs (t .room) before room, room))
           (subst (Sound s) (sym laid-store) w)
 
     -- ---- a release
@@ -157,7 +157,7 @@ module _ (s : FreeListSettings) (t : Tables) (fit : FreeListIn s) (lengths : Len
       released-is : releasedTables s spare t ≡ laidTables (storeOf s t .made) (storeOf s t .size) kept stays
       unfolding releasedTables storeOf
       released-is =
-          ap (λ (h : List ℕ). tables (set h chunksAt (length kept)) (t .loans) (laid chunkRow kept (t .chunks)) (laidRegions s stays (t .regions)) (t .index)) (six-words (t .head) (lengths .head))
+          ap (λ (h : List ℕ). tables (set h chunksAt (length kept)) (t .loans) (laid chunkRow kept (t .chunks)) (t .index) (laidRegions s stays (t .room))) (six-words (t .head) (lengths .head))
 
     pub released-lengths : (spare : Bool) → Lengths s (releasedTables s spare t)
     released-lengths spare =
@@ -197,8 +197,8 @@ module _ (s : FreeListSettings) (t : Tables) (fit : FreeListIn s) (lengths : Len
           (set (set (set (six-words (t .head) (lengths .head) j) madeAt (after .made)) chunkSizeAt (after .size)) chunksAt (sym one-more j))
           (t .loans)
           (laid chunkRow (after .chunks) (t .chunks))
-          (laidRegions s (after .regions) (t .regions))
-          (t .index))
+          (t .index)
+          (laidRegions s (after .regions) (t .room)))
 
       pub delivered-lengths : Lengths s (deliveredTables s memory (raisedFor s size t) t)
       delivered-lengths = subst (Lengths s) (sym delivered-is) (laid-lengths (after .made) (after .size) (after .chunks) (after .regions) after-few after-sound)

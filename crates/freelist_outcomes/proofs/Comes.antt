@@ -51,7 +51,7 @@ use Rattle.freelist_outcomes.specs.Deliver as Deliver
 use Rattle.freelist_outcomes.specs.Deliver.{stillOk, deliverGateOf, carryFate, decideDeliver, planDeliver, carryDeliver, deliverOf}
 use Rattle.freelist_outcomes.specs.Return as Return
 use Rattle.freelist_outcomes.specs.Return.{wordFor, onLoanOk, givenTables, releaseOf, decideReturn, planReturn, carryReturn, returnOf, carryCleanUp, cleanUpOf}
-use Rattle.freelist_outcomes.specs.SetUp.{SetUp, setUp, freshTables, fitOk, planSetUp, carrySetUp, setUpOf}
+use Rattle.freelist_outcomes.specs.SetUp.{Begun, begun, freshTables, fitOk, planSetUp, carrySetUp, setUpOf}
 use Rattle.freelist_outcomes.proofs.Passing.{Passed, gate-passed, lent-in, lent-heaps}
 use Rattle.freelist_outcomes.proofs.Plans.{take-is, buy-held, size-some, size-most, chunk-place}
 
@@ -280,9 +280,9 @@ module _ (s : FreeListSettings) (a : Account) (t : Tables) (list : List ℕ) whe
   unfolding cleanUpOf
   clean-up-comes = after-clean-up (gateOf s a t (listOk (s .store) list)) refl
 
-pub data SetUpComes (s : FreeListSettings) (t : Tables) : SetUp → Type 0 where
-  denied : SetUpComes s t (setUp (Paper.refusal 1 []) t)
-  readies : FreeListIn s → Lengths s t → SetUpComes s t (setUp Paper.ready (freshTables s t))
+pub data SetUpComes (s : FreeListSettings) (t : Tables) : Begun → Type 0 where
+  denied : SetUpComes s t (begun (Paper.refusal 1 []) t)
+  readies : FreeListIn s → Lengths s t → SetUpComes s t (begun Paper.ready (freshTables s t))
 
 pub set-up-comes : (s : FreeListSettings) (t : Tables) → SetUpComes s t (setUpOf s t)
 unfolding setUpOf planSetUp carrySetUp fitOk

@@ -97,7 +97,7 @@ module _ (s : FreeListSettings) (a : Account) (size mask : ℕ) (t : Tables) whe
     after-lengths : Lengths s u
     unfolding orderedTables
     after-lengths =
-        record { head = length-set (t .head) chunkSizeAt z ∙ lengths .head; loans = lengths .loans; chunks = lengths .chunks; regions = lengths .regions; index = lengths .index }
+        record { head = length-set (t .head) chunkSizeAt z ∙ lengths .head; loans = lengths .loans; chunks = lengths .chunks; room = lengths .room; index = lengths .index }
 
     same-room : roomOk s u nowhere ≡ roomOk s t nowhere
     unfolding roomOk orderedTables

@@ -112,7 +112,7 @@ module _ (s : FreeListSettings) (t : Tables) (fit : FreeListIn s) (lengths : Len
 
   -- ---- the free regions
 
-  regions-whole : RegionsFit s (t .regions)
+  regions-whole : RegionsFit s (t .room)
   regions-whole = regions-fit s t fit (are-lengths s t lengths) sound
 
   abbrev joined : List Region
@@ -128,7 +128,7 @@ module _ (s : FreeListSettings) (t : Tables) (fit : FreeListIn s) (lengths : Len
         head = lengths .head;
         loans = struck-long word (t .index) (t .loans) ∙ lengths .loans;
         chunks = lengths .chunks;
-        regions = laid-long s joined (t .regions) regions-whole room;
+        room = laid-long s joined (t .room) regions-whole room;
         index = struck-wide word (t .index) ∙ lengths .index;
       }
 
@@ -179,7 +179,7 @@ module _ (s : FreeListSettings) (t : Tables) (fit : FreeListIn s) (lengths : Len
       let m = v .2 in
       let l = given-loans ∙ ap (λ (k : ℕ). without k (storeOf s t .loans)) (sym (m .serial)) in
       let p : returning b ≡ piece (v .0) = λ j. region (sym (m .chunk) j) (sym (m .offset) j) (sym (m .offset) j + sym (m .size) j) in
-      let r = laid-regions s joined (t .regions) regions-whole room ∙ ap (λ (x : Region). insert x (storeOf s t .regions)) p in
+      let r = laid-regions s joined (t .room) regions-whole room ∙ ap (λ (x : Region). insert x (storeOf s t .regions)) p in
       (λ j. record { given = storeOf s t .given; made = storeOf s t .made; size = storeOf s t .size; loans = l j; chunks = storeOf s t .chunks; regions = r j })
 
   given-chained : BookChained (struck word (t .index) (t .loans)) (struckIndex word (t .index)) n (placesIn t) given
@@ -198,7 +198,7 @@ module _ (s : FreeListSettings) (t : Tables) (fit : FreeListIn s) (lengths : Len
       record {
         marked = sound .marked;
         chunks-fit = sound .chunks-fit;
-        regions-fit = omega (arith, laid-count s joined (t .regions) regions-whole room, room);
+        regions-fit = omega (arith, laid-count s joined (t .room) regions-whole room, room);
         parted = given-parted;
         chained = given-chained;
         store = let v = on-loan-is s t fit sound b on in subst (Sound s) (sym given-store) (give-sound s (storeOf s t) fit (sound .store) (v .0) (v .1));

@@ -41,7 +41,7 @@ use Rattle.freelist_outcomes.specs.Deliver.{stillOk, deliverGateOf, carr
 use Rattle.freelist_outcomes.specs.Deliver as D
 use Rattle.freelist_outcomes.specs.Return.{wordFor, onLoanOk, releaseOf, decideReturn, planReturn, carryReturn, returnOf, carryCleanUp, cleanUpOf}
 use Rattle.freelist_outcomes.specs.Return as R
-use Rattle.freelist_outcomes.specs.SetUp.{setUp, fitOk, planSetUp, carrySetUp, setUpOf}
+use Rattle.freelist_outcomes.specs.SetUp.{begun, fitOk, planSetUp, carrySetUp, setUpOf}
 use Rattle.freelist_outcomes.specs.Refusals.{Needed, listWords}
 use Rattle.store_rules.specs.Rows.{Leads, Stale, askRows, askTests, deliverRows, gateRows, keptRows, listRows, returnRows, setUpRows}
 use Rattle.freelist_outcomes.proofs.Asked.{ask-decided, ask-buys}
@@ -81,12 +81,12 @@ clean-up-leaves-all s a t list n back = by (gateOf s a t (listOk (s .store) list
     by pass e = not-refused (carryCleanUp s a t list pass .said) n back refl e
 
 -- and a refused set-up
-pub set-up-leaves : (s : FreeListSettings) (t : Tables) (n : ℕ) (back : List ℕ) → setUpOf s t .said ≡ Paper.refusal n back → setUpOf s t ≡ setUp (Paper.refusal n []) t
+pub set-up-leaves : (s : FreeListSettings) (t : Tables) (n : ℕ) (back : List ℕ) → setUpOf s t .said ≡ Paper.refusal n back → setUpOf s t ≡ begun (Paper.refusal n []) t
 unfolding setUpOf carrySetUp
 set-up-leaves s t n back = by (planSetUp s t)
   where
-    by : (v : Verdict) → carrySetUp s t v .said ≡ Paper.refusal n back → carrySetUp s t v ≡ setUp (Paper.refusal n []) t
-    by (refuse m) e = ap (λ (k : ℕ). setUp (Paper.refusal k []) t) (said-number m n [] back e)
+    by : (v : Verdict) → carrySetUp s t v .said ≡ Paper.refusal n back → carrySetUp s t v ≡ begun (Paper.refusal n []) t
+    by (refuse m) e = ap (λ (k : ℕ). begun (Paper.refusal k []) t) (said-number m n [] back e)
     by pass e = not-refused Paper.ready n back refl e
 
 -- ---- exactly when each number is given

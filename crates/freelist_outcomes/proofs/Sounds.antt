@@ -17,7 +17,7 @@ use Rattle.freelist_rules.proofs.Fits.{lengths-are}
 use Rattle.freelist_outcomes.specs.Ask.{askOf}
 use Rattle.freelist_outcomes.specs.Deliver.{carryFate, deliverOf}
 use Rattle.freelist_outcomes.specs.Return.{wordFor, onLoanOk, givenTables, releasedTables, releaseOf, returnOf, cleanUpOf}
-use Rattle.freelist_outcomes.specs.SetUp.{SetUp, setUpOf}
+use Rattle.freelist_outcomes.specs.SetUp.{Begun, setUpOf}
 use Rattle.freelist_outcomes.proofs.Passing.{Passed}
 use Rattle.freelist_outcomes.proofs.Taken.{taken-sound}
 use Rattle.freelist_outcomes.proofs.Given.{given-sound, given-lengths}
@@ -78,6 +78,6 @@ clean-up-sound s a t list sound = go (cleanUpOf s a t list) (clean-up-comes s a 
 pub set-up-sound : (s : FreeListSettings) (t : Tables) → setUpOf s t .said ≡ Paper.ready → SoundTables s (setUpOf s t .tables)
 set-up-sound s t = go (setUpOf s t) (set-up-comes s t)
   where
-    go : (r : SetUp) → SetUpComes s t r → r .said ≡ Paper.ready → SoundTables s (r .tables)
+    go : (r : Begun) → SetUpComes s t r → r .said ≡ Paper.ready → SoundTables s (r .tables)
     go _ SetUpComes.denied e = let z : _≡_ {A = ℕ} 5 0 = ap kindOf e in absurd (omega arith)
     go _ (readies fit lengths) e = fresh-tables-sound s t fit lengths

@@ -119,8 +119,8 @@ module _ (s : FreeListSettings) (t : Tables) (fit : FreeListIn s) (lengths : Len
 
   -- ---- the regions
 
-  table-fit : RegionsFit s (t .regions)
-  table-fit = record { settings = fit; long = lengths .regions; count = sound .regions-fit }
+  table-fit : RegionsFit s (t .room)
+  table-fit = record { settings = fit; long = lengths .room; count = sound .regions-fit }
 
   left-room : length left ≤ regionsMost s
   left-room =
@@ -135,7 +135,7 @@ module _ (s : FreeListSettings) (t : Tables) (fit : FreeListIn s) (lengths : Len
         head = head-long (t .head) (lengths .head) (before .given + 1) used;
         loans = entered-long (placesIn t) (t .index) new (t .loans) ∙ lengths .loans;
         chunks = lengths .chunks;
-        regions = laid-long s left (t .regions) table-fit left-room;
+        room = laid-long s left (t .room) table-fit left-room;
         index = entered-wide (s .store .loans) (placesIn t) (before .given + 1) (t .index) ∙ lengths .index;
       }
 
@@ -150,7 +150,7 @@ module _ (s : FreeListSettings) (t : Tables) (fit : FreeListIn s) (lengths : Len
       let c = other chunkSizeAt (λ e. omega arith) (λ e. omega arith) in
       let d = ap (λ (k : ℕ). ordered (loansOf k (entered (placesIn t) (t .index) new (t .loans)))) (head-places (t .head) (lengths .head) g used) ∙ loans-after in
       let e = ap (λ (k : ℕ). rows chunkRow k (t .chunks)) (other chunksAt (λ e. omega arith) (λ e. omega arith)) in
-      let f = laid-regions s left (t .regions) table-fit left-room in
+      let f = laid-regions s left (t .room) table-fit left-room in
       (λ j. record { given = a j; made = b j; size = c j; loans = d j; chunks = e j; regions = f j })
 
   -- and they are sound
@@ -167,7 +167,7 @@ module _ (s : FreeListSettings) (t : Tables) (fit : FreeListIn s) (lengths : Len
       record {
         marked = other markAt (λ e. omega arith) (λ e. omega arith) ∙ sound .marked;
         chunks-fit = omega (arith, other chunksAt (λ e. omega arith) (λ e. omega arith), sound .chunks-fit);
-        regions-fit = omega (arith, laid-count s left (t .regions) table-fit left-room, left-room);
+        regions-fit = omega (arith, laid-count s left (t .room) table-fit left-room, left-room);
         parted =
             subst (λ (k : ℕ). BookParted loans′ index′ n k) (sym c)
             (entered-parted (t .loans) (t .index) n (placesIn t) few (sound .parted) (getD (t .head) givenAt 0) new (lengths .loans) (lengths .index) place refl new-some);

@@ -93,12 +93,12 @@ bookedTables s l t =
     (set (set (t .head) givenAt (l .serial)) placesAt (takenOf (placesIn t) (t .index) .slab .places))
     (entered (placesIn t) (t .index) l (t .loans))
     (t .chunks)
-    (t .regions)
     (enteredIndex (s .store .loans) (placesIn t) (l .serial) (t .index))
+    (t .room)
 
 -- these are the free regions from now on
 abbrev pub withRegions : FreeListSettings → List Region → Tables → Tables
-withRegions s rs t = tables (t .head) (t .loans) (t .chunks) (laidRegions s rs (t .regions)) (t .index)
+withRegions s rs t = tables (t .head) (t .loans) (t .chunks) (t .index) (laidRegions s rs (t .room))
 
 -- "The block runs from there to the region's end": it is cut off region i and lent
 unfoldable pub takenTables : FreeListSettings → ℕ → ℕ → Tables → ℕ → Tables
@@ -107,7 +107,7 @@ takenTables s size mask t i =
 
 -- an order raises the chunk size and is kept in the account
 unfoldable pub orderedTables : ℕ → Tables → Tables
-orderedTables z t = tables (set (t .head) chunkSizeAt z) (t .loans) (t .chunks) (t .regions) (t .index)
+orderedTables z t = tables (set (t .head) chunkSizeAt z) (t .loans) (t .chunks) (t .index) (t .room)
 
 unfoldable pub carryAsk : FreeListSettings → Account → ℕ → ℕ → Tables → Plan ℕ → Out Tables
 carryAsk s a size mask t (deny n) = out (Paper.refusal n []) a t

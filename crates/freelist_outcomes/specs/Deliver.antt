@@ -44,8 +44,8 @@ deliveredTables s memory z t =
     (set (set (set (t .head) madeAt (storeOf s t .made + 1)) chunkSizeAt (doubled z (s .last))) chunksAt (chunksIn t + 1))
     (t .loans)
     (laid chunkRow (storeOf s t .chunks ++ (chunk (storeOf s t .made + 1) memory z ∷ [])) (t .chunks))
-    (laidRegions s (storeOf s t .regions ++ (region (storeOf s t .made + 1) 0 z ∷ [])) (t .regions))
     (t .index)
+    (laidRegions s (storeOf s t .regions ++ (region (storeOf s t .made + 1) 0 z ∷ [])) (t .room))
 
 -- it is kept, and the kept ask is served from its region, the last; or it is lost
 unfoldable pub carryFate : FreeListSettings → Account → KeptOrder → Tables → Fate → Out Tables

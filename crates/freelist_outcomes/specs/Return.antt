@@ -36,8 +36,8 @@ givenTables s b w t =
     (t .head)
     (struck w (t .index) (t .loans))
     (t .chunks)
-    (laidRegions s (insert (region (b .chunk) (b .offset) (b .offset + b .size)) (storeOf s t .regions)) (t .regions))
     (struckIndex w (t .index))
+    (laidRegions s (insert (region (b .chunk) (b .offset) (b .offset + b .size)) (storeOf s t .regions)) (t .room))
 
 -- ---- the release
 
@@ -51,8 +51,8 @@ releasedTables s spare t =
     (set (t .head) chunksAt (length (remaining (goneFrom s spare t) (storeOf s t .chunks))))
     (t .loans)
     (laid chunkRow (remaining (goneFrom s spare t) (storeOf s t .chunks)) (t .chunks))
-    (laidRegions s (staying (storeOf s t .chunks) spare (storeOf s t .regions)) (t .regions))
     (t .index)
+    (laidRegions s (staying (storeOf s t .chunks) spare (storeOf s t .regions)) (t .room))
 
 unfoldable pub releaseOf : FreeListSettings → Account → Bool → Tables → List ℕ → Listed Tables
 releaseOf s a spare t list =

@@ -4,19 +4,12 @@ use mathlib.Core.List.{List, [], _∷_}
 use Prim.Native.Nat.{ℕ}
 use lib.ListN.{set}
 use Rattle.counter.specs.Gate.{Verdict, pass, refuse, first}
-use Rattle.counter.specs.Paper.{Said}
 use Rattle.counter.specs.Paper as Paper
 use Rattle.counter.specs.Table.{freeListOk}
 use Rattle.counter.specs.declared.settings.FreeListSettings.{FreeListSettings}
 use Rattle.book_rules.specs.Book.{freshIndex}
+pub use Rattle.store_rules.specs.Tables.{Begun, begun}
 use Rattle.freelist_rules.specs.Tables.{Tables, tables, mark, regionCountAt, lengthsOk}
-
-pub record SetUp : Type 0 where
-  pub said : Said
-  pub tables : Tables
-
-abbrev pub setUp : Said → Tables → SetUp
-setUp s t = record { said = s; tables = t }
 
 -- the mark; nothing given or held, and the chunk size of the settings
 abbrev pub freshHead : FreeListSettings → List ℕ
@@ -25,7 +18,7 @@ freshHead s = mark ∷ 0 ∷ 0 ∷ s .start ∷ 0 ∷ 0 ∷ []
 -- no region; no loan is in the book
 unfoldable pub freshTables : FreeListSettings → Tables → Tables
 freshTables s t =
-    tables (freshHead s) (t .loans) (t .chunks) (set (t .regions) (regionCountAt s) 0) (freshIndex (t .index))
+    tables (freshHead s) (t .loans) (t .chunks) (freshIndex (t .index)) (set (t .room) (regionCountAt s) 0)
 
 -- 1, but for the account, which set-up does not take
 unfoldable pub fitOk : FreeListSettings → Tables → Bool
@@ -36,10 +29,10 @@ unfoldable pub planSetUp : FreeListSettings → Tables → Verdict
 planSetUp s t = first ((fitOk s t, 1) ∷ [])
 
 -- a refusal leaves every word as it was
-unfoldable pub carrySetUp : FreeListSettings → Tables → Verdict → SetUp
-carrySetUp s t (refuse n) = setUp (Paper.refusal n []) t
-carrySetUp s t pass = setUp Paper.ready (freshTables s t)
+unfoldable pub carrySetUp : FreeListSettings → Tables → Verdict → Begun
+carrySetUp s t (refuse n) = begun (Paper.refusal n []) t
+carrySetUp s t pass = begun Paper.ready (freshTables s t)
 
 -- the call
-unfoldable pub setUpOf : FreeListSettings → Tables → SetUp
+unfoldable pub setUpOf : FreeListSettings → Tables → Begun
 setUpOf s t = carrySetUp s t (planSetUp s t)

@@ -21,7 +21,7 @@ use Rattle.freelist_place.specs.Lent.{lentFrom, enteredAt, lentTables}
 
 module _ (s : FreeListSettings) (i start : ℕ) (head regions : List ℕ) where
   abbrev Served : Loan
-  Served = lentFrom s start (tables head [] [] regions []) i
+  Served = lentFrom s start (tables head [] [] [] regions) i
 
   pub loan-done : (w : ℕ) (r : Region) (l : Loan) → w ≡ getD head givenAt 0 → r ≡ row regionRow i regions
       → l ≡ record { serial = w + 1; chunk = r .chunk; offset = start; size = r .end - start } → i < getD regions (regionCountAt s) 0 → l ≡ Served
@@ -42,21 +42,21 @@ module _ (s : FreeListSettings) (i start : ℕ) (head regions : List ℕ) where
       (set (set head givenAt (l .serial)) placesAt (k .slab .places))
       (written loanRow (k .place) l loans)
       []
-      (laidRegions s (cutOff start i (regionsOf s regions)) regions)
       (set
       (set (set index vacatedAt (k .slab .vacant)) (nextOf (k .place)) (firstBefore (s .store .loans) (l .serial) index))
       (firstOf (l .serial % s .store .loans))
       (k .place))
+      (laidRegions s (cutOff start i (regionsOf s regions)) regions)
 
   pub lent-done : (loans index h′ l′ r′ i′ : List ℕ) (k : Taken) (l : Loan) → l ≡ Served
       → r′ ≡ laidRegions s (cutOff start i (regionsOf s regions)) regions
       → l′ ≡ written loanRow (k .place) l loans
       → i′ ≡ set (set (set index vacatedAt (k .slab .vacant)) (nextOf (k .place)) (firstBefore (s .store .loans) (l .serial) index)) (firstOf (l .serial % s .store .loans)) (k .place)
       → h′ ≡ set (set head givenAt (l .serial)) placesAt (k .slab .places)
-      → tables h′ l′ [] r′ i′ ≡ lentTables s start k (tables head loans [] regions index) i
+      → tables h′ l′ [] i′ r′ ≡ lentTables s start k (tables head loans [] index regions) i
   unfolding storeOf lentTables enteredAt
   lent-done loans index h′ l′ r′ i′ k l e r a b h =
-      (λ j. tables (h j) (a j) [] (r j) (b j)) ∙ (λ j. after loans index k (e j))
+      (λ j. tables (h j) (a j) [] (b j) (r j)) ∙ (λ j. after loans index k (e j))
 
 -- ---- with the start and the place that an ask comes to
 

@@ -21,8 +21,8 @@ head-fresh s (a ∷ b ∷ c ∷ d ∷ e ∷ f ∷ []) u v l p q = q ∙ ap (λ (
 head-fresh s (a ∷ b ∷ c ∷ d ∷ e ∷ f ∷ g ∷ t) u v l p q = absurd (omega arith)
 
 pub fresh-done : (s : FreeListSettings) (head regions index h r i : List ℕ) (at : ℕ) → at ≡ regionCountAt s → h ≡ freshHead s → r ≡ set regions at 0 → i ≡ freshIndex index
-    → tables h [] [] r i ≡ freshTables s (tables head [] [] regions index)
+    → tables h [] [] i r ≡ freshTables s (tables head [] [] index regions)
 unfolding freshTables
 fresh-done s head regions index h r i at a p q w =
     let q′ = q ∙ ap (λ (k : ℕ). set regions k 0) a in
-    (λ j. tables (p j) [] [] (q′ j) (w j))
+    (λ j. tables (p j) [] [] (w j) (q′ j))

@@ -29,22 +29,22 @@ module _ (s : FreeListSettings) (memory size : ℕ) (head chunks regions : List 
       (set (set (set head madeAt (made + 1)) chunkSizeAt twice) chunksAt (k + 1))
       []
       (laid chunkRow (rows chunkRow k chunks ++ (chunk (made + 1) memory size ∷ [])) chunks)
-      (laidRegions s (regionsOf s regions ++ (region (made + 1) 0 size ∷ [])) regions)
       []
+      (laidRegions s (regionsOf s regions ++ (region (made + 1) 0 size ∷ [])) regions)
 
   pub added-done : (k made twice : ℕ) (h′ c′ r′ : List ℕ) → k ≡ getD head chunksAt 0 → made ≡ getD head madeAt 0 → twice ≡ doubled size (s .last)
       → c′ ≡ written chunkRow k (chunk (made + 1) memory size) chunks
       → r′ ≡ laidRegions s (regionsOf s regions ++ (region (made + 1) 0 size ∷ [])) regions
       → h′ ≡ set (set (set head madeAt (made + 1)) chunkSizeAt twice) chunksAt (k + 1)
-      → tables h′ [] c′ r′ [] ≡ deliveredTables s memory size (tables head [] chunks regions [])
+      → tables h′ [] c′ [] r′ ≡ deliveredTables s memory size (tables head [] chunks [] regions)
   unfolding storeOf deliveredTables
   added-done k made twice h′ c′ r′ a b d c r h =
       let e = c ∙ appended chunkRow k (chunk (made + 1) memory size) chunks (omega (arith, a, adds .few, adds .long)) in
-      (λ j. tables (h j) [] (e j) (r j) []) ∙ (λ j. after (a j) (b j) (d j))
+      (λ j. tables (h j) [] (e j) [] (r j)) ∙ (λ j. after (a j) (b j) (d j))
 
 pub given-done : (s : FreeListSettings) (b : Block) (at : ℕ) (loans regions index l′ r′ i′ : List ℕ)
     → r′ ≡ laidRegions s (insert (region (b .chunk) (b .offset) (b .offset + b .size)) (regionsOf s regions)) regions
     → l′ ≡ struck at index loans → i′ ≡ struckIndex at index
-    → tables [] l′ [] r′ i′ ≡ givenTables s b at (tables [] loans [] regions index)
+    → tables [] l′ [] i′ r′ ≡ givenTables s b at (tables [] loans [] index regions)
 unfolding storeOf givenTables
-given-done s b at loans regions index l′ r′ i′ r l i = (λ j. tables [] (l j) [] (r j) (i j))
+given-done s b at loans regions index l′ r′ i′ r l i = (λ j. tables [] (l j) [] (i j) (r j))

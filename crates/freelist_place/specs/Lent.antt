@@ -37,5 +37,5 @@ lentTables s start k t i =
     (set (set (t .head) givenAt (storeOf s t .given + 1)) placesAt (k .slab .places))
     (written loanRow (k .place) (lentFrom s start t i) (t .loans))
     (t .chunks)
-    (laidRegions s (cutOff start i (storeOf s t .regions)) (t .regions))
     (enteredAt (s .store .loans) k (storeOf s t .given + 1) (t .index))
+    (laidRegions s (cutOff start i (storeOf s t .regions)) (t .room))

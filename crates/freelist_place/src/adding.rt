@@ -31,7 +31,7 @@ pub fn add_chunk(
     regions: &mut [u64],
 )
     requires { ⌜ Adds s (now head) (now chunks) (now regions) ⌝ }
-    ensures { λ _. ⌜ tables (now (head .exit)) [] (now (chunks .exit)) (now (regions .exit)) [] ≡ deliveredTables s memory size (tables (now (head .entry)) [] (now (chunks .entry)) (now (regions .entry)) []) ⌝ }
+    ensures { λ _. ⌜ tables (now (head .exit)) [] (now (chunks .exit)) [] (now (regions .exit)) ≡ deliveredTables s memory size (tables (now (head .entry)) [] (now (chunks .entry)) [] (now (regions .entry))) ⌝ }
 {
     let k = words::word(head, CHUNKS_AT);
     let number = words::word(head, MADE_AT) + 1;

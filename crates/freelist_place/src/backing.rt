@@ -16,12 +16,12 @@ pub fn take_back(
     b: Block,
     at: usize,
     loans: &mut [u64],
-    regions: &mut [u64],
     index: &mut [u64],
+    regions: &mut [u64],
 )
     requires { ⌜ Backs s b (now regions) ⌝ }
     requires { ⌜ Strikes at (getD (now index) at 0) (now loans) (now index) ⌝ }
-    ensures { λ _. ⌜ tables [] (now (loans .exit)) [] (now (regions .exit)) (now (index .exit)) ≡ givenTables s b at (tables [] (now (loans .entry)) [] (now (regions .entry)) (now (index .entry))) ⌝ }
+    ensures { λ _. ⌜ tables [] (now (loans .exit)) [] (now (index .exit)) (now (regions .exit)) ≡ givenTables s b at (tables [] (now (loans .entry)) [] (now (index .entry)) (now (regions .entry))) ⌝ }
 {
     let free = Region {
         chunk: b.chunk,

@@ -19,11 +19,11 @@ fn loan_of(
     loan: Taken,
     head: &[u64],
     loans: &[u64],
-    regions: &[u64],
     index: &[u64],
+    regions: &[u64],
 ) -> Loan
     requires { ⌜ Lends s i start (loan .place) (now head) (now loans) (now regions) (now index) ⌝ }
-    ensures { λ r. ⌜ r ≡ lentFrom s start (tables (now (head .entry)) [] [] (now (regions .entry)) []) i ⌝ }
+    ensures { λ r. ⌜ r ≡ lentFrom s start (tables (now (head .entry)) [] [] [] (now (regions .entry))) i ⌝ }
 {
     let serial = words::word(head, GIVEN_AT) + 1;
     let r = freelist_regions::region_at(regions, i);
@@ -51,14 +51,14 @@ pub fn lend(
     loan: Taken,
     head: &mut [u64],
     loans: &mut [u64],
-    regions: &mut [u64],
     index: &mut [u64],
+    regions: &mut [u64],
 ) -> Loan
     requires { ⌜ Lends s i start (loan .place) (now head) (now loans) (now regions) (now index) ⌝ }
-    ensures { λ r. ⌜ r ≡ lentFrom s start (tables (now (head .entry)) [] [] (now (regions .entry)) []) i ⌝ }
-    ensures { λ _. ⌜ tables (now (head .exit)) (now (loans .exit)) [] (now (regions .exit)) (now (index .exit)) ≡ lentTables s start loan (tables (now (head .entry)) (now (loans .entry)) [] (now (regions .entry)) (now (index .entry))) i ⌝ }
+    ensures { λ r. ⌜ r ≡ lentFrom s start (tables (now (head .entry)) [] [] [] (now (regions .entry))) i ⌝ }
+    ensures { λ _. ⌜ tables (now (head .exit)) (now (loans .exit)) [] (now (index .exit)) (now (regions .exit)) ≡ lentTables s start loan (tables (now (head .entry)) (now (loans .entry)) [] (now (index .entry)) (now (regions .entry))) i ⌝ }
 {
-    let l = loan_of(s, i, start, loan, head, loans, regions, index);
+    let l = loan_of(s, i, start, loan, head, loans, index, regions);
     let own = s.store;
     let slab = loan.slab;
     crate::counted::cut(s, regions, i, start);

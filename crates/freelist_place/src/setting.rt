@@ -41,9 +41,9 @@ fn fresh_head(s: FreeListSettings, head: &mut [u64])
 }
 
 // No region, and no loan in the book.
-pub fn fresh(s: FreeListSettings, head: &mut [u64], regions: &mut [u64], index: &mut [u64])
+pub fn fresh(s: FreeListSettings, head: &mut [u64], index: &mut [u64], regions: &mut [u64])
     requires { ⌜ FreeListIn s × (length (now head) ≡ headWords) ⌝ }
-    ensures { λ _. ⌜ tables (now (head .exit)) [] [] (now (regions .exit)) (now (index .exit)) ≡ freshTables s (tables (now (head .entry)) [] [] (now (regions .entry)) (now (index .entry))) ⌝ }
+    ensures { λ _. ⌜ tables (now (head .exit)) [] [] (now (index .exit)) (now (regions .exit)) ≡ freshTables s (tables (now (head .entry)) [] [] (now (index .entry)) (now (regions .entry))) ⌝ }
 {
     let at = freelist_regions::count_at(s);
     fresh_head(s, head);

@@ -36,11 +36,11 @@ module _ (s : FreeListSettings) (spare : Bool) (head chunks regions list : List 
       (set head chunksAt (length (remaining (gone k n) (held k))))
       []
       (laid chunkRow (remaining (gone k n) (held k)) chunks)
-      (set (laid regionRow (staying (held k) spare (free n)) regions) at (length (staying (held k) spare (free n))))
       []
+      (set (laid regionRow (staying (held k) spare (free n)) regions) at (length (staying (held k) spare (free n))))
 
   abbrev now : Tables
-  now = tables head [] chunks regions []
+  now = tables head [] chunks [] regions
 
   module _ (k n at : ℕ) (a-is : at ≡ regionCountAt s) (k-is : k ≡ getD head chunksAt 0) (n-is : n ≡ getD regions at 0) where
     count-is : n ≡ getD regions (regionCountAt s) 0
@@ -76,9 +76,9 @@ module _ (s : FreeListSettings) (spare : Bool) (head chunks regions list : List 
         → few ≡ length (remaining (gone k n) (held k)) → left ≡ length (staying (held k) spare (free n))
         → c′ ≡ laid chunkRow (remaining (gone k n) (held k)) chunks → r ≡ laid regionRow (staying (held k) spare (free n)) regions
         → h′ ≡ set head chunksAt few → r′ ≡ set r at left
-        → tables h′ [] c′ r′ [] ≡ releasedTables s spare now
+        → tables h′ [] c′ [] r′ ≡ releasedTables s spare now
     unfolding releasedTables storeOf laidRegions
     gone-tables few left h′ c′ r r′ m f c p g q =
         let h-is = g ∙ ap (λ (v : ℕ). set head chunksAt v) m in
         let r-is = q ∙ (λ j. set (p j) at (f j)) in
-        (λ j. tables (h-is j) [] (c j) (r-is j) []) ∙ (λ j. leaves (k-is j) (count-is j) (a-is j))
+        (λ j. tables (h-is j) [] (c j) [] (r-is j)) ∙ (λ j. leaves (k-is j) (count-is j) (a-is j))

@@ -30,10 +30,10 @@ pub fn release(
     list: &mut [u64],
 ) -> Freed
     requires { ⌜ Frees s (now head) (now chunks) (now regions) (now list) ⌝ }
-    ensures { λ r. ⌜ r .count ≡ length (goneFrom s spare (tables (now (head .entry)) [] (now (chunks .entry)) (now (regions .entry)) [])) ⌝ }
-    ensures { λ r. ⌜ r .bytes ≡ bytesOf (goneFrom s spare (tables (now (head .entry)) [] (now (chunks .entry)) (now (regions .entry)) [])) ⌝ }
-    ensures { λ _. ⌜ tables (now (head .exit)) [] (now (chunks .exit)) (now (regions .exit)) [] ≡ releasedTables s spare (tables (now (head .entry)) [] (now (chunks .entry)) (now (regions .entry)) []) ⌝ }
-    ensures { λ _. ⌜ now (list .exit) ≡ sets (now (list .entry)) 0 (memoriesOf (storeOf s (tables (now (head .entry)) [] (now (chunks .entry)) (now (regions .entry)) []) .chunks) (goneFrom s spare (tables (now (head .entry)) [] (now (chunks .entry)) (now (regions .entry)) []))) ⌝ }
+    ensures { λ r. ⌜ r .count ≡ length (goneFrom s spare (tables (now (head .entry)) [] (now (chunks .entry)) [] (now (regions .entry)))) ⌝ }
+    ensures { λ r. ⌜ r .bytes ≡ bytesOf (goneFrom s spare (tables (now (head .entry)) [] (now (chunks .entry)) [] (now (regions .entry)))) ⌝ }
+    ensures { λ _. ⌜ tables (now (head .exit)) [] (now (chunks .exit)) [] (now (regions .exit)) ≡ releasedTables s spare (tables (now (head .entry)) [] (now (chunks .entry)) [] (now (regions .entry))) ⌝ }
+    ensures { λ _. ⌜ now (list .exit) ≡ sets (now (list .entry)) 0 (memoriesOf (storeOf s (tables (now (head .entry)) [] (now (chunks .entry)) [] (now (regions .entry))) .chunks) (goneFrom s spare (tables (now (head .entry)) [] (now (chunks .entry)) [] (now (regions .entry))))) ⌝ }
 {
     let at = freelist_regions::count_at(s);
     let k = words::word(head, CHUNKS_AT) as usize;

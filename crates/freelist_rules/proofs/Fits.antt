@@ -31,17 +31,17 @@ lengths-are s t e =
       head = eqb-true _ _ (r .0);
       loans = eqb-true _ _ (r .1 .0);
       chunks = eqb-true _ _ (r .1 .1 .0);
-      regions = eqb-true _ _ (r .1 .1 .1 .0);
-      index = eqb-true _ _ (r .1 .1 .1 .1 .0);
+      index = eqb-true _ _ (r .1 .1 .1 .0);
+      room = eqb-true _ _ (r .1 .1 .1 .1 .0);
     }
 
 pub are-lengths : (s : FreeListSettings) (t : Tables) → Lengths s t → lengthsOk s t ≡ true
 unfolding lengthsOk
 are-lengths s t l =
-    each-all (lengthsRow s t) (eq-eqb _ _ (l .head), (eq-eqb _ _ (l .loans), (eq-eqb _ _ (l .chunks), (eq-eqb _ _ (l .regions), (eq-eqb _ _ (l .index), tt)))))
+    each-all (lengthsRow s t) (eq-eqb _ _ (l .head), (eq-eqb _ _ (l .loans), (eq-eqb _ _ (l .chunks), (eq-eqb _ _ (l .index), (eq-eqb _ _ (l .room), tt)))))
 
-pub regions-fit : (s : FreeListSettings) (t : Tables) → FreeListIn s → lengthsOk s t ≡ true → SoundTables s t → RegionsFit s (t .regions)
-regions-fit s t fit lengths sound = record { settings = fit; long = lengths-are s t lengths .regions; count = sound .regions-fit }
+pub regions-fit : (s : FreeListSettings) (t : Tables) → FreeListIn s → lengthsOk s t ≡ true → SoundTables s t → RegionsFit s (t .room)
+regions-fit s t fit lengths sound = record { settings = fit; long = lengths-are s t lengths .room; count = sound .regions-fit }
 
 -- ---- how many records there are
 
@@ -56,7 +56,7 @@ module _ (s : FreeListSettings) (t : Tables) where
 
   pub regions-length : length (storeOf s t .regions) ≡ regionsIn s t
   unfolding storeOf
-  regions-length = length-rows regionRow (regionsIn s t) (t .regions)
+  regions-length = length-rows regionRow (regionsIn s t) (t .room)
 
   -- no more are on loan than places were ever used
   pub loans-length : length (storeOf s t .loans) ≤ placesIn t

@@ -13,6 +13,7 @@ use Rattle.counter.specs.declared.settings.FreeListSettings.{FreeListSettings}
 use Rattle.slab.specs.Slab.{vacantAt, linkAt, Parted}
 use Rattle.slab.specs.Test.{partedOk}
 use Rattle.store_rules.specs.Loans.{loanWords, sizeAt, loansOf}
+pub use Rattle.store_rules.specs.Tables.{Tables, tables}
 use Rattle.store_rules.specs.declared.Loan.{Loan}
 use Rattle.book_rules.specs.Book.{entryWords, indexWords, vacantAfterAt, nextOf, serialOf, slabOf, firstIn}
 use Rattle.book_rules.specs.Chains.{Chained, chainsOk}
@@ -21,16 +22,6 @@ use Rattle.freelist_rules.specs.Sound.{Sound}
 use Rattle.freelist_rules.specs.Walk.{allOk, sizedOk, numbersRise, chunkOk, loanOk, fillsOk, apart, memories}
 use Rattle.freelist_rules.specs.Place.{putLoan}
 use Rattle.store_rules.specs.declared.Region.{Region}
-
-pub record Tables : Type 0 where
-  pub head : List ℕ
-  pub loans : List ℕ
-  pub chunks : List ℕ
-  pub regions : List ℕ
-  pub index : List ℕ
-
-abbrev pub tables : List ℕ → List ℕ → List ℕ → List ℕ → List ℕ → Tables
-tables h l c r i = record { head = h; loans = l; chunks = c; regions = r; index = i }
 
 -- ---- head: a mark; serials given, chunk numbers given, chunk size now; loan places ever used, chunks held
 
@@ -72,8 +63,8 @@ lengthsRow s t =
     eqb (length (t .head)) headWords
     ∷ eqb (length (t .loans)) (loanWords * s .store .loans)
     ∷ eqb (length (t .chunks)) (chunkWords * s .store .chunks)
-    ∷ eqb (length (t .regions)) (regionCountAt s + 1)
     ∷ eqb (length (t .index)) (indexWords (s .store .loans))
+    ∷ eqb (length (t .room)) (regionCountAt s + 1)
     ∷ []
 
 unfoldable pub lengthsOk : FreeListSettings → Tables → Bool
@@ -84,8 +75,8 @@ pub record Lengths (s : FreeListSettings) (t : Tables) : Type 0 where
   pub head : length (t .head) ≡ headWords
   pub loans : length (t .loans) ≡ loanWords * s .store .loans
   pub chunks : length (t .chunks) ≡ chunkWords * s .store .chunks
-  pub regions : length (t .regions) ≡ regionCountAt s + 1
   pub index : length (t .index) ≡ indexWords (s .store .loans)
+  pub room : length (t .room) ≡ regionCountAt s + 1
 
 -- ---- the store that the tables hold
 
@@ -96,7 +87,7 @@ abbrev pub chunksIn : Tables → ℕ
 chunksIn t = getD (t .head) chunksAt 0
 
 abbrev pub regionsIn : FreeListSettings → Tables → ℕ
-regionsIn s t = getD (t .regions) (regionCountAt s) 0
+regionsIn s t = getD (t .room) (regionCountAt s) 0
 
 -- loans put in order by chunk and place
 unfoldable pub ordered : List Loan → List Loan
@@ -111,7 +102,7 @@ storeOf s t =
       size = getD (t .head) chunkSizeAt 0;
       loans = ordered (loansOf (placesIn t) (t .loans));
       chunks = rows chunkRow (chunksIn t) (t .chunks);
-      regions = rows regionRow (regionsIn s t) (t .regions);
+      regions = rows regionRow (regionsIn s t) (t .room);
     }
 
 -- ---- soundness of the tables

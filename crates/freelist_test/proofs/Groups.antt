@@ -124,7 +124,7 @@ unfolding partedOk
 parted-most s loans index r n v e t = leb-true _ _ (and-left (leb n (s .store .loans)) _ (sym e ∙ t))
 
 module _ (s : FreeListSettings) (head loans index : List ℕ) (r : Bool) (n v : ℕ) (ns : n ≡ getD head placesAt 0) (vs : v ≡ getD index vacatedAt 0) (told : r ≡ partedBy s loans index n v) where
-  book-parted : r ≡ partedIn s (tables head loans [] [] index)
+  book-parted : r ≡ partedIn s (tables head loans [] index [])
   book-parted = told ∙ (λ j. partedBy s loans index (ns j) (vs j))
 
   pub book-torn : r ≡ false → false ≡ bookOk s head loans index

@@ -20,7 +20,7 @@ regroup a b c d e f g h i j k = simp and-assoc
 
 module _ (s : FreeListSettings) (head loans chunks regions index : List ℕ) where
   abbrev whole : Bool
-  whole = soundOk s (tables head loans chunks regions index)
+  whole = soundOk s (tables head loans chunks index regions)
 
   -- the groups, by the numbers that the code reads
   abbrev chunksPart : ℕ → ℕ → ℕ → Bool
@@ -41,8 +41,8 @@ module _ (s : FreeListSettings) (head loans chunks regions index : List ℕ) whe
       (eqb (getD head markAt 0) mark)
       (leb (getD head chunksAt 0) (s .store .chunks))
       (leb (getD regions (regionCountAt s) 0) (regionsMost s))
-      (partedIn s (tables head loans [] [] index))
-      (chainedIn s (tables head loans [] [] index))
+      (partedIn s (tables head loans [] index []))
+      (chainedIn s (tables head loans [] index []))
       (sizedOk s (getD head chunkSizeAt 0))
       (numbersRise 1 (rows chunkRow (getD head chunksAt 0) chunks))
       (allOk (chunkOk s (counted 0 (getD head madeAt 0) (getD head chunkSizeAt 0))) (rows chunkRow (getD head chunksAt 0) chunks))

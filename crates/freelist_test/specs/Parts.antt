@@ -23,7 +23,7 @@ headOk s head n =
 -- the loans' places are parted into used and vacant ones, and the chains lead to each loan
 unfoldable pub bookOk : FreeListSettings → List ℕ → List ℕ → List ℕ → Bool
 bookOk s head loans index =
-    all (partedIn s (tables head loans [] [] index) ∷ chainedIn s (tables head loans [] [] index) ∷ [])
+    all (partedIn s (tables head loans [] index []) ∷ chainedIn s (tables head loans [] index []) ∷ [])
 
 -- the chunks' numbers rise, and each chunk is right
 unfoldable pub eachOk : FreeListSettings → ℕ → ℕ → List Chunk → Bool

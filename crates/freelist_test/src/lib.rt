@@ -21,11 +21,11 @@ pub fn is_sound(
     head: &[u64],
     loans: &[u64],
     chunks: &[u64],
-    regions: &[u64],
     index: &[u64],
+    regions: &[u64],
 ) -> bool
-    requires { ⌜ FreeListIn s × (lengthsOk s (tables (now head) (now loans) (now chunks) (now regions) (now index)) ≡ true) ⌝ }
-    ensures { λ r. ⌜ r ≡ soundOk s (tables (now (head .entry)) (now (loans .entry)) (now (chunks .entry)) (now (regions .entry)) (now (index .entry))) ⌝ }
+    requires { ⌜ FreeListIn s × (lengthsOk s (tables (now head) (now loans) (now chunks) (now index) (now regions)) ≡ true) ⌝ }
+    ensures { λ r. ⌜ r ≡ soundOk s (tables (now (head .entry)) (now (loans .entry)) (now (chunks .entry)) (now (index .entry)) (now (regions .entry))) ⌝ }
 {
     let n = freelist_regions::region_count(s, regions);
     if !heads::is_head(s, head, n as u64) {

@@ -19,10 +19,10 @@ use Rattle.engines.specs.Histories.{State, storeAt, run, saids, Slip, blocksOf,
 use Rattle.engines.proofs.AnyOrder as Of
 use Rattle.freelist_rules.specs.AtOnce as FreeList
 use Rattle.freelist_rules.specs.Tables.{storeOf}
-use Rattle.freelist_engine.specs.Shape.{asList, seen, countsOf, listShape}
+use Rattle.freelist_engine.specs.Shape.{seen, countsOf, listShape}
 use Rattle.buddy_trees.specs.Chunks as Buddy
 use Rattle.buddy_rules.specs.Views.{viewOf}
-use Rattle.buddy_engine.specs.Shape.{asBuddy, buddyShape}
+use Rattle.buddy_engine.specs.Shape.{buddyShape}
 use Rattle.histories.specs.Which.{Which, aList, aBuddy}
 use Rattle.histories.proofs.Both.{both}
 
@@ -62,18 +62,18 @@ module _ (w : State) (i : ℕ) (e : Which) (s : both e .shape .Settings) (here :
 -- released but for the last region's
 pub list-end : (w : State) (i : ℕ) (s : FreeListSettings) → i < length (w .stores) → Typed (w .account) → listShape .gate s (w .account) (storeAt w i) ≡ pass
     → (ps : List Slip) → Lot listShape (blocksOf ps) (storeAt w i) → All (λ (p : Slip). s .store .chunks ≤ length (p .1)) ps
-    → seen (storeOf s (asList (storeAt (run Which both w (handing Which both i aList s ps)) i))) ≡ seen (FreeList.atOnce (blocksOf ps) (storeOf s (asList (storeAt w i))))
+    → seen (storeOf s (storeAt (run Which both w (handing Which both i aList s ps)) i)) ≡ seen (FreeList.atOnce (blocksOf ps) (storeOf s (storeAt w i)))
 list-end w i s here typed passes ps lot long = Of.end-view Which both w i aList s here typed passes ps lot long
 
 -- and the counts of serials and chunk numbers given and the chunk size are as they were
 pub list-counts-end : (w : State) (i : ℕ) (s : FreeListSettings) → i < length (w .stores) → Typed (w .account) → listShape .gate s (w .account) (storeAt w i) ≡ pass
     → (ps : List Slip) → Lot listShape (blocksOf ps) (storeAt w i) → All (λ (p : Slip). s .store .chunks ≤ length (p .1)) ps
-    → countsOf (storeOf s (asList (storeAt (run Which both w (handing Which both i aList s ps)) i))) ≡ countsOf (storeOf s (asList (storeAt w i)))
+    → countsOf (storeOf s (storeAt (run Which both w (handing Which both i aList s ps)) i)) ≡ countsOf (storeOf s (storeAt w i))
 list-counts-end w i s here typed passes ps lot long = Of.end-rest Which both w i aList s here typed passes ps lot long
 
 -- a buddy's: the loans that are left, chunks held exactly where one of them lies, and of these the free pieces of the trees that
 -- the loans make
 pub buddy-end : (w : State) (i : ℕ) (s : BuddySettings) → i < length (w .stores) → Typed (w .account) → buddyShape .gate s (w .account) (storeAt w i) ≡ pass
     → (ps : List Slip) → Lot buddyShape (blocksOf ps) (storeAt w i) → All (λ (p : Slip). s .store .chunks ≤ length (p .1)) ps
-    → viewOf s (asBuddy (storeAt (run Which both w (handing Which both i aBuddy s ps)) i)) ≡ Buddy.atOnce (s .minimal) (blocksOf ps) (viewOf s (asBuddy (storeAt w i)))
+    → viewOf s (storeAt (run Which both w (handing Which both i aBuddy s ps)) i) ≡ Buddy.atOnce (s .minimal) (blocksOf ps) (viewOf s (storeAt w i))
 buddy-end w i s here typed passes ps lot long = Of.end-view Which both w i aBuddy s here typed passes ps lot long

@@ -12,7 +12,7 @@ use Rattle.counter.specs.declared.answers.Outcome.the-variants as O
 use Rattle.store_rules.specs.declared.Chunk.{Chunk}
 use Rattle.engines.specs.Histories.{State, storeAt, done, step, run, NoSetUp}
 use Rattle.engines.specs.Ledger.{ledger, Exactly, NoSerialTwice, NoByteTwice, notesAt}
-use Rattle.engines.specs.Shapes.{Lent}
+use Rattle.engines.specs.Shapes.{Tables}
 use Rattle.engines.specs.Tells.{Blocked}
 use Rattle.engines.proofs.CountUp.{setting}
 use Rattle.engines.proofs.Delivering as Delivering
@@ -35,7 +35,7 @@ module _ (w : State) (i : ℕ) (e : Which) (s : both e .shape .Settings) (here :
   never-lent-twice = Of.never-lent-twice Which both differ i e w s here ready vs f
 
 -- an ask gave an order: memory made and mapped as ordered, under a number that the store does not hold, gives a block
-pub order-lends : (e : Which) (s : both e .shape .Settings) (a : Account) (size mask : ℕ) (t : Lent) (store z memtype : ℕ) (wanted : Bool) → both e .shape .ask s a size mask t .said ≡ Paper.order store z memtype wanted
+pub order-lends : (e : Which) (s : both e .shape .Settings) (a : Account) (size mask : ℕ) (t : Tables) (store z memtype : ℕ) (wanted : Bool) → both e .shape .ask s a size mask t .said ≡ Paper.order store z memtype wanted
     → (m : Memory) → m .mapping ≡ asOrdered wanted → (List·Memᴰ (m .number) (map (λ (c : Chunk). c .memory) (both e .shape .view s t .chunks)) → ⊥)
     → Blocked (both e .shape .deliver s (both e .shape .ask s a size mask t .account) (O.Made m) (both e .shape .ask s a size mask t .tables) .said)
 order-lends e s a size mask t store z memtype wanted told m fit new = Delivering.order-lends (both e) s a size mask t store z memtype wanted told m fit new

@@ -20,7 +20,7 @@ use Rattle.buddy_rules.specs.Tables.{Tables}
 use Rattle.buddy_outcomes.specs.Ask.{askOf}
 use Rattle.buddy_outcomes.specs.Deliver.{deliverOf}
 use Rattle.buddy_outcomes.specs.Return.{returnOf}
-use Rattle.buddy_outcomes.specs.SetUp.{SetUp, setUp, setUpOf}
+use Rattle.buddy_outcomes.specs.SetUp.{Begun, begun, setUpOf}
 use Rattle.buddy_outcomes.proofs.Shares.{ask-alike, deliver-alike, return-alike}
 use Rattle.wire_rules.specs.Linked.{Left, left, untouched}
 use Rattle.wire_rules.specs.Wire.{buddyWords, buddyIn, settingsOk, orderIn, accountIn, accountOk, orderOut, accountOut, shareOut, askedOut, outcomeIn, outcomeOk, saidOut}
@@ -31,13 +31,13 @@ use Rattle.linked_buddy.specs.Calls.{listing, rightOk, linkedSetUp, left
 
 -- the settings are right: what set-up said is told, and its tables are left
 pub set-up-made : (s v v′ : List ℕ) (t t′ : Tables) (said : Said) (s′ : BuddySettings) (ok : Bool)
-    → ok ≡ settingsOk buddyWords s → ok ≡ true → s′ ≡ buddyIn s → setUp said t′ ≡ setUpOf s′ t → v′ ≡ saidOut said v
+    → ok ≡ settingsOk buddyWords s → ok ≡ true → s′ ≡ buddyIn s → begun said t′ ≡ setUpOf s′ t → v′ ≡ saidOut said v
     → (t′ ≡ linkedSetUp s t .tables) × (v′ ≡ saidOut (linkedSetUp s t .said) v)
 unfolding linkedSetUp
 set-up-made s v v′ t t′ said s′ ok e right es r g =
     let o : settingsOk buddyWords s ≡ true = sym e ∙ right in
-    let q : setUp said t′ ≡ linkedSetUp s t = r ∙ ap (λ (x : BuddySettings). setUpOf x t) es ∙ sym (rw o refl) in
-    (ap (λ (x : SetUp). x .tables) q, g ∙ ap (λ (x : SetUp). saidOut (x .said) v) q)
+    let q : begun said t′ ≡ linkedSetUp s t = r ∙ ap (λ (x : BuddySettings). setUpOf x t) es ∙ sym (rw o refl) in
+    (ap (λ (x : Begun). x .tables) q, g ∙ ap (λ (x : Begun). saidOut (x .said) v) q)
 
 -- they are not: 1 is told, and the tables stay
 pub set-up-bad : (s v v′ : List ℕ) (t : Tables) (ok : Bool)
@@ -46,8 +46,8 @@ pub set-up-bad : (s v v′ : List ℕ) (t : Tables) (ok : Bool)
 unfolding linkedSetUp
 set-up-bad s v v′ t ok e wrong g =
     let o : settingsOk buddyWords s ≡ false = sym e ∙ wrong in
-    let q : setUp (Paper.refusal 1 []) t ≡ linkedSetUp s t = sym (rw o refl) in
-    (ap (λ (x : SetUp). x .tables) q, g ∙ ap (λ (x : SetUp). saidOut (x .said) v) q)
+    let q : begun (Paper.refusal 1 []) t ≡ linkedSetUp s t = sym (rw o refl) in
+    (ap (λ (x : Begun). x .tables) q, g ∙ ap (λ (x : Begun). saidOut (x .said) v) q)
 
 -- ---- any other call
 

@@ -9,7 +9,7 @@ use Rattle.buddy_rules.specs.Tables.{Tables}
 use Rattle.buddy_outcomes.specs.Ask.{askOf}
 use Rattle.buddy_outcomes.specs.Deliver.{deliverOf}
 use Rattle.buddy_outcomes.specs.Return.{returnOf}
-use Rattle.buddy_outcomes.specs.SetUp.{SetUp, setUp, setUpOf}
+use Rattle.buddy_outcomes.specs.SetUp.{Begun, begun, setUpOf}
 use Rattle.wire_rules.specs.Linked.{Left, left, lentRight}
 use Rattle.wire_rules.specs.Wire.{buddyWords, buddyIn, settingsOk, accountIn, accountOk, outcomeIn, outcomeOk}
 
@@ -25,8 +25,8 @@ listing t l = record { tables = t; list = l }
 abbrev pub rightOk : List ℕ → List ℕ → Bool
 rightOk s a = settingsOk buddyWords s && accountOk a
 
-unfoldable pub linkedSetUp : List ℕ → Tables → SetUp
-linkedSetUp s t = cond (settingsOk buddyWords s) (setUpOf (buddyIn s) t) (setUp (Paper.refusal 1 []) t)
+unfoldable pub linkedSetUp : List ℕ → Tables → Begun
+linkedSetUp s t = cond (settingsOk buddyWords s) (setUpOf (buddyIn s) t) (begun (Paper.refusal 1 []) t)
 
 abbrev pub leftBy : List ℕ → Out Tables → Left Tables
 leftBy a r = left a (r .said) (r .account) (r .tables)

@@ -18,7 +18,7 @@ use Rattle.freelist_rules.specs.Tables.{Tables}
 use Rattle.freelist_outcomes.specs.Ask.{askOf}
 use Rattle.freelist_outcomes.specs.Deliver.{deliverOf}
 use Rattle.freelist_outcomes.specs.Return.{returnOf, cleanUpOf}
-use Rattle.freelist_outcomes.specs.SetUp.{SetUp, setUp, setUpOf}
+use Rattle.freelist_outcomes.specs.SetUp.{Begun, begun, setUpOf}
 use Rattle.freelist_outcomes.proofs.Shares.{ask-alike, deliver-alike, return-alike, clean-up-alike}
 use Rattle.wire_rules.specs.Wire.{listWords, listIn, settingsOk, orderIn, accountIn, accountOk, outcomeIn, outcomeOk, orderOut, accountOut, shareOut, askedOut, saidOut}
 use Rattle.wire_rules.proofs.Lent.{both-tested, all-tested, both-right, call-made, call-refused, Ends, ends-made, ends-refused}
@@ -28,20 +28,20 @@ use Rattle.linked_list.specs.Calls.{listing, rightOk, leftBy, leftListed
 -- ---- set-up
 
 -- the tables and the answer's words are those that r says
-abbrev Sets : Tables → List ℕ → List ℕ → SetUp → Type 0
+abbrev Sets : Tables → List ℕ → List ℕ → Begun → Type 0
 Sets t w v r = (t ≡ r .tables) × (v ≡ saidOut (r .said) w)
 
-sets-by : (t : Tables) (w v : List ℕ) (said : Said) (r : SetUp) → r ≡ setUp said t → v ≡ saidOut said w → Sets t w v r
-sets-by t w v said r e g = (sym (ap (λ (x : SetUp). x .tables) e), g ∙ sym (ap (λ (x : SetUp). saidOut (x .said) w) e))
+sets-by : (t : Tables) (w v : List ℕ) (said : Said) (r : Begun) → r ≡ begun said t → v ≡ saidOut said w → Sets t w v r
+sets-by t w v said r e g = (sym (ap (λ (x : Begun). x .tables) e), g ∙ sym (ap (λ (x : Begun). saidOut (x .said) w) e))
 
 module _ (s : List ℕ) (t : Tables) (p : Bool) (w v : List ℕ) (e : p ≡ settingsOk listWords s) where
   -- settings that are right
-  pub set-up-made : (u : Tables) (own : FreeListSettings) (said : Said) → p ≡ true → own ≡ listIn s → setUp said u ≡ setUpOf own t
+  pub set-up-made : (u : Tables) (own : FreeListSettings) (said : Said) → p ≡ true → own ≡ listIn s → begun said u ≡ setUpOf own t
       → v ≡ saidOut said w → Sets u w v (linkedSetUp s t)
   unfolding linkedSetUp
   set-up-made u own said h f g k =
       sets-by u w v said (linkedSetUp s t)
-      (ap (λ (b : Bool). cond b (setUpOf (listIn s) t) (setUp (refusal 1 []) t)) (sym e ∙ h)
+      (ap (λ (b : Bool). cond b (setUpOf (listIn s) t) (begun (refusal 1 []) t)) (sym e ∙ h)
       ∙ sym (g ∙ ap (λ (x : FreeListSettings). setUpOf x t) f))
       k
 
@@ -50,7 +50,7 @@ module _ (s : List ℕ) (t : Tables) (p : Bool) (w v : List ℕ) (e : p ≡ sett
   unfolding linkedSetUp
   set-up-refused h k =
       sets-by t w v (refusal 1 []) (linkedSetUp s t)
-      (ap (λ (b : Bool). cond b (setUpOf (listIn s) t) (setUp (refusal 1 []) t)) (sym e ∙ h))
+      (ap (λ (b : Bool). cond b (setUpOf (listIn s) t) (begun (refusal 1 []) t)) (sym e ∙ h))
       k
 
 -- ---- a call with an account

@@ -9,7 +9,7 @@ use Rattle.freelist_rules.specs.Tables.{Tables}
 use Rattle.freelist_outcomes.specs.Ask.{askOf}
 use Rattle.freelist_outcomes.specs.Deliver.{deliverOf}
 use Rattle.freelist_outcomes.specs.Return.{returnOf, cleanUpOf}
-use Rattle.freelist_outcomes.specs.SetUp.{SetUp, setUp, setUpOf}
+use Rattle.freelist_outcomes.specs.SetUp.{Begun, begun, setUpOf}
 use Rattle.wire_rules.specs.Linked.{Left, left, lentRight}
 use Rattle.wire_rules.specs.Wire.{listWords, listIn, settingsOk, accountIn, accountOk, outcomeIn, outcomeOk}
 
@@ -25,8 +25,8 @@ listing t l = record { tables = t; list = l }
 abbrev pub rightOk : List ℕ → List ℕ → Bool
 rightOk s a = settingsOk listWords s && accountOk a
 
-unfoldable pub linkedSetUp : List ℕ → Tables → SetUp
-linkedSetUp s t = cond (settingsOk listWords s) (setUpOf (listIn s) t) (setUp (Paper.refusal 1 []) t)
+unfoldable pub linkedSetUp : List ℕ → Tables → Begun
+linkedSetUp s t = cond (settingsOk listWords s) (setUpOf (listIn s) t) (begun (Paper.refusal 1 []) t)
 
 abbrev pub leftBy : List ℕ → Out Tables → Left Tables
 leftBy a r = left a (r .said) (r .account) (r .tables)

@@ -13,16 +13,16 @@ pub extern "C" fn tibrezkam_list_set_up(
     head: &mut [u64],
     loans: &[u64],
     chunks: &[u64],
-    regions: &mut [u64],
     index: &mut [u64],
+    regions: &mut [u64],
     answer: &mut [u64],
 )
-    ensures { λ _. ⌜ tables (now (head .exit)) (now (loans .entry)) (now (chunks .entry)) (now (regions .exit)) (now (index .exit)) ≡ linkedSetUp (now (settings .entry)) (tables (now (head .entry)) (now (loans .entry)) (now (chunks .entry)) (now (regions .entry)) (now (index .entry))) .tables ⌝ }
-    ensures { λ _. ⌜ now (answer .exit) ≡ saidOut (linkedSetUp (now (settings .entry)) (tables (now (head .entry)) (now (loans .entry)) (now (chunks .entry)) (now (regions .entry)) (now (index .entry))) .said) (now (answer .entry)) ⌝ }
+    ensures { λ _. ⌜ tables (now (head .exit)) (now (loans .entry)) (now (chunks .entry)) (now (index .exit)) (now (regions .exit)) ≡ linkedSetUp (now (settings .entry)) (tables (now (head .entry)) (now (loans .entry)) (now (chunks .entry)) (now (index .entry)) (now (regions .entry))) .tables ⌝ }
+    ensures { λ _. ⌜ now (answer .exit) ≡ saidOut (linkedSetUp (now (settings .entry)) (tables (now (head .entry)) (now (loans .entry)) (now (chunks .entry)) (now (index .entry)) (now (regions .entry))) .said) (now (answer .entry)) ⌝ }
 {
     if wire::is_settings(settings, LIST_WORDS) {
         let s = wire::read_free_list(settings);
-        let r = freelist::set_up(s, head, loans, chunks, regions, index);
+        let r = freelist::set_up(s, head, loans, chunks, index, regions);
         wire::tell_set_up(answer, r);
     } else {
         wire::tell_bad(answer);
@@ -38,20 +38,20 @@ pub extern "C" fn tibrezkam_list_ask(
     head: &mut [u64],
     loans: &mut [u64],
     chunks: &[u64],
-    regions: &mut [u64],
     index: &mut [u64],
+    regions: &mut [u64],
     answer: &mut [u64],
 )
-    ensures { λ _. ⌜ now (account .exit) ≡ linkedAsk (now (settings .entry)) (now (account .entry)) size mask (tables (now (head .entry)) (now (loans .entry)) (now (chunks .entry)) (now (regions .entry)) (now (index .entry))) .account ⌝ }
-    ensures { λ _. ⌜ tables (now (head .exit)) (now (loans .exit)) (now (chunks .entry)) (now (regions .exit)) (now (index .exit)) ≡ linkedAsk (now (settings .entry)) (now (account .entry)) size mask (tables (now (head .entry)) (now (loans .entry)) (now (chunks .entry)) (now (regions .entry)) (now (index .entry))) .tables ⌝ }
-    ensures { λ _. ⌜ now (answer .exit) ≡ saidOut (linkedAsk (now (settings .entry)) (now (account .entry)) size mask (tables (now (head .entry)) (now (loans .entry)) (now (chunks .entry)) (now (regions .entry)) (now (index .entry))) .said) (now (answer .entry)) ⌝ }
+    ensures { λ _. ⌜ now (account .exit) ≡ linkedAsk (now (settings .entry)) (now (account .entry)) size mask (tables (now (head .entry)) (now (loans .entry)) (now (chunks .entry)) (now (index .entry)) (now (regions .entry))) .account ⌝ }
+    ensures { λ _. ⌜ tables (now (head .exit)) (now (loans .exit)) (now (chunks .entry)) (now (index .exit)) (now (regions .exit)) ≡ linkedAsk (now (settings .entry)) (now (account .entry)) size mask (tables (now (head .entry)) (now (loans .entry)) (now (chunks .entry)) (now (index .entry)) (now (regions .entry))) .tables ⌝ }
+    ensures { λ _. ⌜ now (answer .exit) ≡ saidOut (linkedAsk (now (settings .entry)) (now (account .entry)) size mask (tables (now (head .entry)) (now (loans .entry)) (now (chunks .entry)) (now (index .entry)) (now (regions .entry))) .said) (now (answer .entry)) ⌝ }
 {
     if wire::is_settings(settings, LIST_WORDS) & wire_account::is_account(account) {
         let table = wire_account::heaps_in_table(account);
         let s = wire::read_free_list(settings);
         let own = s.store;
         let h = wire_account::read_share(account, own, table);
-        let said = freelist::calls::ask(s, h, size, mask, head, loans, chunks, regions, index);
+        let said = freelist::calls::ask(s, h, size, mask, head, loans, chunks, index, regions);
         wire_account::put_asked(account, size, mask, said);
         wire::tell_asked(answer, said);
     } else {
@@ -69,13 +69,13 @@ pub extern "C" fn tibrezkam_list_deliver(
     head: &mut [u64],
     loans: &mut [u64],
     chunks: &mut [u64],
-    regions: &mut [u64],
     index: &mut [u64],
+    regions: &mut [u64],
     answer: &mut [u64],
 )
-    ensures { λ _. ⌜ now (account .exit) ≡ linkedDeliver (now (settings .entry)) (now (account .entry)) what memory mapping (tables (now (head .entry)) (now (loans .entry)) (now (chunks .entry)) (now (regions .entry)) (now (index .entry))) .account ⌝ }
-    ensures { λ _. ⌜ tables (now (head .exit)) (now (loans .exit)) (now (chunks .exit)) (now (regions .exit)) (now (index .exit)) ≡ linkedDeliver (now (settings .entry)) (now (account .entry)) what memory mapping (tables (now (head .entry)) (now (loans .entry)) (now (chunks .entry)) (now (regions .entry)) (now (index .entry))) .tables ⌝ }
-    ensures { λ _. ⌜ now (answer .exit) ≡ saidOut (linkedDeliver (now (settings .entry)) (now (account .entry)) what memory mapping (tables (now (head .entry)) (now (loans .entry)) (now (chunks .entry)) (now (regions .entry)) (now (index .entry))) .said) (now (answer .entry)) ⌝ }
+    ensures { λ _. ⌜ now (account .exit) ≡ linkedDeliver (now (settings .entry)) (now (account .entry)) what memory mapping (tables (now (head .entry)) (now (loans .entry)) (now (chunks .entry)) (now (index .entry)) (now (regions .entry))) .account ⌝ }
+    ensures { λ _. ⌜ tables (now (head .exit)) (now (loans .exit)) (now (chunks .exit)) (now (index .exit)) (now (regions .exit)) ≡ linkedDeliver (now (settings .entry)) (now (account .entry)) what memory mapping (tables (now (head .entry)) (now (loans .entry)) (now (chunks .entry)) (now (index .entry)) (now (regions .entry))) .tables ⌝ }
+    ensures { λ _. ⌜ now (answer .exit) ≡ saidOut (linkedDeliver (now (settings .entry)) (now (account .entry)) what memory mapping (tables (now (head .entry)) (now (loans .entry)) (now (chunks .entry)) (now (index .entry)) (now (regions .entry))) .said) (now (answer .entry)) ⌝ }
 {
     if wire::is_settings(settings, LIST_WORDS)
         & wire_account::is_account(account)
@@ -87,7 +87,7 @@ pub extern "C" fn tibrezkam_list_deliver(
         let h = wire_account::read_share(account, own, table);
         let o = wire::read_outcome(what, memory, mapping);
         let order = wire_account::read_order(account);
-        let r = freelist::calls::deliver(s, h, order, o, head, loans, chunks, regions, index);
+        let r = freelist::calls::deliver(s, h, order, o, head, loans, chunks, index, regions);
         let after = r.share;
         let open = r.order;
         let said = r.answer;
@@ -110,14 +110,14 @@ pub extern "C" fn tibrezkam_list_return(
     head: &mut [u64],
     loans: &mut [u64],
     chunks: &mut [u64],
-    regions: &mut [u64],
     index: &mut [u64],
+    regions: &mut [u64],
     list: &mut [u64],
     answer: &mut [u64],
 )
-    ensures { λ _. ⌜ now (account .exit) ≡ linkedReturn (now (settings .entry)) (now (account .entry)) (record { serial = serial; chunk = chunk; offset = offset; size = size }) (tables (now (head .entry)) (now (loans .entry)) (now (chunks .entry)) (now (regions .entry)) (now (index .entry))) (now (list .entry)) .account ⌝ }
-    ensures { λ _. ⌜ listing (tables (now (head .exit)) (now (loans .exit)) (now (chunks .exit)) (now (regions .exit)) (now (index .exit))) (now (list .exit)) ≡ linkedReturn (now (settings .entry)) (now (account .entry)) (record { serial = serial; chunk = chunk; offset = offset; size = size }) (tables (now (head .entry)) (now (loans .entry)) (now (chunks .entry)) (now (regions .entry)) (now (index .entry))) (now (list .entry)) .tables ⌝ }
-    ensures { λ _. ⌜ now (answer .exit) ≡ saidOut (linkedReturn (now (settings .entry)) (now (account .entry)) (record { serial = serial; chunk = chunk; offset = offset; size = size }) (tables (now (head .entry)) (now (loans .entry)) (now (chunks .entry)) (now (regions .entry)) (now (index .entry))) (now (list .entry)) .said) (now (answer .entry)) ⌝ }
+    ensures { λ _. ⌜ now (account .exit) ≡ linkedReturn (now (settings .entry)) (now (account .entry)) (record { serial = serial; chunk = chunk; offset = offset; size = size }) (tables (now (head .entry)) (now (loans .entry)) (now (chunks .entry)) (now (index .entry)) (now (regions .entry))) (now (list .entry)) .account ⌝ }
+    ensures { λ _. ⌜ listing (tables (now (head .exit)) (now (loans .exit)) (now (chunks .exit)) (now (index .exit)) (now (regions .exit))) (now (list .exit)) ≡ linkedReturn (now (settings .entry)) (now (account .entry)) (record { serial = serial; chunk = chunk; offset = offset; size = size }) (tables (now (head .entry)) (now (loans .entry)) (now (chunks .entry)) (now (index .entry)) (now (regions .entry))) (now (list .entry)) .tables ⌝ }
+    ensures { λ _. ⌜ now (answer .exit) ≡ saidOut (linkedReturn (now (settings .entry)) (now (account .entry)) (record { serial = serial; chunk = chunk; offset = offset; size = size }) (tables (now (head .entry)) (now (loans .entry)) (now (chunks .entry)) (now (index .entry)) (now (regions .entry))) (now (list .entry)) .said) (now (answer .entry)) ⌝ }
 {
     if wire::is_settings(settings, LIST_WORDS) & wire_account::is_account(account) {
         let table = wire_account::heaps_in_table(account);
@@ -130,7 +130,7 @@ pub extern "C" fn tibrezkam_list_return(
             offset: offset,
             size: size,
         };
-        let r = freelist::calls::return_block(s, h, b, head, loans, chunks, regions, index, list);
+        let r = freelist::calls::return_block(s, h, b, head, loans, chunks, index, regions, list);
         let after = r.share;
         wire_account::put_share(account, own, after);
         let said = r.answer;
@@ -147,21 +147,21 @@ pub extern "C" fn tibrezkam_list_clean_up(
     head: &mut [u64],
     loans: &[u64],
     chunks: &mut [u64],
-    regions: &mut [u64],
     index: &[u64],
+    regions: &mut [u64],
     list: &mut [u64],
     answer: &mut [u64],
 )
-    ensures { λ _. ⌜ now (account .exit) ≡ linkedCleanUp (now (settings .entry)) (now (account .entry)) (tables (now (head .entry)) (now (loans .entry)) (now (chunks .entry)) (now (regions .entry)) (now (index .entry))) (now (list .entry)) .account ⌝ }
-    ensures { λ _. ⌜ listing (tables (now (head .exit)) (now (loans .entry)) (now (chunks .exit)) (now (regions .exit)) (now (index .entry))) (now (list .exit)) ≡ linkedCleanUp (now (settings .entry)) (now (account .entry)) (tables (now (head .entry)) (now (loans .entry)) (now (chunks .entry)) (now (regions .entry)) (now (index .entry))) (now (list .entry)) .tables ⌝ }
-    ensures { λ _. ⌜ now (answer .exit) ≡ saidOut (linkedCleanUp (now (settings .entry)) (now (account .entry)) (tables (now (head .entry)) (now (loans .entry)) (now (chunks .entry)) (now (regions .entry)) (now (index .entry))) (now (list .entry)) .said) (now (answer .entry)) ⌝ }
+    ensures { λ _. ⌜ now (account .exit) ≡ linkedCleanUp (now (settings .entry)) (now (account .entry)) (tables (now (head .entry)) (now (loans .entry)) (now (chunks .entry)) (now (index .entry)) (now (regions .entry))) (now (list .entry)) .account ⌝ }
+    ensures { λ _. ⌜ listing (tables (now (head .exit)) (now (loans .entry)) (now (chunks .exit)) (now (index .entry)) (now (regions .exit))) (now (list .exit)) ≡ linkedCleanUp (now (settings .entry)) (now (account .entry)) (tables (now (head .entry)) (now (loans .entry)) (now (chunks .entry)) (now (index .entry)) (now (regions .entry))) (now (list .entry)) .tables ⌝ }
+    ensures { λ _. ⌜ now (answer .exit) ≡ saidOut (linkedCleanUp (now (settings .entry)) (now (account .entry)) (tables (now (head .entry)) (now (loans .entry)) (now (chunks .entry)) (now (index .entry)) (now (regions .entry))) (now (list .entry)) .said) (now (answer .entry)) ⌝ }
 {
     if wire::is_settings(settings, LIST_WORDS) & wire_account::is_account(account) {
         let table = wire_account::heaps_in_table(account);
         let s = wire::read_free_list(settings);
         let own = s.store;
         let h = wire_account::read_share(account, own, table);
-        let r = freelist::calls::clean_up(s, h, head, loans, chunks, regions, index, list);
+        let r = freelist::calls::clean_up(s, h, head, loans, chunks, index, regions, list);
         let after = r.share;
         wire_account::put_share(account, own, after);
         let said = r.answer;

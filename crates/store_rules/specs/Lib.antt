@@ -10,3 +10,4 @@ pub mod Shares
 pub mod Alike
 pub mod Words
 pub mod Rows
+pub mod Tables

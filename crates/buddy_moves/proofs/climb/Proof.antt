@@ -48,7 +48,7 @@ returns c =
     let a = b .before .before .args in
     let on = goes-on (b .loop .left) (b .loop .n) (v .before .loop-test .taken) in
     let e = b .loop .inv .2 ∙ climb-stays (a .pairs) (b .loop .left) (b .loop .l) (b .loop .n) (b .loop .tree) (on .0) (on .1) _ (v .level-from .ensures .0) _ (w .twin-word .ensures) _ (p .pair-of .ensures) (i .if1 .taken) _ (s .is-left .ensures) _ (r .ready-pair .ensures) in
-    (sym (ap (λ (z : Climbed). z .freed) e), sym (ap (λ (z : Climbed). z .tree) e))
+    (sym (ap (λ (z : Climbed). z .freed) e), sym (ap (λ (z : Climbed). z .room) e))
 
 field-requires : tie.Need-field-requires Inv-loop μ-loop
 field-requires c κs = search needs
@@ -95,7 +95,7 @@ returns-2 c =
     let b = c .before in
     let a = b .before .before .args in
     let e = b .loop .inv .2 ∙ climb-done (a .pairs) (b .loop .left) (b .loop .l) (b .loop .n) (b .loop .tree) (c .loop-test .left) in
-    (sym (ap (λ (z : Climbed). z .freed) e), sym (ap (λ (z : Climbed). z .tree) e))
+    (sym (ap (λ (z : Climbed). z .freed) e), sym (ap (λ (z : Climbed). z .room) e))
 
 pub climb-spec : {M : Type 1} → statement M
 climb-spec =

@@ -100,7 +100,7 @@ returns c =
     let b = l .before .loop in
     let a = l .before .before .before .args in
     let e = b .inv .3 ∙ split-done (a .pairs) (a .level) (a .chunk) (a .offset) (a .loan) (b .n) (b .tree) (b .d) (search needs) _ (g .level-from3 .ensures .0) _ (k .loan-word .ensures) _ (w .put-word2 .ensures) in
-    (sym (ap (λ (z : Cut). z .node) e), sym (ap (λ (z : Cut). z .tree) e))
+    (sym (ap (λ (z : Cut). z .node) e), sym (ap (λ (z : Cut). z .room) e))
 
 pub split-down-spec : {M : Type 1} → statement M
 split-down-spec =

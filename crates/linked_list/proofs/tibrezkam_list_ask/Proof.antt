@@ -77,7 +77,7 @@ returns c =
     let q = j .before in
     let p = q .before .before in
     let a = p .before .before .before .before .before .before .before .before .before .args in
-    ask-made (a .settings .now) (a .account .now) _ _ (a .answer .now) _ (p .is-settings .ensures) (q .is-account .ensures) _ _ _ (tables (a .head .now) (a .loans .now) (a .chunks .now) (a .regions .now) (a .index .now)) _ _ (f .read-free-list .ensures) (h .read-share .ensures) (a .size) (a .mask) (j .if1 .taken) (m .ask .ensures) (w .put-asked .ensures) (v .tell-asked .ensures)
+    ask-made (a .settings .now) (a .account .now) _ _ (a .answer .now) _ (p .is-settings .ensures) (q .is-account .ensures) _ _ _ (tables (a .head .now) (a .loans .now) (a .chunks .now) (a .index .now) (a .regions .now)) _ _ (f .read-free-list .ensures) (h .read-share .ensures) (a .size) (a .mask) (j .if1 .taken) (m .ask .ensures) (w .put-asked .ensures) (v .tell-asked .ensures)
 
 same-length-7 : tie.Need-same-length-7
 same-length-7 c = search needs
@@ -92,7 +92,7 @@ returns-2 c =
     let q = j .before in
     let p = q .before .before in
     let a = p .before .before .before .before .before .before .before .before .before .args in
-    ask-refused (a .settings .now) (a .account .now) _ _ (a .answer .now) _ (p .is-settings .ensures) (q .is-account .ensures) (tables (a .head .now) (a .loans .now) (a .chunks .now) (a .regions .now) (a .index .now)) (a .size) (a .mask) (j .if1 .left) (v .tell-bad .ensures)
+    ask-refused (a .settings .now) (a .account .now) _ _ (a .answer .now) _ (p .is-settings .ensures) (q .is-account .ensures) (tables (a .head .now) (a .loans .now) (a .chunks .now) (a .index .now) (a .regions .now)) (a .size) (a .mask) (j .if1 .left) (v .tell-bad .ensures)
 
 pub tibrezkam-list-ask-spec : {M : Type 1} → statement M
 tibrezkam-list-ask-spec =

@@ -82,7 +82,7 @@ returns c =
     let q = j .before in
     let p = q .before .before in
     let a = p .before .before .before .before .before .before .before .before .before .before .args in
-    clean-made (a .settings .now) (a .account .now) _ _ (a .answer .now) _ (p .is-settings .ensures) (q .is-account .ensures) _ _ _ (tables (a .head .now) (a .loans .now) (a .chunks .now) (a .regions .now) (a .index .now)) _ _ (f .read-free-list .ensures) (h .read-share .ensures) (a .list .now) _ _ (j .if1 .taken) (m .clean-up .ensures) (w .put-share .ensures) (v .tell-released .ensures)
+    clean-made (a .settings .now) (a .account .now) _ _ (a .answer .now) _ (p .is-settings .ensures) (q .is-account .ensures) _ _ _ (tables (a .head .now) (a .loans .now) (a .chunks .now) (a .index .now) (a .regions .now)) _ _ (f .read-free-list .ensures) (h .read-share .ensures) (a .list .now) _ _ (j .if1 .taken) (m .clean-up .ensures) (w .put-share .ensures) (v .tell-released .ensures)
 
 same-length-7 : tie.Need-same-length-7
 same-length-7 c = search needs
@@ -97,7 +97,7 @@ returns-2 c =
     let q = j .before in
     let p = q .before .before in
     let a = p .before .before .before .before .before .before .before .before .before .before .args in
-    clean-refused (a .settings .now) (a .account .now) _ _ (a .answer .now) _ (p .is-settings .ensures) (q .is-account .ensures) (tables (a .head .now) (a .loans .now) (a .chunks .now) (a .regions .now) (a .index .now)) (a .list .now) (j .if1 .left) (v .tell-bad .ensures)
+    clean-refused (a .settings .now) (a .account .now) _ _ (a .answer .now) _ (p .is-settings .ensures) (q .is-account .ensures) (tables (a .head .now) (a .loans .now) (a .chunks .now) (a .index .now) (a .regions .now)) (a .list .now) (j .if1 .left) (v .tell-bad .ensures)
 
 pub tibrezkam-list-clean-up-spec : {M : Type 1} → statement M
 tibrezkam-list-clean-up-spec =

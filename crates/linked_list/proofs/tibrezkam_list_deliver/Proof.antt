@@ -106,7 +106,7 @@ returns c =
     let q = z .before in
     let p = q .before .before in
     let a = p .before .before .before .before .before .before .before .before .before .args in
-    deliver-made (a .settings .now) (a .account .now) _ _ (a .answer .now) _ (p .is-settings .ensures) (q .is-account .ensures) _ _ _ (tables (a .head .now) (a .loans .now) (a .chunks .now) (a .regions .now) (a .index .now)) _ _ (f .read-free-list .ensures) (h .read-share .ensures) (a .what) (a .memory) (a .mapping) _ _ _ _ _ _ (z .is-outcome .ensures) (j .if1 .taken) (o .read-outcome .ensures) (n .read-order .ensures) (m .deliver .ensures) (w .put-share .ensures) (x .put-order .ensures) (v .tell-delivered .ensures)
+    deliver-made (a .settings .now) (a .account .now) _ _ (a .answer .now) _ (p .is-settings .ensures) (q .is-account .ensures) _ _ _ (tables (a .head .now) (a .loans .now) (a .chunks .now) (a .index .now) (a .regions .now)) _ _ (f .read-free-list .ensures) (h .read-share .ensures) (a .what) (a .memory) (a .mapping) _ _ _ _ _ _ (z .is-outcome .ensures) (j .if1 .taken) (o .read-outcome .ensures) (n .read-order .ensures) (m .deliver .ensures) (w .put-share .ensures) (x .put-order .ensures) (v .tell-delivered .ensures)
 
 same-length-8 : tie.Need-same-length-8
 same-length-8 c = search needs
@@ -122,7 +122,7 @@ returns-2 c =
     let q = z .before in
     let p = q .before .before in
     let a = p .before .before .before .before .before .before .before .before .before .args in
-    deliver-refused (a .settings .now) (a .account .now) _ _ (a .answer .now) _ (p .is-settings .ensures) (q .is-account .ensures) (tables (a .head .now) (a .loans .now) (a .chunks .now) (a .regions .now) (a .index .now)) (a .what) (a .memory) (a .mapping) _ (z .is-outcome .ensures) (j .if1 .left) (v .tell-bad .ensures)
+    deliver-refused (a .settings .now) (a .account .now) _ _ (a .answer .now) _ (p .is-settings .ensures) (q .is-account .ensures) (tables (a .head .now) (a .loans .now) (a .chunks .now) (a .index .now) (a .regions .now)) (a .what) (a .memory) (a .mapping) _ (z .is-outcome .ensures) (j .if1 .left) (v .tell-bad .ensures)
 
 pub tibrezkam-list-deliver-spec : {M : Type 1} → statement M
 tibrezkam-list-deliver-spec =

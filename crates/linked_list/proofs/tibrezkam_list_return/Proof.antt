@@ -88,7 +88,7 @@ returns c =
     let q = j .before in
     let p = q .before .before in
     let a = p .before .before .before .before .before .before .before .before .before .before .args in
-    return-made (a .settings .now) (a .account .now) _ _ (a .answer .now) _ (p .is-settings .ensures) (q .is-account .ensures) _ _ _ (tables (a .head .now) (a .loans .now) (a .chunks .now) (a .regions .now) (a .index .now)) _ _ (f .read-free-list .ensures) (h .read-share .ensures) (a .list .now) _ _ (record { serial = a .serial; chunk = a .chunk; offset = a .offset; size = a .size }) (j .if1 .taken) (m .return-block .ensures) (w .put-share .ensures) (v .tell-released .ensures)
+    return-made (a .settings .now) (a .account .now) _ _ (a .answer .now) _ (p .is-settings .ensures) (q .is-account .ensures) _ _ _ (tables (a .head .now) (a .loans .now) (a .chunks .now) (a .index .now) (a .regions .now)) _ _ (f .read-free-list .ensures) (h .read-share .ensures) (a .list .now) _ _ (record { serial = a .serial; chunk = a .chunk; offset = a .offset; size = a .size }) (j .if1 .taken) (m .return-block .ensures) (w .put-share .ensures) (v .tell-released .ensures)
 
 same-length-9 : tie.Need-same-length-9
 same-length-9 c = search needs
@@ -103,7 +103,7 @@ returns-2 c =
     let q = j .before in
     let p = q .before .before in
     let a = p .before .before .before .before .before .before .before .before .before .before .args in
-    return-refused (a .settings .now) (a .account .now) _ _ (a .answer .now) _ (p .is-settings .ensures) (q .is-account .ensures) (tables (a .head .now) (a .loans .now) (a .chunks .now) (a .regions .now) (a .index .now)) (record { serial = a .serial; chunk = a .chunk; offset = a .offset; size = a .size }) (a .list .now) (j .if1 .left) (v .tell-bad .ensures)
+    return-refused (a .settings .now) (a .account .now) _ _ (a .answer .now) _ (p .is-settings .ensures) (q .is-account .ensures) (tables (a .head .now) (a .loans .now) (a .chunks .now) (a .index .now) (a .regions .now)) (record { serial = a .serial; chunk = a .chunk; offset = a .offset; size = a .size }) (a .list .now) (j .if1 .left) (v .tell-bad .ensures)
 
 pub tibrezkam-list-return-spec : {M : Type 1} → statement M
 tibrezkam-list-return-spec =

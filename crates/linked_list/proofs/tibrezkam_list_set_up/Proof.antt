@@ -41,7 +41,7 @@ returns c =
     let j = f .before in
     let i = j .before in
     let a = i .before .before .before .before .before .before .before .before .args in
-    set-up-made (a .settings .now) (tables (a .head .now) (a .loans .now) (a .chunks .now) (a .regions .now) (a .index .now)) _ (a .answer .now) _ (i .is-settings .ensures) _ _ _ (j .if1 .taken) (f .read-free-list .ensures) (u .set-up .ensures) (k .tell-set-up .ensures)
+    set-up-made (a .settings .now) (tables (a .head .now) (a .loans .now) (a .chunks .now) (a .index .now) (a .regions .now)) _ (a .answer .now) _ (i .is-settings .ensures) _ _ _ (j .if1 .taken) (f .read-free-list .ensures) (u .set-up .ensures) (k .tell-set-up .ensures)
 
 same-length-5 : tie.Need-same-length-5
 same-length-5 c = search needs
@@ -52,7 +52,7 @@ returns-2 c =
     let j = k .before .before in
     let i = j .before in
     let a = i .before .before .before .before .before .before .before .before .args in
-    set-up-refused (a .settings .now) (tables (a .head .now) (a .loans .now) (a .chunks .now) (a .regions .now) (a .index .now)) _ (a .answer .now) _ (i .is-settings .ensures) (j .if1 .left) (k .tell-bad .ensures)
+    set-up-refused (a .settings .now) (tables (a .head .now) (a .loans .now) (a .chunks .now) (a .index .now) (a .regions .now)) _ (a .answer .now) _ (i .is-settings .ensures) (j .if1 .left) (k .tell-bad .ensures)
 
 pub tibrezkam-list-set-up-spec : {M : Type 1} → statement M
 tibrezkam-list-set-up-spec =

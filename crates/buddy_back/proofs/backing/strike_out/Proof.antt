@@ -55,7 +55,7 @@ returns c =
     let w = l .before in
     let a = w .before .before .before .before .before .before .args in
     let climb = climb-is (a .s) (a .b) (a .at) (a .head .now) (a .index .now) (a .tree .now) _ _ _ _ _ (w .word .ensures) (l .level .ensures) (f .nodes-from .ensures .0) (v .word2 .ensures) (n .word3 .ensures) in
-    (m .climb .ensures .0 ∙ ap (λ (x : Climbed). x .freed) climb, (m .climb .ensures .1 ∙ ap (λ (x : Climbed). x .tree) climb, (k .strike .ensures .0, k .strike .ensures .1)))
+    (m .climb .ensures .0 ∙ ap (λ (x : Climbed). x .freed) climb, (m .climb .ensures .1 ∙ ap (λ (x : Climbed). x .room) climb, (k .strike .ensures .0, k .strike .ensures .1)))
 
 pub strike-out-spec : {M : Type 1} → statement M
 strike-out-spec =

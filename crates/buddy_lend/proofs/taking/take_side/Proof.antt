@@ -64,7 +64,7 @@ returns c =
     let a = b .args in
     let node = ⊎-elim (λ x. node-left (a .pairs) (a .from) (a .tree .now) (a .h) (a .left) (b .pre .1 .0 .0) (b .pre .1 .0 .1) _ (x .0 .taken) (x .2 ∙ x .1 .ensures)) (λ x. node-right (a .pairs) (a .from) (a .tree .now) (a .h) (a .left) (b .pre .1 .0 .0) (b .pre .1 .0 .1) _ (x .0 .left) (x .2 ∙ x .1 .ensures)) (i .if1 .came) in
     let whole = took-whole (a .pairs) (a .from) (a .tree .now) (a .level) (a .chunk) (a .offset) (a .loan) _ _ node (f .level-from .ensures .0) _ _ (w .before .before .if2 .taken) (w .loan-word .ensures) (q .acquire .ensures) in
-    (sym (ap (λ (x : Cut). x .node) whole), sym (ap (λ (x : Cut). x .tree) whole))
+    (sym (ap (λ (x : Cut). x .node) whole), sym (ap (λ (x : Cut). x .room) whole))
 
 same-length-2 : tie.Need-same-length-2
 same-length-2 c = search needs
@@ -79,7 +79,7 @@ returns-2 c =
     let a = b .args in
     let node = ⊎-elim (λ x. node-left (a .pairs) (a .from) (a .tree .now) (a .h) (a .left) (b .pre .1 .0 .0) (b .pre .1 .0 .1) _ (x .0 .taken) (x .2 ∙ x .1 .ensures)) (λ x. node-right (a .pairs) (a .from) (a .tree .now) (a .h) (a .left) (b .pre .1 .0 .0) (b .pre .1 .0 .1) _ (x .0 .left) (x .2 ∙ x .1 .ensures)) (i .if1 .came) in
     let split = took-split (a .pairs) (a .from) (a .tree .now) (a .level) (a .chunk) (a .offset) (a .loan) _ _ node (f .level-from .ensures .0) _ (q .acquire2 .ensures) in
-    (d .split-down .ensures .0 ∙ ap (λ (x : Cut). x .node) split, d .split-down .ensures .1 ∙ ap (λ (x : Cut). x .tree) split)
+    (d .split-down .ensures .0 ∙ ap (λ (x : Cut). x .node) split, d .split-down .ensures .1 ∙ ap (λ (x : Cut). x .room) split)
 
 pub take-side-spec : {M : Type 1} → statement M
 take-side-spec =

@@ -30,7 +30,7 @@ returns c =
     let l = c .before .before .before .before .before .before .before .before .before in
     let h = l .before .before .before .before .before in
     let a = h .before .before .before .before .before .before .before .args in
-    asked-whole (a .s) (a .a) _ (h .share-of .ensures) (tables (a .head .now) (a .loans .now) (a .chunks .now) (a .regions .now) (a .index .now)) _ (a .size) (a .mask) _ _ _ (l .ask .ensures) (c .asked .ensures .0) (c .asked .ensures .1)
+    asked-whole (a .s) (a .a) _ (h .share-of .ensures) (tables (a .head .now) (a .loans .now) (a .chunks .now) (a .index .now) (a .regions .now)) _ (a .size) (a .mask) _ _ _ (l .ask .ensures) (c .asked .ensures .0) (c .asked .ensures .1)
 
 pub ask-spec : {M : Type 1} → statement M
 ask-spec =

@@ -13,7 +13,7 @@ carry-ask-requires : tie.Need-carry-ask-requires
 carry-ask-requires c κs =
     let p = c .before .before .before .before in
     let a = p .before .before .before .before .before .before .before .before .before .before .args in
-    ask-ready (a .s) (holder (a .s .store) (a .share)) (a .size) (a .mask) (tables (a .head .now) (a .loans .now) (a .chunks .now) (a .regions .now) (a .index .now)) (p .plan-ask .result) (p .plan-ask .ensures .0) (p .plan-ask .ensures .1)
+    ask-ready (a .s) (holder (a .s .store) (a .share)) (a .size) (a .mask) (tables (a .head .now) (a .loans .now) (a .chunks .now) (a .index .now) (a .regions .now)) (p .plan-ask .result) (p .plan-ask .ensures .0) (p .plan-ask .ensures .1)
 
 same-length : tie.Need-same-length
 same-length c = search needs
@@ -33,7 +33,7 @@ returns c =
     let p = k .before .before .before .before .before in
     let a = p .before .before .before .before .before .before .before .before .before .before .args in
     k .carry-ask .ensures (holder (a .s .store) (a .share)) (a .size) (a .mask) (a .chunks .now) (p .plan-ask .ensures .1)
-    ∙ ask-done (a .s) (holder (a .s .store) (a .share)) (a .size) (a .mask) (tables (a .head .now) (a .loans .now) (a .chunks .now) (a .regions .now) (a .index .now)) _ (p .plan-ask .ensures .0)
+    ∙ ask-done (a .s) (holder (a .s .store) (a .share)) (a .size) (a .mask) (tables (a .head .now) (a .loans .now) (a .chunks .now) (a .index .now) (a .regions .now)) _ (p .plan-ask .ensures .0)
 
 pub ask-spec : {M : Type 1} → statement M
 ask-spec =

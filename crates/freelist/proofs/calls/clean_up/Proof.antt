@@ -17,7 +17,7 @@ carry-clean-up-requires c κs =
     let b = p .before .before .before .before .before .before .before .before .before .before .before in
     let a = b .args in
     let few : a .share .objects ≤ objectsMost = omega (arith, b .good .1) in
-    clean-up-ready (a .s) (a .share) (tables (a .head .now) (a .loans .now) (a .chunks .now) (a .regions .now) (a .index .now)) (a .list .now) few (p .plan-clean-up .result) (p .plan-clean-up .ensures)
+    clean-up-ready (a .s) (a .share) (tables (a .head .now) (a .loans .now) (a .chunks .now) (a .index .now) (a .regions .now)) (a .list .now) few (p .plan-clean-up .result) (p .plan-clean-up .ensures)
 
 same-length : tie.Need-same-length
 same-length c = search needs
@@ -36,7 +36,7 @@ returns c =
     let k = c .before .before .before .before .before .before .before .before in
     let p = k .before .before .before .before .before in
     let a = p .before .before .before .before .before .before .before .before .before .before .before .args in
-    k .carry-clean-up .ensures ∙ clean-done (a .s) (a .share) (tables (a .head .now) (a .loans .now) (a .chunks .now) (a .regions .now) (a .index .now)) (a .list .now) (p .plan-clean-up .result) (p .plan-clean-up .ensures)
+    k .carry-clean-up .ensures ∙ clean-done (a .s) (a .share) (tables (a .head .now) (a .loans .now) (a .chunks .now) (a .index .now) (a .regions .now)) (a .list .now) (p .plan-clean-up .result) (p .plan-clean-up .ensures)
 
 pub clean-up-spec : {M : Type 1} → statement M
 clean-up-spec =

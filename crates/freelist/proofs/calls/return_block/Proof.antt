@@ -17,7 +17,7 @@ carry-return-requires c κs =
     let b = p .before .before .before .before .before .before .before .before .before .before .before .before .before in
     let a = b .args in
     let few : a .share .objects ≤ objectsMost = omega (arith, b .good .1) in
-    return-ready (a .s) (a .share) (tables (a .head .now) (a .loans .now) (a .chunks .now) (a .regions .now) (a .index .now)) (a .list .now) few (a .b) (p .plan-return .result) (p .plan-return .ensures)
+    return-ready (a .s) (a .share) (tables (a .head .now) (a .loans .now) (a .chunks .now) (a .index .now) (a .regions .now)) (a .list .now) few (a .b) (p .plan-return .result) (p .plan-return .ensures)
 
 same-length : tie.Need-same-length
 same-length c = search needs
@@ -42,7 +42,7 @@ returns c =
     let k = c .before .before .before .before .before .before .before .before .before .before .before .before in
     let p = k .before .before .before .before .before .before .before in
     let a = p .before .before .before .before .before .before .before .before .before .before .before .before .before .args in
-    k .carry-return .ensures ∙ return-done (a .s) (a .share) (tables (a .head .now) (a .loans .now) (a .chunks .now) (a .regions .now) (a .index .now)) (a .list .now) (a .b) (p .plan-return .result) (p .plan-return .ensures)
+    k .carry-return .ensures ∙ return-done (a .s) (a .share) (tables (a .head .now) (a .loans .now) (a .chunks .now) (a .index .now) (a .regions .now)) (a .list .now) (a .b) (p .plan-return .result) (p .plan-return .ensures)
 
 pub return-block-spec : {M : Type 1} → statement M
 return-block-spec =

@@ -23,7 +23,7 @@ lend-requires c κs =
     let i = c .before .before .before .before .before .before in
     let b = i .before .before .before .before .before .before in
     let a = b .args in
-    subst (λ (p : Plan). AskReady (a .s) (tables (a .head .now) (a .loans .now) [] (a .regions .now) (a .index .now)) p) (i .plan2 .given .1) (b .pre)
+    subst (λ (p : Plan). AskReady (a .s) (tables (a .head .now) (a .loans .now) [] (a .index .now) (a .regions .now)) p) (i .plan2 .given .1) (b .pre)
 
 answer-block-requires : tie.Need-answer-block-requires
 answer-block-requires c κs = search needs
@@ -61,7 +61,7 @@ returns-2 c =
     let i = l .before .before .before .before .before .before .before in
     let a = i .before .before .before .before .before .before .args in
     λ account size mask chunks k.
-    let e = subst (λ (p : Plan). Planned (a .s) size mask (tables (a .head .now) (a .loans .now) chunks (a .regions .now) (a .index .now)) p) (i .plan2 .given .1) k in
+    let e = subst (λ (p : Plan). Planned (a .s) size mask (tables (a .head .now) (a .loans .now) chunks (a .index .now) (a .regions .now)) p) (i .plan2 .given .1) k in
     ask-taken (a .s) size mask (a .head .now) (a .loans .now) chunks (a .regions .now) (a .index .now) (planOf (a .plan)) account _ _ _ _ _ _ _ _ _ (ap planOf (i .plan2 .given .1)) (e .0) (e .1) (l .lend .ensures .0) (l .lend .ensures .1) (c .answer-block .ensures)
 
 same-length-5 : tie.Need-same-length-5

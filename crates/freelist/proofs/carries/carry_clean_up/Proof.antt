@@ -23,13 +23,13 @@ let-go-requires c κs =
     let e = c .before .before .before .before in
     let b = e .before .before .before .before .before .before .before .before in
     let a = b .args in
-    releases-few (a .s) (a .share .objects) false (tables (a .head .now) (a .loans .now) (a .chunks .now) (a .regions .now) (a .index .now)) (a .list .now) (subst (λ (p : Gate). CleanUpReady (a .s) (a .share .objects) (tables (a .head .now) (a .loans .now) (a .chunks .now) (a .regions .now) (a .index .now)) (a .list .now) p) (e .enum-told .given .1) (b .pre))
+    releases-few (a .s) (a .share .objects) false (tables (a .head .now) (a .loans .now) (a .chunks .now) (a .index .now) (a .regions .now)) (a .list .now) (subst (λ (p : Gate). CleanUpReady (a .s) (a .share .objects) (tables (a .head .now) (a .loans .now) (a .chunks .now) (a .index .now) (a .regions .now)) (a .list .now) p) (e .enum-told .given .1) (b .pre))
 
 returns : tie.Need-returns
 returns c =
     let i = c .before .before in
     let a = i .before .before .before .before .before .before .before .before .args in
-    clean-refused (a .s) (a .share) (tables (a .head .now) (a .loans .now) (a .chunks .now) (a .regions .now) (a .index .now)) (a .list .now) (a .plan) _ _ _ _ (i .plan .given .1) refl (c .refuse-return .ensures .0) (c .refuse-return .ensures .1)
+    clean-refused (a .s) (a .share) (tables (a .head .now) (a .loans .now) (a .chunks .now) (a .index .now) (a .regions .now)) (a .list .now) (a .plan) _ _ _ _ (i .plan .given .1) refl (c .refuse-return .ensures .0) (c .refuse-return .ensures .1)
 
 same-length : tie.Need-same-length
 same-length c = search needs
@@ -48,7 +48,7 @@ returns-2 c =
     let l = c .before .before .before .before .before .before .before .before in
     let e = l .before .before .before .before .before in
     let a = e .before .before .before .before .before .before .before .before .args in
-    clean-went (a .s) (a .share) (tables (a .head .now) (a .loans .now) (a .chunks .now) (a .regions .now) (a .index .now)) (a .list .now) (a .plan) _ _ (e .enum-told .given .1) refl
+    clean-went (a .s) (a .share) (tables (a .head .now) (a .loans .now) (a .chunks .now) (a .index .now) (a .regions .now)) (a .list .now) (a .plan) _ _ (e .enum-told .given .1) refl
     (beside (a .s) (holder (a .s .store) (a .share)) false _ _ (a .head .now) (a .chunks .now) (a .regions .now) (a .list .now) _ _ _ _ (l .let-go .ensures) (a .loans .now) (a .index .now))
 
 pub carry-clean-up-spec : {M : Type 1} → statement M

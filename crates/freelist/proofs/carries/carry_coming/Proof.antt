@@ -22,7 +22,7 @@ keep-chunk-requires c κs =
     let i = c .before .before .before .before .before .before .before in
     let b = i .before .before .before .before .before .before .before in
     let a = b .args in
-    subst (λ (x : Coming). ComingReady (a .s) (tables (a .head .now) (a .loans .now) (a .chunks .now) (a .regions .now) (a .index .now)) (a .b) x) (i .coming2 .given .1) (b .pre)
+    subst (λ (x : Coming). ComingReady (a .s) (tables (a .head .now) (a .loans .now) (a .chunks .now) (a .index .now) (a .regions .now)) (a .b) x) (i .coming2 .given .1) (b .pre)
 
 enum-known-coming-3 : tie.Need-enum-known-coming-3
 enum-known-coming-3 c = search needs
@@ -34,7 +34,7 @@ returns : tie.Need-returns
 returns c =
     let i = c .before .before in
     let a = i .before .before .before .before .before .before .before .args in
-    refused-done (a .s) (a .share) (a .order) (tables (a .head .now) (a .loans .now) (a .chunks .now) (a .regions .now) (a .index .now)) (comingOf (a .coming)) _ _ _ _ (ap comingOf (i .coming .given .1)) (c .refuse-delivery .ensures .0) (c .refuse-delivery .ensures .1) (c .refuse-delivery .ensures .2)
+    refused-done (a .s) (a .share) (a .order) (tables (a .head .now) (a .loans .now) (a .chunks .now) (a .index .now) (a .regions .now)) (comingOf (a .coming)) _ _ _ _ (ap comingOf (i .coming .given .1)) (c .refuse-delivery .ensures .0) (c .refuse-delivery .ensures .1) (c .refuse-delivery .ensures .2)
 
 same-length : tie.Need-same-length
 same-length c = search needs
@@ -56,13 +56,13 @@ returns-2 c =
     let k = c .before .before .before .before .before .before .before .before .before .before in
     let i = k .before .before .before .before .before .before .before .before in
     let a = i .before .before .before .before .before .before .before .args in
-    went-done (a .s) (a .share) (a .order) (tables (a .head .now) (a .loans .now) (a .chunks .now) (a .regions .now) (a .index .now)) (comingOf (a .coming)) _ _ _ _ _ _ (ap comingOf (i .coming2 .given .1)) (k .keep-chunk .ensures)
+    went-done (a .s) (a .share) (a .order) (tables (a .head .now) (a .loans .now) (a .chunks .now) (a .index .now) (a .regions .now)) (comingOf (a .coming)) _ _ _ _ _ _ (ap comingOf (i .coming2 .given .1)) (k .keep-chunk .ensures)
 
 returns-3 : tie.Need-returns-3
 returns-3 c =
     let i = c .before .before .before .before in
     let a = i .before .before .before .before .before .before .before .args in
-    lost-done (a .s) (a .share) (a .order) (tables (a .head .now) (a .loans .now) (a .chunks .now) (a .regions .now) (a .index .now)) (comingOf (a .coming)) _ _ _ _ _ _ _ (ap comingOf (i .coming3 .given .1)) (c .lose-order .ensures .0) (c .lose-order .ensures .1) (c .lose-order .ensures .2)
+    lost-done (a .s) (a .share) (a .order) (tables (a .head .now) (a .loans .now) (a .chunks .now) (a .index .now) (a .regions .now)) (comingOf (a .coming)) _ _ _ _ _ _ _ (ap comingOf (i .coming3 .given .1)) (c .lose-order .ensures .0) (c .lose-order .ensures .1) (c .lose-order .ensures .2)
 
 pub carry-coming-spec : {M : Type 1} → statement M
 carry-coming-spec =

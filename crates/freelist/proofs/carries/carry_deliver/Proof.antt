@@ -24,13 +24,13 @@ carry-coming-requires c κs =
     let i = c .before .before .before .before .before .before in
     let b = i .before .before .before .before .before .before .before in
     let a = b .args in
-    subst (λ (x : Delivery). DeliverReady (a .s) (tables (a .head .now) (a .loans .now) (a .chunks .now) (a .regions .now) (a .index .now)) x) (i .plan2 .given .1) (b .pre)
+    subst (λ (x : Delivery). DeliverReady (a .s) (tables (a .head .now) (a .loans .now) (a .chunks .now) (a .index .now) (a .regions .now)) x) (i .plan2 .given .1) (b .pre)
 
 returns : tie.Need-returns
 returns c =
     let i = c .before .before in
     let a = i .before .before .before .before .before .before .before .args in
-    refused-done (a .s) (a .share) (a .order) (tables (a .head .now) (a .loans .now) (a .chunks .now) (a .regions .now) (a .index .now)) (deliveryOf (a .plan)) _ _ _ _ (ap deliveryOf (i .plan .given .1)) (c .refuse-delivery .ensures .0) (c .refuse-delivery .ensures .1) (c .refuse-delivery .ensures .2)
+    refused-done (a .s) (a .share) (a .order) (tables (a .head .now) (a .loans .now) (a .chunks .now) (a .index .now) (a .regions .now)) (deliveryOf (a .plan)) _ _ _ _ (ap deliveryOf (i .plan .given .1)) (c .refuse-delivery .ensures .0) (c .refuse-delivery .ensures .1) (c .refuse-delivery .ensures .2)
 
 same-length : tie.Need-same-length
 same-length c = search needs
@@ -52,7 +52,7 @@ returns-2 c =
     let k = c .before .before .before .before .before .before .before .before .before .before in
     let i = k .before .before .before .before .before .before .before in
     let a = i .before .before .before .before .before .before .before .args in
-    k .carry-coming .ensures ∙ ap (λ (x : Delivery). carryDeliver (a .s) (holding (a .s .store) (a .share) (a .order)) (tables (a .head .now) (a .loans .now) (a .chunks .now) (a .regions .now) (a .index .now)) (deliveryOf x)) (sym (i .plan2 .given .1))
+    k .carry-coming .ensures ∙ ap (λ (x : Delivery). carryDeliver (a .s) (holding (a .s .store) (a .share) (a .order)) (tables (a .head .now) (a .loans .now) (a .chunks .now) (a .index .now) (a .regions .now)) (deliveryOf x)) (sym (i .plan2 .given .1))
 
 pub carry-deliver-spec : {M : Type 1} → statement M
 carry-deliver-spec =

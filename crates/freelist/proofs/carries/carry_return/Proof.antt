@@ -21,13 +21,13 @@ take-in-requires c κs =
     let i = c .before .before .before .before .before .before .before in
     let b = i .before .before .before .before .before .before .before .before in
     let a = b .args in
-    subst (λ (x : Back). ReturnReady (a .s) (a .share .objects) (a .b) (tables (a .head .now) (a .loans .now) (a .chunks .now) (a .regions .now) (a .index .now)) (a .list .now) x) (i .plan2 .given .1) (b .pre)
+    subst (λ (x : Back). ReturnReady (a .s) (a .share .objects) (a .b) (tables (a .head .now) (a .loans .now) (a .chunks .now) (a .index .now) (a .regions .now)) (a .list .now) x) (i .plan2 .given .1) (b .pre)
 
 returns : tie.Need-returns
 returns c =
     let i = c .before .before in
     let a = i .before .before .before .before .before .before .before .before .args in
-    return-refused (a .s) (a .share) (tables (a .head .now) (a .loans .now) (a .chunks .now) (a .regions .now) (a .index .now)) (a .list .now) (a .b) (a .plan) _ _ _ _ (i .plan .given .1) refl (c .refuse-return .ensures .0) (c .refuse-return .ensures .1)
+    return-refused (a .s) (a .share) (tables (a .head .now) (a .loans .now) (a .chunks .now) (a .index .now) (a .regions .now)) (a .list .now) (a .b) (a .plan) _ _ _ _ (i .plan .given .1) refl (c .refuse-return .ensures .0) (c .refuse-return .ensures .1)
 
 same-length : tie.Need-same-length
 same-length c = search needs
@@ -52,7 +52,7 @@ returns-2 c =
     let k = c .before .before .before .before .before .before .before .before .before .before .before .before in
     let i = k .before .before .before .before .before .before .before .before in
     let a = i .before .before .before .before .before .before .before .before .args in
-    return-taken (a .s) (a .share) (tables (a .head .now) (a .loans .now) (a .chunks .now) (a .regions .now) (a .index .now)) (a .list .now) (a .b) (a .plan) _ _ _ (i .plan2 .given .1) refl (k .take-in .ensures)
+    return-taken (a .s) (a .share) (tables (a .head .now) (a .loans .now) (a .chunks .now) (a .index .now) (a .regions .now)) (a .list .now) (a .b) (a .plan) _ _ _ (i .plan2 .given .1) refl (k .take-in .ensures)
 
 pub carry-return-spec : {M : Type 1} → statement M
 carry-return-spec =

@@ -20,7 +20,7 @@ fresh-requires c κs =
     let e = c .before .before .before in
     let b = e .before .before .before .before .before in
     let a = b .args in
-    subst (λ (p : Gate). SetUpReady (a .s) (tables (a .head .now) [] [] (a .regions .now) (a .index .now)) p) (e .enum-told .given .1) (b .pre)
+    subst (λ (p : Gate). SetUpReady (a .s) (tables (a .head .now) [] [] (a .index .now) (a .regions .now)) p) (e .enum-told .given .1) (b .pre)
 
 returns : tie.Need-returns
 returns c =

@@ -33,7 +33,7 @@ returns c =
     let l = c .before .before .before .before .before .before .before .before .before .before .before in
     let h = l .before .before .before .before .before .before in
     let a = h .before .before .before .before .before .before .before .args in
-    delivered-whole (a .s) (a .a) _ (h .share-of .ensures) (tables (a .head .now) (a .loans .now) (a .chunks .now) (a .regions .now) (a .index .now)) _ (a .o) _ _ _ (l .deliver .ensures) (c .delivered .ensures .0) (c .delivered .ensures .1)
+    delivered-whole (a .s) (a .a) _ (h .share-of .ensures) (tables (a .head .now) (a .loans .now) (a .chunks .now) (a .index .now) (a .regions .now)) _ (a .o) _ _ _ (l .deliver .ensures) (c .delivered .ensures .0) (c .delivered .ensures .1)
 
 pub deliver-spec : {M : Type 1} → statement M
 deliver-spec =

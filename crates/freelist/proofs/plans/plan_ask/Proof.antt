@@ -24,13 +24,13 @@ decide-requires c κs =
     let e = c .before in
     let g = e .before .before in
     let a = g .before .before .before .before .before .before .args in
-    gate-passed (a .s) (holder (a .s .store) (a .share)) (tables (a .head .now) (a .loans .now) (a .chunks .now) (a .regions .now) (a .index .now)) true (sym (ap verdictOf (e .enum-told .given .1)) ∙ g .gate .ensures) .settings
+    gate-passed (a .s) (holder (a .s .store) (a .share)) (tables (a .head .now) (a .loans .now) (a .chunks .now) (a .index .now) (a .regions .now)) true (sym (ap verdictOf (e .enum-told .given .1)) ∙ g .gate .ensures) .settings
 
 returns : tie.Need-returns
 returns c =
     let g = c .before .before .before in
     let a = g .before .before .before .before .before .before .args in
-    (ask-shut (a .s) (holder (a .s .store) (a .share)) (tables (a .head .now) (a .loans .now) (a .chunks .now) (a .regions .now) (a .index .now)) (a .size) (a .mask) _ (sym (ap verdictOf (c .before .g .given .1)) ∙ g .gate .ensures), tt)
+    (ask-shut (a .s) (holder (a .s .store) (a .share)) (tables (a .head .now) (a .loans .now) (a .chunks .now) (a .index .now) (a .regions .now)) (a .size) (a .mask) _ (sym (ap verdictOf (c .before .g .given .1)) ∙ g .gate .ensures), tt)
 
 returns-2 : tie.Need-returns-2
 returns-2 c =
@@ -38,7 +38,7 @@ returns-2 c =
     let g = e .before .before in
     let a = g .before .before .before .before .before .before .args in (
       ask-go (a .s) (a .size) (a .mask) (a .head .now) (a .loans .now) (a .chunks .now) (a .regions .now) (a .index .now) (a .share) _ (sym (ap verdictOf (e .enum-told .given .1)) ∙ g .gate .ensures) (c .decide .ensures .0),
-      planned-few (a .s) (a .size) (a .mask) (tables (a .head .now) (a .loans .now) (a .chunks .now) (a .regions .now) (a .index .now)) (c .decide .result) (c .decide .ensures .1),
+      planned-few (a .s) (a .size) (a .mask) (tables (a .head .now) (a .loans .now) (a .chunks .now) (a .index .now) (a .regions .now)) (c .decide .result) (c .decide .ensures .1),
     )
 
 pub plan-ask-spec : {M : Type 1} → statement M

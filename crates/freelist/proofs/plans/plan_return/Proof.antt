@@ -21,20 +21,20 @@ decide-return-requires : tie.Need-decide-return-requires
 decide-return-requires c κs =
     let g = c .before .before in
     let a = g .before .before .before .before .before .before .before .before .before .args in
-    places-few (a .s) (holder (a .s .store) (a .share)) (a .b) (tables (a .head .now) (a .loans .now) (a .chunks .now) (a .regions .now) (a .index .now)) (listOk (a .s .store) (a .list .now)) (sym (ap verdictOf (c .enum-told .given .1)) ∙ g .gate .ensures)
+    places-few (a .s) (holder (a .s .store) (a .share)) (a .b) (tables (a .head .now) (a .loans .now) (a .chunks .now) (a .index .now) (a .regions .now)) (listOk (a .s .store) (a .list .now)) (sym (ap verdictOf (c .enum-told .given .1)) ∙ g .gate .ensures)
 
 returns : tie.Need-returns
 returns c =
     let g = c .before .before .before in
     let a = g .before .before .before .before .before .before .before .before .before .args in
-    return-shut (a .s) (holder (a .s .store) (a .share)) (a .b) (tables (a .head .now) (a .loans .now) (a .chunks .now) (a .regions .now) (a .index .now)) (listOk (a .s .store) (a .list .now)) _ (sym (ap verdictOf (c .before .g .given .1)) ∙ g .gate .ensures)
+    return-shut (a .s) (holder (a .s .store) (a .share)) (a .b) (tables (a .head .now) (a .loans .now) (a .chunks .now) (a .index .now) (a .regions .now)) (listOk (a .s .store) (a .list .now)) _ (sym (ap verdictOf (c .before .g .given .1)) ∙ g .gate .ensures)
 
 returns-2 : tie.Need-returns-2
 returns-2 c =
     let e = c .before in
     let g = e .before .before in
     let a = g .before .before .before .before .before .before .before .before .before .args in
-    return-go (a .s) (holder (a .s .store) (a .share)) (a .b) (tables (a .head .now) (a .loans .now) (a .chunks .now) (a .regions .now) (a .index .now)) (listOk (a .s .store) (a .list .now)) _ (sym (ap verdictOf (e .enum-told .given .1)) ∙ g .gate .ensures) (c .decide-return .ensures)
+    return-go (a .s) (holder (a .s .store) (a .share)) (a .b) (tables (a .head .now) (a .loans .now) (a .chunks .now) (a .index .now) (a .regions .now)) (listOk (a .s .store) (a .list .now)) _ (sym (ap verdictOf (e .enum-told .given .1)) ∙ g .gate .ensures) (c .decide-return .ensures)
 
 pub plan-return-spec : {M : Type 1} → statement M
 plan-return-spec =

@@ -12,13 +12,13 @@ returns : tie.Need-returns
 returns c =
     let f = c .before in
     let a = f .before .before .before .before .before .before .args in
-    plan-fit (a .s) (tables (a .head .now) (a .loans .now) (a .chunks .now) (a .regions .now) (a .index .now)) (sym (f .is-fit .ensures) ∙ c .if1 .taken)
+    plan-fit (a .s) (tables (a .head .now) (a .loans .now) (a .chunks .now) (a .index .now) (a .regions .now)) (sym (f .is-fit .ensures) ∙ c .if1 .taken)
 
 returns-2 : tie.Need-returns-2
 returns-2 c =
     let f = c .before in
     let a = f .before .before .before .before .before .before .args in
-    plan-unfit (a .s) (tables (a .head .now) (a .loans .now) (a .chunks .now) (a .regions .now) (a .index .now)) (sym (f .is-fit .ensures) ∙ c .if1 .left)
+    plan-unfit (a .s) (tables (a .head .now) (a .loans .now) (a .chunks .now) (a .index .now) (a .regions .now)) (sym (f .is-fit .ensures) ∙ c .if1 .left)
 
 pub plan-set-up-spec : {M : Type 1} → statement M
 plan-set-up-spec = tie.close (tie.spec is-fit-requires returns returns-2)

@@ -12,7 +12,7 @@ carry-set-up-requires : tie.Need-carry-set-up-requires
 carry-set-up-requires c κs =
     let p = c .before .before .before in
     let a = p .before .before .before .before .before .before .before .before .before .args in
-    set-up-ready (a .s) (tables (a .head .now) (a .loans .now) (a .chunks .now) (a .regions .now) (a .index .now)) (p .plan-set-up .result) (p .plan-set-up .ensures)
+    set-up-ready (a .s) (tables (a .head .now) (a .loans .now) (a .chunks .now) (a .index .now) (a .regions .now)) (p .plan-set-up .result) (p .plan-set-up .ensures)
 
 same-length : tie.Need-same-length
 same-length c = search needs
@@ -28,7 +28,7 @@ returns c =
     let k = c .before .before .before .before .before .before in
     let p = k .before .before .before .before in
     let a = p .before .before .before .before .before .before .before .before .before .args in
-    k .carry-set-up .ensures (a .loans .now) (a .chunks .now) ∙ set-up-done (a .s) (tables (a .head .now) (a .loans .now) (a .chunks .now) (a .regions .now) (a .index .now)) _ (p .plan-set-up .ensures)
+    k .carry-set-up .ensures (a .loans .now) (a .chunks .now) ∙ set-up-done (a .s) (tables (a .head .now) (a .loans .now) (a .chunks .now) (a .index .now) (a .regions .now)) _ (p .plan-set-up .ensures)
 
 pub set-up-spec : {M : Type 1} → statement M
 set-up-spec =

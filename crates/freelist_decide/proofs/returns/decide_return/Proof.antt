@@ -19,7 +19,7 @@ returns c =
     let v = c .before in
     let w = v .before in
     let a = w .before .before .before .before .before .args in
-    return-is (a .s) (a .b) (tables (a .head .now) (a .loans .now) [] [] (a .index .now)) _ _ _ (w .word .ensures) (v .word2 .ensures) (c .decide .ensures)
+    return-is (a .s) (a .b) (tables (a .head .now) (a .loans .now) [] (a .index .now) []) _ _ _ (w .word .ensures) (v .word2 .ensures) (c .decide .ensures)
 
 pub decide-return-spec : {M : Type 1} → statement M
 decide-return-spec = tie.close (tie.spec word-requires word-requires-2 decide-requires returns)

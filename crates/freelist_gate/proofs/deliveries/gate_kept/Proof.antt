@@ -17,7 +17,7 @@ returns : tie.Need-returns
 returns c =
     let n = c .before in
     let a = n .before .before .before .before .before .before .args in
-    (kept-torn (a .s) (a .h) (a .objects) (a .k) (tables (a .head .now) (a .loans .now) (a .chunks .now) (a .regions .now) (a .index .now)) (sym (n .is-sound .ensures) ∙ not-yes _ (c .if1 .taken)), tt)
+    (kept-torn (a .s) (a .h) (a .objects) (a .k) (tables (a .head .now) (a .loans .now) (a .chunks .now) (a .index .now) (a .regions .now)) (sym (n .is-sound .ensures) ∙ not-yes _ (c .if1 .taken)), tt)
 
 decide-requires : tie.Need-decide-requires
 decide-requires c κs = search needs
@@ -42,7 +42,7 @@ returns-2 c =
     let i = d .before .before .before in
     let n = i .before in
     let a = n .before .before .before .before .before .before .args in
-    (kept-other (a .s) (a .h) (a .objects) (a .k) (tables (a .head .now) (a .loans .now) (a .chunks .now) (a .regions .now) (a .index .now)) (sym (n .is-sound .ensures) ∙ not-no _ (i .if1 .left)) (sym (leads-buy (a .s) (a .k) (planOf (d .decide .result)) _ _ _ _ (ap planOf (p .plan .given .1)) (d .decide .ensures .0) refl (v .is-still .ensures)) ∙ not-yes _ (c .if2 .taken)), tt)
+    (kept-other (a .s) (a .h) (a .objects) (a .k) (tables (a .head .now) (a .loans .now) (a .chunks .now) (a .index .now) (a .regions .now)) (sym (n .is-sound .ensures) ∙ not-no _ (i .if1 .left)) (sym (leads-buy (a .s) (a .k) (planOf (d .decide .result)) _ _ _ _ (ap planOf (p .plan .given .1)) (d .decide .ensures .0) refl (v .is-still .ensures)) ∙ not-yes _ (c .if2 .taken)), tt)
 
 is-covered-requires : tie.Need-is-covered-requires
 is-covered-requires c κs =
@@ -50,8 +50,8 @@ is-covered-requires c κs =
     let n = i .before in
     let b = n .before .before .before .before .before .before in
     let a = b .args in
-    let sound = tables-yes (a .s) (tables (a .head .now) (a .loans .now) (a .chunks .now) (a .regions .now) (a .index .now)) (b .pre .0) (sym (n .is-sound .ensures) ∙ not-no _ (i .if1 .left)) in
-    (omega (arith, sound .chunks-fit, b .pre .0 .store .chunks-most), chunks-low (a .s) (tables (a .head .now) (a .loans .now) (a .chunks .now) (a .regions .now) (a .index .now)) (b .pre .0) sound)
+    let sound = tables-yes (a .s) (tables (a .head .now) (a .loans .now) (a .chunks .now) (a .index .now) (a .regions .now)) (b .pre .0) (sym (n .is-sound .ensures) ∙ not-no _ (i .if1 .left)) in
+    (omega (arith, sound .chunks-fit, b .pre .0 .store .chunks-most), chunks-low (a .s) (tables (a .head .now) (a .loans .now) (a .chunks .now) (a .index .now) (a .regions .now)) (b .pre .0) sound)
 
 returns-3 : tie.Need-returns-3
 returns-3 c =
@@ -62,7 +62,7 @@ returns-3 c =
     let i = d .before .before .before in
     let n = i .before in
     let a = n .before .before .before .before .before .before .args in
-    (kept-short (a .s) (a .h) (a .objects) (a .k) (tables (a .head .now) (a .loans .now) (a .chunks .now) (a .regions .now) (a .index .now)) (sym (n .is-sound .ensures) ∙ not-no _ (i .if1 .left)) (sym (leads-buy (a .s) (a .k) (planOf (d .decide .result)) _ _ _ _ (ap planOf (p .plan .given .1)) (d .decide .ensures .0) refl (v .is-still .ensures)) ∙ not-no _ (w .before .if2 .left)) (sym (w .is-covered .ensures) ∙ not-yes _ (c .if3 .taken)), tt)
+    (kept-short (a .s) (a .h) (a .objects) (a .k) (tables (a .head .now) (a .loans .now) (a .chunks .now) (a .index .now) (a .regions .now)) (sym (n .is-sound .ensures) ∙ not-no _ (i .if1 .left)) (sym (leads-buy (a .s) (a .k) (planOf (d .decide .result)) _ _ _ _ (ap planOf (p .plan .given .1)) (d .decide .ensures .0) refl (v .is-still .ensures)) ∙ not-no _ (w .before .if2 .left)) (sym (w .is-covered .ensures) ∙ not-yes _ (c .if3 .taken)), tt)
 
 returns-4 : tie.Need-returns-4
 returns-4 c =
@@ -70,7 +70,7 @@ returns-4 c =
     let i = d .before .before .before in
     let n = i .before in
     let a = n .before .before .before .before .before .before .args in
-    (kept-other (a .s) (a .h) (a .objects) (a .k) (tables (a .head .now) (a .loans .now) (a .chunks .now) (a .regions .now) (a .index .now)) (sym (n .is-sound .ensures) ∙ not-no _ (i .if1 .left)) (sym (leads-not (a .s) (a .k) (planOf (d .decide .result)) _ _ (ap planOf (c .enum-told .given .1)) (d .decide .ensures .0))), tt)
+    (kept-other (a .s) (a .h) (a .objects) (a .k) (tables (a .head .now) (a .loans .now) (a .chunks .now) (a .index .now) (a .regions .now)) (sym (n .is-sound .ensures) ∙ not-no _ (i .if1 .left)) (sym (leads-not (a .s) (a .k) (planOf (d .decide .result)) _ _ (ap planOf (c .enum-told .given .1)) (d .decide .ensures .0))), tt)
 
 returns-5 : tie.Need-returns-5
 returns-5 c =
@@ -78,7 +78,7 @@ returns-5 c =
     let i = d .before .before .before in
     let n = i .before in
     let a = n .before .before .before .before .before .before .args in
-    (kept-other (a .s) (a .h) (a .objects) (a .k) (tables (a .head .now) (a .loans .now) (a .chunks .now) (a .regions .now) (a .index .now)) (sym (n .is-sound .ensures) ∙ not-no _ (i .if1 .left)) (sym (leads-take (a .s) (a .k) (planOf (d .decide .result)) _ _ (ap planOf (c .enum-told2 .given .1)) (d .decide .ensures .0))), tt)
+    (kept-other (a .s) (a .h) (a .objects) (a .k) (tables (a .head .now) (a .loans .now) (a .chunks .now) (a .index .now) (a .regions .now)) (sym (n .is-sound .ensures) ∙ not-no _ (i .if1 .left)) (sym (leads-take (a .s) (a .k) (planOf (d .decide .result)) _ _ (ap planOf (c .enum-told2 .given .1)) (d .decide .ensures .0))), tt)
 
 returns-6 : tie.Need-returns-6
 returns-6 c =
@@ -90,8 +90,8 @@ returns-6 c =
     let n = i .before in
     let a = n .before .before .before .before .before .before .args in
     let size = ordered-size (a .s) (a .k) _ _ (v .is-still .ensures) (not-no _ (w .before .if2 .left)) in (
-      kept-go (a .s) (a .h) (a .objects) (a .k) (tables (a .head .now) (a .loans .now) (a .chunks .now) (a .regions .now) (a .index .now)) (sym (n .is-sound .ensures) ∙ not-no _ (i .if1 .left)) (sym (leads-buy (a .s) (a .k) (planOf (d .decide .result)) _ _ _ _ (ap planOf (p .plan .given .1)) (d .decide .ensures .0) refl (v .is-still .ensures)) ∙ not-no _ (w .before .if2 .left)) (sym (w .is-covered .ensures) ∙ not-no _ (c .if3 .left)),
-      bought-for (a .s) (a .k) (tables (a .head .now) (a .loans .now) (a .chunks .now) (a .regions .now) (a .index .now)) _ (d .decide .result) (p .plan .given .1) (d .decide .ensures .1) size,
+      kept-go (a .s) (a .h) (a .objects) (a .k) (tables (a .head .now) (a .loans .now) (a .chunks .now) (a .index .now) (a .regions .now)) (sym (n .is-sound .ensures) ∙ not-no _ (i .if1 .left)) (sym (leads-buy (a .s) (a .k) (planOf (d .decide .result)) _ _ _ _ (ap planOf (p .plan .given .1)) (d .decide .ensures .0) refl (v .is-still .ensures)) ∙ not-no _ (w .before .if2 .left)) (sym (w .is-covered .ensures) ∙ not-no _ (c .if3 .left)),
+      bought-for (a .s) (a .k) (tables (a .head .now) (a .loans .now) (a .chunks .now) (a .index .now) (a .regions .now)) _ (d .decide .result) (p .plan .given .1) (d .decide .ensures .1) size,
     )
 
 pub gate-kept-spec : {M : Type 1} → statement M

@@ -16,21 +16,21 @@ returns : tie.Need-returns
 returns c =
     let l = c .before in
     let a = l .before .before .before .before .before .before .args in
-    gate-lent (a .s) (holder (a .s .store) (a .share)) (tables (a .head .now) (a .loans .now) (a .chunks .now) (a .regions .now) (a .index .now)) (a .list) (ap (λ (b : Bool). b && a .list) (sym (l .is-in-table .ensures)) ∙ not-yes _ (c .if1 .taken))
+    gate-lent (a .s) (holder (a .s .store) (a .share)) (tables (a .head .now) (a .loans .now) (a .chunks .now) (a .index .now) (a .regions .now)) (a .list) (ap (λ (b : Bool). b && a .list) (sym (l .is-in-table .ensures)) ∙ not-yes _ (c .if1 .taken))
 
 returns-2 : tie.Need-returns-2
 returns-2 c =
     let i = c .before .before in
     let l = i .before in
     let a = l .before .before .before .before .before .before .args in
-    gate-closed (a .s) (a .share) (tables (a .head .now) (a .loans .now) (a .chunks .now) (a .regions .now) (a .index .now)) (a .list) (ap (λ (b : Bool). b && a .list) (sym (l .is-in-table .ensures)) ∙ not-no _ (i .if1 .left)) (not-yes _ (c .if2 .taken))
+    gate-closed (a .s) (a .share) (tables (a .head .now) (a .loans .now) (a .chunks .now) (a .index .now) (a .regions .now)) (a .list) (ap (λ (b : Bool). b && a .list) (sym (l .is-in-table .ensures)) ∙ not-no _ (i .if1 .left)) (not-yes _ (c .if2 .taken))
 
 gate-store-requires : tie.Need-gate-store-requires
 gate-store-requires c κs =
     let i = c .before .before .before in
     let l = i .before in
     let a = l .before .before .before .before .before .before .args in
-    lent-in (a .s) (holder (a .s .store) (a .share)) (tables (a .head .now) (a .loans .now) (a .chunks .now) (a .regions .now) (a .index .now)) (sym (l .is-in-table .ensures) ∙ and-left _ (a .list) (not-no _ (i .if1 .left)))
+    lent-in (a .s) (holder (a .s .store) (a .share)) (tables (a .head .now) (a .loans .now) (a .chunks .now) (a .index .now) (a .regions .now)) (sym (l .is-in-table .ensures) ∙ and-left _ (a .list) (not-no _ (i .if1 .left)))
 
 returns-3 : tie.Need-returns-3
 returns-3 c =
@@ -38,7 +38,7 @@ returns-3 c =
     let i = o .before .before in
     let l = i .before in
     let a = l .before .before .before .before .before .before .args in
-    gate-open (a .s) (a .share) (tables (a .head .now) (a .loans .now) (a .chunks .now) (a .regions .now) (a .index .now)) (a .list) _ (ap (λ (b : Bool). b && a .list) (sym (l .is-in-table .ensures)) ∙ not-no _ (i .if1 .left)) (not-no _ (o .if2 .left)) (c .gate-store .ensures)
+    gate-open (a .s) (a .share) (tables (a .head .now) (a .loans .now) (a .chunks .now) (a .index .now) (a .regions .now)) (a .list) _ (ap (λ (b : Bool). b && a .list) (sym (l .is-in-table .ensures)) ∙ not-no _ (i .if1 .left)) (not-no _ (o .if2 .left)) (c .gate-store .ensures)
 
 pub gate-spec : {M : Type 1} → statement M
 gate-spec = tie.close (tie.spec is-in-table-requires returns returns-2 gate-store-requires returns-3)

@@ -16,29 +16,29 @@ returns : tie.Need-returns
 returns c =
     let n = c .before in
     let a = n .before .before .before .before .before .before .args in
-    store-torn (a .s) (a .h) (a .objects) (tables (a .head .now) (a .loans .now) (a .chunks .now) (a .regions .now) (a .index .now)) (sym (n .is-sound .ensures) ∙ not-yes _ (c .if1 .taken))
+    store-torn (a .s) (a .h) (a .objects) (tables (a .head .now) (a .loans .now) (a .chunks .now) (a .index .now) (a .regions .now)) (sym (n .is-sound .ensures) ∙ not-yes _ (c .if1 .taken))
 
 is-covered-requires : tie.Need-is-covered-requires
 is-covered-requires c κs =
     let n = c .before in
     let b = n .before .before .before .before .before .before in
     let a = b .args in
-    let sound = tables-yes (a .s) (tables (a .head .now) (a .loans .now) (a .chunks .now) (a .regions .now) (a .index .now)) (b .pre .0) (sym (n .is-sound .ensures) ∙ not-no _ (c .if1 .left)) in
-    (omega (arith, sound .chunks-fit, b .pre .0 .store .chunks-most), chunks-low (a .s) (tables (a .head .now) (a .loans .now) (a .chunks .now) (a .regions .now) (a .index .now)) (b .pre .0) sound)
+    let sound = tables-yes (a .s) (tables (a .head .now) (a .loans .now) (a .chunks .now) (a .index .now) (a .regions .now)) (b .pre .0) (sym (n .is-sound .ensures) ∙ not-no _ (c .if1 .left)) in
+    (omega (arith, sound .chunks-fit, b .pre .0 .store .chunks-most), chunks-low (a .s) (tables (a .head .now) (a .loans .now) (a .chunks .now) (a .index .now) (a .regions .now)) (b .pre .0) sound)
 
 returns-2 : tie.Need-returns-2
 returns-2 c =
     let v = c .before in
     let n = v .before .before in
     let a = n .before .before .before .before .before .before .args in
-    store-short (a .s) (a .h) (a .objects) (tables (a .head .now) (a .loans .now) (a .chunks .now) (a .regions .now) (a .index .now)) (sym (n .is-sound .ensures) ∙ not-no _ (v .before .if1 .left)) (sym (v .is-covered .ensures) ∙ not-yes _ (c .if2 .taken))
+    store-short (a .s) (a .h) (a .objects) (tables (a .head .now) (a .loans .now) (a .chunks .now) (a .index .now) (a .regions .now)) (sym (n .is-sound .ensures) ∙ not-no _ (v .before .if1 .left)) (sym (v .is-covered .ensures) ∙ not-yes _ (c .if2 .taken))
 
 returns-3 : tie.Need-returns-3
 returns-3 c =
     let v = c .before in
     let n = v .before .before in
     let a = n .before .before .before .before .before .before .args in
-    store-go (a .s) (a .h) (a .objects) (tables (a .head .now) (a .loans .now) (a .chunks .now) (a .regions .now) (a .index .now)) (sym (n .is-sound .ensures) ∙ not-no _ (v .before .if1 .left)) (sym (v .is-covered .ensures) ∙ not-no _ (c .if2 .left))
+    store-go (a .s) (a .h) (a .objects) (tables (a .head .now) (a .loans .now) (a .chunks .now) (a .index .now) (a .regions .now)) (sym (n .is-sound .ensures) ∙ not-no _ (v .before .if1 .left)) (sym (v .is-covered .ensures) ∙ not-no _ (c .if2 .left))
 
 pub gate-store-spec : {M : Type 1} → statement M
 gate-store-spec =

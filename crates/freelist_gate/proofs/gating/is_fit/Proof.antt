@@ -18,13 +18,13 @@ returns : tie.Need-returns
 returns c =
     let k = c .before .before in
     let a = k .before .before .before .before .before .before .args in
-    fit-yes (a .s) (tables (a .head .now) (a .loans .now) (a .chunks .now) (a .regions .now) (a .index .now)) _ (sym (k .in-table .ensures) ∙ c .before .if1 .taken) (c .lengths-fit .ensures)
+    fit-yes (a .s) (tables (a .head .now) (a .loans .now) (a .chunks .now) (a .index .now) (a .regions .now)) _ (sym (k .in-table .ensures) ∙ c .before .if1 .taken) (c .lengths-fit .ensures)
 
 returns-2 : tie.Need-returns-2
 returns-2 c =
     let k = c .before in
     let a = k .before .before .before .before .before .before .args in
-    fit-no (a .s) (tables (a .head .now) (a .loans .now) (a .chunks .now) (a .regions .now) (a .index .now)) (sym (k .in-table .ensures) ∙ c .if1 .left)
+    fit-no (a .s) (tables (a .head .now) (a .loans .now) (a .chunks .now) (a .index .now) (a .regions .now)) (sym (k .in-table .ensures) ∙ c .if1 .left)
 
 pub is-fit-spec : {M : Type 1} → statement M
 is-fit-spec = tie.close (tie.spec in-table-requires lengths-fit-requires returns returns-2)

@@ -24,13 +24,13 @@ returns c =
     let f = h .before in
     let k = f .before .before .before in
     let a = k .before .before .before .before .before .before .args in
-    lent-yes (a .s) (tables (a .head .now) (a .loans .now) (a .chunks .now) (a .regions .now) (a .index .now)) (a .share) _ _ (sym (k .in-table .ensures) ∙ f .before .before .if1 .taken) (h .heap-in-table .ensures) (f .lengths-fit .ensures)
+    lent-yes (a .s) (tables (a .head .now) (a .loans .now) (a .chunks .now) (a .index .now) (a .regions .now)) (a .share) _ _ (sym (k .in-table .ensures) ∙ f .before .before .if1 .taken) (h .heap-in-table .ensures) (f .lengths-fit .ensures)
 
 returns-2 : tie.Need-returns-2
 returns-2 c =
     let k = c .before in
     let a = k .before .before .before .before .before .before .args in
-    lent-no (a .s) (tables (a .head .now) (a .loans .now) (a .chunks .now) (a .regions .now) (a .index .now)) (holder (a .s .store) (a .share)) (sym (k .in-table .ensures) ∙ c .if1 .left)
+    lent-no (a .s) (tables (a .head .now) (a .loans .now) (a .chunks .now) (a .index .now) (a .regions .now)) (holder (a .s .store) (a .share)) (sym (k .in-table .ensures) ∙ c .if1 .left)
 
 pub is-in-table-spec : {M : Type 1} → statement M
 is-in-table-spec =

@@ -13,11 +13,11 @@ mul-result c = search needs
 mul-result-2 : tie.Need-mul-result-2
 mul-result-2 c = search needs
 
-add-result : tie.Need-add-result
-add-result c = search needs
-
 mul-result-3 : tie.Need-mul-result-3
 mul-result-3 c = search needs
+
+add-result : tie.Need-add-result
+add-result c = search needs
 
 add-result-2 : tie.Need-add-result-2
 add-result-2 c = search needs
@@ -26,7 +26,7 @@ returns : tie.Need-returns
 returns c =
     let k = c .before .before .before in
     let a = k .before .before .before .before .before .before .before .args in
-    lengths-is (a .s) (tables (a .head .now) (a .loans .now) (a .chunks .now) (a .regions .now) (a .index .now)) _ (k .count-at .ensures)
+    lengths-is (a .s) (tables (a .head .now) (a .loans .now) (a .chunks .now) (a .index .now) (a .regions .now)) _ (k .count-at .ensures)
 
 pub lengths-fit-spec : {M : Type 1} → statement M
 lengths-fit-spec =
@@ -35,7 +35,7 @@ lengths-fit-spec =
     count-at-requires
     mul-result
     mul-result-2
-    add-result
     mul-result-3
+    add-result
     add-result-2
     returns)
