@@ -22,7 +22,7 @@ pub fn ask(
     ensures { λ r. ⌜ out (askSaid (r .answer)) (r .account) (tables (now (head .exit)) (now (loans .exit)) (now (chunks .entry)) (now (index .exit)) (now (tree .exit))) ≡ askOf s a size mask (tables (now (head .entry)) (now (loans .entry)) (now (chunks .entry)) (now (index .entry)) (now (tree .entry))) ⌝ }
 {
     let own = s.store;
-    let h = store_accounts::share_of(own, a);
-    let answer = crate::calls::ask(s, h, size, mask, head, loans, chunks, index, tree);
+    let share = store_accounts::share_of(own, a);
+    let answer = crate::calls::ask(s, share, size, mask, head, loans, chunks, index, tree);
     store::asked(a, size, mask, answer)
 }

@@ -24,7 +24,7 @@ pub fn return_block(
     ensures { λ r. ⌜ listed (releaseSaid (r .answer)) (r .account) (tables (now (head .entry)) (now (loans .exit)) (now (chunks .exit)) (now (index .exit)) (now (tree .exit))) (now (list .exit)) ≡ returnOf s a b (tables (now (head .entry)) (now (loans .entry)) (now (chunks .entry)) (now (index .entry)) (now (tree .entry))) (now (list .entry)) ⌝ }
 {
     let own = s.store;
-    let h = store_accounts::share_of(own, a);
-    let r = crate::calls::return_block(s, h, b, head, loans, chunks, index, tree, list);
+    let share = store_accounts::share_of(own, a);
+    let r = crate::calls::return_block(s, share, b, head, loans, chunks, index, tree, list);
     store::released(own, a, r)
 }

@@ -24,8 +24,8 @@ pub fn return_block(
     ensures { λ r. ⌜ listed (releaseSaid (r .answer)) (r .account) (tables (now (head .exit)) (now (loans .exit)) (now (chunks .exit)) (now (index .exit)) (now (regions .exit))) (now (list .exit)) ≡ returnOf s a b (tables (now (head .entry)) (now (loans .entry)) (now (chunks .entry)) (now (index .entry)) (now (regions .entry))) (now (list .entry)) ⌝ }
 {
     let own = s.store;
-    let h = store_accounts::share_of(own, a);
-    let r = crate::calls::return_block(s, h, b, head, loans, chunks, index, regions, list);
+    let share = store_accounts::share_of(own, a);
+    let r = crate::calls::return_block(s, share, b, head, loans, chunks, index, regions, list);
     store::released(own, a, r)
 }
 
@@ -43,7 +43,7 @@ pub fn clean_up(
     ensures { λ r. ⌜ listed (releaseSaid (r .answer)) (r .account) (tables (now (head .exit)) (now (loans .entry)) (now (chunks .exit)) (now (index .entry)) (now (regions .exit))) (now (list .exit)) ≡ cleanUpOf s a (tables (now (head .entry)) (now (loans .entry)) (now (chunks .entry)) (now (index .entry)) (now (regions .entry))) (now (list .entry)) ⌝ }
 {
     let own = s.store;
-    let h = store_accounts::share_of(own, a);
-    let r = crate::calls::clean_up(s, h, head, loans, chunks, index, regions, list);
+    let share = store_accounts::share_of(own, a);
+    let r = crate::calls::clean_up(s, share, head, loans, chunks, index, regions, list);
     store::released(own, a, r)
 }

@@ -50,8 +50,8 @@ pub extern "C" fn tibrezkam_buddy_ask(
         let table = wire_account::heaps_in_table(account);
         let s = wire::read_buddy(settings);
         let own = s.store;
-        let h = wire_account::read_share(account, own, table);
-        let said = buddy::calls::ask(s, h, size, mask, head, loans, chunks, index, tree);
+        let share = wire_account::read_share(account, own, table);
+        let said = buddy::calls::ask(s, share, size, mask, head, loans, chunks, index, tree);
         wire_account::put_asked(account, size, mask, said);
         wire::tell_asked(answer, said);
     } else {
@@ -84,10 +84,10 @@ pub extern "C" fn tibrezkam_buddy_deliver(
         let table = wire_account::heaps_in_table(account);
         let s = wire::read_buddy(settings);
         let own = s.store;
-        let h = wire_account::read_share(account, own, table);
+        let share = wire_account::read_share(account, own, table);
         let o = wire::read_outcome(what, memory, mapping);
         let order = wire_account::read_order(account);
-        let r = buddy::calls::deliver(s, h, order, o, head, loans, chunks, index, tree);
+        let r = buddy::calls::deliver(s, share, order, o, head, loans, chunks, index, tree);
         let after = r.share;
         let open = r.order;
         let said = r.answer;
@@ -123,14 +123,14 @@ pub extern "C" fn tibrezkam_buddy_return(
         let table = wire_account::heaps_in_table(account);
         let s = wire::read_buddy(settings);
         let own = s.store;
-        let h = wire_account::read_share(account, own, table);
+        let share = wire_account::read_share(account, own, table);
         let b = Block {
             serial: serial,
             chunk: chunk,
             offset: offset,
             size: size,
         };
-        let r = buddy::calls::return_block(s, h, b, head, loans, chunks, index, tree, list);
+        let r = buddy::calls::return_block(s, share, b, head, loans, chunks, index, tree, list);
         let after = r.share;
         let said = r.answer;
         wire_account::put_share(account, own, after);

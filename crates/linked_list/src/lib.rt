@@ -50,8 +50,8 @@ pub extern "C" fn tibrezkam_list_ask(
         let table = wire_account::heaps_in_table(account);
         let s = wire::read_free_list(settings);
         let own = s.store;
-        let h = wire_account::read_share(account, own, table);
-        let said = freelist::calls::ask(s, h, size, mask, head, loans, chunks, index, regions);
+        let share = wire_account::read_share(account, own, table);
+        let said = freelist::calls::ask(s, share, size, mask, head, loans, chunks, index, regions);
         wire_account::put_asked(account, size, mask, said);
         wire::tell_asked(answer, said);
     } else {
@@ -84,10 +84,10 @@ pub extern "C" fn tibrezkam_list_deliver(
         let table = wire_account::heaps_in_table(account);
         let s = wire::read_free_list(settings);
         let own = s.store;
-        let h = wire_account::read_share(account, own, table);
+        let share = wire_account::read_share(account, own, table);
         let o = wire::read_outcome(what, memory, mapping);
         let order = wire_account::read_order(account);
-        let r = freelist::calls::deliver(s, h, order, o, head, loans, chunks, index, regions);
+        let r = freelist::calls::deliver(s, share, order, o, head, loans, chunks, index, regions);
         let after = r.share;
         let open = r.order;
         let said = r.answer;
@@ -123,14 +123,24 @@ pub extern "C" fn tibrezkam_list_return(
         let table = wire_account::heaps_in_table(account);
         let s = wire::read_free_list(settings);
         let own = s.store;
-        let h = wire_account::read_share(account, own, table);
+        let share = wire_account::read_share(account, own, table);
         let b = Block {
             serial: serial,
             chunk: chunk,
             offset: offset,
             size: size,
         };
-        let r = freelist::calls::return_block(s, h, b, head, loans, chunks, index, regions, list);
+        let r = freelist::calls::return_block(
+            s,
+            share,
+            b,
+            head,
+            loans,
+            chunks,
+            index,
+            regions,
+            list,
+        );
         let after = r.share;
         wire_account::put_share(account, own, after);
         let said = r.answer;
@@ -160,8 +170,8 @@ pub extern "C" fn tibrezkam_list_clean_up(
         let table = wire_account::heaps_in_table(account);
         let s = wire::read_free_list(settings);
         let own = s.store;
-        let h = wire_account::read_share(account, own, table);
-        let r = freelist::calls::clean_up(s, h, head, loans, chunks, index, regions, list);
+        let share = wire_account::read_share(account, own, table);
+        let r = freelist::calls::clean_up(s, share, head, loans, chunks, index, regions, list);
         let after = r.share;
         wire_account::put_share(account, own, after);
         let said = r.answer;
