@@ -8,7 +8,7 @@ use Rattle.slab.specs.Slab.{inserted}
 use Rattle.slab.specs.declared.Taken.{Taken}
 use Rattle.store_rules.specs.Loans.{loanRow}
 use Rattle.store_rules.specs.declared.Loan.{Loan}
-use Rattle.book_rules.specs.Book.{entryWords, vacatedAt, vacantAfterAt, firstOf, nextOf, takenOf, entered, firstBefore, enteredIndex}
+use Rattle.book_rules.specs.Book.{entryWords, vacatedAt, vacantAfterAt, firstOf, nextOf, takenOf, entered, firstIn, enteredIndex}
 
 module _ (places : ℕ) (index : List ℕ) (t : Taken) where
   pub slab-read : (v : ℕ) → v ≡ getD index vacatedAt 0 → t ≡ inserted (record { places = places; vacant = v }) index vacantAfterAt entryWords → t ≡ takenOf places index
@@ -21,8 +21,8 @@ module _ (places : ℕ) (index : List ℕ) (t : Taken) where
   unfolding entered
   entered-loans l loans x e f = f ∙ ap (λ (u : Taken). written loanRow (u .place) l loans) e
 
-  pub entered-index : (n serial first : ℕ) (x : List ℕ) → t ≡ takenOf places index → first ≡ firstBefore n serial index
+  pub entered-index : (n serial first : ℕ) (x : List ℕ) → t ≡ takenOf places index → first ≡ firstIn index (serial % n)
       → x ≡ set (set (set index vacatedAt (t .slab .vacant)) (nextOf (t .place)) first) (firstOf (serial % n)) (t .place) → x ≡ enteredIndex n places serial index
   unfolding enteredIndex
   entered-index n serial first x e f g =
-      g ∙ rw f (ap (λ (u : Taken). set (set (set index vacatedAt (u .slab .vacant)) (nextOf (u .place)) (firstBefore n serial index)) (firstOf (serial % n)) (u .place)) e)
+      g ∙ rw f (ap (λ (u : Taken). set (set (set index vacatedAt (u .slab .vacant)) (nextOf (u .place)) (firstIn index (serial % n))) (firstOf (serial % n)) (u .place)) e)

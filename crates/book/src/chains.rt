@@ -18,7 +18,7 @@ use store_rules::SIZE_AT;
 // Whether every chain has the loans of its serials, and all of them, the newest first.
 pub fn is_chained(loans: &[u64], index: &[u64], n: usize, places: u64, given: u64) -> bool
     requires { ⌜ (0 < n) × (n ≤ loansMost) × (places ≤ loansMost) ⌝ }
-    ensures { λ r. ⌜ r ≡ chainsOk (vacantAt (now (loans .entry)) sizeAt loanWords) (firstIn given (now (index .entry))) (λ p. getD (now (index .entry)) (nextOf p) 0) (serialOf (now (loans .entry))) n places given ⌝ }
+    ensures { λ r. ⌜ r ≡ chainsOk (vacantAt (now (loans .entry)) sizeAt loanWords) (firstIn (now (index .entry))) (λ p. getD (now (index .entry)) (nextOf p) 0) (serialOf (now (loans .entry))) n places given ⌝ }
 {
     let vacant = slab::count_vacant(loans, SIZE_AT, LOAN_WORDS, places);
     left_of(loans, index, n, places, given, places - vacant) == 0
@@ -27,13 +27,13 @@ pub fn is_chained(loans: &[u64], index: &[u64], n: usize, places: u64, given: u6
 // How many of k loans are left when every chain has been followed, or NOWHERE.
 fn left_of(loans: &[u64], index: &[u64], n: usize, places: u64, given: u64, k: u64) -> u64
     requires { ⌜ (0 < n) × (n ≤ loansMost) ⌝ }
-    ensures { λ r. ⌜ r ≡ leftOf (vacantAt (now (loans .entry)) sizeAt loanWords) (firstIn given (now (index .entry))) (λ p. getD (now (index .entry)) (nextOf p) 0) (serialOf (now (loans .entry))) n places given k n ⌝ }
+    ensures { λ r. ⌜ r ≡ leftOf (vacantAt (now (loans .entry)) sizeAt loanWords) (firstIn (now (index .entry))) (λ p. getD (now (index .entry)) (nextOf p) 0) (serialOf (now (loans .entry))) n places given k n ⌝ }
 {
     let mut left = k;
     let mut i = 0;
     while i < n {
         if left != NOWHERE {
-            let first = first_of(index, given, i);
+            let first = first_of(index, i);
             left = left_after(loans, index, n as u64, places, i as u64, given, first, left);
         }
         i += 1;
@@ -41,13 +41,10 @@ fn left_of(loans: &[u64], index: &[u64], n: usize, places: u64, given: u64, k: u
     left
 }
 
-// The first place of chain i when so many serials were given: before serial i its word is spare.
-fn first_of(index: &[u64], given: u64, i: usize) -> u64
-    ensures { λ r. ⌜ r ≡ firstIn given (now (index .entry)) i ⌝ }
+// The first place of chain i.
+fn first_of(index: &[u64], i: usize) -> u64
+    ensures { λ r. ⌜ r ≡ firstIn (now (index .entry)) i ⌝ }
 {
-    if given < i as u64 {
-        return NOWHERE;
-    }
     words::cell(index, FIRST_AT, ENTRY_WORDS, i)
 }
 
@@ -63,7 +60,7 @@ fn left_after(
     k: u64,
 ) -> u64
     requires { ⌜ 0 < n ⌝ }
-    ensures { λ r. ⌜ r ≡ leftAfter (vacantAt (now (loans .entry)) sizeAt loanWords) (firstIn given (now (index .entry))) (λ p. getD (now (index .entry)) (nextOf p) 0) (serialOf (now (loans .entry))) n places i given h k ⌝ }
+    ensures { λ r. ⌜ r ≡ leftAfter (vacantAt (now (loans .entry)) sizeAt loanWords) (firstIn (now (index .entry))) (λ p. getD (now (index .entry)) (nextOf p) 0) (serialOf (now (loans .entry))) n places i given h k ⌝ }
 {
     let mut p = h;
     let mut most = given;

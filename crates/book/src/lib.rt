@@ -12,7 +12,7 @@ ghost use Rattle.words.specs.Words.{cellOf};
 ghost use Rattle.words.specs.Rows.{row, written};
 ghost use Rattle.store_rules.specs.Loans.{loanWords, sizeAt, loanRow};
 ghost use Rattle.book_rules.specs.Ready.{Opens, Strikes};
-ghost use Rattle.book_rules.specs.Book.{entryWords, vacatedAt, vacantAfterAt, indexWords, firstOf, nextOf, freshIndex, takenOf, entered, firstBefore, enteredIndex, wordTo, struck, struckIndex};
+ghost use Rattle.book_rules.specs.Book.{entryWords, vacatedAt, vacantAfterAt, indexWords, firstOf, nextOf, freshIndex, takenOf, entered, firstIn, enteredIndex, wordTo, struck, struckIndex};
 use slab::NOWHERE;
 use slab::Slab;
 use slab::Taken;
@@ -34,12 +34,12 @@ const NEXT_AT: usize = 2;
 
 pub const VACANT_AFTER_AT: usize = 3;
 
-// An index with no loan: no place was vacated, and chain 0 is empty. The words of the other chains are spare.
-pub fn fresh_index(index: &mut [u64])
-    ensures { λ _. ⌜ now (index .exit) ≡ freshIndex (now (index .entry)) ⌝ }
+// The index of n loans with no loan in it: no word leads anywhere.
+pub fn fresh_index(n: usize, index: &mut [u64])
+    requires { ⌜ length (now index) ≡ indexWords n ⌝ }
+    ensures { λ _. ⌜ now (index .exit) ≡ freshIndex n ⌝ }
 {
-    words::put(index, VACATED_AT, NOWHERE);
-    words::put(index, FIRST_AT, NOWHERE);
+    words::fill(index, NOWHERE);
 }
 
 // The place that the next loan takes, and the slab from then on.
@@ -110,7 +110,7 @@ pub fn enter(loans: &mut [u64], index: &mut [u64], n: usize, places: u64, l: Loa
 pub fn enter_at(loans: &mut [u64], index: &mut [u64], n: usize, t: Taken, l: Loan)
     requires { ⌜ Opens n (t .place) (now loans) (now index) ⌝ }
     ensures { λ _. ⌜ now (loans .exit) ≡ written loanRow (t .place) l (now (loans .entry)) ⌝ }
-    ensures { λ _. ⌜ now (index .exit) ≡ set (set (set (now (index .entry)) vacatedAt (t .slab .vacant)) (nextOf (t .place)) (firstBefore n (l .serial) (now (index .entry)))) (firstOf (l .serial % n)) (t .place) ⌝ }
+    ensures { λ _. ⌜ now (index .exit) ≡ set (set (set (now (index .entry)) vacatedAt (t .slab .vacant)) (nextOf (t .place)) (firstIn (now (index .entry)) (l .serial % n))) (firstOf (l .serial % n)) (t .place) ⌝ }
 {
     let s = t.slab;
     let i = l.serial % n as u64;
@@ -119,14 +119,11 @@ pub fn enter_at(loans: &mut [u64], index: &mut [u64], n: usize, t: Taken, l: Loa
     put_first(index, i as usize, t.place, first, s.vacant);
 }
 
-// The first of the chain that this serial comes into: serials below n are each the first of theirs.
+// The first of the chain that this serial comes into.
 fn first_before(index: &[u64], n: usize, serial: u64) -> u64
     requires { ⌜ (0 < n) × (n ≤ loansMost) × (length (now index) ≡ indexWords n) ⌝ }
-    ensures { λ r. ⌜ r ≡ firstBefore n serial (now (index .entry)) ⌝ }
+    ensures { λ r. ⌜ r ≡ firstIn (now (index .entry)) (serial % n) ⌝ }
 {
-    if serial < n as u64 {
-        return NOWHERE;
-    }
     let i = serial % n as u64;
     let at = FIRST_AT + ENTRY_WORDS * i as usize;
     index[at]
@@ -144,15 +141,12 @@ fn put_first(index: &mut [u64], i: usize, p: u64, first: u64, vacated: u64)
     index[at] = p;
 }
 
-// The word of the index that leads to the loan with this serial, or NOWHERE: a serial that was not given has none. At most `places` turns, so that links that
-// lead round in a ring end too.
-pub fn word_to(loans: &[u64], index: &[u64], n: usize, places: u64, given: u64, serial: u64) -> u64
+// The word of the index that leads to the loan with this serial, or NOWHERE. At most `places` turns, so that links that lead round in
+// a ring end too.
+pub fn word_to(loans: &[u64], index: &[u64], n: usize, places: u64, serial: u64) -> u64
     requires { ⌜ (0 < n) × (n ≤ loansMost) × (places ≤ loansMost) ⌝ }
-    ensures { λ r. ⌜ r ≡ wordTo (now (loans .entry)) (now (index .entry)) n places given serial ⌝ }
+    ensures { λ r. ⌜ r ≡ wordTo (now (loans .entry)) (now (index .entry)) n places serial ⌝ }
 {
-    if given < serial {
-        return NOWHERE;
-    }
     let i = serial % n as u64;
     let mut at = FIRST_AT + ENTRY_WORDS * i as usize;
     let mut left = places;

@@ -34,7 +34,7 @@ module _ (loans index : List ℕ) (n places given : ℕ) where
     kept-few e = leb-true _ _ (and-left (leb places n) _ (sym told ∙ e))
 
     pub kept-told : p ≡ true → (q : Bool)
-        → q ≡ chainsOk (vacantAt loans sizeAt loanWords) (firstIn given index) (λ (p : ℕ). getD index (nextOf p) 0) (serialOf loans) n places given
+        → q ≡ chainsOk (vacantAt loans sizeAt loanWords) (firstIn index) (λ (p : ℕ). getD index (nextOf p) 0) (serialOf loans) n places given
         → q ≡ keptOk loans index n places given
     unfolding keptOk
     kept-told e q f = f ∙ rw (sym parted ∙ e) refl

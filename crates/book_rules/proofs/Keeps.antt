@@ -19,12 +19,11 @@ use Rattle.slab.proofs.Places.{insert-first, insert-next, insert-last, inserted
 use Rattle.words.proofs.Records.{length-written}
 use Rattle.store_rules.specs.Loans.{loanWords, sizeAt, loanRow}
 use Rattle.store_rules.specs.declared.Loan.{Loan}
-use Rattle.book_rules.specs.Book.{entryWords, vacatedAt, vacantAfterAt, indexWords, firstOf, nextOf, serialOf, slabOf, firstIn, takenOf, entered, firstBefore, enteredIndex, wordTo, struck, struckIndex}
+use Rattle.book_rules.specs.Book.{entryWords, vacatedAt, vacantAfterAt, indexWords, firstOf, nextOf, serialOf, slabOf, firstIn, takenOf, entered, enteredIndex, wordTo, struck, struckIndex}
 use Rattle.book_rules.specs.Chains.{Falling, InChain, Chained}
-use Rattle.book_rules.proofs.Firsts.{first-used, first-stays, first-on, chain-most, before-next}
-use Rattle.book_rules.proofs.Seeking.{word-given}
+use Rattle.book_rules.proofs.Seeking.{word-is}
 use Rattle.book_rules.proofs.Used.{used-most}
-use Rattle.book_rules.proofs.Falling.{falling-most, falling-same, falling-cut}
+use Rattle.book_rules.proofs.Falling.{falling-same, falling-cut}
 use Rattle.book_rules.proofs.Decides.{serial-once}
 use Rattle.book_rules.proofs.Cutting.{wordPast, After, word-past, word-leads, seek-found, chain-cut}
 use Rattle.book_rules.proofs.Putting.{put-chained}
@@ -42,14 +41,14 @@ vacantIn index p = linkAt index vacantAfterAt entryWords p
 
 -- the chains of a book are right
 abbrev pub BookChained : List ℕ → List ℕ → ℕ → ℕ → ℕ → Type 0
-BookChained loans index n places given = Chained (freeIn loans) (firstIn given index) (nextIn index) (serialOf loans) n places given
+BookChained loans index n places given = Chained (freeIn loans) (firstIn index) (nextIn index) (serialOf loans) n places given
 
 -- and so are its vacant places
 abbrev pub BookParted : List ℕ → List ℕ → ℕ → ℕ → Type 0
 BookParted loans index n places = Parted (freeIn loans) (vacantIn index) (slabOf places index) n
 
 -- a book with no place used, and no chain that leads anywhere
-pub fresh-chained : (loans index : List ℕ) (n given : ℕ) → ((i : ℕ) → i < n → firstIn given index i ≡ nowhere) → BookChained loans index n 0 given
+pub fresh-chained : (loans index : List ℕ) (n given : ℕ) → ((i : ℕ) → i < n → firstIn index i ≡ nowhere) → BookChained loans index n 0 given
 fresh-chained loans index n given e i h = record {
   members = [];
   chain = e i h;
@@ -144,7 +143,7 @@ module _ (loans index : List ℕ) (n places : ℕ) (few : n < nowhere) (P : Book
     own = mod-lt (given + 1) (omega arith)
 
     abbrev index′ : List ℕ
-    index′ = firstPut index n ((given + 1) % n) taken (firstBefore n (given + 1) index) (takenOf places index .slab .vacant) wide own room
+    index′ = firstPut index n ((given + 1) % n) taken (firstIn index ((given + 1) % n)) (takenOf places index .slab .vacant) wide own room
 
     index-as : enteredIndex n places (l .serial) index ≡ index′
     unfolding enteredIndex
@@ -155,21 +154,21 @@ module _ (loans index : List ℕ) (n places : ℕ) (few : n < nowhere) (P : Book
     unfolding entered
     entered-chained C =
         let t = place-taken in
-        let f = firstBefore n (given + 1) index in
+        let f = firstIn index ((given + 1) % n) in
         let v = takenOf places index .slab .vacant in
         subst (λ (i : List ℕ). BookChained (entered places index l loans) i n (takenOf places index .slab .places) (given + 1)) (sym index-as)
         (put-chained _ _ _ _ _ _ _ _ n places _ given taken (t .vacant) (t .below) (t .kept) (t .grown)
         (used-here loans n taken l long room whole) (used-other loans n taken l long room)
         (serial-here loans n taken l long room ∙ next) (serial-other loans n taken l long room)
-        (next-here index n ((given + 1) % n) taken f v wide own room ∙ before-next given n index (omega arith)) (next-other index n ((given + 1) % n) taken f v wide own room)
-        (first-used (given + 1) index′ ((given + 1) % n) (chain-most n (given + 1) (omega arith)) ∙ first-here index n ((given + 1) % n) taken f v wide own room)
-        (λ i h o. first-stays (given + 1) index index′ i (first-other index n ((given + 1) % n) taken f v wide own room i o) ∙ first-on given n index i h o) C)
+        (next-here index n ((given + 1) % n) taken f v wide own room) (next-other index n ((given + 1) % n) taken f v wide own room)
+        (first-here index n ((given + 1) % n) taken f v wide own room)
+        (λ i h o. first-other index n ((given + 1) % n) taken f v wide own room i o) C)
 
     pub entered-parted : BookParted (entered places index l loans) (enteredIndex n places (l .serial) index) n (takenOf places index .slab .places)
     unfolding entered
     entered-parted =
         let c = (given + 1) % n in
-        let f = firstBefore n (given + 1) index in
+        let f = firstIn index ((given + 1) % n) in
         let v = takenOf places index .slab .vacant in
         let free = freeIn loans in
         let h : headOr places (P .chained) < n = omega (arith, insert-last free index vacantAfterAt entryWords (slabOf places index) n P few, room) in
@@ -189,23 +188,16 @@ module _ (loans index : List ℕ) (n places : ℕ) (few : n < nowhere) (P : Book
 module _ (loans index : List ℕ) (n places given : ℕ) (some : 0 < n) (limit : places ≤ n) (few : n < nowhere) (C : BookChained loans index n places given) where
   module _ (p : ℕ) (h : p < places) (u : freeIn loans p ≡ false) where
     abbrev at : ℕ
-    at = wordTo loans index n places given (serialOf loans p)
+    at = wordTo loans index n places (serialOf loans p)
 
     abbrev home : ℕ
     home = serialOf loans p % n
 
-    inHome : InChain (freeIn loans) (firstIn given index) (nextIn index) (serialOf loans) n places given home
+    inHome : InChain (freeIn loans) (firstIn index) (nextIn index) (serialOf loans) n places given home
     inHome = C home (mod-lt (serialOf loans p) some)
 
-    given-home : (serialOf loans p ≤ given) × (home ≤ given)
-    given-home =
-        let c = inHome in
-        let m : serialOf loans p ≤ given = falling-most (freeIn loans) (firstIn given index) (nextIn index) (serialOf loans) given (c .members) (c .falling) p (c .all p h u refl) in
-        let k : home ≤ serialOf loans p = chain-most n (serialOf loans p) some in
-        (m, omega arith)
-
     chain-home : Chain (nextIn index) (getD index (firstOf home) 0) (inHome .members)
-    chain-home = rw (first-used given index home (given-home .1)) at (inHome .chain)
+    chain-home = inHome .chain
 
     -- the way to it along its chain
     record Way : Type 0 where
@@ -226,7 +218,7 @@ module _ (loans index : List ℕ) (n places given : ℕ) (some : 0 < n) (limit :
         let into : (x : ℕ) → Mem x (s .a ++ (p ∷ s .b)) → Mem x (c .members) = λ x m. rw (s .is) m in
         let other : (x : ℕ) → Mem x (s .a) → serialOf loans x ≡ serialOf loans p → ⊥ =
         λ x m e. let r = c .right x (into x (mem-left x (s .a) (p ∷ s .b) m)) in
-        let q : x ≡ p = serial-once (freeIn loans) (firstIn given index) (nextIn index) (serialOf loans) n places given x p some C (r .0) h (r .1) u e in
+        let q : x ≡ p = serial-once (freeIn loans) (firstIn index) (nextIn index) (serialOf loans) n places given x p some C (r .0) h (r .1) u e in
         distinct-out p (s .a) (s .b) d′ (mem-left p (s .a) (s .b) (rw q at m)) in
         record {
           a = s .a;
@@ -234,14 +226,14 @@ module _ (loans index : List ℕ) (n places given : ℕ) (some : 0 < n) (limit :
           is = s .is;
           distinct = d′;
           word =
-              word-given loans index n places given (serialOf loans p) (given-home .0)
+              word-is loans index n places (serialOf loans p)
               ∙ seek-found index loans places (serialOf loans p) (firstOf home) places p (s .a) (s .b) (rw (s .is) at chain-home) (λ x m. c .right x (into x m) .0) other refl short;
         }
 
     chain-way : Chain (nextIn index) (getD index (firstOf home) 0) (way .a ++ (p ∷ way .b))
     chain-way = rw (way .is) at chain-home
 
-    found-leads : getD index (wordTo loans index n places given (serialOf loans p)) 0 ≡ p
+    found-leads : getD index (wordTo loans index n places (serialOf loans p)) 0 ≡ p
     found-leads = ap (λ (w : ℕ). getD index w 0) (way .word) ∙ word-leads index (firstOf home) p (way .a) (way .b) chain-way
 
     -- the word that leads to it is the first of its chain or the one after another of its chain
@@ -251,13 +243,13 @@ module _ (loans index : List ℕ) (n places given : ℕ) (some : 0 < n) (limit :
     before : (x : ℕ) → Mem x (way .a) → (x < places) × (freeIn loans x ≡ false) × (serialOf loans x % n ≡ home)
     before x m = inHome .right x (rw (way .is) (mem-left x (way .a) (p ∷ way .b) m))
 
-    found-inside : wordTo loans index n places given (serialOf loans p) < indexWords n
+    found-inside : wordTo loans index n places (serialOf loans p) < indexWords n
     found-inside =
         let g : home < n = mod-lt (serialOf loans p) some in
         ⊎-elim (λ e. omega arith) (λ r. let k : r .place < places = before (r .place) (r .member) .0 in omega (arith, r .is)) found-word
 
     -- one that is there is found
-    pub found : (wordTo loans index n places given (serialOf loans p) < indexWords n) × (getD index (wordTo loans index n places given (serialOf loans p)) 0 ≡ p)
+    pub found : (wordTo loans index n places (serialOf loans p) < indexWords n) × (getD index (wordTo loans index n places (serialOf loans p)) 0 ≡ p)
     found = (found-inside, found-leads)
 
     found-chained : at % 3 ≡ 0 → ⊥
@@ -292,7 +284,7 @@ module _ (loans index : List ℕ) (n places given : ℕ) (some : 0 < n) (limit :
       free-other x o = frees x ∙ changed-other (freeIn loans) p true x o
 
       -- a loan of a chain that is not p is still one, and those that still are were
-      module _ (i : ℕ) (c : InChain (freeIn loans) (firstIn given index) (nextIn index) (serialOf loans) n places given i) where
+      module _ (i : ℕ) (c : InChain (freeIn loans) (firstIn index) (nextIn index) (serialOf loans) n places given i) where
         right-still : (x : ℕ) → Mem x (c .members) → (x ≡ p → ⊥) → (x < places) × (freeIn (struck at index loans) x ≡ false) × (serialOf (struck at index loans) x % n ≡ i)
         right-still x m o = let r = c .right x m in (r .0, free-other x o ∙ r .1, ap (λ (s : ℕ). s % n) (serials x) ∙ r .2)
 
@@ -302,20 +294,19 @@ module _ (loans index : List ℕ) (n places given : ℕ) (some : 0 < n) (limit :
             (o, c .all x g (sym (free-other x o) ∙ f) (ap (λ (t : ℕ). t % n) (sym (serials x)) ∙ s))
 
       abbrev StillIn : ℕ → Type 0
-      StillIn i = InChain (freeIn (struck at index loans)) (firstIn given (struckIndex at index)) (nextIn (struckIndex at index)) (serialOf (struck at index loans)) n places given i
+      StillIn i = InChain (freeIn (struck at index loans)) (firstIn (struckIndex at index)) (nextIn (struckIndex at index)) (serialOf (struck at index loans)) n places given i
 
       -- its own chain goes past it
       struck-own : StillIn home
       struck-own =
           let w = way in
           let into : (x : ℕ) → Mem x (w .a ++ w .b) → Mem x (inHome .members) = λ x m. rw (w .is) (mem-of-left p x (w .a) (w .b) m) in
-          let fall : Falling (freeIn loans) (firstIn given index) (nextIn index) (serialOf loans) given (w .a ++ (p ∷ w .b)) = rw (w .is) at (inHome .falling) in
+          let fall : Falling (freeIn loans) (firstIn index) (nextIn index) (serialOf loans) given (w .a ++ (p ∷ w .b)) = rw (w .is) at (inHome .falling) in
           record {
             members = w .a ++ w .b;
             chain =
-                rw (first-used given (struckIndex at index) home (given-home .1))
                 (chain-cut index (struckIndex at index) at p stays past (firstOf home) (w .a) (w .b) (w .word) (λ z. omega arith) (λ x m z. omega arith) (w .distinct) chain-way);
-            falling = falling-cut (freeIn loans) (firstIn given index) (nextIn index) (serialOf loans) (serialOf (struck at index loans)) given p (w .a) (w .b) serials fall;
+            falling = falling-cut (freeIn loans) (firstIn index) (nextIn index) (serialOf loans) (serialOf (struck at index loans)) given p (w .a) (w .b) serials fall;
             right = λ x m. right-still home inHome x (into x m) (λ e. distinct-out p (w .a) (w .b) (w .distinct) (rw e at m));
             all = λ x g f s. let r = all-still home inHome x g f s in mem-left-over p x (w .a) (w .b) (r .0) (rw (w .is) at (r .1));
           }
@@ -332,17 +323,17 @@ module _ (loans index : List ℕ) (n places given : ℕ) (some : 0 < n) (limit :
           record {
             members = c .members;
             chain =
-                rw (first-stays given index (struckIndex at index) i (stays (firstOf i) (λ z. omega arith) first-out))
-                (chain-same (nextIn index) (nextIn (struckIndex at index)) (firstIn given index i) (c .members) (λ x m. stays (nextOf x) (λ z. omega arith) (next-out x m)) (c .chain));
-            falling = falling-same (freeIn loans) (firstIn given index) (nextIn index) (serialOf loans) (serialOf (struck at index loans)) given given (c .members) (omega arith) (λ x m. serials x) (c .falling);
+                rw (stays (firstOf i) (λ z. omega arith) first-out)
+                (chain-same (nextIn index) (nextIn (struckIndex at index)) (firstIn index i) (c .members) (λ x m. stays (nextOf x) (λ z. omega arith) (next-out x m)) (c .chain));
+            falling = falling-same (freeIn loans) (firstIn index) (nextIn index) (serialOf loans) (serialOf (struck at index loans)) given given (c .members) (omega arith) (λ x m. serials x) (c .falling);
             right = λ x m. right-still i c x m (out x m);
             all = λ x k f s. all-still i c x k f s .1;
           }
 
-      pub struck-chained : BookChained (struck (wordTo loans index n places given (serialOf loans p)) index loans) (struckIndex (wordTo loans index n places given (serialOf loans p)) index) n places given
+      pub struck-chained : BookChained (struck (wordTo loans index n places (serialOf loans p)) index loans) (struckIndex (wordTo loans index n places (serialOf loans p)) index) n places given
       struck-chained i g = ⊎-elim (λ e. subst StillIn (sym e) struck-own) (struck-other i g) (same? i home)
 
-      pub struck-parted : BookParted loans index n places → BookParted (struck (wordTo loans index n places given (serialOf loans p)) index loans) (struckIndex (wordTo loans index n places given (serialOf loans p)) index) n places
+      pub struck-parted : BookParted loans index n places → BookParted (struck (wordTo loans index n places (serialOf loans p)) index loans) (struckIndex (wordTo loans index n places (serialOf loans p)) index) n places
       unfolding removed removedLinks
       struck-parted P =
           let free = freeIn loans in

@@ -34,12 +34,7 @@ pub seek-none : (loans index : List ℕ) (places serial at k : ℕ) → k ≤ 0 
 unfolding seekIn
 seek-none loans index places serial at k h = let z : k ≡ 0 = omega arith in rw z refl
 
--- a serial that was given is looked for in its chain, another is not
-module _ (loans index : List ℕ) (n places given serial : ℕ) where
-  pub word-given : serial ≤ given → wordTo loans index n places given serial ≡ seekIn loans index places serial (firstOf (serial % n)) places
-  unfolding wordTo
-  word-given h = rw (le-ltb given serial h)
-
-  pub word-none : given < serial → wordTo loans index n places given serial ≡ nowhere
-  unfolding wordTo
-  word-none h = rw (lt-ltb given serial h)
+-- a serial is looked for in its chain
+pub word-is : (loans index : List ℕ) (n places serial : ℕ) → wordTo loans index n places serial ≡ seekIn loans index places serial (firstOf (serial % n)) places
+unfolding wordTo
+word-is loans index n places serial = refl

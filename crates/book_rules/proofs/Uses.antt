@@ -11,9 +11,8 @@ use Rattle.lists.specs.Members.{Mem}
 use Rattle.lists.proofs.Bools.{same?, lt-or-le}
 use Rattle.slab.specs.Slab.{nowhere, Chain}
 use Rattle.book_rules.specs.Book.{firstOf, nextOf, serialOf, seekIn, wordTo}
-use Rattle.book_rules.proofs.Firsts.{first-used, chain-most}
 use Rattle.book_rules.proofs.Keeps.{freeIn, nextIn, BookChained}
-use Rattle.book_rules.proofs.Seeking.{seek-past, seek-here, seek-on, seek-none, word-given, word-none}
+use Rattle.book_rules.proofs.Seeking.{seek-past, seek-here, seek-on, seek-none, word-is}
 
 module _ (loans index : List ℕ) (places serial : ℕ) where
   -- v leads to a member with the serial
@@ -44,22 +43,13 @@ module _ (loans index : List ℕ) (places serial : ℕ) where
           subst (λ (v : ℕ). Leads v (x ∷ l)) (sym g) (inr (r .0), r .1)
 
 pub leads-used : (loans index : List ℕ) (n places given serial : ℕ) → 0 < n → places ≤ nowhere → BookChained loans index n places given
-    → (wordTo loans index n places given serial ≡ nowhere → ⊥)
-    → (getD index (wordTo loans index n places given serial) 0 < places)
-    × (freeIn loans (getD index (wordTo loans index n places given serial) 0) ≡ false)
-    × (serialOf loans (getD index (wordTo loans index n places given serial) 0) ≡ serial)
+    → (wordTo loans index n places serial ≡ nowhere → ⊥)
+    → (getD index (wordTo loans index n places serial) 0 < places)
+    × (freeIn loans (getD index (wordTo loans index n places serial) 0) ≡ false)
+    × (serialOf loans (getD index (wordTo loans index n places serial) 0) ≡ serial)
 leads-used loans index n places given serial some low C f =
-    ⊎-elim (λ (h : given < serial). absurd (f (word-none loans index n places given serial h))) there (lt-or-le given serial)
-  where
-    there : serial ≤ given
-        → (getD index (wordTo loans index n places given serial) 0 < places)
-        × (freeIn loans (getD index (wordTo loans index n places given serial) 0) ≡ false)
-        × (serialOf loans (getD index (wordTo loans index n places given serial) 0) ≡ serial)
-    there h =
-        let e = word-given loans index n places given serial h in
-        let c = C (serial % n) (mod-lt serial some) in
-        let k : serial % n ≤ serial = chain-most n serial some in
-        let chain : Chain (nextIn index) (getD index (firstOf (serial % n)) 0) (c .members) = rw (first-used given index (serial % n) (omega arith)) at (c .chain) in
-        let w = seek-leads loans index places serial (firstOf (serial % n)) places (c .members) low chain (λ x m. c .right x m .0) (λ z. f (e ∙ z)) in
-        let r = c .right (getD index (seekIn loans index places serial (firstOf (serial % n)) places) 0) (w .0) in
-        rw e (r .0, r .1, w .1)
+    let e = word-is loans index n places serial in
+    let c = C (serial % n) (mod-lt serial some) in
+    let w = seek-leads loans index places serial (firstOf (serial % n)) places (c .members) low (c .chain) (λ x m. c .right x m .0) (λ z. f (e ∙ z)) in
+    let r = c .right (getD index (seekIn loans index places serial (firstOf (serial % n)) places) 0) (w .0) in
+    rw e (r .0, r .1, w .1)

@@ -1,12 +1,11 @@
 -- The book of a store's loans. The loans stand in a slab, so that a loan's place stays; `index` has what can be made again
 -- from them: the place vacated last, and for each i below the limit n the first place of chain i, the place after i in its
--- chain, and the vacant place after i. A loan is in the chain of its serial modulo n, the newest first. Serials count up from
--- 1, so chain i has no loan before serial i is given: until then the word that leads to it is spare.
+-- chain, and the vacant place after i. A loan is in the chain of its serial modulo n, the newest first.
 use mathlib.Core.Bool.{cond}
 use mathlib.Core.List.{List}
 use Prim.Native.Nat.{ℕ, zero, suc, _+_, _*_, _%_}
 use lib.Dec.{eqb, ltb}
-use lib.ListN.{getD, set}
+use lib.ListN.{getD, set, replicate}
 use Rattle.words.specs.Words.{cellOf}
 use Rattle.words.specs.Rows.{written}
 use Rattle.slab.specs.Slab.{nowhere, inserted}
@@ -51,14 +50,14 @@ serialOf loans p = getD loans (cellOf serialAt loanWords p) 0
 abbrev pub slabOf : ℕ → List ℕ → Slab
 slabOf places index = record { places = places; vacant = getD index vacatedAt 0 }
 
--- the first place of chain i when so many serials were given
-unfoldable pub firstIn : ℕ → List ℕ → ℕ → ℕ
-firstIn given index i = cond (ltb given i) nowhere (getD index (firstOf i) 0)
+-- the first place of chain i
+abbrev pub firstIn : List ℕ → ℕ → ℕ
+firstIn index i = getD index (firstOf i) 0
 
--- ---- no loan yet: no place was vacated, and chain 0 is empty; the words of the other chains are spare
+-- ---- no loan yet: no word leads anywhere
 
-unfoldable pub freshIndex : List ℕ → List ℕ
-freshIndex index = set (set index vacatedAt nowhere) (firstOf 0) nowhere
+unfoldable pub freshIndex : ℕ → List ℕ
+freshIndex n = replicate (indexWords n) nowhere
 
 -- ---- a loan is entered
 
@@ -70,18 +69,14 @@ takenOf places index = inserted (slabOf places index) index vacantAfterAt entryW
 unfoldable pub entered : ℕ → List ℕ → Loan → List ℕ → List ℕ
 entered places index l loans = written loanRow (takenOf places index .place) l loans
 
--- the first of its chain until then: serials below n are each the first of theirs
-unfoldable pub firstBefore : ℕ → ℕ → List ℕ → ℕ
-firstBefore n serial index = cond (ltb serial n) nowhere (getD index (firstOf (serial % n)) 0)
-
--- and it becomes the first itself
+-- and it becomes the first of its chain
 unfoldable pub enteredIndex : ℕ → ℕ → ℕ → List ℕ → List ℕ
 enteredIndex n places serial index =
     set
     (set
     (set index vacatedAt (takenOf places index .slab .vacant))
     (nextOf (takenOf places index .place))
-    (firstBefore n serial index))
+    (firstIn index (serial % n)))
     (firstOf (serial % n))
     (takenOf places index .place)
 
@@ -95,10 +90,9 @@ seekIn loans index places serial at (suc k) =
     (cond (eqb (serialOf loans (getD index at 0)) serial) at (seekIn loans index places serial (nextOf (getD index at 0)) k))
     nowhere
 
--- no word leads to a serial that was not given
-unfoldable pub wordTo : List ℕ → List ℕ → ℕ → ℕ → ℕ → ℕ → ℕ
-wordTo loans index n places given serial =
-    cond (ltb given serial) nowhere (seekIn loans index places serial (firstOf (serial % n)) places)
+-- in its chain
+unfoldable pub wordTo : List ℕ → List ℕ → ℕ → ℕ → ℕ → ℕ
+wordTo loans index n places serial = seekIn loans index places serial (firstOf (serial % n)) places
 
 -- ---- the loan that a word leads to is struck out
 

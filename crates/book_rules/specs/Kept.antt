@@ -13,4 +13,4 @@ use Rattle.book_rules.specs.Chains.{chainsOk}
 unfoldable pub keptOk : List ℕ → List ℕ → ℕ → ℕ → ℕ → Bool
 keptOk loans index n places given =
     partedOk (vacantAt loans sizeAt loanWords) (linkAt index vacantAfterAt entryWords) (slabOf places index) n
-    && chainsOk (vacantAt loans sizeAt loanWords) (firstIn given index) (λ (p : ℕ). getD index (nextOf p) 0) (serialOf loans) n places given
+    && chainsOk (vacantAt loans sizeAt loanWords) (firstIn index) (λ (p : ℕ). getD index (nextOf p) 0) (serialOf loans) n places given

@@ -20,10 +20,10 @@ pub data Plan : Type 0 where
 abbrev pub decided : Bool → ℕ → Plan
 decided on w = cond on (back w) (deny 7)
 
-module _ (loans index : List ℕ) (n places given : ℕ) (b : Block) where
+module _ (loans index : List ℕ) (n places : ℕ) (b : Block) where
   -- the word of the index that leads to the loan with the block's serial
   abbrev pub wordFor : ℕ
-  wordFor = wordTo loans index n places given (b .serial)
+  wordFor = wordTo loans index n places (b .serial)
 
   -- 7: "no loan has this serial, chunk, offset and size"
   abbrev pub onLoanOk : Bool

@@ -115,6 +115,6 @@ module _ (minimal pairs level levels : ℕ) (tree : List ℕ) (l : ℕ) where
 -- ---- a return
 
 pub return-is : (s : BuddySettings) (b : Block) (head loans index : List ℕ) (places given : ℕ) (p : Returns.Plan) → places ≡ getD head placesAt 0 → given ≡ getD head givenAt 0
-    → p ≡ Returns.decideReturn loans index (s .store .loans) places given b → p ≡ decideReturn s b (tables head loans [] index [])
+    → p ≡ Returns.decideReturn loans index (s .store .loans) places b → p ≡ decideReturn s b (tables head loans [] index [])
 unfolding decideReturn onLoanOk
-return-is s b head loans index places given p f g d = d ∙ (λ j. Returns.decideReturn loans index (s .store .loans) (f j) (g j) b)
+return-is s b head loans index places given p f g d = d ∙ (λ j. Returns.decideReturn loans index (s .store .loans) (f j) b)

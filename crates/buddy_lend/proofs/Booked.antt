@@ -9,7 +9,7 @@ use Rattle.counter.specs.declared.settings.BuddySettings.{BuddySettings}
 use Rattle.slab.specs.declared.Taken.{Taken}
 use Rattle.store_rules.specs.Loans.{loan, loanRow}
 use Rattle.store_rules.specs.declared.Loan.{Loan}
-use Rattle.book_rules.specs.Book.{vacatedAt, firstOf, nextOf, takenOf, entered, firstBefore, enteredIndex}
+use Rattle.book_rules.specs.Book.{vacatedAt, firstOf, nextOf, takenOf, entered, firstIn, enteredIndex}
 use Rattle.book.proofs.Entering.{entered-loans, entered-index}
 use Rattle.buddy_rules.specs.Level.{levelWords}
 use Rattle.buddy_rules.specs.Tables.{Tables, tables, givenAt, placesAt, placeWords, nodesFrom}
@@ -36,7 +36,7 @@ module _ (s : BuddySettings) (head index : List ℕ) (taken : Taken) (next : tak
 
     pub booked-done : (h′ l′ i′ t′ : List ℕ) → t′ ≡ set tree (nodesFrom s + taken .place) node → h′ ≡ set (set head givenAt (l .serial)) placesAt (taken .slab .places)
         → l′ ≡ written loanRow (taken .place) l loans
-        → i′ ≡ set (set (set index vacatedAt (taken .slab .vacant)) (nextOf (taken .place)) (firstBefore (s .store .loans) (l .serial) index)) (firstOf (l .serial % s .store .loans)) (taken .place)
+        → i′ ≡ set (set (set index vacatedAt (taken .slab .vacant)) (nextOf (taken .place)) (firstIn index (l .serial % s .store .loans))) (firstOf (l .serial % s .store .loans)) (taken .place)
         → tables h′ l′ [] i′ t′ ≡ bookedTables s (l .chunk) (l .offset) (l .size) (record { node = node; room = tree }) (tables head loans [] index [])
     unfolding bookedTables
     booked-done h′ l′ i′ t′ t h ls is =

@@ -6,7 +6,7 @@ ghost use Rattle.counter.specs.InTable.{BuddyIn};
 ghost use Rattle.counter.specs.Limits.{loansMost};
 ghost use Rattle.words.specs.Rows.{written};
 ghost use Rattle.store_rules.specs.Loans.{loanRow};
-ghost use Rattle.book_rules.specs.Book.{vacatedAt, firstOf, nextOf, firstBefore};
+ghost use Rattle.book_rules.specs.Book.{vacatedAt, firstOf, nextOf, firstIn};
 ghost use Rattle.book_rules.specs.Ready.{Opens};
 ghost use Rattle.buddy_rules.specs.Tables.{givenAt, placesAt, nodesFrom};
 use buddy_rules::GIVEN_AT;
@@ -38,7 +38,7 @@ pub fn book_loan(
     requires { ⌜ Opens n (taken .place) (now loans) (now index) ⌝ }
     ensures { λ _. ⌜ now (head .exit) ≡ set (set (now (head .entry)) givenAt (l .serial)) placesAt (taken .slab .places) ⌝ }
     ensures { λ _. ⌜ now (loans .exit) ≡ written loanRow (taken .place) l (now (loans .entry)) ⌝ }
-    ensures { λ _. ⌜ now (index .exit) ≡ set (set (set (now (index .entry)) vacatedAt (taken .slab .vacant)) (nextOf (taken .place)) (firstBefore n (l .serial) (now (index .entry)))) (firstOf (l .serial % n)) (taken .place) ⌝ }
+    ensures { λ _. ⌜ now (index .exit) ≡ set (set (set (now (index .entry)) vacatedAt (taken .slab .vacant)) (nextOf (taken .place)) (firstIn (now (index .entry)) (l .serial % n))) (firstOf (l .serial % n)) (taken .place) ⌝ }
 {
     let after = taken.slab;
     book::enter_at(loans, index, n, taken, l);

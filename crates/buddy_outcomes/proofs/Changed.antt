@@ -7,7 +7,7 @@ use Prim.Native.Nat.{ℕ, _+_, _-_, _*_, _^_, _≤_, _<_}
 use native.Mathlib.Nat.{mul-suc}
 use native.Mathlib.Omega.{arith}
 use lib.Dec.{eqb, ltb}
-use lib.ListN.{length, getD, set, take, drop, length-set}
+use lib.ListN.{length, getD, set, take, drop, replicate, length-set, length-replicate}
 use lib.Seq.{getD-set-same, getD-set-other, drop-set-add, take-set-le}
 use borrow.Author.Tests.{le-ltb}
 use Rattle.lists.proofs.Bools.{true-false, lt-or-le}
@@ -32,7 +32,7 @@ use Rattle.buddy_rules.specs.Level.{levelWords, ringHead, pairTaken, freshLevel
 use Rattle.buddy_rules.proofs.Fresh.{fresh-length, fresh-head, fresh-taken, fresh-none, fresh-good}
 use Rattle.buddy_rules.proofs.Ops.{levelOps}
 use Rattle.buddy_rules.proofs.Parts.{part-length, part-head, part-taken}
-use Rattle.buddy_rules.specs.Tables.{Tables, tables, Lengths, markAt, givenAt, levelsAt, placesAt, chunkPlacesAt, givenIn, levelsIn, placesIn, chunkPlacesIn, levelFrom, chunksFrom, placeAt, topAt, placeWords, nodesFrom, loanIn, liveIn, heldIn, highIn, topIn, vacantChunk, chunkAfter, chunkSlab, vacantLoan, loanAfter, initialLevels}
+use Rattle.buddy_rules.specs.Tables.{Tables, tables, Lengths, chunkWords, treeWords, markAt, givenAt, levelsAt, placesAt, chunkPlacesAt, givenIn, levelsIn, placesIn, chunkPlacesIn, levelFrom, chunksFrom, placeAt, topAt, placeWords, nodesFrom, loanIn, liveIn, heldIn, highIn, topIn, vacantChunk, chunkAfter, chunkSlab, vacantLoan, loanAfter, initialLevels}
 use Rattle.buddy_rules.specs.Sound.{Sound}
 use Rattle.buddy_rules.proofs.Abstract.{storeOf, levels-in, sound-store, Sizes, store-trees}
 use Rattle.buddy_rules.proofs.Walks.{minimal-pos}
@@ -58,70 +58,70 @@ module _ (s : BuddySettings) (t : Tables) (fit : BuddyIn s) (lengths : Lengths s
   small = few-pairs s fit
 
   -- a level that is fresh is good, and has no pair
-  fresh-part : (i : ℕ) → i < levelsMost → length (part (s .pairs) i (t .room)) ≡ levelWords (s .pairs)
-  fresh-part i h = part-length (s .pairs) i (t .room) (omega (arith, levels-in s i h, lengths .room))
+  fresh-part : (r : List ℕ) (i : ℕ) → length r ≡ treeWords s → i < levelsMost → length (part (s .pairs) i r) ≡ levelWords (s .pairs)
+  fresh-part r i long h = part-length (s .pairs) i r (omega (arith, levels-in s i h, long))
 
-  level-good : (i : ℕ) (v : List ℕ) → i < levelsMost → v ≡ freshLevel 0 (part (s .pairs) i (t .room)) → levelOps (s .pairs) (few-pairs s fit) .Good v
-  level-good i v h e =
-      let p : List ℕ = part (s .pairs) i (t .room) in
-      let l : length p ≡ levelWords (s .pairs) = fresh-part i h in
+  level-good : (r : List ℕ) (i : ℕ) (v : List ℕ) → length r ≡ treeWords s → i < levelsMost → v ≡ freshLevel 0 (part (s .pairs) i r) → levelOps (s .pairs) (few-pairs s fit) .Good v
+  level-good r i v long h e =
+      let p : List ℕ = part (s .pairs) i r in
+      let l : length p ≡ levelWords (s .pairs) = fresh-part r i long h in
       rw e (fresh-length 0 p ∙ l, fresh-good 0 p (omega arith) (s .pairs))
 
-  level-none : (i p : ℕ) (v : List ℕ) → i < levelsMost → v ≡ freshLevel 0 (part (s .pairs) i (t .room)) → pairIn 0 v p .tag ≡ 0
-  level-none i p v h e =
-      let l : length (part (s .pairs) i (t .room)) ≡ levelWords (s .pairs) = fresh-part i h in
-      ap (λ (w : List ℕ). pairIn 0 w p .tag) e ∙ ap (λ (x : Ent). x .tag) (fresh-none 0 (part (s .pairs) i (t .room)) (omega arith) p)
+  level-none : (r : List ℕ) (i p : ℕ) (v : List ℕ) → length r ≡ treeWords s → i < levelsMost → v ≡ freshLevel 0 (part (s .pairs) i r) → pairIn 0 v p .tag ≡ 0
+  level-none r i p v long h e =
+      let l : length (part (s .pairs) i r) ≡ levelWords (s .pairs) = fresh-part r i long h in
+      ap (λ (w : List ℕ). pairIn 0 w p .tag) e ∙ ap (λ (x : Ent). x .tag) (fresh-none 0 (part (s .pairs) i r) (omega arith) p)
 
   -- ---- set-up
 
-  pub fresh-lengths : Lengths s (freshTables s t)
+  pub fresh-lengths : Lengths s (freshTables s)
   unfolding freshTables
   fresh-lengths =
       record {
         head = refl;
-        loans = lengths .loans;
-        chunks = lengths .chunks;
-        index = fresh-wide (t .index) ∙ lengths .index;
-        room = length-set (freshLevels s 0 (initialLevels s) (t .room)) (chunksFrom s) nowhere ∙ freshened-long s 0 (initialLevels s) (t .room) ∙ lengths .room;
+        loans = length-replicate (loanWords * s .store .loans) 0;
+        chunks = length-replicate (chunkWords * s .store .chunks) 0;
+        index = fresh-wide (s .store .loans);
+        room = length-set (freshLevels s 0 (initialLevels s) (replicate (treeWords s) 0)) (chunksFrom s) nowhere ∙ freshened-long s 0 (initialLevels s) (replicate (treeWords s) 0) ∙ length-replicate (treeWords s) 0;
       }
 
-  fresh-held : (c : ℕ) → heldIn (freshTables s t) c ≡ false
+  fresh-held : (c : ℕ) → heldIn (freshTables s) c ≡ false
   unfolding freshTables
   fresh-held c = rw (le-ltb c 0 (omega arith))
 
-  fresh-live : (k : ℕ) → liveIn (freshTables s t) k ≡ false
+  fresh-live : (k : ℕ) → liveIn (freshTables s) k ≡ false
   unfolding freshTables
   fresh-live k = rw (le-ltb k 0 (omega arith))
 
-  none-vacated : getD (freshTables s t .room) (chunksFrom s) 0 ≡ nowhere
+  none-vacated : getD (freshTables s .room) (chunksFrom s) 0 ≡ nowhere
   unfolding freshTables
   none-vacated =
-      getD-set-same (freshLevels s 0 (initialLevels s) (t .room)) (chunksFrom s) nowhere 0
-      (omega (arith, freshened-long s 0 (initialLevels s) (t .room), lengths .room))
+      getD-set-same (freshLevels s 0 (initialLevels s) (replicate (treeWords s) 0)) (chunksFrom s) nowhere 0
+      (omega (arith, freshened-long s 0 (initialLevels s) (replicate (treeWords s) 0), length-replicate {A = ℕ} (treeWords s) 0))
 
   module _ (few : initialLevels s ≤ levelsMost) where
-    fresh-level : (i : ℕ) → i < initialLevels s → part (s .pairs) i (freshTables s t .room) ≡ freshLevel 0 (part (s .pairs) i (t .room))
+    fresh-level : (i : ℕ) → i < initialLevels s → part (s .pairs) i (freshTables s .room) ≡ freshLevel 0 (part (s .pairs) i (replicate (treeWords s) 0))
     unfolding freshTables
     fresh-level i h =
-        part-set s i (chunksFrom s) nowhere (freshLevels s 0 (initialLevels s) (t .room)) (omega arith) (omega arith)
-        ∙ freshened s 0 (initialLevels s) (t .room) (omega arith) .inside i (omega arith) (omega arith)
+        part-set s i (chunksFrom s) nowhere (freshLevels s 0 (initialLevels s) (replicate (treeWords s) 0)) (omega arith) (omega arith)
+        ∙ freshened s 0 (initialLevels s) (replicate (treeWords s) 0) (omega arith) .inside i (omega arith) (omega arith)
 
-    fresh-store : Stores.Sound (s .minimal) (levelOps (s .pairs) small) (storeOf s small (freshTables s t)) (λ (c : ℕ). free)
+    fresh-store : Stores.Sound (s .minimal) (levelOps (s .pairs) small) (storeOf s small (freshTables s)) (λ (c : ℕ). free)
     unfolding freshTables
     fresh-store =
-        let u : Tables = freshTables s t in
+        let u : Tables = freshTables s in
         let W : ℕ → List ℕ = λ i. part (s .pairs) i (u .room) in
         sound-as (s .minimal) (levelOps (s .pairs) small) (minimal-pos s fit)
         (record { count = initialLevels s; levels = W; loans = loanIn s u; live = λ k. false; high = λ c. 0; top = λ c. 0 })
         (storeOf s small u) (λ (c : ℕ). free)
         (empty-sound (s .minimal) (levelOps (s .pairs) small) (minimal-pos s fit) (initialLevels s) W (loanIn s u)
-        (λ i h. level-good i (W i) (omega arith) (fresh-level i h)) (λ i p h. level-none i p (W i) (omega arith) (fresh-level i h)))
+        (λ i h. level-good (replicate (treeWords s) 0) i (W i) (length-replicate (treeWords s) 0) (omega arith) (fresh-level i h)) (λ i p h. level-none (replicate (treeWords s) 0) i p (W i) (length-replicate (treeWords s) 0) (omega arith) (fresh-level i h)))
         refl (λ i h. refl) (λ k. refl) fresh-live (λ c. rw (fresh-held c)) (λ c. rw (fresh-held c))
 
-  pub fresh-sound : initialLevels s ≤ levelsMost → Sound s (freshTables s t)
+  pub fresh-sound : initialLevels s ≤ levelsMost → Sound s (freshTables s)
   unfolding freshTables
   fresh-sound few =
-      let u : Tables = freshTables s t in
+      let u : Tables = freshTables s in
       let never : (c : ℕ) → heldIn u c ≡ true → ⊥ = λ c h. true-false _ h (fresh-held c) in
       let dead : (k : ℕ) → liveIn u k ≡ true → ⊥ = λ k h. true-false _ h (fresh-live k) in
       let Z : Sizes s u = record { chunks = λ c h. absurd (never c h); loans = λ k h. absurd (dead k h) } in
@@ -130,8 +130,8 @@ module _ (s : BuddySettings) (t : Tables) (fit : BuddyIn s) (lengths : Lengths s
         marked = refl;
         levels-least = omega arith;
         levels-most = few;
-        loans-parted = subst (λ (v : ℕ). Parted (vacantLoan u) (loanAfter u) (record { places = 0; vacant = v }) (s .store .loans)) (sym (fresh-vacated (t .index) (s .store .loans) (fit .store .loans-some) (lengths .index))) (parted-fresh (vacantLoan u) (loanAfter u) (s .store .loans));
-        chained = fresh-chained (u .loans) (u .index) (s .store .loans) 0 (λ i h. fresh-first (t .index) (s .store .loans) (fit .store .loans-some) (lengths .index) i);
+        loans-parted = subst (λ (v : ℕ). Parted (vacantLoan u) (loanAfter u) (record { places = 0; vacant = v }) (s .store .loans)) (sym (fresh-vacated (s .store .loans))) (parted-fresh (vacantLoan u) (loanAfter u) (s .store .loans));
+        chained = fresh-chained (u .loans) (u .index) (s .store .loans) 0 (fresh-first (s .store .loans));
         chunks-parted = subst (λ (v : ℕ). Parted (vacantChunk u) (chunkAfter s u) (record { places = 0; vacant = v }) (s .store .chunks)) (sym none-vacated) (parted-fresh (vacantChunk u) (chunkAfter s u) (s .store .chunks));
         memories-differ = λ c d h. absurd (never c h);
         good = X .1;
@@ -199,7 +199,7 @@ module _ (s : BuddySettings) (t : Tables) (fit : BuddyIn s) (lengths : Lengths s
           let u : Store (s .minimal) O = record { count = levelsIn t; levels = W; loans = loanIn s t; live = liveIn t; high = highIn s t; top = topIn s t } in
           let A : Stores.Sound (s .minimal) O u T = sound-levels (s .minimal) O (minimal-pos s fit) (storeOf s small t) T (sound-store s small t fit lengths sound) W (λ i h. made .below i h) in
           let fresh : (i : ℕ) → levelsIn t ≤ i → i < n → W i ≡ freshLevel 0 (part (s .pairs) i (t .room)) = λ i k h. made .inside i k (omega arith) in
-          let B = grown-sound (s .minimal) O (minimal-pos s fit) u T A n more (λ i k h. level-good i (W i) (omega arith) (fresh i k h)) (λ i p k h. level-none i p (W i) (omega arith) (fresh i k h)) in
+          let B = grown-sound (s .minimal) O (minimal-pos s fit) u T A n more (λ i k h. level-good (t .room) i (W i) (lengths .room) (omega arith) (fresh i k h)) (λ i p k h. level-none (t .room) i p (W i) (lengths .room) (omega arith) (fresh i k h)) in
           sound-as (s .minimal) O (minimal-pos s fit) (grownTo (s .minimal) O n u) (storeOf s small grown) T B count (λ i h. refl) loaned live high top
 
       sizes : Sizes s grown
@@ -269,7 +269,7 @@ module _ (s : BuddySettings) (t : Tables) (fit : BuddyIn s) (lengths : Lengths s
           part-head (s .pairs) j u
           ∙ ⊎-elim
           (λ k. ap (ringHead 0) (made n more most .below j k) ∙ sym (part-head (s .pairs) j (t .room)) ∙ f k)
-          (λ k. ap (ringHead 0) (made n more most .inside j k (omega arith)) ∙ fresh-head 0 (part (s .pairs) j (t .room)) (omega (arith, fresh-part j (omega arith))))
+          (λ k. ap (ringHead 0) (made n more most .inside j k (omega arith)) ∙ fresh-head 0 (part (s .pairs) j (t .room)) (omega (arith, fresh-part (t .room) j (lengths .room) (omega arith))))
           (lt-or-le j (levelsIn t))
 
       place-there : (j : ℕ) → j < n → (j < levelsIn t → pairTaken (levelFrom s j) (t .room) .place < s .pairs) → pairTaken 0 (part (s .pairs) j (grownTables s n t .room)) .place < s .pairs
@@ -279,7 +279,7 @@ module _ (s : BuddySettings) (t : Tables) (fit : BuddyIn s) (lengths : Lengths s
           ap (λ (x : List ℕ). pairTaken 0 x .place) (made n more most .below j k) ∙ sym (ap (λ (x : Taken). x .place) (part-taken (s .pairs) j (t .room) (sound .good j k))) in
           omega (arith, e, f k))
           (λ k. let e : pairTaken 0 (part (s .pairs) j (grown n more most .room)) .place ≡ 0 =
-          ap (λ (x : List ℕ). pairTaken 0 x .place) (made n more most .inside j k (omega arith)) ∙ fresh-taken 0 (part (s .pairs) j (t .room)) (omega (arith, fresh-part j (omega arith))) in
+          ap (λ (x : List ℕ). pairTaken 0 x .place) (made n more most .inside j k (omega arith)) ∙ fresh-taken 0 (part (s .pairs) j (t .room)) (omega (arith, fresh-part (t .room) j (lengths .room) (omega arith))) in
           omega (arith, e, fit .pairs-some))
           (lt-or-le j (levelsIn t))
 

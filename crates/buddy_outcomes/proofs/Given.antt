@@ -76,7 +76,7 @@ module _ (s : BuddySettings) (t : Tables) (fit : BuddyIn s) (lengths : Lengths s
   pub word-in : w < indexWords n
   word-in =
       let serial : serialOf (t .loans) k ≡ b .serial = cell-row (t .loans) serialAt loanWords k ∙ on-loan-is s t fit lengths sound b on .1 .serial in
-      subst (λ (x : ℕ). wordTo (t .loans) (t .index) n (placesIn t) (givenIn t) x < indexWords n) serial
+      subst (λ (x : ℕ). wordTo (t .loans) (t .index) n (placesIn t) x < indexWords n) serial
       (found (t .loans) (t .index) n (placesIn t) (givenIn t) (fit .store .loans-some) limit few (sound .chained) k (used .0) (used .1) .0)
 
   -- its words are the block's
@@ -141,12 +141,12 @@ module _ (s : BuddySettings) (t : Tables) (fit : BuddyIn s) (lengths : Lengths s
 
   after-chained : BookChained loans′ index′ n (placesIn t) (givenIn t)
   after-chained =
-      subst (λ (x : ℕ). BookChained (struck (wordTo (t .loans) (t .index) n (placesIn t) (givenIn t) x) (t .index) (t .loans)) (struckIndex (wordTo (t .loans) (t .index) n (placesIn t) (givenIn t) x) (t .index)) n (placesIn t) (givenIn t)) (says .serial)
+      subst (λ (x : ℕ). BookChained (struck (wordTo (t .loans) (t .index) n (placesIn t) x) (t .index) (t .loans)) (struckIndex (wordTo (t .loans) (t .index) n (placesIn t) x) (t .index)) n (placesIn t) (givenIn t)) (says .serial)
       (struck-chained (t .loans) (t .index) n (placesIn t) (givenIn t) (fit .store .loans-some) limit few (sound .chained) k (used .0) (used .1) (lengths .loans) (lengths .index))
 
   after-parted : BookParted loans′ index′ n (placesIn t)
   after-parted =
-      subst (λ (x : ℕ). BookParted (struck (wordTo (t .loans) (t .index) n (placesIn t) (givenIn t) x) (t .index) (t .loans)) (struckIndex (wordTo (t .loans) (t .index) n (placesIn t) (givenIn t) x) (t .index)) n (placesIn t)) (says .serial)
+      subst (λ (x : ℕ). BookParted (struck (wordTo (t .loans) (t .index) n (placesIn t) x) (t .index) (t .loans)) (struckIndex (wordTo (t .loans) (t .index) n (placesIn t) x) (t .index)) n (placesIn t)) (says .serial)
       (struck-parted (t .loans) (t .index) n (placesIn t) (givenIn t) (fit .store .loans-some) limit few (sound .chained) k (used .0) (used .1) (lengths .loans) (lengths .index) (sound .loans-parted))
 
   module _ (small : s .pairs ≤ 2 ^ 32) where

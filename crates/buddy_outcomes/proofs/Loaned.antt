@@ -70,7 +70,7 @@ module _ (s : BuddySettings) (t : Tables) (fit : BuddyIn s) (lengths : Lengths s
       let serial : serialOf (t .loans) k ≡ b .serial = cell-row (t .loans) serialAt loanWords k ∙ r .serial in
       let f = found (t .loans) (t .index) n (placesIn t) (givenIn t) (fit .store .loans-some) (sound .loans-parted .limit) (omega (arith, fit .store .loans-most)) (sound .chained) k (u .0) (u .1) in
       let g : (wordFor s b t < indexWords n) × (getD (t .index) (wordFor s b t) 0 ≡ k) =
-      subst (λ (x : ℕ). (wordTo (t .loans) (t .index) n (placesIn t) (givenIn t) x < indexWords n) × (getD (t .index) (wordTo (t .loans) (t .index) n (placesIn t) (givenIn t) x) 0 ≡ k)) serial f in
+      subst (λ (x : ℕ). (wordTo (t .loans) (t .index) n (placesIn t) x < indexWords n) × (getD (t .index) (wordTo (t .loans) (t .index) n (placesIn t) x) 0 ≡ k)) serial f in
       let there : not (eqb (wordFor s b t) nowhere) ≡ true = ap not (ne-eqb (wordFor s b t) nowhere (λ e. omega (arith, g .0, fit .store .loans-most))) in
       let same : sameLoan b (row loanRow (getD (t .index) (wordFor s b t) 0) (t .loans)) ≡ true =
       ap (λ (p : ℕ). sameLoan b (row loanRow p (t .loans))) (g .1) ∙ loan-same b (row loanRow k (t .loans)) r in

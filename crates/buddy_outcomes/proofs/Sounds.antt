@@ -34,7 +34,7 @@ use Rattle.buddy_outcomes.proofs.Taken.{taken-sound}
 -- ---- set-up
 
 -- what fits is set up
-set-up-fit : (s : BuddySettings) (t : Tables) → fitOk s t ≡ true → setUpOf s t ≡ begun Paper.ready (freshTables s t)
+set-up-fit : (s : BuddySettings) (t : Tables) → fitOk s t ≡ true → setUpOf s t ≡ begun Paper.ready (freshTables s)
 unfolding setUpOf planSetUp carrySetUp
 set-up-fit s t e = ap (λ (b : Bool). carrySetUp s t (first ((b, 1) ∷ []))) e
 

@@ -21,11 +21,11 @@ use Rattle.buddy_outcomes.specs.Gate.{gateOf}
 
 -- the word of the index that leads to the loan with the block's serial, and the loan's place
 abbrev pub wordFor : BuddySettings → Block → Tables → ℕ
-wordFor s b t = Returns.wordFor (t .loans) (t .index) (s .store .loans) (placesIn t) (givenIn t) b
+wordFor s b t = Returns.wordFor (t .loans) (t .index) (s .store .loans) (placesIn t) b
 
 -- 7: "no loan has this serial, chunk, offset and size"
 unfoldable pub onLoanOk : BuddySettings → Block → Tables → Bool
-onLoanOk s b t = Returns.onLoanOk (t .loans) (t .index) (s .store .loans) (placesIn t) (givenIn t) b
+onLoanOk s b t = Returns.onLoanOk (t .loans) (t .index) (s .store .loans) (placesIn t) b
 
 -- the climb from node n of level l
 abbrev pub climbFrom : BuddySettings → ℕ → ℕ → Tables → Climbed

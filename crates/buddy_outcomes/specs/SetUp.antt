@@ -1,27 +1,33 @@
 -- What set-up of a buddy store says and leaves.
 use mathlib.Core.Bool.{Bool, _&&_}
 use mathlib.Core.List.{List, [], _∷_}
-use Prim.Native.Nat.{ℕ}
-use lib.ListN.{set}
+use Prim.Native.Nat.{ℕ, _*_}
+use lib.ListN.{set, replicate}
 use Rattle.counter.specs.Gate.{Verdict, pass, refuse, first}
 use Rattle.counter.specs.Paper as Paper
 use Rattle.counter.specs.Table.{buddyOk}
 use Rattle.counter.specs.declared.settings.BuddySettings.{BuddySettings}
 use Rattle.slab.specs.Slab.{nowhere}
+use Rattle.store_rules.specs.Loans.{loanWords}
 use Rattle.book_rules.specs.Book.{freshIndex}
 pub use Rattle.store_rules.specs.Tables.{Begun, begun}
-use Rattle.buddy_rules.specs.Tables.{Tables, tables, mark, lengthsOk, chunksFrom, initialLevels}
+use Rattle.buddy_rules.specs.Tables.{Tables, tables, mark, lengthsOk, chunkWords, chunksFrom, treeWords, initialLevels}
 use Rattle.buddy_outcomes.specs.Ask.{freshLevels}
 
 -- the mark; nothing given, and "Initial levels"; no place used
 abbrev pub freshHead : BuddySettings → List ℕ
 freshHead s = mark ∷ 0 ∷ initialLevels s ∷ 0 ∷ 0 ∷ []
 
--- the initial levels are there and empty, no chunk place is vacated, no loan is in the book
-unfoldable pub freshTables : BuddySettings → Tables → Tables
-freshTables s t =
-    tables (freshHead s) (t .loans) (t .chunks) (freshIndex (t .index))
-    (set (freshLevels s 0 (initialLevels s) (t .room)) (chunksFrom s) nowhere)
+-- every word of every table is written, whatever was lent: no loan, no chunk, no link; the initial levels are there and empty, and
+-- no chunk place is vacated
+unfoldable pub freshTables : BuddySettings → Tables
+freshTables s =
+    tables
+    (freshHead s)
+    (replicate (loanWords * s .store .loans) 0)
+    (replicate (chunkWords * s .store .chunks) 0)
+    (freshIndex (s .store .loans))
+    (set (freshLevels s 0 (initialLevels s) (replicate (treeWords s) 0)) (chunksFrom s) nowhere)
 
 -- 1, but for the account, which set-up does not take
 unfoldable pub fitOk : BuddySettings → Tables → Bool
@@ -34,7 +40,7 @@ planSetUp s t = first ((fitOk s t, 1) ∷ [])
 -- a refused set-up leaves every word as it was
 unfoldable pub carrySetUp : BuddySettings → Tables → Verdict → Begun
 carrySetUp s t (refuse n) = begun (Paper.refusal n []) t
-carrySetUp s t pass = begun Paper.ready (freshTables s t)
+carrySetUp s t pass = begun Paper.ready (freshTables s)
 
 -- what set-up says and leaves, for every input
 unfoldable pub setUpOf : BuddySettings → Tables → Begun

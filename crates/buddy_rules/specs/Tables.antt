@@ -185,7 +185,7 @@ abbrev pub loanSlab : Tables → Slab
 loanSlab t = slabOf (placesIn t) (t .index)
 
 abbrev pub chainStart : Tables → ℕ → ℕ
-chainStart t = firstIn (givenIn t) (t .index)
+chainStart t = firstIn (t .index)
 
 abbrev pub chainNext : Tables → ℕ → ℕ
 chainNext t p = getD (t .index) (nextOf p) 0

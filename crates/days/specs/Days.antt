@@ -18,7 +18,7 @@ use Rattle.store_rules.specs.Delivery.{deliveryOk}
 use Rattle.store_rules.specs.Loans.{loansOf}
 use Rattle.store_rules.specs.Outcomes.{out, listed, chargedAccount, releasedAccount}
 use Rattle.store_rules.specs.Tests.{coversOk}
-use Rattle.book_rules.specs.Book.{firstIn, freshIndex, entered, firstBefore, enteredIndex, seekIn, wordTo, struck, struckIndex}
+use Rattle.book_rules.specs.Book.{freshIndex, entered, enteredIndex, seekIn, wordTo, struck, struckIndex}
 use Rattle.book_rules.specs.Chains.{linkOk, leftAfter, leftOf, chainsOk}
 use Rattle.freelist_rules.specs.Walk.{fillsOk, sizedOk, chunkOk, loanOk}
 use Rattle.freelist_rules.specs.Place.{fitsIn, findFrom, cutOff}
@@ -163,8 +163,8 @@ days = (ranking ++ lending) ++ splitting
 first-worked : map (λ (d : Day). d .gives) (ranking ++ lending) ≡ map (λ (d : Day). d .says) (ranking ++ lending)
 unfolding ranking lending servesOk patternOf wantedOf keyOf before placed order rowAs alignmentOk storeOk freeListOk
     heapsUpto onesOk powerOk upTo downTo bits powerUp ceilDiv grown doubled plusOf chargedOf releasedOf bearsOk
-    agreesOk inserted vacancies leads partedOk deliveryOk loansOf chargedAccount releasedAccount coversOk firstIn
-    freshIndex entered firstBefore enteredIndex seekIn wordTo struck struckIndex linkOk leftAfter leftOf chainsOk
+    agreesOk inserted vacancies leads partedOk deliveryOk loansOf chargedAccount releasedAccount coversOk
+    freshIndex entered enteredIndex seekIn wordTo struck struckIndex linkOk leftAfter leftOf chainsOk
     fillsOk sizedOk chunkOk loanOk fitsIn findFrom cutOff insert staying leaving remaining lengthsOk ordered storeOf
     soundOk laidRegions inTableOk accountOk gateOf sizeOk roomOk countOk objectsOk decideAsk takenTables orderedTables
     carryAsk planAsk askOf deliverGateOf deliveredTables carryFate planDeliver carryDeliver deliverOf onLoanOk

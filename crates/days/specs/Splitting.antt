@@ -20,7 +20,7 @@ use Rattle.ring_rules.specs.Test.{metAfter, ringLength}
 use Rattle.store_rules.specs.Delivery.{deliveryOk}
 use Rattle.store_rules.specs.Outcomes.{Out, Listed, chargedAccount, releasedAccount}
 use Rattle.store_rules.specs.Tests.{coversOk}
-use Rattle.book_rules.specs.Book.{firstIn, freshIndex, entered, firstBefore, enteredIndex, seekIn, wordTo, struck, struckIndex}
+use Rattle.book_rules.specs.Book.{freshIndex, entered, enteredIndex, seekIn, wordTo, struck, struckIndex}
 use Rattle.book_rules.specs.Chains.{chainsOk, leftOf, leftAfter, linkOk}
 use Rattle.buddy_trees.specs.Trees.{bytes}
 use Rattle.buddy_rules.specs.Level.{dropped, backed, acquired, added, freshLevel}
@@ -93,7 +93,7 @@ splitting =
 pub split-worked : map (λ (d : Day). d .gives) splitting ≡ map (λ (d : Day). d .says) splitting
 unfolding splitting trailingZeros onesOk powerOk upTo bits powerUp levelOf alignmentOk storeOk buddyOk heapsUpto
     plusOf chargedOf releasedOf bearsOk agreesOk inserted partedOk leads vacancies unlinked linked metAfter ringLength
-    deliveryOk chargedAccount releasedAccount coversOk firstIn freshIndex entered firstBefore enteredIndex seekIn
+    deliveryOk chargedAccount releasedAccount coversOk freshIndex entered enteredIndex seekIn
     wordTo struck struckIndex chainsOk leftOf leftAfter linkOk bytes dropped backed acquired Level.entered added
     freshLevel along goodOk lengthsOk leafOk entryOk nodeOk chunkOk leadsOk pairOk loanOk treesOk memoriesOk unitsOk
     soundOk climbed worded splitDown splitChunk inTableOk heldCount heldBytes accountOk gateOf sizeFor levelFor searchFrom

@@ -7,11 +7,8 @@ use native.Mathlib.Numerals.{add-one}
 use lib.ListN.{length, getD, take, drop, set, replicate, length-drop, length-replicate}
 use lib.Seq.{length-take-le, take-suc-set, take-all, drop-length, getD-drop, paste, paste-suc}
 use Rattle.words.specs.Words.{cellOf}
+use Rattle.words.proofs.Filled.{put-next}
 use Rattle.distinct.specs.Column.{column, columnFrom}
-
--- the next word of what is to stand there, put after those that do
-pub put-next : (whole t : List ℕ) (k v : ℕ) (rest : List ℕ) → k < length t → whole ≡ take k t ++ (v ∷ rest) → whole ≡ take (k + 1) (set t k v) ++ rest
-put-next whole t k v rest h e = e ∙ rw (add-one k, take-suc-set t k v h) (sym (append-assoc (take k t) (v ∷ []) rest))
 
 -- ---- a column gathered, a word a turn
 

@@ -62,7 +62,7 @@ module _ (s : FreeListSettings) (t : Tables) (fit : FreeListIn s) (sound : Sound
       let at = block-leads s t fit sound b lent in
       let few : n < nowhere = omega (arith, fit .store .loans-most) in
       let f = found (t .loans) (t .index) n (placesIn t) given (fit .store .loans-some) (sound .parted .limit) few (sound .chained) (getD (t .index) (wordFor s b t) 0) (at .0) (at .1) in
-      subst (λ (k : ℕ). wordTo (t .loans) (t .index) n (placesIn t) given k < indexWords n) (at .2) (f .0)
+      subst (λ (k : ℕ). wordTo (t .loans) (t .index) n (placesIn t) k < indexWords n) (at .2) (f .0)
 
   -- and leads to a place below the limit
   pub strikes-ready : lengthsOk s t ≡ true → Strikes (wordFor s b t) (getD (t .index) (wordFor s b t) 0) (t .loans) (t .index)

@@ -40,6 +40,6 @@ module _ (s : FreeListSettings) (b : Block) (t : Tables) where
 
   -- as the crate `returning` decides it
   pub return-is : (places given : ℕ) (p : Returns.Plan) → places ≡ placesIn t → given ≡ getD (t .head) givenAt 0
-      → p ≡ Returns.decideReturn (t .loans) (t .index) (s .store .loans) places given b → p ≡ decideReturn s b t
+      → p ≡ Returns.decideReturn (t .loans) (t .index) (s .store .loans) places b → p ≡ decideReturn s b t
   unfolding decideReturn onLoanOk
-  return-is places given p f g d = d ∙ (λ j. Returns.decideReturn (t .loans) (t .index) (s .store .loans) (f j) (g j) b)
+  return-is places given p f g d = d ∙ (λ j. Returns.decideReturn (t .loans) (t .index) (s .store .loans) (f j) b)

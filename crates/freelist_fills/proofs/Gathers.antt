@@ -11,7 +11,7 @@ use lib.Seq.{drop-cons, drop-length}
 use borrow.Author.Tests.{eq-eqb, ne-eqb, leb-true, leb-false, lt-ltb, le-ltb}
 use Rattle.counter.specs.Limits.{chunkSizeMost}
 use Rattle.lists.proofs.Bools.{and-both, or-cases}
-use Rattle.distinct.proofs.Filling.{put-next}
+use Rattle.words.proofs.Filled.{put-next}
 use Rattle.words.specs.Rows.{row, rows}
 use Rattle.words.proofs.Records.{length-rows, getD-rows}
 use Rattle.store_rules.specs.Loans.{loanRow, onLoan, loansOf}

@@ -5,7 +5,7 @@ use mathlib.Core.Bool.{Bool}
 use mathlib.Core.List.{List, [], _∷_}
 use Prim.Native.Nat.{ℕ, _+_, _≤_, _<_}
 use native.Mathlib.Omega.{arith}
-use lib.ListN.{length, getD, set, length-append}
+use lib.ListN.{length, getD, set, replicate, length-append, getD-replicate}
 use lib.Seq.{getD-set-same}
 use Rattle.words.specs.Rows.{rows, laid}
 use Rattle.words.proofs.Records.{length-laid, rows-laid}
@@ -50,24 +50,24 @@ module _ (s : FreeListSettings) (t : Tables) (fit : FreeListIn s) (lengths : Len
   -- ---- set-up
 
   -- no region is counted
-  fresh-count : regionsIn s (freshTables s t) ≡ 0
+  fresh-count : regionsIn s (freshTables s) ≡ 0
   unfolding freshTables
-  fresh-count = getD-set-same (t .room) (regionCountAt s) 0 0 (omega (arith, lengths .room))
+  fresh-count = getD-replicate (regionCountAt s + 1) (regionCountAt s) 0 0 (omega arith)
 
-  pub fresh-store : storeOf s (freshTables s t) ≡ fresh s
+  pub fresh-store : storeOf s (freshTables s) ≡ fresh s
   unfolding freshTables storeOf loansOf ordered
-  fresh-store = ap (λ (n : ℕ). record { given = 0; made = 0; size = s .start; loans = []; chunks = []; regions = rows regionRow n (set (t .room) (regionCountAt s) 0) }) fresh-count
+  fresh-store = ap (λ (n : ℕ). record { given = 0; made = 0; size = s .start; loans = []; chunks = []; regions = rows regionRow n (replicate (regionCountAt s + 1) 0) }) fresh-count
 
-  pub fresh-tables-sound : SoundTables s (freshTables s t)
+  pub fresh-tables-sound : SoundTables s (freshTables s)
   unfolding freshTables
   fresh-tables-sound =
-      let u = freshTables s t in
+      let u = freshTables s in
       record {
         marked = refl;
         chunks-fit = omega arith;
         regions-fit = omega (arith, fresh-count);
-        parted = subst (λ (v : ℕ). Parted (vacantIn u) (vacantAfterIn u) (record { places = 0; vacant = v }) (s .store .loans)) (sym (fresh-vacated (t .index) (s .store .loans) (fit .store .loans-some) (lengths .index))) (parted-fresh (vacantIn u) (vacantAfterIn u) (s .store .loans));
-        chained = fresh-chained (u .loans) (u .index) (s .store .loans) 0 (λ i h. fresh-first (t .index) (s .store .loans) (fit .store .loans-some) (lengths .index) i);
+        parted = subst (λ (v : ℕ). Parted (vacantIn u) (vacantAfterIn u) (record { places = 0; vacant = v }) (s .store .loans)) (sym (fresh-vacated (s .store .loans))) (parted-fresh (vacantIn u) (vacantAfterIn u) (s .store .loans));
+        chained = fresh-chained (u .loans) (u .index) (s .store .loans) 0 (fresh-first (s .store .loans));
         store = subst (Sound s) (sym fresh-store) (fresh-sound s fit);
       }
 

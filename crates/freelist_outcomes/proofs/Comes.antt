@@ -282,7 +282,7 @@ module _ (s : FreeListSettings) (a : Account) (t : Tables) (list : List ℕ) whe
 
 pub data SetUpComes (s : FreeListSettings) (t : Tables) : Begun → Type 0 where
   denied : SetUpComes s t (begun (Paper.refusal 1 []) t)
-  readies : FreeListIn s → Lengths s t → SetUpComes s t (begun Paper.ready (freshTables s t))
+  readies : FreeListIn s → Lengths s t → SetUpComes s t (begun Paper.ready (freshTables s))
 
 pub set-up-comes : (s : FreeListSettings) (t : Tables) → SetUpComes s t (setUpOf s t)
 unfolding setUpOf planSetUp carrySetUp fitOk

@@ -80,7 +80,7 @@ module _ (s : FreeListSettings) (t : Tables) (fit : FreeListIn s) (sound : Sound
       let w = place-of (placesIn t) (t .loans) (v .0) (ordered-out (v .0) (loansOf (placesIn t) (t .loans)) (v .1)) in
       let f = found (t .loans) (t .index) n (placesIn t) (getD (t .head) givenAt 0) (fit .store .loans-some) (sound .parted .limit) (omega (arith, fit .store .loans-most)) (sound .chained) (w .loanPlace) (w .below) (w .used) in
       let g : (wordFor s b t < indexWords n) × (getD (t .index) (wordFor s b t) 0 ≡ w .loanPlace) =
-      subst (λ (k : ℕ). (wordTo (t .loans) (t .index) n (placesIn t) (getD (t .head) givenAt 0) k < indexWords n) × (getD (t .index) (wordTo (t .loans) (t .index) n (placesIn t) (getD (t .head) givenAt 0) k) 0 ≡ w .loanPlace)) (w .serial ∙ v .2 .serial) f in
+      subst (λ (k : ℕ). (wordTo (t .loans) (t .index) n (placesIn t) k < indexWords n) × (getD (t .index) (wordTo (t .loans) (t .index) n (placesIn t) k) 0 ≡ w .loanPlace)) (w .serial ∙ v .2 .serial) f in
       let there : not (eqb (wordFor s b t) nowhere) ≡ true = ap not (ne-eqb (wordFor s b t) nowhere (λ e. omega (arith, g .0, fit .store .loans-most))) in
       let same : sameLoan b (row loanRow (getD (t .index) (wordFor s b t) 0) (t .loans)) ≡ true =
       ap (λ (p : ℕ). sameLoan b (row loanRow p (t .loans))) (g .1) ∙ ap (sameLoan b) (w .is) ∙ loan-same b (v .0) (v .2) in
@@ -147,7 +147,7 @@ module _ (s : FreeListSettings) (t : Tables) (fit : FreeListIn s) (lengths : Len
       let v : changed (freeIn (t .loans)) place true (w .loanPlace) ≡ false = sym (vacant-now (t .loans) n place (lengths .loans) inside (w .loanPlace)) ∙ w .used in
       let k : serialOf (t .loans) (w .loanPlace) ≡ serialOf (t .loans) place = sym (serial-kept (t .loans) n place (lengths .loans) inside (w .loanPlace)) ∙ w .serial ∙ e in
       ⊎-elim (λ q. true-false _ (changed-here (freeIn (t .loans)) place true (w .loanPlace) q) v)
-      (λ q. q (serial-once (freeIn (t .loans)) (firstIn given (t .index)) (nextIn (t .index)) (serialOf (t .loans)) n (placesIn t) given (w .loanPlace) place (fit .store .loans-some) (sound .chained) (w .below) (leads .0) (sym (changed-other (freeIn (t .loans)) place true (w .loanPlace) q) ∙ v) (leads .1) k))
+      (λ q. q (serial-once (freeIn (t .loans)) (firstIn (t .index)) (nextIn (t .index)) (serialOf (t .loans)) n (placesIn t) given (w .loanPlace) place (fit .store .loans-some) (sound .chained) (w .below) (leads .0) (sym (changed-other (freeIn (t .loans)) place true (w .loanPlace) q) ∙ v) (leads .1) k))
       (same? (w .loanPlace) place)
 
   given-loans : ordered (loansOf (placesIn t) after) ≡ without (b .serial) (storeOf s t .loans)
@@ -184,12 +184,12 @@ module _ (s : FreeListSettings) (t : Tables) (fit : FreeListIn s) (lengths : Len
 
   given-chained : BookChained (struck word (t .index) (t .loans)) (struckIndex word (t .index)) n (placesIn t) given
   given-chained =
-      subst (λ (k : ℕ). BookChained (struck (wordTo (t .loans) (t .index) n (placesIn t) (getD (t .head) givenAt 0) k) (t .index) (t .loans)) (struckIndex (wordTo (t .loans) (t .index) n (placesIn t) (getD (t .head) givenAt 0) k) (t .index)) n (placesIn t) given) (leads .2)
+      subst (λ (k : ℕ). BookChained (struck (wordTo (t .loans) (t .index) n (placesIn t) k) (t .index) (t .loans)) (struckIndex (wordTo (t .loans) (t .index) n (placesIn t) k) (t .index)) n (placesIn t) given) (leads .2)
       (struck-chained (t .loans) (t .index) n (placesIn t) given (fit .store .loans-some) limit few (sound .chained) place (leads .0) (leads .1) (lengths .loans) (lengths .index))
 
   given-parted : BookParted (struck word (t .index) (t .loans)) (struckIndex word (t .index)) n (placesIn t)
   given-parted =
-      subst (λ (k : ℕ). BookParted (struck (wordTo (t .loans) (t .index) n (placesIn t) (getD (t .head) givenAt 0) k) (t .index) (t .loans)) (struckIndex (wordTo (t .loans) (t .index) n (placesIn t) (getD (t .head) givenAt 0) k) (t .index)) n (placesIn t)) (leads .2)
+      subst (λ (k : ℕ). BookParted (struck (wordTo (t .loans) (t .index) n (placesIn t) k) (t .index) (t .loans)) (struckIndex (wordTo (t .loans) (t .index) n (placesIn t) k) (t .index)) n (placesIn t)) (leads .2)
       (struck-parted (t .loans) (t .index) n (placesIn t) given (fit .store .loans-some) limit few (sound .chained) place (leads .0) (leads .1) (lengths .loans) (lengths .index) (sound .parted))
 
   pub given-sound : SoundTables s (givenTables s b (wordFor s b t) t)

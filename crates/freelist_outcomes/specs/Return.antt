@@ -23,11 +23,11 @@ use Rattle.freelist_outcomes.specs.Gate.{gateOf}
 
 -- the word of the index that leads to the loan with the block's serial
 abbrev pub wordFor : FreeListSettings → Block → Tables → ℕ
-wordFor s b t = Returns.wordFor (t .loans) (t .index) (s .store .loans) (placesIn t) (getD (t .head) givenAt 0) b
+wordFor s b t = Returns.wordFor (t .loans) (t .index) (s .store .loans) (placesIn t) b
 
 -- 7: "no loan has this serial, chunk, offset and size"
 unfoldable pub onLoanOk : FreeListSettings → Block → Tables → Bool
-onLoanOk s b t = Returns.onLoanOk (t .loans) (t .index) (s .store .loans) (placesIn t) (getD (t .head) givenAt 0) b
+onLoanOk s b t = Returns.onLoanOk (t .loans) (t .index) (s .store .loans) (placesIn t) b
 
 -- the loan that the word w leads to is struck out, and its bytes go back among the free regions
 unfoldable pub givenTables : FreeListSettings → Block → ℕ → Tables → Tables

@@ -1,24 +1,31 @@
 -- What set-up says and leaves.
 use mathlib.Core.Bool.{Bool, _&&_}
 use mathlib.Core.List.{List, [], _∷_}
-use Prim.Native.Nat.{ℕ}
-use lib.ListN.{set}
+use Prim.Native.Nat.{ℕ, _+_, _*_}
+use lib.ListN.{replicate}
 use Rattle.counter.specs.Gate.{Verdict, pass, refuse, first}
 use Rattle.counter.specs.Paper as Paper
 use Rattle.counter.specs.Table.{freeListOk}
 use Rattle.counter.specs.declared.settings.FreeListSettings.{FreeListSettings}
+use Rattle.store_rules.specs.Loans.{loanWords}
 use Rattle.book_rules.specs.Book.{freshIndex}
 pub use Rattle.store_rules.specs.Tables.{Begun, begun}
+use Rattle.freelist_rules.specs.Records.{chunkWords}
 use Rattle.freelist_rules.specs.Tables.{Tables, tables, mark, regionCountAt, lengthsOk}
 
 -- the mark; nothing given or held, and the chunk size of the settings
 abbrev pub freshHead : FreeListSettings → List ℕ
 freshHead s = mark ∷ 0 ∷ 0 ∷ s .start ∷ 0 ∷ 0 ∷ []
 
--- no region; no loan is in the book
-unfoldable pub freshTables : FreeListSettings → Tables → Tables
-freshTables s t =
-    tables (freshHead s) (t .loans) (t .chunks) (freshIndex (t .index)) (set (t .room) (regionCountAt s) 0)
+-- every word of every table is written, whatever was lent: no loan, no chunk, no link, no region
+unfoldable pub freshTables : FreeListSettings → Tables
+freshTables s =
+    tables
+    (freshHead s)
+    (replicate (loanWords * s .store .loans) 0)
+    (replicate (chunkWords * s .store .chunks) 0)
+    (freshIndex (s .store .loans))
+    (replicate (regionCountAt s + 1) 0)
 
 -- 1, but for the account, which set-up does not take
 unfoldable pub fitOk : FreeListSettings → Tables → Bool
@@ -31,7 +38,7 @@ planSetUp s t = first ((fitOk s t, 1) ∷ [])
 -- a refusal leaves every word as it was
 unfoldable pub carrySetUp : FreeListSettings → Tables → Verdict → Begun
 carrySetUp s t (refuse n) = begun (Paper.refusal n []) t
-carrySetUp s t pass = begun Paper.ready (freshTables s t)
+carrySetUp s t pass = begun Paper.ready (freshTables s)
 
 -- the call
 unfoldable pub setUpOf : FreeListSettings → Tables → Begun

@@ -11,7 +11,7 @@ use Rattle.slab.specs.declared.Taken.{Taken}
 use Rattle.store_rules.specs.Loans.{loanRow}
 use Rattle.store_rules.specs.declared.Loan.{Loan}
 use Rattle.store_rules.specs.declared.Region.{Region}
-use Rattle.book_rules.specs.Book.{vacatedAt, firstOf, nextOf, firstBefore, takenOf, entered, enteredIndex}
+use Rattle.book_rules.specs.Book.{vacatedAt, firstOf, nextOf, firstIn, takenOf, entered, enteredIndex}
 use Rattle.freelist_rules.specs.Records.{region, regionRow}
 use Rattle.freelist_rules.specs.Place.{cutOff, lentLoan}
 use Rattle.freelist_rules.specs.Steps.{noRegion}
@@ -43,7 +43,7 @@ module _ (s : FreeListSettings) (i start : ℕ) (head regions : List ℕ) where
       (written loanRow (k .place) l loans)
       []
       (set
-      (set (set index vacatedAt (k .slab .vacant)) (nextOf (k .place)) (firstBefore (s .store .loans) (l .serial) index))
+      (set (set index vacatedAt (k .slab .vacant)) (nextOf (k .place)) (firstIn index (l .serial % s .store .loans)))
       (firstOf (l .serial % s .store .loans))
       (k .place))
       (laidRegions s (cutOff start i (regionsOf s regions)) regions)
@@ -51,7 +51,7 @@ module _ (s : FreeListSettings) (i start : ℕ) (head regions : List ℕ) where
   pub lent-done : (loans index h′ l′ r′ i′ : List ℕ) (k : Taken) (l : Loan) → l ≡ Served
       → r′ ≡ laidRegions s (cutOff start i (regionsOf s regions)) regions
       → l′ ≡ written loanRow (k .place) l loans
-      → i′ ≡ set (set (set index vacatedAt (k .slab .vacant)) (nextOf (k .place)) (firstBefore (s .store .loans) (l .serial) index)) (firstOf (l .serial % s .store .loans)) (k .place)
+      → i′ ≡ set (set (set index vacatedAt (k .slab .vacant)) (nextOf (k .place)) (firstIn index (l .serial % s .store .loans))) (firstOf (l .serial % s .store .loans)) (k .place)
       → h′ ≡ set (set head givenAt (l .serial)) placesAt (k .slab .places)
       → tables h′ l′ [] i′ r′ ≡ lentTables s start k (tables head loans [] index regions) i
   unfolding storeOf lentTables enteredAt

@@ -8,7 +8,7 @@ use Rattle.slab.specs.declared.Taken.{Taken}
 use Rattle.store_rules.specs.Loans.{loanRow}
 use Rattle.store_rules.specs.declared.Loan.{Loan}
 use Rattle.store_rules.specs.declared.Region.{Region}
-use Rattle.book_rules.specs.Book.{vacatedAt, firstOf, nextOf, firstBefore}
+use Rattle.book_rules.specs.Book.{vacatedAt, firstOf, nextOf, firstIn}
 use Rattle.freelist_rules.specs.Records.{region}
 use Rattle.freelist_rules.specs.Place.{cutOff, lentLoan}
 use Rattle.freelist_rules.specs.Steps.{noRegion}
@@ -26,7 +26,7 @@ lentFrom s start t i = lentLoan (storeOf s t .given + 1) (blockFrom s start t i)
 unfoldable pub enteredAt : ℕ → Taken → ℕ → List ℕ → List ℕ
 enteredAt n k serial index =
     set
-    (set (set index vacatedAt (k .slab .vacant)) (nextOf (k .place)) (firstBefore n serial index))
+    (set (set index vacatedAt (k .slab .vacant)) (nextOf (k .place)) (firstIn index (serial % n)))
     (firstOf (serial % n))
     (k .place)
 

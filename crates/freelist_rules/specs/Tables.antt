@@ -115,7 +115,7 @@ abbrev pub vacantAfterIn : Tables → ℕ → ℕ
 vacantAfterIn t = linkAt (t .index) vacantAfterAt entryWords
 
 abbrev pub chainStart : Tables → ℕ → ℕ
-chainStart t = firstIn (getD (t .head) givenAt 0) (t .index)
+chainStart t = firstIn (t .index)
 
 abbrev pub chainNext : Tables → ℕ → ℕ
 chainNext t p = getD (t .index) (nextOf p) 0

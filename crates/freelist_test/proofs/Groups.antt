@@ -117,7 +117,7 @@ partedBy s loans index n v =
 
 abbrev chainedBy : FreeListSettings → List ℕ → List ℕ → ℕ → ℕ → Bool
 chainedBy s loans index n given =
-    chainsOk (vacantAt loans sizeAt loanWords) (firstIn given index) (λ p. getD index (nextOf p) 0) (serialOf loans) (s .store .loans) n given
+    chainsOk (vacantAt loans sizeAt loanWords) (firstIn index) (λ p. getD index (nextOf p) 0) (serialOf loans) (s .store .loans) n given
 
 pub parted-most : (s : FreeListSettings) (loans index : List ℕ) (r : Bool) (n v : ℕ) → r ≡ partedBy s loans index n v → r ≡ true → n ≤ s .store .loans
 unfolding partedOk

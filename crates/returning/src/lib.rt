@@ -23,12 +23,12 @@ fn is_same(b: Block, l: Loan) -> bool
     (l.serial == b.serial) & ((l.chunk == b.chunk) & ((l.offset == b.offset) & (l.size == b.size)))
 }
 
-// The book has room for n loans; `places` of its places were ever used, and so many serials given.
-pub fn decide(b: Block, n: usize, places: u64, given: u64, loans: &[u64], index: &[u64]) -> Back
+// The book has room for n loans; `places` of its places were ever used.
+pub fn decide(b: Block, n: usize, places: u64, loans: &[u64], index: &[u64]) -> Back
     requires { ⌜ (0 < n) × (n ≤ loansMost) × (places ≤ loansMost) ⌝ }
-    ensures { λ r. ⌜ backOf r ≡ decideReturn (now (loans .entry)) (now (index .entry)) n places given b ⌝ }
+    ensures { λ r. ⌜ backOf r ≡ decideReturn (now (loans .entry)) (now (index .entry)) n places b ⌝ }
 {
-    let at = book::word_to(loans, index, n, places, given, b.serial);
+    let at = book::word_to(loans, index, n, places, b.serial);
     if at == NOWHERE {
         return Back::Refuse(Refusal::Stale);
     }

@@ -1,8 +1,10 @@
 // A lent table of words: total reads and writes, and words moved within it by blocks.
 // No word that a table holds can make any of these fail, so what is built on them equals its definition on torn tables too.
+mod filling;
 mod moves;
 mod rows;
 
+pub use filling::fill;
 pub use moves::shift;
 pub use rows::close_row;
 pub use rows::open_row;

@@ -3,58 +3,53 @@ use Prim.Native.Nat.{_≤_, _<_}
 use native.Mathlib.Omega.{arith}
 use native.Mathlib.Nat.{mod-lt}
 use Rattle.book_rules.specs.Book.{seekIn, wordTo}
-use Rattle.book_rules.proofs.Seeking.{seek-past, seek-here, seek-on, seek-none, word-given, word-none}
+use Rattle.book_rules.proofs.Seeking.{seek-past, seek-here, seek-on, seek-none, word-is}
 use borrow.Author.Needs.{needs}
 use Rattle.book.proofs.word_to.Statement.{statement}
 use Rattle.book.proofs.word_to.Tie as tie
 
 abbrev Inv-loop : tie.InvT-loop
-Inv-loop loans index n places given serial i at₀ left₀ at left = wordTo loans index n places given serial ≡ seekIn loans index places serial at left
+Inv-loop loans index n places serial i at₀ left₀ at left = wordTo loans index n places serial ≡ seekIn loans index places serial at left
 
 abbrev μ-loop : tie.MeasureT-loop
-μ-loop loans index n places given serial i at₀ left₀ at left = left
-
-returns : tie.Need-returns Inv-loop μ-loop
-returns c =
-    let a = c .before .before .before .args in
-    sym (word-none (a .loans .now) (a .index .now) (a .n) (a .places) (a .given) (a .serial) (c .if1 .taken))
+μ-loop loans index n places serial i at₀ left₀ at left = left
 
 rem-i : tie.Need-rem-i Inv-loop μ-loop
 rem-i c = search needs
 
 mul-at : tie.Need-mul-at Inv-loop μ-loop
 mul-at c =
-    let o = c .before .before .before in
+    let o = c .before .before in
     omega (arith, mod-lt (o .args .serial) (o .pre .0))
 
 add-at : tie.Need-add-at Inv-loop μ-loop
 add-at c =
-    let o = c .before .before .before in
+    let o = c .before .before in
     omega (arith, mod-lt (o .args .serial) (o .pre .0))
 
 loop-holds : tie.Need-loop-holds Inv-loop μ-loop
 loop-holds c =
-    let a = c .before .before .before .args in
-    word-given (a .loans .now) (a .index .now) (a .n) (a .places) (a .given) (a .serial) (c .if1 .left)
+    let a = c .before .before .args in
+    word-is (a .loans .now) (a .index .now) (a .n) (a .places) (a .serial)
 
 word-requires : tie.Need-word-requires Inv-loop μ-loop
 word-requires c κs = search needs
 
-returns-2 : tie.Need-returns-2 Inv-loop μ-loop
-returns-2 c =
+returns : tie.Need-returns Inv-loop μ-loop
+returns c =
     let b = c .before .before .before .loop in
     let o : 0 < b .left = omega arith in
-    sym (b .inv ∙ seek-past _ _ _ _ _ _ _ (c .before .word .ensures) o (c .if2 .taken))
+    sym (b .inv ∙ seek-past _ _ _ _ _ _ _ (c .before .word .ensures) o (c .if1 .taken))
 
 word-requires-2 : tie.Need-word-requires-2 Inv-loop μ-loop
 word-requires-2 c κs = search needs
 
-returns-3 : tie.Need-returns-3 Inv-loop μ-loop
-returns-3 c =
+returns-2 : tie.Need-returns-2 Inv-loop μ-loop
+returns-2 c =
     let b = c .before .before .before .before .before .loop in
     let o : 0 < b .left = omega arith in
-    let e = sym (c .before .word2 .ensures) ∙ c .if3 .taken in
-    sym (b .inv ∙ seek-here _ _ _ _ _ _ _ (c .before .before .before .word .ensures) o (c .before .before .if2 .left) e)
+    let e = sym (c .before .word2 .ensures) ∙ c .if2 .taken in
+    sym (b .inv ∙ seek-here _ _ _ _ _ _ _ (c .before .before .before .word .ensures) o (c .before .before .if1 .left) e)
 
 mul-at-2 : tie.Need-mul-at-2 Inv-loop μ-loop
 mul-at-2 c = search needs
@@ -72,10 +67,10 @@ loop-again : tie.Need-loop-again Inv-loop μ-loop
 loop-again c =
     let b = c .before .before .before .before .before .loop in
     let o : 0 < b .left = omega arith in
-    b .inv ∙ seek-on _ _ _ _ _ _ _ (c .before .before .before .word .ensures) o (c .before .before .if2 .left) (λ z. c .if3 .left (c .before .word2 .ensures ∙ z))
+    b .inv ∙ seek-on _ _ _ _ _ _ _ (c .before .before .before .word .ensures) o (c .before .before .if1 .left) (λ z. c .if2 .left (c .before .word2 .ensures ∙ z))
 
-returns-4 : tie.Need-returns-4 Inv-loop μ-loop
-returns-4 c =
+returns-3 : tie.Need-returns-3 Inv-loop μ-loop
+returns-3 c =
     let b = c .before .loop in
     let o : b .left ≤ 0 = omega arith in
     sym (b .inv ∙ seek-none _ _ _ _ _ _ o)
@@ -92,20 +87,19 @@ word-to-spec =
     (tie.spec
     Inv-loop
     μ-loop
-    returns
     rem-i
     mul-at
     add-at
     loop-holds
     word-requires
-    returns-2
+    returns
     mul-word
     add-word
     word-requires-2
-    returns-3
+    returns-2
     mul-at-2
     add-at-2
     sub-left
     loop-less
     loop-again
-    returns-4)
+    returns-3)

@@ -13,8 +13,8 @@ use Rattle.book.proofs.chains.left_after.Tie as tie
 
 abbrev Inv-loop : tie.InvT-loop
 Inv-loop loans index n places i given h k p₀ most₀ left₀ p most left =
-    leftAfter (vacantAt loans sizeAt loanWords) (firstIn given index) (λ p. getD index (nextOf p) 0) (serialOf loans) n places i given h k
-    ≡ leftAfter (vacantAt loans sizeAt loanWords) (firstIn given index) (λ p. getD index (nextOf p) 0) (serialOf loans) n places i most p left
+    leftAfter (vacantAt loans sizeAt loanWords) (firstIn index) (λ p. getD index (nextOf p) 0) (serialOf loans) n places i given h k
+    ≡ leftAfter (vacantAt loans sizeAt loanWords) (firstIn index) (λ p. getD index (nextOf p) 0) (serialOf loans) n places i most p left
 
 abbrev μ-loop : tie.MeasureT-loop
 μ-loop loans index n places i given h k p₀ most₀ left₀ p most left = left

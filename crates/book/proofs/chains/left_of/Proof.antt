@@ -14,7 +14,7 @@ use Rattle.book.proofs.chains.left_of.Tie as tie
 
 abbrev Inv-loop : tie.InvT-loop
 Inv-loop loans index n places given k left₀ i₀ left i =
-    (i ≤ n) × (left ≡ leftOf (vacantAt loans sizeAt loanWords) (firstIn given index) (λ p. getD index (nextOf p) 0) (serialOf loans) n places given k i)
+    (i ≤ n) × (left ≡ leftOf (vacantAt loans sizeAt loanWords) (firstIn index) (λ p. getD index (nextOf p) 0) (serialOf loans) n places given k i)
 
 abbrev μ-loop : tie.MeasureT-loop
 μ-loop loans index n places given k left₀ i₀ left i = n - i
