@@ -60,16 +60,16 @@ pub fn set_up(s: Settings, image: &mut [u64]) -> bool {
     let index_end = lengths.index;
     let own_end = lengths.own;
     let mut head = table_from(image, HEAD_AT);
-    let loans = table_from(image, LOANS_AT);
-    let chunks = table_from(image, CHUNKS_AT);
+    let mut loans = table_from(image, LOANS_AT);
+    let mut chunks = table_from(image, CHUNKS_AT);
     let mut index = table_from(image, INDEX_AT);
     let list = table_from(image, LIST_AT);
     let mut own = own_from(image, own_end);
     let answer = reel_calls::set_up(
         s,
         &mut head[..head_end],
-        &loans[..loans_end],
-        &chunks[..chunks_end],
+        &mut loans[..loans_end],
+        &mut chunks[..chunks_end],
         &mut index[..index_end],
         &mut own[..own_end],
     );

@@ -15,13 +15,13 @@ use tape::Record;
 pub fn set_up(
     settings: Settings,
     head: &mut [u64],
-    loans: &[u64],
-    chunks: &[u64],
+    loans: &mut [u64],
+    chunks: &mut [u64],
     index: &mut [u64],
     own: &mut [u64],
 ) -> SetUpAnswer {
     match settings {
-        Settings::FreeList(s) => freelist::set_up(s, head, loans, chunks, own, index),
+        Settings::FreeList(s) => freelist::set_up(s, head, loans, chunks, index, own),
         Settings::Buddy(s) => buddy::set_up(s, head, loans, chunks, index, own),
     }
 }
