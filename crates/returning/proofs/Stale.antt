@@ -14,21 +14,21 @@ use Rattle.store_rules.specs.Views.{sameLoan}
 use Rattle.store_rules.specs.declared.Loan.{Loan}
 use Rattle.book_rules.specs.Returns.{deny, back, wordFor, onLoanOk, decideReturn}
 
-module _ (loans index : List ℕ) (n places given : ℕ) (b : Block) (w : ℕ) (found : w ≡ wordFor loans index n places given b) where
-  pub return-none : w ≡ nowhere → deny 7 ≡ decideReturn loans index n places given b
+module _ (loans index : List ℕ) (n places : ℕ) (b : Block) (w : ℕ) (found : w ≡ wordFor loans index n places b) where
+  pub return-none : w ≡ nowhere → deny 7 ≡ decideReturn loans index n places b
   return-none e = rw (sym found, e) refl
 
   -- the loan that the code read
   module _ (at : ℕ) (l : Loan) (same : Bool) (other : w ≡ nowhere → ⊥) (a : at ≡ getD index w 0) (e : l ≡ row loanRow at loans) (t : same ≡ sameLoan b l) where
-    told : same ≡ onLoanOk loans index n places given b
+    told : same ≡ onLoanOk loans index n places b
     told =
         t
         ∙ ap (sameLoan b) (e ∙ ap (λ (i : ℕ). row loanRow i loans) a)
         ∙ ap (λ (x : Bool). not x && sameLoan b (row loanRow (getD index w 0) loans)) (sym (ne-eqb w nowhere other))
         ∙ ap (λ (v : ℕ). not (eqb v nowhere) && sameLoan b (row loanRow (getD index v 0) loans)) found
 
-    pub return-back : same ≡ true → back w ≡ decideReturn loans index n places given b
+    pub return-back : same ≡ true → back w ≡ decideReturn loans index n places b
     return-back y = rw (sym told, y, found) refl
 
-    pub return-stale : same ≡ false → deny 7 ≡ decideReturn loans index n places given b
+    pub return-stale : same ≡ false → deny 7 ≡ decideReturn loans index n places b
     return-stale y = rw (sym told, y) refl

@@ -10,7 +10,7 @@ returns : tie.Need-returns
 returns c =
     let f = c .before in
     let a = f .before .before .before .args in
-    return-none (a .loans .now) (a .index .now) (a .n) (a .places) (a .given) (a .b) _ (f .word-to .ensures) (c .if1 .taken)
+    return-none (a .loans .now) (a .index .now) (a .n) (a .places) (a .b) _ (f .word-to .ensures) (c .if1 .taken)
 
 word-requires : tie.Need-word-requires
 word-requires c κs = search needs
@@ -28,7 +28,7 @@ returns-2 c =
     let w = l .before in
     let f = w .before .before in
     let a = f .before .before .before .args in
-    return-back (a .loans .now) (a .index .now) (a .n) (a .places) (a .given) (a .b) _ (f .word-to .ensures) _ _ _ (w .before .if1 .left) (w .word .ensures) (l .loan-at .ensures) (e .is-same .ensures) (c .if2 .taken)
+    return-back (a .loans .now) (a .index .now) (a .n) (a .places) (a .b) _ (f .word-to .ensures) _ _ _ (w .before .if1 .left) (w .word .ensures) (l .loan-at .ensures) (e .is-same .ensures) (c .if2 .taken)
 
 returns-3 : tie.Need-returns-3
 returns-3 c =
@@ -37,7 +37,7 @@ returns-3 c =
     let w = l .before in
     let f = w .before .before in
     let a = f .before .before .before .args in
-    return-stale (a .loans .now) (a .index .now) (a .n) (a .places) (a .given) (a .b) _ (f .word-to .ensures) _ _ _ (w .before .if1 .left) (w .word .ensures) (l .loan-at .ensures) (e .is-same .ensures) (c .if2 .left)
+    return-stale (a .loans .now) (a .index .now) (a .n) (a .places) (a .b) _ (f .word-to .ensures) _ _ _ (w .before .if1 .left) (w .word .ensures) (l .loan-at .ensures) (e .is-same .ensures) (c .if2 .left)
 
 pub decide-spec : {M : Type 1} → statement M
 decide-spec =
