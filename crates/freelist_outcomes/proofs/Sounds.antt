@@ -1,6 +1,6 @@
 -- Set-up gives a sound store, and every call on a sound store leaves it sound, refused or not: asks, orders, deliveries,
 -- returns and clean-ups, whatever their numbers.
-use mathlib.Core.Path.{_≡_, ap}
+use mathlib.Core.Path.{_≡_, refl, sym, ap, _∙_}
 use mathlib.Core.Bool.{Bool, true, false}
 use mathlib.Core.List.{List}
 use Prim.Native.Nat.{ℕ}
@@ -17,7 +17,7 @@ use Rattle.freelist_rules.proofs.Fits.{lengths-are}
 use Rattle.freelist_outcomes.specs.Ask.{askOf}
 use Rattle.freelist_outcomes.specs.Deliver.{carryFate, deliverOf}
 use Rattle.freelist_outcomes.specs.Return.{wordFor, onLoanOk, givenTables, releasedTables, releaseOf, returnOf, cleanUpOf}
-use Rattle.freelist_outcomes.specs.SetUp.{Begun, setUpOf}
+use Rattle.freelist_outcomes.specs.SetUp.{Begun, begun, freshTables, setUpOf}
 use Rattle.freelist_outcomes.proofs.Passing.{Passed}
 use Rattle.freelist_outcomes.proofs.Taken.{taken-sound}
 use Rattle.freelist_outcomes.proofs.Given.{given-sound, given-lengths}
@@ -81,3 +81,14 @@ set-up-sound s t = go (setUpOf s t) (set-up-comes s t)
     go : (r : Begun) → SetUpComes s t r → r .said ≡ Paper.ready → SoundTables s (r .tables)
     go _ SetUpComes.denied e = let z : _≡_ {A = ℕ} 5 0 = ap kindOf e in absurd (omega arith)
     go _ (readies fit lengths) e = fresh-tables-sound s t fit lengths
+
+-- what set-up leaves does not depend on what was lent
+pub set-up-alike : (s : FreeListSettings) (t u : Tables) → setUpOf s t .said ≡ Paper.ready → setUpOf s u .said ≡ Paper.ready → setUpOf s t ≡ setUpOf s u
+set-up-alike s t u e f = left t e ∙ sym (left u f)
+  where
+    go : (v : Tables) (r : Begun) → SetUpComes s v r → r .said ≡ Paper.ready → r ≡ begun Paper.ready (freshTables s)
+    go v _ SetUpComes.denied e = let z : _≡_ {A = ℕ} 5 0 = ap kindOf e in absurd (omega arith)
+    go v _ (readies fit lengths) e = refl
+
+    left : (v : Tables) → setUpOf s v .said ≡ Paper.ready → setUpOf s v ≡ begun Paper.ready (freshTables s)
+    left v = go v (setUpOf s v) (set-up-comes s v)
