@@ -2,14 +2,13 @@
 use mathlib.Core.Path.{_≡_, refl, _∙_}
 use mathlib.Core.List.{[]}
 use Prim.Native.Nat.{ℕ}
-use lib.ListN.{getD}
 use Rattle.counter.specs.Gate.{Verdict, pass, refuse, first}
 use Rattle.counter.specs.declared.account.Heap.{Heap}
 use Rattle.counter.specs.declared.answers.Block.{Block}
 use Rattle.counter.specs.declared.settings.FreeListSettings.{FreeListSettings}
 use Rattle.book_rules.specs.Returns as Returns
 use Rattle.freelist_rules.specs.Place.{Found, nowhere, at}
-use Rattle.freelist_rules.specs.Tables.{Tables, tables, givenAt, placesIn, storeOf}
+use Rattle.freelist_rules.specs.Tables.{Tables, tables, placesIn, storeOf}
 use Rattle.freelist_outcomes.specs.Ask.{roomOk, countOk, objectsOk, foundFor, askRow, planned, decideAsk}
 use Rattle.freelist_outcomes.specs.Return.{onLoanOk, decideReturn}
 use Rattle.freelist_decide.specs.Plans.{Planned}
@@ -39,7 +38,7 @@ module _ (s : FreeListSettings) (b : Block) (t : Tables) where
   return-few = refl
 
   -- as the crate `returning` decides it
-  pub return-is : (places given : ℕ) (p : Returns.Plan) → places ≡ placesIn t → given ≡ getD (t .head) givenAt 0
+  pub return-is : (places : ℕ) (p : Returns.Plan) → places ≡ placesIn t
       → p ≡ Returns.decideReturn (t .loans) (t .index) (s .store .loans) places b → p ≡ decideReturn s b t
   unfolding decideReturn onLoanOk
-  return-is places given p f g d = d ∙ (λ j. Returns.decideReturn (t .loans) (t .index) (s .store .loans) (f j) b)
+  return-is places p f d = d ∙ (λ j. Returns.decideReturn (t .loans) (t .index) (s .store .loans) (f j) b)

@@ -10,7 +10,6 @@ ghost use Rattle.freelist_outcomes.specs.Return.{decideReturn};
 ghost use Rattle.returning.specs.Backs.{backOf};
 use counter::Block;
 use counter::FreeListSettings;
-use freelist_rules::GIVEN_AT;
 use freelist_rules::PLACES_AT;
 use returning::Back;
 
@@ -27,6 +26,5 @@ pub fn decide_return(
 {
     let own = s.store;
     let places = words::word(head, PLACES_AT);
-    let given = words::word(head, GIVEN_AT);
-    returning::decide(b, own.loans, places, given, loans, index)
+    returning::decide(b, own.loans, places, loans, index)
 }
