@@ -1,9 +1,8 @@
 // The words of a store with nothing in it.
 ghost use mathlib.Core.Path.{_≡_};
-ghost use mathlib.Core.List.{[]};
-ghost use lib.ListN.{length, set};
+ghost use lib.ListN.{length, set, replicate};
 ghost use Rattle.counter.specs.InTable.{FreeListIn};
-ghost use Rattle.freelist_rules.specs.Tables.{tables, mark, markAt, givenAt, madeAt, chunkSizeAt, placesAt, chunksAt, headWords};
+ghost use Rattle.freelist_rules.specs.Tables.{tables, mark, markAt, givenAt, madeAt, chunkSizeAt, placesAt, chunksAt, headWords, Lengths};
 ghost use Rattle.freelist_outcomes.specs.SetUp.{freshHead, freshTables};
 use counter::FreeListSettings;
 use freelist_rules::CHUNK_SIZE_AT;
@@ -40,13 +39,31 @@ fn fresh_head(s: FreeListSettings, head: &mut [u64])
     put_none(head, s.start);
 }
 
-// No region, and no loan in the book.
-pub fn fresh(s: FreeListSettings, head: &mut [u64], index: &mut [u64], regions: &mut [u64])
-    requires { ⌜ FreeListIn s × (length (now head) ≡ headWords) ⌝ }
-    ensures { λ _. ⌜ tables (now (head .exit)) [] [] (now (index .exit)) (now (regions .exit)) ≡ freshTables s (tables (now (head .entry)) [] [] (now (index .entry)) (now (regions .entry))) ⌝ }
+// No loan, no chunk and no region, nor what an older store left of one.
+fn clear(loans: &mut [u64], chunks: &mut [u64], regions: &mut [u64])
+    ensures { λ _. ⌜ now (loans .exit) ≡ replicate (length (now (loans .entry))) 0 ⌝ }
+    ensures { λ _. ⌜ now (chunks .exit) ≡ replicate (length (now (chunks .entry))) 0 ⌝ }
+    ensures { λ _. ⌜ now (regions .exit) ≡ replicate (length (now (regions .entry))) 0 ⌝ }
 {
-    let at = freelist_regions::count_at(s);
+    words::fill(loans, 0);
+    words::fill(chunks, 0);
+    words::fill(regions, 0);
+}
+
+// Every word of every table is written, whatever was lent.
+pub fn fresh(
+    s: FreeListSettings,
+    head: &mut [u64],
+    loans: &mut [u64],
+    chunks: &mut [u64],
+    index: &mut [u64],
+    regions: &mut [u64],
+)
+    requires { ⌜ FreeListIn s × Lengths s (tables (now head) (now loans) (now chunks) (now index) (now regions)) ⌝ }
+    ensures { λ _. ⌜ tables (now (head .exit)) (now (loans .exit)) (now (chunks .exit)) (now (index .exit)) (now (regions .exit)) ≡ freshTables s ⌝ }
+{
+    let own = s.store;
     fresh_head(s, head);
-    words::put(regions, at, 0);
-    book::fresh_index(index);
+    clear(loans, chunks, regions);
+    book::fresh_index(own.loans, index);
 }

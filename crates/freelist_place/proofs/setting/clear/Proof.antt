@@ -1,0 +1,36 @@
+use borrow.Author.Needs.{needs}
+use Rattle.freelist_place.proofs.setting.clear.Statement.{statement}
+use Rattle.freelist_place.proofs.setting.clear.Tie as tie
+
+fill-requires : tie.Need-fill-requires
+fill-requires c κs = search needs
+
+fill-requires-2 : tie.Need-fill-requires-2
+fill-requires-2 c κs = search needs
+
+fill-requires-3 : tie.Need-fill-requires-3
+fill-requires-3 c κs = search needs
+
+same-length : tie.Need-same-length
+same-length c = search needs
+
+same-length-2 : tie.Need-same-length-2
+same-length-2 c = search needs
+
+same-length-3 : tie.Need-same-length-3
+same-length-3 c = search needs
+
+returns : tie.Need-returns
+returns c = search needs
+
+pub clear-spec : {M : Type 1} → statement M
+clear-spec =
+    tie.close
+    (tie.spec
+    fill-requires
+    fill-requires-2
+    fill-requires-3
+    same-length
+    same-length-2
+    same-length-3
+    returns)
