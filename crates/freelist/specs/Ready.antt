@@ -16,7 +16,7 @@ use Rattle.book_rules.specs.Ready.{Strikes}
 use Rattle.freelist_rules.specs.Records.{region}
 use Rattle.freelist_rules.specs.Place.{cut}
 use Rattle.freelist_rules.specs.Join.{insert}
-use Rattle.freelist_rules.specs.Tables.{Tables, tables, headWords, storeOf, laidRegions, regionsOf}
+use Rattle.freelist_rules.specs.Tables.{Tables, tables, Lengths, storeOf, laidRegions, regionsOf}
 use Rattle.freelist_outcomes.specs.Deliver.{deliveredTables}
 use Rattle.freelist_outcomes.specs.Return.{goneFrom}
 use Rattle.freelist_decide.specs.Plans.{Planned}
@@ -36,7 +36,7 @@ use Rattle.freelist.specs.declared.plans.Delivery.the-variants as Delive
 
 abbrev pub SetUpReady : FreeListSettings → Tables → Gate → Type 0
 SetUpReady s t (Gate.Shut r) = Unit {0}
-SetUpReady s t Gate.Go = FreeListIn s × (length (t .head) ≡ headWords)
+SetUpReady s t Gate.Go = FreeListIn s × Lengths s t
 
 -- ---- an ask: the region of the plan can be lent from
 

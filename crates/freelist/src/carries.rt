@@ -39,16 +39,17 @@ use store_rules::DeliveredShare;
 use store_rules::ReleasedShare;
 use store_rules::Share;
 
-// Whatever the loans and chunks, which a fresh store does not look at.
 pub fn carry_set_up(
     s: FreeListSettings,
     plan: Gate,
     head: &mut [u64],
+    loans: &mut [u64],
+    chunks: &mut [u64],
     index: &mut [u64],
     regions: &mut [u64],
 ) -> SetUpAnswer
-    requires { ⌜ SetUpReady s (tables (now head) [] [] (now index) (now regions)) plan ⌝ }
-    ensures { λ r. ⌜ ((loans chunks : List ℕ) → begun (setUpSaid r) (tables (now (head .exit)) loans chunks (now (index .exit)) (now (regions .exit))) ≡ carrySetUp s (tables (now (head .entry)) loans chunks (now (index .entry)) (now (regions .entry))) (verdictOf plan)) ⌝ }
+    requires { ⌜ SetUpReady s (tables (now head) (now loans) (now chunks) (now index) (now regions)) plan ⌝ }
+    ensures { λ r. ⌜ begun (setUpSaid r) (tables (now (head .exit)) (now (loans .exit)) (now (chunks .exit)) (now (index .exit)) (now (regions .exit))) ≡ carrySetUp s (tables (now (head .entry)) (now (loans .entry)) (now (chunks .entry)) (now (index .entry)) (now (regions .entry))) (verdictOf plan) ⌝ }
 {
     match plan {
         Gate::Shut(refusal) => SetUpAnswer::Refused(Refused {
@@ -56,7 +57,7 @@ pub fn carry_set_up(
             free: ToFree::Nothing,
         }),
         Gate::Go => {
-            freelist_place::fresh(s, head, index, regions);
+            freelist_place::fresh(s, head, loans, chunks, index, regions);
             SetUpAnswer::Ready
         }
     }

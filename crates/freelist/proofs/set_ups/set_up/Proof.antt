@@ -10,8 +10,8 @@ plan-set-up-requires c κs = search needs
 
 carry-set-up-requires : tie.Need-carry-set-up-requires
 carry-set-up-requires c κs =
-    let p = c .before .before .before in
-    let a = p .before .before .before .before .before .before .before .before .before .args in
+    let p = c .before .before .before .before .before in
+    let a = p .before .before .before .before .before .before .before .before .before .before .before .args in
     set-up-ready (a .s) (tables (a .head .now) (a .loans .now) (a .chunks .now) (a .index .now) (a .regions .now)) (p .plan-set-up .result) (p .plan-set-up .ensures)
 
 same-length : tie.Need-same-length
@@ -23,12 +23,18 @@ same-length-2 c = search needs
 same-length-3 : tie.Need-same-length-3
 same-length-3 c = search needs
 
+same-length-4 : tie.Need-same-length-4
+same-length-4 c = search needs
+
+same-length-5 : tie.Need-same-length-5
+same-length-5 c = search needs
+
 returns : tie.Need-returns
 returns c =
-    let k = c .before .before .before .before .before .before in
-    let p = k .before .before .before .before in
-    let a = p .before .before .before .before .before .before .before .before .before .args in
-    k .carry-set-up .ensures (a .loans .now) (a .chunks .now) ∙ set-up-done (a .s) (tables (a .head .now) (a .loans .now) (a .chunks .now) (a .index .now) (a .regions .now)) _ (p .plan-set-up .ensures)
+    let k = c .before .before .before .before .before .before .before .before .before .before in
+    let p = k .before .before .before .before .before .before in
+    let a = p .before .before .before .before .before .before .before .before .before .before .before .args in
+    k .carry-set-up .ensures ∙ set-up-done (a .s) (tables (a .head .now) (a .loans .now) (a .chunks .now) (a .index .now) (a .regions .now)) _ (p .plan-set-up .ensures)
 
 pub set-up-spec : {M : Type 1} → statement M
 set-up-spec =
@@ -39,4 +45,6 @@ set-up-spec =
     same-length
     same-length-2
     same-length-3
+    same-length-4
+    same-length-5
     returns)
