@@ -17,7 +17,7 @@ use Rattle.book_rules.specs.Returns as Returns
 use Rattle.buddy_trees.specs.Trees.{bytes}
 use Rattle.buddy_rules.specs.Level.{levelWords, ringAt, pairTaken}
 use Rattle.buddy_levels.specs.Seen.{partSettings, levelPart}
-use Rattle.buddy_rules.specs.Tables.{Tables, tables, givenAt, placesAt, levelStart, afterAt, placeWords}
+use Rattle.buddy_rules.specs.Tables.{Tables, tables, placesAt, levelStart, afterAt, placeWords}
 use Rattle.buddy_outcomes.specs.Ask.{at, pairRoom, pairsRoom, chunkTaken, searchFrom}
 use Rattle.buddy_outcomes.specs.Ask as Ask
 use Rattle.buddy_outcomes.specs.Return.{onLoanOk, decideReturn}
@@ -114,7 +114,7 @@ module _ (minimal pairs level levels : ℕ) (tree : List ℕ) (l : ℕ) where
 
 -- ---- a return
 
-pub return-is : (s : BuddySettings) (b : Block) (head loans index : List ℕ) (places given : ℕ) (p : Returns.Plan) → places ≡ getD head placesAt 0 → given ≡ getD head givenAt 0
+pub return-is : (s : BuddySettings) (b : Block) (head loans index : List ℕ) (places : ℕ) (p : Returns.Plan) → places ≡ getD head placesAt 0
     → p ≡ Returns.decideReturn loans index (s .store .loans) places b → p ≡ decideReturn s b (tables head loans [] index [])
 unfolding decideReturn onLoanOk
-return-is s b head loans index places given p f g d = d ∙ (λ j. Returns.decideReturn loans index (s .store .loans) (f j) b)
+return-is s b head loans index places p f d = d ∙ (λ j. Returns.decideReturn loans index (s .store .loans) (f j) b)

@@ -8,7 +8,6 @@ ghost use Rattle.counter.specs.Limits.{loansMost};
 ghost use Rattle.returning.specs.Backs.{backOf};
 ghost use Rattle.buddy_rules.specs.Tables.{tables, placesAt};
 ghost use Rattle.buddy_outcomes.specs.Return.{decideReturn};
-use buddy_rules::GIVEN_AT;
 use buddy_rules::PLACES_AT;
 use counter::Block;
 use counter::BuddySettings;
@@ -20,6 +19,5 @@ pub fn decide_return(s: BuddySettings, b: Block, head: &[u64], loans: &[u64], in
 {
     let own = s.store;
     let places = words::word(head, PLACES_AT);
-    let given = words::word(head, GIVEN_AT);
-    returning::decide(b, own.loans, places, given, loans, index)
+    returning::decide(b, own.loans, places, loans, index)
 }

@@ -1,16 +1,13 @@
 -- The buddy stays sound and filled as an engine has to, and lends good blocks.
-use mathlib.Core.Path.{_≡_, refl, sym, ap, _∙_}
-use mathlib.Core.Bool.{Bool, true, false}
-use mathlib.Core.List.{[], _∷_}
-use Rattle.counter.specs.Gate.{pass, first}
+use mathlib.Core.Path.{_≡_, sym, ap, _∙_}
+use mathlib.Core.Bool.{true}
+use Rattle.counter.specs.Gate.{pass}
 use Rattle.counter.specs.InTable.{BuddyIn}
-use Rattle.counter.specs.Paper as Paper
 use Rattle.counter.specs.declared.account.Account.{Account}
 use Rattle.counter.specs.declared.settings.BuddySettings.{BuddySettings}
 use Rattle.store_rules.specs.Views.{Filled, Differ, Apart}
 use Rattle.store_rules.specs.declared.Chunk.{Chunk}
 use Rattle.store_rules.specs.declared.Loan.{Loan}
-use Rattle.store_rules.proofs.Said.{not-refused}
 use Rattle.engines.specs.Keeps.{Keeps, Lends}
 use Rattle.buddy_trees.proofs.Filling.{filled}
 use Rattle.buddy_trees.proofs.Onces.{distinct-by}
@@ -22,24 +19,14 @@ use Rattle.buddy_rules.proofs.Onces.{loans-once, chunks-once}
 use Rattle.buddy_rules.proofs.Viewed.{chunkAt, seen-held}
 use Rattle.buddy_rules.proofs.Walks.{minimal-pos}
 use Rattle.buddy_outcomes.specs.Gate.{gateOf}
-use Rattle.buddy_outcomes.specs.SetUp.{fitOk, planSetUp, carrySetUp, setUpOf}
 use Rattle.buddy_outcomes.proofs.Again.{ask-again, deliver-again, return-again}
 use Rattle.buddy_outcomes.proofs.Blocks.{ask-block, deliver-block}
 use Rattle.buddy_outcomes.proofs.Delivered.{deliver-sound}
 use Rattle.buddy_outcomes.proofs.Fitted.{orders-when}
 use Rattle.buddy_outcomes.proofs.Passing.{gate-passed}
 use Rattle.buddy_outcomes.proofs.Returned.{return-sound}
-use Rattle.buddy_outcomes.proofs.Sounds.{set-up-sound, ask-sound}
+use Rattle.buddy_outcomes.proofs.Sounds.{is-begun, set-up-sound, ask-sound}
 use Rattle.buddy_engine.specs.Shape.{buddyShape}
-
--- what was set up passed its test
-is-begun : (s : BuddySettings) (t : Tables) → setUpOf s t .said ≡ Paper.ready → fitOk s t ≡ true
-unfolding setUpOf planSetUp carrySetUp
-is-begun s t = by (fitOk s t)
-  where
-    by : (b : Bool) → carrySetUp s t (first ((b, 1) ∷ [])) .said ≡ Paper.ready → b ≡ true
-    by true e = refl
-    by false e = not-refused Paper.ready 1 [] refl (sym e)
 
 -- blocks on loan and free pieces fill each held chunk
 fills : (s : BuddySettings) (a : Account) (t : Tables) → gateOf s a t true ≡ pass → Filled (viewOf s t)

@@ -1,6 +1,6 @@
 -- Set-up gives a sound store, and an ask on a sound store leaves it sound, whatever its numbers: lent from, ordered for, refused,
 -- also where the refusal leaves the levels grown.
-use mathlib.Core.Path.{_≡_, refl, sym, ap}
+use mathlib.Core.Path.{_≡_, refl, sym, ap, _∙_}
 use mathlib.Core.Bool.{Bool, true, false, _&&_}
 use mathlib.Core.Logic.{_⊎_, inl, inr, ⊎-elim}
 use mathlib.Core.List.{[], _∷_}
@@ -19,6 +19,7 @@ use Rattle.counter.specs.declared.settings.BuddySettings.{BuddySettings}
 use Rattle.counter.proofs.Gates.{passed, same-number}
 use Rattle.counter.proofs.Tables.{buddy-yes}
 use Rattle.store_rules.specs.Tests.{noOrder, gateRow}
+use Rattle.store_rules.proofs.Said.{not-refused}
 use Rattle.store_rules.proofs.Tested.{gate-low}
 use Rattle.buddy_rules.specs.Tables.{Tables, Lengths, lengthsOk}
 use Rattle.buddy_rules.specs.Sound.{Sound}
@@ -37,6 +38,19 @@ use Rattle.buddy_outcomes.proofs.Taken.{taken-sound}
 set-up-fit : (s : BuddySettings) (t : Tables) → fitOk s t ≡ true → setUpOf s t ≡ begun Paper.ready (freshTables s)
 unfolding setUpOf planSetUp carrySetUp
 set-up-fit s t e = ap (λ (b : Bool). carrySetUp s t (first ((b, 1) ∷ []))) e
+
+-- what was set up passed its test
+pub is-begun : (s : BuddySettings) (t : Tables) → setUpOf s t .said ≡ Paper.ready → fitOk s t ≡ true
+unfolding setUpOf planSetUp carrySetUp
+is-begun s t = by (fitOk s t)
+  where
+    by : (b : Bool) → carrySetUp s t (first ((b, 1) ∷ [])) .said ≡ Paper.ready → b ≡ true
+    by true e = refl
+    by false e = not-refused Paper.ready 1 [] refl (sym e)
+
+-- what set-up leaves does not depend on what was lent
+pub set-up-alike : (s : BuddySettings) (t u : Tables) → setUpOf s t .said ≡ Paper.ready → setUpOf s u .said ≡ Paper.ready → setUpOf s t ≡ setUpOf s u
+set-up-alike s t u p q = set-up-fit s t (is-begun s t p) ∙ sym (set-up-fit s u (is-begun s u q))
 
 pub set-up-sound : (s : BuddySettings) (t : Tables) → fitOk s t ≡ true → Sound s (setUpOf s t .tables)
 unfolding fitOk

@@ -7,9 +7,6 @@ use Rattle.buddy_decide.proofs.returns.decide_return.Tie as tie
 word-requires : tie.Need-word-requires
 word-requires c κs = search needs
 
-word-requires-2 : tie.Need-word-requires-2
-word-requires-2 c κs = search needs
-
 decide-requires : tie.Need-decide-requires
 decide-requires c κs =
     let w = c .before in
@@ -18,10 +15,9 @@ decide-requires c κs =
 
 returns : tie.Need-returns
 returns c =
-    let v = c .before in
-    let w = v .before in
+    let w = c .before in
     let a = w .before .before .before .before .before .args in
-    return-is (a .s) (a .b) (a .head .now) (a .loans .now) (a .index .now) _ _ _ (w .word .ensures) (v .word2 .ensures) (c .decide .ensures)
+    return-is (a .s) (a .b) (a .head .now) (a .loans .now) (a .index .now) _ _ (w .word .ensures) (c .decide .ensures)
 
 pub decide-return-spec : {M : Type 1} → statement M
-decide-return-spec = tie.close (tie.spec word-requires word-requires-2 decide-requires returns)
+decide-return-spec = tie.close (tie.spec word-requires decide-requires returns)
