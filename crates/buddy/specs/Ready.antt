@@ -1,9 +1,8 @@
 -- What the code that carries a plan out asks of the tables, by cases on the plan; a passed gate and the plan give it.
 use mathlib.Core.Path.{_≡_}
 use mathlib.Core.Bool.{true}
-use mathlib.Core.List.{List, []}
+use mathlib.Core.List.{[]}
 use Prim.Native.Nat.{ℕ, _+_, _≤_}
-use lib.ListN.{length}
 use Rattle.counter.specs.InTable.{BuddyIn}
 use Rattle.counter.specs.Limits.{objectsMost}
 use Rattle.counter.specs.declared.account.KeptOrder.{KeptOrder}
@@ -17,7 +16,7 @@ use Rattle.store.specs.declared.comings.Coming.the-variants as Coming
 use Rattle.returning.specs.declared.Back.{Back}
 use Rattle.returning.specs.declared.Back.the-variants as Back
 use Rattle.buddy_rules.specs.Level.{ringHead}
-use Rattle.buddy_rules.specs.Tables.{Tables, tables, headWords, levelFrom}
+use Rattle.buddy_rules.specs.Tables.{Tables, tables, Lengths, levelFrom}
 use Rattle.buddy_outcomes.specs.Ask.{levelFor, grownTo, grownTables}
 use Rattle.buddy_outcomes.specs.Return.{climbFor}
 use Rattle.buddy_decide.specs.Plans.{nextLoan}
@@ -32,9 +31,9 @@ use Rattle.buddy.specs.declared.plans.Delivery.the-variants as Delivery
 
 -- ---- set-up
 
-abbrev pub SetUpReady : BuddySettings → List ℕ → Gate → Type 0
-SetUpReady s head (Gate.Shut r) = Unit {0}
-SetUpReady s head Gate.Go = BuddyIn s × (length head ≡ headWords)
+abbrev pub SetUpReady : BuddySettings → Tables → Gate → Type 0
+SetUpReady s t (Gate.Shut r) = Unit {0}
+SetUpReady s t Gate.Go = BuddyIn s × Lengths s t
 
 -- ---- an ask
 

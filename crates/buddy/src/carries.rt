@@ -40,16 +40,17 @@ use store_rules::DeliveredShare;
 use store_rules::ReleasedShare;
 use store_rules::Share;
 
-// Whatever the loans and chunks, of which set-up writes none.
 pub fn carry_set_up(
     s: BuddySettings,
     plan: Gate,
     head: &mut [u64],
+    loans: &mut [u64],
+    chunks: &mut [u64],
     index: &mut [u64],
     tree: &mut [u64],
 ) -> SetUpAnswer
-    requires { ⌜ SetUpReady s (now head) plan ⌝ }
-    ensures { λ r. ⌜ ((loans chunks : List ℕ) → begun (setUpSaid r) (tables (now (head .exit)) loans chunks (now (index .exit)) (now (tree .exit))) ≡ carrySetUp s (tables (now (head .entry)) loans chunks (now (index .entry)) (now (tree .entry))) (verdictOf plan)) ⌝ }
+    requires { ⌜ SetUpReady s (tables (now head) (now loans) (now chunks) (now index) (now tree)) plan ⌝ }
+    ensures { λ r. ⌜ begun (setUpSaid r) (tables (now (head .exit)) (now (loans .exit)) (now (chunks .exit)) (now (index .exit)) (now (tree .exit))) ≡ carrySetUp s (tables (now (head .entry)) (now (loans .entry)) (now (chunks .entry)) (now (index .entry)) (now (tree .entry))) (verdictOf plan) ⌝ }
 {
     match plan {
         Gate::Shut(refusal) => SetUpAnswer::Refused(Refused {
@@ -57,8 +58,7 @@ pub fn carry_set_up(
             free: ToFree::Nothing,
         }),
         Gate::Go => {
-            buddy_grow::fresh(s, head, tree);
-            book::fresh_index(index);
+            buddy_grow::fresh(s, head, loans, chunks, index, tree);
             SetUpAnswer::Ready
         }
     }

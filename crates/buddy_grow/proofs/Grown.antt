@@ -1,13 +1,17 @@
 -- Levels made one by one are the levels made.
 use mathlib.Core.Path.{_≡_, refl, _∙_}
 use mathlib.Core.List.{List, [], _∷_}
-use Prim.Native.Nat.{ℕ, zero, suc, _+_, _-_, _<_}
+use Prim.Native.Nat.{ℕ, zero, suc, _+_, _-_, _*_, _<_}
 use native.Mathlib.Omega.{arith}
-use lib.ListN.{length, getD, set}
+use lib.ListN.{length, getD, set, replicate}
 use Rattle.counter.specs.declared.settings.BuddySettings.{BuddySettings}
+use Rattle.slab.specs.Slab.{nowhere}
+use Rattle.store_rules.specs.Loans.{loanWords}
+use Rattle.book_rules.specs.Book.{freshIndex}
 use Rattle.buddy_rules.specs.Level.{freshLevel}
-use Rattle.buddy_rules.specs.Tables.{tables, mark, markAt, givenAt, levelsAt, placesAt, chunkPlacesAt, headWords, levelStart, levelFrom}
+use Rattle.buddy_rules.specs.Tables.{tables, mark, markAt, givenAt, levelsAt, placesAt, chunkPlacesAt, headWords, chunkWords, chunksFrom, treeWords, levelStart, levelFrom, initialLevels}
 use Rattle.buddy_outcomes.specs.Ask.{freshLevels, grownTables}
+use Rattle.buddy_outcomes.specs.SetUp.{freshHead, freshTables}
 
 module _ (s : BuddySettings) where
   pub fresh-none : (l n : ℕ) (t : List ℕ) → n ≡ 0 → freshLevels s l n t ≡ t
@@ -53,3 +57,9 @@ head-fresh (a ∷ b ∷ c ∷ []) n l = absurd (omega arith)
 head-fresh (a ∷ b ∷ c ∷ d ∷ []) n l = absurd (omega arith)
 head-fresh (a ∷ b ∷ c ∷ d ∷ f ∷ []) n l = refl
 head-fresh (a ∷ b ∷ c ∷ d ∷ f ∷ g ∷ t) n l = absurd (omega arith)
+
+pub fresh-done : (s : BuddySettings) (h l c i r : List ℕ) → h ≡ freshHead s → l ≡ replicate (loanWords * s .store .loans) 0 → c ≡ replicate (chunkWords * s .store .chunks) 0
+    → i ≡ freshIndex (s .store .loans) → r ≡ set (freshLevels s 0 (initialLevels s) (replicate (treeWords s) 0)) (chunksFrom s) nowhere
+    → tables h l c i r ≡ freshTables s
+unfolding freshTables
+fresh-done s h l c i r eh el ec ei er = λ j. tables (eh j) (el j) (ec j) (ei j) (er j)

@@ -1,14 +1,16 @@
-// The words of head and tree of a store with nothing in it.
+// The words of a store with nothing in it.
 ghost use mathlib.Core.Path.{_≡_};
 ghost use mathlib.Core.List.{[], _∷_};
-ghost use Prim.Native.Nat.{_≤_};
-ghost use lib.ListN.{length, set};
+ghost use Prim.Native.Nat.{_*_, _≤_};
+ghost use lib.ListN.{length, set, replicate};
 ghost use Rattle.counter.specs.InTable.{BuddyIn};
 ghost use Rattle.counter.specs.Limits.{levelsMost};
 ghost use Rattle.slab.specs.Slab.{nowhere};
-ghost use Rattle.buddy_rules.specs.Tables.{mark, headWords, chunksFrom, initialLevels};
+ghost use Rattle.store_rules.specs.Loans.{loanWords};
+ghost use Rattle.book_rules.specs.Book.{indexWords, freshIndex};
+ghost use Rattle.buddy_rules.specs.Tables.{tables, Lengths, mark, headWords, chunkWords, chunksFrom, treeWords, initialLevels};
 ghost use Rattle.buddy_outcomes.specs.Ask.{freshLevels};
-ghost use Rattle.buddy_outcomes.specs.SetUp.{freshHead};
+ghost use Rattle.buddy_outcomes.specs.SetUp.{freshHead, freshTables};
 use buddy_rules::CHUNK_PLACES_AT;
 use buddy_rules::GIVEN_AT;
 use buddy_rules::LEVELS_AT;
@@ -30,22 +32,52 @@ fn fresh_head(levels: u64, head: &mut [u64])
     words::put(head, CHUNK_PLACES_AT, 0);
 }
 
-// So many levels are there and empty, and no chunk place is vacated.
+// So many levels are there and empty, and no chunk place is vacated; every other word is 0.
 fn fresh_tree(s: BuddySettings, levels: usize, tree: &mut [u64])
-    requires { ⌜ BuddyIn s × (levels ≤ levelsMost) ⌝ }
-    ensures { λ _. ⌜ now (tree .exit) ≡ set (freshLevels s 0 levels (now (tree .entry))) (chunksFrom s) nowhere ⌝ }
+    requires { ⌜ BuddyIn s × (levels ≤ levelsMost) × (length (now tree) ≡ treeWords s) ⌝ }
+    ensures { λ _. ⌜ now (tree .exit) ≡ set (freshLevels s 0 levels (replicate (treeWords s) 0)) (chunksFrom s) nowhere ⌝ }
 {
+    words::fill(tree, 0);
     crate::growing::fresh_levels(s, 0, levels, tree);
     words::put(tree, buddy_levels::chunks_from(s.pairs), NOWHERE);
 }
 
 // The initial levels.
-pub fn fresh(s: BuddySettings, head: &mut [u64], tree: &mut [u64])
-    requires { ⌜ BuddyIn s × (length (now head) ≡ headWords) ⌝ }
+fn fresh_initial(s: BuddySettings, head: &mut [u64], tree: &mut [u64])
+    requires { ⌜ BuddyIn s × (length (now head) ≡ headWords) × (length (now tree) ≡ treeWords s) ⌝ }
     ensures { λ _. ⌜ now (head .exit) ≡ freshHead s ⌝ }
-    ensures { λ _. ⌜ now (tree .exit) ≡ set (freshLevels s 0 (initialLevels s) (now (tree .entry))) (chunksFrom s) nowhere ⌝ }
+    ensures { λ _. ⌜ now (tree .exit) ≡ set (freshLevels s 0 (initialLevels s) (replicate (treeWords s) 0)) (chunksFrom s) nowhere ⌝ }
 {
     let levels = rounding::level(s.initial, s.minimal);
     fresh_head(levels as u64, head);
     fresh_tree(s, levels as usize, tree);
+}
+
+// No loan, no chunk, and no link from loan to loan.
+fn fresh_rows(s: BuddySettings, loans: &mut [u64], chunks: &mut [u64], index: &mut [u64])
+    requires { ⌜ (length (now loans) ≡ loanWords * s .store .loans) × (length (now chunks) ≡ chunkWords * s .store .chunks) × (length (now index) ≡ indexWords (s .store .loans)) ⌝ }
+    ensures { λ _. ⌜ now (loans .exit) ≡ replicate (loanWords * s .store .loans) 0 ⌝ }
+    ensures { λ _. ⌜ now (chunks .exit) ≡ replicate (chunkWords * s .store .chunks) 0 ⌝ }
+    ensures { λ _. ⌜ now (index .exit) ≡ freshIndex (s .store .loans) ⌝ }
+{
+    let own = s.store;
+    words::fill(loans, 0);
+    words::fill(chunks, 0);
+    book::fresh_index(own.loans, index);
+}
+
+// Every word of every table, so that nothing of what was lent is left.
+pub fn fresh(
+    s: BuddySettings,
+    head: &mut [u64],
+    loans: &mut [u64],
+    chunks: &mut [u64],
+    index: &mut [u64],
+    tree: &mut [u64],
+)
+    requires { ⌜ BuddyIn s × Lengths s (tables (now head) (now loans) (now chunks) (now index) (now tree)) ⌝ }
+    ensures { λ _. ⌜ tables (now (head .exit)) (now (loans .exit)) (now (chunks .exit)) (now (index .exit)) (now (tree .exit)) ≡ freshTables s ⌝ }
+{
+    fresh_rows(s, loans, chunks, index);
+    fresh_initial(s, head, tree);
 }

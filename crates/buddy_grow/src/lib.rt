@@ -1,4 +1,4 @@
-// A buddy store's levels written: fresh at set-up, and grown to a number.
+// A buddy store's tables written at set-up, and its levels grown to a number.
 mod blank;
 mod growing;
 

@@ -33,16 +33,22 @@ same-length-3 c = search needs
 same-length-4 : tie.Need-same-length-4
 same-length-4 c = search needs
 
-returns : tie.Need-returns
-returns c =
-    let u = c .before .before .before .before .before .before .before .before .before .before in
-    let m = u .before .before .before .before in
-    let i = m .before .before in
-    let a = i .before .before .before .before .before .before .before .before .args in
-    set-up-made (a .settings .now) (a .answer .now) _ (tables (a .head .now) (a .loans .now) (a .chunks .now) (a .index .now) (a .tree .now)) (tables _ (a .loans .now) (a .chunks .now) _ _) _ _ _ (i .is-settings .ensures) (m .before .if1 .taken) (m .read-buddy .ensures) (u .set-up .ensures) (c .before .before .tell-set-up .ensures)
-
 same-length-5 : tie.Need-same-length-5
 same-length-5 c = search needs
+
+same-length-6 : tie.Need-same-length-6
+same-length-6 c = search needs
+
+returns : tie.Need-returns
+returns c =
+    let u = c .before .before .before .before .before .before .before .before .before .before .before .before .before .before in
+    let m = u .before .before .before .before .before .before in
+    let i = m .before .before in
+    let a = i .before .before .before .before .before .before .before .before .args in
+    set-up-made (a .settings .now) (a .answer .now) _ (tables (a .head .now) (a .loans .now) (a .chunks .now) (a .index .now) (a .tree .now)) (tables _ _ _ _ _) _ _ _ (i .is-settings .ensures) (m .before .if1 .taken) (m .read-buddy .ensures) (u .set-up .ensures) (c .before .before .tell-set-up .ensures)
+
+same-length-7 : tie.Need-same-length-7
+same-length-7 c = search needs
 
 returns-2 : tie.Need-returns-2
 returns-2 c =
@@ -63,6 +69,8 @@ tibrezkam-buddy-set-up-spec =
     same-length-2
     same-length-3
     same-length-4
-    returns
     same-length-5
+    same-length-6
+    returns
+    same-length-7
     returns-2)

@@ -16,15 +16,16 @@ enum-told : tie.Need-enum-told
 enum-told c = search needs
 
 fresh-requires : tie.Need-fresh-requires
-fresh-requires c κs = let a = c .before .before .before .before .before .before .before .args in subst (SetUpReady (a .s) (a .head .now)) (c .before .before .enum-told .given .1) (c .before .before .before .before .before .before .before .pre)
-
-fresh-index-requires : tie.Need-fresh-index-requires
-fresh-index-requires c κs = search needs
+fresh-requires c κs =
+    let o = c .before .before .before .before .before .before .before .before .before .before .before .before in
+    let a = o .args in
+    subst (SetUpReady (a .s) (tables (a .head .now) (a .loans .now) (a .chunks .now) (a .index .now) (a .tree .now))) (c .before .before .before .before .before .enum-told .given .1) (o .pre)
 
 returns : tie.Need-returns
 returns c =
-    let a = c .before .before .before .before .before .before .args in
-    λ loans chunks. set-up-refused (a .s) (tables (a .head .now) loans chunks (a .index .now) (a .tree .now)) _ ∙ ap (λ (g : Gate). carrySetUp (a .s) (tables (a .head .now) loans chunks (a .index .now) (a .tree .now)) (verdictOf g)) (sym (c .before .plan .given .1))
+    let a = c .before .before .before .before .before .before .before .before .args in
+    let t = tables (a .head .now) (a .loans .now) (a .chunks .now) (a .index .now) (a .tree .now) in
+    set-up-refused (a .s) t _ ∙ ap (λ (g : Gate). carrySetUp (a .s) t (verdictOf g)) (sym (c .before .plan .given .1))
 
 same-length : tie.Need-same-length
 same-length c = search needs
@@ -35,11 +36,19 @@ same-length-2 c = search needs
 same-length-3 : tie.Need-same-length-3
 same-length-3 c = search needs
 
+same-length-4 : tie.Need-same-length-4
+same-length-4 c = search needs
+
+same-length-5 : tie.Need-same-length-5
+same-length-5 c = search needs
+
 returns-2 : tie.Need-returns-2
 returns-2 c =
-    let a = c .before .before .before .before .before .before .before .before .before .before .before .before .before .before .before .before .args in
-    let f = c .before .before .before .before .before .before .before .before .fresh .ensures in
-    λ loans chunks. set-up-done (a .s) (tables (a .head .now) loans chunks (a .index .now) (a .tree .now)) _ _ _ (f .0) (f .1) (c .before .before .fresh-index .ensures) ∙ ap (λ (g : Gate). carrySetUp (a .s) (tables (a .head .now) loans chunks (a .index .now) (a .tree .now)) (verdictOf g)) (sym (c .before .before .before .before .before .before .before .before .before .before .before .enum-told .given .1))
+    let f = c .before .before .before .before .before .before .before .before .before .before in
+    let e = f .before .before .before .before .before .before in
+    let a = e .before .before .before .before .before .before .before .args in
+    let t = tables (a .head .now) (a .loans .now) (a .chunks .now) (a .index .now) (a .tree .now) in
+    set-up-done (a .s) t _ (f .fresh .ensures) ∙ ap (λ (g : Gate). carrySetUp (a .s) t (verdictOf g)) (sym (e .enum-told .given .1))
 
 pub carry-set-up-spec : {M : Type 1} → statement M
-carry-set-up-spec = tie.close (tie.spec enum-known-plan enum-told fresh-requires fresh-index-requires returns same-length same-length-2 same-length-3 returns-2)
+carry-set-up-spec = tie.close (tie.spec enum-known-plan enum-told fresh-requires returns same-length same-length-2 same-length-3 same-length-4 same-length-5 returns-2)

@@ -10,9 +10,9 @@ plan-set-up-requires c κs = search needs
 
 carry-set-up-requires : tie.Need-carry-set-up-requires
 carry-set-up-requires c κs =
-    let a = c .before .before .before .before .before .before .before .before .before .before .before .before .args in
-    let p = c .before .before .before .plan-set-up in
-    set-up-ready (a .s) (tables (a .head .now) (a .loans .now) (a .chunks .now) (a .index .now) (a .tree .now)) (p .result) (p .ensures)
+    let p = c .before .before .before .before .before in
+    let a = p .before .before .before .before .before .before .before .before .before .before .before .args in
+    set-up-ready (a .s) (tables (a .head .now) (a .loans .now) (a .chunks .now) (a .index .now) (a .tree .now)) (p .plan-set-up .result) (p .plan-set-up .ensures)
 
 same-length : tie.Need-same-length
 same-length c = search needs
@@ -23,10 +23,18 @@ same-length-2 c = search needs
 same-length-3 : tie.Need-same-length-3
 same-length-3 c = search needs
 
+same-length-4 : tie.Need-same-length-4
+same-length-4 c = search needs
+
+same-length-5 : tie.Need-same-length-5
+same-length-5 c = search needs
+
 returns : tie.Need-returns
 returns c =
-    let a = c .before .before .before .before .before .before .before .before .before .before .before .before .before .before .before .before .before .before .before .args in
-    c .before .before .before .before .before .before .carry-set-up .ensures (a .loans .now) (a .chunks .now) ∙ set-up-called (a .s) (tables (a .head .now) (a .loans .now) (a .chunks .now) (a .index .now) (a .tree .now)) _ (c .before .before .before .before .before .before .before .before .before .before .plan-set-up .ensures)
+    let d = c .before .before .before .before .before .before .before .before .before .before in
+    let p = d .before .before .before .before .before .before in
+    let a = p .before .before .before .before .before .before .before .before .before .before .before .args in
+    d .carry-set-up .ensures ∙ set-up-called (a .s) (tables (a .head .now) (a .loans .now) (a .chunks .now) (a .index .now) (a .tree .now)) _ (p .plan-set-up .ensures)
 
 pub set-up-spec : {M : Type 1} → statement M
-set-up-spec = tie.close (tie.spec plan-set-up-requires carry-set-up-requires same-length same-length-2 same-length-3 returns)
+set-up-spec = tie.close (tie.spec plan-set-up-requires carry-set-up-requires same-length same-length-2 same-length-3 same-length-4 same-length-5 returns)

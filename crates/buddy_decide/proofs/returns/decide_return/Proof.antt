@@ -9,9 +9,8 @@ word-requires c κs = search needs
 
 decide-requires : tie.Need-decide-requires
 decide-requires c κs =
-    let w = c .before in
-    let p = w .before .before .before .before .before .pre in
-    (p .0 .store .loans-some, p .0 .store .loans-most, omega (arith, w .word .ensures, p .1))
+    let p = c .before .before .before .before .before .pre in
+    (p .0 .store .loans-some, p .0 .store .loans-most, omega (arith, c .word .ensures, p .1))
 
 returns : tie.Need-returns
 returns c =

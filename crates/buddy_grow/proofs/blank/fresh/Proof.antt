@@ -1,33 +1,17 @@
 use borrow.Author.Needs.{needs}
-use mathlib.Core.Path.{ap, _∙_}
-use mathlib.Core.List.{[], _∷_}
-use Prim.Native.Nat.{ℕ}
-use native.Mathlib.Omega.{arith}
-use lib.ListN.{set}
-use Rattle.slab.specs.Slab.{nowhere}
-use Rattle.buddy_rules.specs.Tables.{mark, chunksFrom}
-use Rattle.buddy_outcomes.specs.Ask.{freshLevels}
-use Rattle.buddy_outcomes.proofs.Rounds.{initial-few}
+use Rattle.buddy_grow.proofs.Grown.{fresh-done}
 use Rattle.buddy_grow.proofs.blank.fresh.Statement.{statement}
 use Rattle.buddy_grow.proofs.blank.fresh.Tie as tie
 
-level-requires : tie.Need-level-requires
-level-requires c κs = search needs
+fresh-rows-requires : tie.Need-fresh-rows-requires
+fresh-rows-requires c κs =
+    let p = c .before .before .before .before .before .before .before .before .pre .1 in
+    (p .loans, p .chunks, p .index)
 
-cast-fresh-head : tie.Need-cast-fresh-head
-cast-fresh-head c = search needs
-
-fresh-head-requires : tie.Need-fresh-head-requires
-fresh-head-requires c κs = search needs
-
-cast-fresh-tree : tie.Need-cast-fresh-tree
-cast-fresh-tree c = search needs
-
-fresh-tree-requires : tie.Need-fresh-tree-requires
-fresh-tree-requires c κs =
-    let l = c .before .before .before .before .before in
-    let o = l .before .before .before in
-    (o .pre .0, omega (arith, l .level .ensures, initial-few (o .args .s) (o .pre .0)))
+fresh-initial-requires : tie.Need-fresh-initial-requires
+fresh-initial-requires c κs =
+    let p = c .before .before .before .before .before .before .before .before .before .before .before .before .before .before .before .before .before .pre in
+    (p .0, p .1 .head, p .1 .room)
 
 same-length : tie.Need-same-length
 same-length c = search needs
@@ -35,25 +19,33 @@ same-length c = search needs
 same-length-2 : tie.Need-same-length-2
 same-length-2 c = search needs
 
+same-length-3 : tie.Need-same-length-3
+same-length-3 c = search needs
+
+same-length-4 : tie.Need-same-length-4
+same-length-4 c = search needs
+
+same-length-5 : tie.Need-same-length-5
+same-length-5 c = search needs
+
 returns : tie.Need-returns
 returns c =
-    let f = c .before .before in
-    let h = f .before .before .before .before in
-    let l = h .before .before in
-    let o = l .before .before .before in (
-      h .fresh-head .ensures ∙ ap (λ (n : ℕ). mark ∷ 0 ∷ n ∷ 0 ∷ 0 ∷ []) (l .level .ensures),
-      f .fresh-tree .ensures ∙ ap (λ (n : ℕ). set (freshLevels (o .args .s) 0 n (o .args .tree .now)) (chunksFrom (o .args .s)) nowhere) (l .level .ensures),
-    )
+    let i = c .before .before .before .before in
+    let r = i .before .before .before .before .before .before .before .before .before in
+    let a = r .before .before .before .before .before .before .before .before .before .args in
+    let w = r .fresh-rows .ensures in
+    let v = i .fresh-initial .ensures in
+    fresh-done (a .s) _ _ _ _ _ (v .0) (w .0) (w .1 .0) (w .1 .1) (v .1)
 
 pub fresh-spec : {M : Type 1} → statement M
 fresh-spec =
     tie.close
     (tie.spec
-    level-requires
-    cast-fresh-head
-    fresh-head-requires
-    cast-fresh-tree
-    fresh-tree-requires
+    fresh-rows-requires
+    fresh-initial-requires
     same-length
     same-length-2
+    same-length-3
+    same-length-4
+    same-length-5
     returns)

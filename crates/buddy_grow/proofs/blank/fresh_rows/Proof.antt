@@ -1,0 +1,46 @@
+use borrow.Author.Needs.{needs}
+use mathlib.Core.Path.{ap, _∙_}
+use Prim.Native.Nat.{ℕ}
+use lib.ListN.{replicate}
+use Rattle.buddy_grow.proofs.blank.fresh_rows.Statement.{statement}
+use Rattle.buddy_grow.proofs.blank.fresh_rows.Tie as tie
+
+fill-requires : tie.Need-fill-requires
+fill-requires c κs = search needs
+
+fill-requires-2 : tie.Need-fill-requires-2
+fill-requires-2 c κs = search needs
+
+fresh-index-requires : tie.Need-fresh-index-requires
+fresh-index-requires c κs = search needs
+
+same-length : tie.Need-same-length
+same-length c = search needs
+
+same-length-2 : tie.Need-same-length-2
+same-length-2 c = search needs
+
+same-length-3 : tie.Need-same-length-3
+same-length-3 c = search needs
+
+returns : tie.Need-returns
+returns c =
+    let i = c .before .before in
+    let k = i .before .before .before .before in
+    let l = k .before .before .before .before in
+    let o = l .before .before .before .before .before .before in (
+      l .fill .ensures ∙ ap (λ (n : ℕ). replicate n 0) (o .pre .0),
+      (k .fill2 .ensures ∙ ap (λ (n : ℕ). replicate n 0) (o .pre .1), i .fresh-index .ensures),
+    )
+
+pub fresh-rows-spec : {M : Type 1} → statement M
+fresh-rows-spec =
+    tie.close
+    (tie.spec
+    fill-requires
+    fill-requires-2
+    fresh-index-requires
+    same-length
+    same-length-2
+    same-length-3
+    returns)
