@@ -11,13 +11,13 @@ use wire::LIST_WORDS;
 pub extern "C" fn tibrezkam_list_set_up(
     settings: &[u64],
     head: &mut [u64],
-    loans: &[u64],
-    chunks: &[u64],
+    loans: &mut [u64],
+    chunks: &mut [u64],
     index: &mut [u64],
     regions: &mut [u64],
     answer: &mut [u64],
 )
-    ensures { λ _. ⌜ tables (now (head .exit)) (now (loans .entry)) (now (chunks .entry)) (now (index .exit)) (now (regions .exit)) ≡ linkedSetUp (now (settings .entry)) (tables (now (head .entry)) (now (loans .entry)) (now (chunks .entry)) (now (index .entry)) (now (regions .entry))) .tables ⌝ }
+    ensures { λ _. ⌜ tables (now (head .exit)) (now (loans .exit)) (now (chunks .exit)) (now (index .exit)) (now (regions .exit)) ≡ linkedSetUp (now (settings .entry)) (tables (now (head .entry)) (now (loans .entry)) (now (chunks .entry)) (now (index .entry)) (now (regions .entry))) .tables ⌝ }
     ensures { λ _. ⌜ now (answer .exit) ≡ saidOut (linkedSetUp (now (settings .entry)) (tables (now (head .entry)) (now (loans .entry)) (now (chunks .entry)) (now (index .entry)) (now (regions .entry))) .said) (now (answer .entry)) ⌝ }
 {
     if wire::is_settings(settings, LIST_WORDS) {

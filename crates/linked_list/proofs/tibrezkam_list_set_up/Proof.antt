@@ -33,18 +33,24 @@ same-length-3 c = search needs
 same-length-4 : tie.Need-same-length-4
 same-length-4 c = search needs
 
+same-length-5 : tie.Need-same-length-5
+same-length-5 c = search needs
+
+same-length-6 : tie.Need-same-length-6
+same-length-6 c = search needs
+
 returns : tie.Need-returns
 returns c =
     let k = c .before .before in
-    let u = k .before .before .before .before .before .before .before .before in
-    let f = u .before .before .before .before in
+    let u = k .before .before .before .before .before .before .before .before .before .before .before .before in
+    let f = u .before .before .before .before .before .before in
     let j = f .before in
     let i = j .before in
     let a = i .before .before .before .before .before .before .before .before .args in
     set-up-made (a .settings .now) (tables (a .head .now) (a .loans .now) (a .chunks .now) (a .index .now) (a .regions .now)) _ (a .answer .now) _ (i .is-settings .ensures) _ _ _ (j .if1 .taken) (f .read-free-list .ensures) (u .set-up .ensures) (k .tell-set-up .ensures)
 
-same-length-5 : tie.Need-same-length-5
-same-length-5 c = search needs
+same-length-7 : tie.Need-same-length-7
+same-length-7 c = search needs
 
 returns-2 : tie.Need-returns-2
 returns-2 c =
@@ -67,6 +73,8 @@ tibrezkam-list-set-up-spec =
     same-length-2
     same-length-3
     same-length-4
-    returns
     same-length-5
+    same-length-6
+    returns
+    same-length-7
     returns-2)
