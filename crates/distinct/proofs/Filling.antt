@@ -1,11 +1,11 @@
 -- What a loop has filled of a table, one store a turn: the words it has put are the front of what is to stand there.
 use mathlib.Core.Path.{_≡_, sym, _∙_}
-use mathlib.Core.List.{List, [], _∷_, _++_, append-assoc, append-nil}
+use mathlib.Core.List.{List, _∷_, _++_, append-nil}
 use Prim.Native.Nat.{ℕ, suc, _+_, _-_, _≤_, _<_}
 use native.Mathlib.Omega.{arith}
 use native.Mathlib.Numerals.{add-one}
 use lib.ListN.{length, getD, take, drop, set, replicate, length-drop, length-replicate}
-use lib.Seq.{length-take-le, take-suc-set, take-all, drop-length, getD-drop, paste, paste-suc}
+use lib.Seq.{length-take-le, take-all, drop-length, getD-drop, paste, paste-suc}
 use Rattle.words.specs.Words.{cellOf}
 use Rattle.words.proofs.Filled.{put-next}
 use Rattle.distinct.specs.Column.{column, columnFrom}

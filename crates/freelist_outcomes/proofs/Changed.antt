@@ -6,7 +6,6 @@ use mathlib.Core.List.{List, [], _∷_}
 use Prim.Native.Nat.{ℕ, _+_, _≤_, _<_}
 use native.Mathlib.Omega.{arith}
 use lib.ListN.{length, getD, set, replicate, length-append, getD-replicate}
-use lib.Seq.{getD-set-same}
 use Rattle.words.specs.Rows.{rows, laid}
 use Rattle.words.proofs.Records.{length-laid, rows-laid}
 use Rattle.counter.specs.InTable.{FreeListIn}

@@ -2,7 +2,7 @@
 use mathlib.Core.Bool.{Bool, true, false}
 use mathlib.Core.List.{List, []}
 use Prim.Native.Nat.{ℕ, _+_}
-use lib.ListN.{length, getD, set}
+use lib.ListN.{length, set}
 use lib.Seq.{sets}
 use Rattle.words.specs.Rows.{laid}
 use Rattle.counter.specs.Gate.{Verdict, pass, refuse, gated}
@@ -17,7 +17,7 @@ pub use Rattle.book_rules.specs.Returns.{Plan, deny, back, decided}
 use Rattle.freelist_rules.specs.Records.{region, chunkRow}
 use Rattle.freelist_rules.specs.Join.{insert}
 use Rattle.freelist_rules.specs.Release.{staying, leaving, remaining, memoriesOf, bytesOf}
-use Rattle.freelist_rules.specs.Tables.{Tables, tables, givenAt, chunksAt, placesIn, storeOf, laidRegions}
+use Rattle.freelist_rules.specs.Tables.{Tables, tables, chunksAt, placesIn, storeOf, laidRegions}
 use Rattle.store_rules.specs.declared.Region.{Region}
 use Rattle.freelist_outcomes.specs.Gate.{gateOf}
 
