@@ -93,7 +93,7 @@ fn write_loan(loans: &mut [u64], p: usize, l: Loan)
     loans[at + SIZE_AT] = l.size;
 }
 
-// The loan takes the next place, and becomes the first of its chain. Answers how many places were ever used.
+// The loan takes the next place, and becomes the first of its chain. Tells how many places were ever used.
 pub fn enter(loans: &mut [u64], index: &mut [u64], n: usize, places: u64, l: Loan) -> u64
     requires { ⌜ Opens n (takenOf places (now index) .place) (now loans) (now index) ⌝ }
     ensures { λ r. ⌜ r ≡ takenOf places (now (index .entry)) .slab .places ⌝ }

@@ -9,7 +9,7 @@ use Rattle.book_rules.specs.Book.{vacatedAt, indexWords, firstIn, freshI
 
 pub fresh-wide : (n : ℕ) → length (freshIndex n) ≡ indexWords n
 unfolding freshIndex
-fresh-wide n = length-replicate (indexWords n) nowhere
+fresh-wide n = length-replicate (indexWords n) _
 
 pub fresh-vacated : (n : ℕ) → getD (freshIndex n) vacatedAt 0 ≡ nowhere
 unfolding freshIndex

@@ -13,7 +13,7 @@ use buddy_levels::level_from;
 use buddy_rules::FREE_WORD;
 
 // The head pair h of the level `from`, ready at its left or its right. A side of the asked level itself is the loan's at once.
-// Answers the loan's node.
+// Tells the loan's node.
 pub fn take_side(
     tree: &mut [u64],
     pairs: usize,

@@ -169,7 +169,7 @@ pub fn pair_taken(tree: &[u64], base: usize) -> Taken
     s.insert(tree, base + (HEADER_WORDS + OFF_AT), PAIR_WORDS)
 }
 
-// A new pair of a node, whose left node has the word `left`: ready at its right, and alone in the ring. Answers its place.
+// A new pair of a node, whose left node has the word `left`: ready at its right, and alone in the ring. Tells its place.
 pub fn add_pair(tree: &mut [u64], base: usize, chunk: u64, offset: u64, node: u64, left: u64) -> u64
     requires { ⌜ base ≤ baseMost ⌝ }
     ensures { λ r. ⌜ r ≡ pairTaken base (now (tree .entry)) .place ⌝ }

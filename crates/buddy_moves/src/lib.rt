@@ -32,7 +32,7 @@ fn twin_word(tree: &[u64], base: usize, n: u64) -> u64
 }
 
 // Node n of a level was given back. While its twin is free its pair goes, and the node above is given back in turn; at most
-// `levels` times. Answers whether that was all of the chunk.
+// `levels` times. Tells whether that was all of the chunk.
 pub fn climb(tree: &mut [u64], pairs: usize, level: usize, levels: usize, node: u64) -> bool
     requires { ⌜ (pairs ≤ pairsMost) × (level + levels ≤ levelsMost) ⌝ }
     ensures { λ r. ⌜ r ≡ climbed pairs levels level node (now (tree .entry)) .freed ⌝ }
@@ -70,7 +70,7 @@ fn put_word(tree: &mut [u64], base: usize, n: u64, w: u64)
 }
 
 // A node `above` levels over the asked level is split down to it, always keeping the left half, which is lent: its word says
-// which loan it is. Answers that node.
+// which loan it is. Tells that node.
 pub fn split_down(
     tree: &mut [u64],
     pairs: usize,
@@ -109,7 +109,7 @@ pub fn split_down(
     n
 }
 
-// A new chunk's own pair, `above` levels over the asked one, and its left node split down and lent. Answers that node.
+// A new chunk's own pair, `above` levels over the asked one, and its left node split down and lent. Tells that node.
 pub fn split_chunk(
     tree: &mut [u64],
     pairs: usize,
