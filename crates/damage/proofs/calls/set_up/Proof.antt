@@ -32,14 +32,14 @@ array-borrow-prefix-head c = search needs
 slice-aggregate-set-up : tie.Need-slice-aggregate-set-up
 slice-aggregate-set-up c = sym (length-take-le _ _ (omega (arith, c .before .before .before .before .before .before .before .before .before .before .before .table-from .ensures, c .before .before .before .before .before .before .before .before .before .before .before .before .before .lent-words .ensures)))
 
-array-share-prefix-loans : tie.Need-array-share-prefix-loans
-array-share-prefix-loans c = search needs
+array-borrow-prefix-loans : tie.Need-array-borrow-prefix-loans
+array-borrow-prefix-loans c = search needs
 
 slice-aggregate-set-up-2 : tie.Need-slice-aggregate-set-up-2
 slice-aggregate-set-up-2 c = sym (length-take-le _ _ (omega (arith, c .before .before .before .before .before .before .before .before .before .before .table-from2 .ensures, c .before .before .before .before .before .before .before .before .before .before .before .before .before .before .lent-words .ensures)))
 
-array-share-prefix-chunks : tie.Need-array-share-prefix-chunks
-array-share-prefix-chunks c = search needs
+array-borrow-prefix-chunks : tie.Need-array-borrow-prefix-chunks
+array-borrow-prefix-chunks c = search needs
 
 slice-aggregate-set-up-3 : tie.Need-slice-aggregate-set-up-3
 slice-aggregate-set-up-3 c = sym (length-take-le _ _ (omega (arith, c .before .before .before .before .before .before .before .before .before .table-from3 .ensures, c .before .before .before .before .before .before .before .before .before .before .before .before .before .before .before .lent-words .ensures)))
@@ -84,9 +84,9 @@ set-up-spec =
     own-from-requires
     array-borrow-prefix-head
     slice-aggregate-set-up
-    array-share-prefix-loans
+    array-borrow-prefix-loans
     slice-aggregate-set-up-2
-    array-share-prefix-chunks
+    array-borrow-prefix-chunks
     slice-aggregate-set-up-3
     array-borrow-prefix-index
     slice-aggregate-set-up-4
