@@ -48,6 +48,7 @@ pub record Came (s : BuddySettings) (a : Account) (o : Outcome) (t : Tables) (se
   pub order : KeptOrder
   pub memory : ℕ
   pub ordered : a .order ≡ Kept order
+  pub kept-is : fateOf buddy o ≡ kept memory
   pub lent : Lent s a t
   pub sound : Sound s t
   pub bought : Buys s (order .ask .size) (order .ask .mask) t (order .order .size)
@@ -62,10 +63,10 @@ module _ (s : BuddySettings) (a : Account) (o : Outcome) (t : Tables) (serial ch
   tells : (r : Out Tables) → deliverOf s a o t ≡ r → r .said ≡ Paper.block serial chunk offset len
   tells r e = sym (ap (λ (x : Out Tables). x .said) e) ∙ q
 
-  fate-came : (k : KeptOrder) → a .order ≡ Kept k → deliverGateOf s a t ≡ pass → (f : Fate) → deliverOf s a o t ≡ carryFate s a k t f → Came s a o t serial chunk offset len
+  fate-came : (k : KeptOrder) → a .order ≡ Kept k → deliverGateOf s a t ≡ pass → (f : Fate) → fateOf buddy o ≡ f → deliverOf s a o t ≡ carryFate s a k t f → Came s a o t serial chunk offset len
   unfolding carryFate
-  fate-came k e g (lost n charged back) r = refusal-block n back serial chunk offset len (tells _ r)
-  fate-came k e g (kept m) r =
+  fate-came k e g (lost n charged back) w r = refusal-block n back serial chunk offset len (tells _ r)
+  fate-came k e g (kept m) w r =
       let sound = gate-sound s a t g in
       let p = opened s a o t sound k e g in
       let l : Loan = lentIn s (k .ask .size) (k .ask .mask) (asOrdered s k t) in
@@ -74,6 +75,7 @@ module _ (s : BuddySettings) (a : Account) (o : Outcome) (t : Tables) (serial ch
         order = k;
         memory = m;
         ordered = e;
+        kept-is = w;
         lent = p .lent;
         sound = sound;
         bought = p .buys-it;
@@ -92,7 +94,7 @@ module _ (s : BuddySettings) (a : Account) (o : Outcome) (t : Tables) (serial ch
   came-by pass g Nothing e r = refusal-block 2 [] serial chunk offset len (tells _ r)
   came-by pass g (Kept k) e r =
       ⊎-elim
-      (λ d. fate-came k e g (fateOf buddy o) (rw d at r))
+      (λ d. fate-came k e g (fateOf buddy o) refl (rw d at r))
       (λ d. refusal-block 13 [] serial chunk offset len (tells (out (Paper.refusal 13 []) a t) (rw d at r)))
       (told (deliveryOk (k .order .map) (memories t (chunkPlacesIn t)) o))
 

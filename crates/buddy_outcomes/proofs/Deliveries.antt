@@ -16,6 +16,7 @@ use Rattle.counter.specs.declared.account.OpenOrder.the-variants.{Kept}
 use Rattle.counter.specs.declared.account.Order.{Order}
 use Rattle.counter.specs.declared.answers.Outcome.{Outcome}
 use Rattle.counter.specs.declared.settings.BuddySettings.{BuddySettings}
+use Rattle.store_rules.specs.Delivery.{kept, buddy, fateOf}
 use Rattle.store_rules.specs.Outcomes.{Out}
 use Rattle.store_rules.specs.Views.{chunk, block, Matches}
 use Rattle.store_rules.specs.declared.Loan.{Loan}
@@ -122,8 +123,8 @@ module _ (s : BuddySettings) (t : Tables) (fit : BuddyIn s) (lengths : Lengths s
 
 module _ (s : BuddySettings) (a : Account) (o : Outcome) (t : Tables) (serial number offset len : ℕ) (q : deliverOf s a o t .said ≡ Paper.block serial number offset len) where
   -- a delivery that says a block: the loans are those before and one that matches the block, and the chunks those before and the
-  -- one that was ordered
-  pub deliver-view : (k : KeptOrder) × (memory : ℕ) × (a .order ≡ Kept k)
+  -- one that was ordered, with the memory that was handed over
+  pub deliver-view : (k : KeptOrder) × (memory : ℕ) × (a .order ≡ Kept k) × (fateOf buddy o ≡ kept memory)
       × (l : Loan) × Matches (block serial number offset len) l × Amid l (viewOf s t .loans) (viewOf s (deliverOf s a o t .tables) .loans)
       × Amid (chunk number memory (k .order .size)) (viewOf s t .chunks) (viewOf s (deliverOf s a o t .tables) .chunks)
   deliver-view =
@@ -136,6 +137,7 @@ module _ (s : BuddySettings) (a : Account) (o : Outcome) (t : Tables) (serial nu
         k,
         v .memory,
         v .ordered,
+        v .kept-is,
         loanIn s (k .ask .size) (k .ask .mask) (asOrdered s k t),
         record { serial = sym (v .serial-is); chunk = sym y; offset = sym (v .offset-is); size = sym (v .len-is) },
         subst (λ (u : Tables). Amid (loanIn s (k .ask .size) (k .ask .mask) (asOrdered s k t)) (loansIn t) (loansIn u)) (sym e)
