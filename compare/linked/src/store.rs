@@ -167,13 +167,13 @@ fn outcome_words(outcome: Outcome, memory: u64) -> OutcomeWords {
     }
 }
 
-/// Words of head, loans, chunks, index and regions.
+/// Words of head, loans, chunks, index and regions: each table's own record, then the others.
 fn list_lengths(loans: usize, chunks: usize) -> [usize; 5] {
-    [6, 4 * loans, 3 * chunks, 1 + 3 * loans, 3 * (loans + chunks) + 1]
+    [6, 4 * (1 + loans), 3 * (1 + chunks), 3 * (1 + loans), 3 * (1 + loans + chunks)]
 }
 
-/// Words of head, loans, chunks, index and tree: levels of pairs, chunk places, loans' nodes.
+/// Words of head, loans, chunks, index and tree: its own record, levels of pairs, chunk places, loans' nodes.
 fn buddy_lengths(loans: usize, chunks: usize, pairs: usize) -> [usize; 5] {
-    let tree = (8 + 8 * pairs) * LEVEL_LIMIT + (1 + 2 * chunks) + loans;
-    [5, 4 * loans, 2 * chunks, 1 + 3 * loans, tree]
+    let tree = 8 + (8 + 8 * pairs) * LEVEL_LIMIT + 8 * (1 + chunks) + loans;
+    [5, 4 * (1 + loans), 2 * (1 + chunks), 3 * (1 + loans), tree]
 }

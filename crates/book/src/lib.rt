@@ -26,13 +26,13 @@ use store_rules::SIZE_AT;
 // Where the words of the index stand; specs/Book has the same names.
 pub const ENTRY_WORDS: usize = 3;
 
-pub const VACATED_AT: usize = 0;
+pub const VACATED_AT: usize = 2;
 
-const FIRST_AT: usize = 1;
+const FIRST_AT: usize = 3;
 
-const NEXT_AT: usize = 2;
+const NEXT_AT: usize = 4;
 
-pub const VACANT_AFTER_AT: usize = 3;
+pub const VACANT_AFTER_AT: usize = 5;
 
 // The index of n loans with no loan in it: no word leads anywhere.
 pub fn fresh_index(n: usize, index: &mut [u64])
@@ -57,14 +57,16 @@ pub fn next_place(places: u64, index: &[u64]) -> Taken
 pub fn loan_at(loans: &[u64], p: usize) -> Loan
     ensures { λ r. ⌜ r ≡ row loanRow p (now (loans .entry)) ⌝ }
 {
-    if p < loans.len() / LOAN_WORDS {
+    if p < loans.len() {
         let at = LOAN_WORDS * p;
-        return Loan {
-            serial: loans[at + SERIAL_AT],
-            chunk: loans[at + CHUNK_AT],
-            offset: loans[at + OFFSET_AT],
-            size: loans[at + SIZE_AT],
-        };
+        if at + SIZE_AT < loans.len() {
+            return Loan {
+                serial: loans[at + SERIAL_AT],
+                chunk: loans[at + CHUNK_AT],
+                offset: loans[at + OFFSET_AT],
+                size: loans[at + SIZE_AT],
+            };
+        }
     }
     loan_by_words(loans, p)
 }

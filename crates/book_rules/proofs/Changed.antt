@@ -4,7 +4,7 @@ use mathlib.Core.Path.{_≡_, refl, sym, ap, _∙_}
 use mathlib.Core.Bool.{true, false}
 use mathlib.Core.Logic.{⊎-elim}
 use mathlib.Core.List.{List}
-use Prim.Native.Nat.{ℕ, _*_, _%_, _<_}
+use Prim.Native.Nat.{ℕ, _*_, _%_, _<_, _+_}
 use native.Mathlib.Omega.{arith}
 use lib.Dec.{eqb}
 use lib.ListN.{length, getD, set, length-set}
@@ -15,59 +15,59 @@ use Rattle.words.specs.Rows.{written}
 use Rattle.slab.specs.Slab.{vacantAt, linkAt, changed}
 use Rattle.lists.proofs.Bools.{same?}
 use Rattle.slab.proofs.Places.{vacant-set, link-here, link-other}
-use Rattle.store_rules.specs.Loans.{loanWords, serialAt, sizeAt, loanRow}
+use Rattle.store_rules.specs.Loans.{loanWords, serialAt, sizeAt, loanRow, chunkAt, offsetAt}
 use Rattle.store_rules.specs.declared.Loan.{Loan}
 use Rattle.book_rules.specs.Book.{entryWords, vacatedAt, vacantAfterAt, indexWords, firstOf, nextOf, serialOf, struckIndex}
 use Rattle.book_rules.proofs.Whole.{loan-written}
 
 -- ---- a loan written at p
 
-module _ (loans : List ℕ) (n p : ℕ) (l : Loan) (long : length loans ≡ loanWords * n) (room : p < n) where
+module _ (loans : List ℕ) (n p : ℕ) (l : Loan) (long : length loans ≡ loanWords + loanWords * n) (room : p < n) where
   abbrev one : List ℕ
-  one = set loans (cellOf 0 loanWords p) (l .serial)
+  one = set loans (cellOf serialAt loanWords p) (l .serial)
 
   abbrev two : List ℕ
-  two = set one (cellOf 1 loanWords p) (l .chunk)
+  two = set one (cellOf chunkAt loanWords p) (l .chunk)
 
   abbrev three : List ℕ
-  three = set two (cellOf 2 loanWords p) (l .offset)
+  three = set two (cellOf offsetAt loanWords p) (l .offset)
 
-  pub by-words : written loanRow p l loans ≡ set three (cellOf 3 loanWords p) (l .size)
+  pub by-words : written loanRow p l loans ≡ set three (cellOf sizeAt loanWords p) (l .size)
   by-words = sym (loan-written loans p (l .serial) (l .chunk) (l .offset) (l .size) one two three _ refl refl refl refl)
 
   -- words other than its serial's leave the serials
   serial-one : (x : ℕ) → serialOf (written loanRow p l loans) x ≡ serialOf one x
   serial-one x =
       ap (λ (t : List ℕ). serialOf t x) by-words
-      ∙ getD-set-other three (cellOf 3 loanWords p) (cellOf 0 loanWords x) (l .size) 0 (λ e. omega arith)
-      ∙ getD-set-other two (cellOf 2 loanWords p) (cellOf 0 loanWords x) (l .offset) 0 (λ e. omega arith)
-      ∙ getD-set-other one (cellOf 1 loanWords p) (cellOf 0 loanWords x) (l .chunk) 0 (λ e. omega arith)
+      ∙ getD-set-other three (cellOf sizeAt loanWords p) (cellOf serialAt loanWords x) (l .size) 0 (λ e. omega arith)
+      ∙ getD-set-other two (cellOf offsetAt loanWords p) (cellOf serialAt loanWords x) (l .offset) 0 (λ e. omega arith)
+      ∙ getD-set-other one (cellOf chunkAt loanWords p) (cellOf serialAt loanWords x) (l .chunk) 0 (λ e. omega arith)
 
   pub serial-here : serialOf (written loanRow p l loans) p ≡ l .serial
-  serial-here = serial-one p ∙ getD-set-same loans (cellOf 0 loanWords p) (l .serial) 0 (omega arith)
+  serial-here = serial-one p ∙ getD-set-same loans (cellOf serialAt loanWords p) (l .serial) 0 (omega arith)
 
   pub serial-other : (x : ℕ) → (x ≡ p → ⊥) → serialOf (written loanRow p l loans) x ≡ serialOf loans x
-  serial-other x o = serial-one x ∙ getD-set-other loans (cellOf 0 loanWords p) (cellOf 0 loanWords x) (l .serial) 0 (λ e. o (omega arith))
+  serial-other x o = serial-one x ∙ getD-set-other loans (cellOf serialAt loanWords p) (cellOf serialAt loanWords x) (l .serial) 0 (λ e. o (omega arith))
 
   three-long : length three ≡ length loans
-  three-long = length-set two (cellOf 2 loanWords p) (l .offset) ∙ length-set one (cellOf 1 loanWords p) (l .chunk) ∙ length-set loans (cellOf 0 loanWords p) (l .serial)
+  three-long = length-set two (cellOf offsetAt loanWords p) (l .offset) ∙ length-set one (cellOf chunkAt loanWords p) (l .chunk) ∙ length-set loans (cellOf serialAt loanWords p) (l .serial)
 
-  size-three : (x : ℕ) → getD three (cellOf 3 loanWords x) 0 ≡ getD loans (cellOf 3 loanWords x) 0
+  size-three : (x : ℕ) → getD three (cellOf sizeAt loanWords x) 0 ≡ getD loans (cellOf sizeAt loanWords x) 0
   size-three x =
-      getD-set-other two (cellOf 2 loanWords p) (cellOf 3 loanWords x) (l .offset) 0 (λ e. omega arith)
-      ∙ getD-set-other one (cellOf 1 loanWords p) (cellOf 3 loanWords x) (l .chunk) 0 (λ e. omega arith)
-      ∙ getD-set-other loans (cellOf 0 loanWords p) (cellOf 3 loanWords x) (l .serial) 0 (λ e. omega arith)
+      getD-set-other two (cellOf offsetAt loanWords p) (cellOf sizeAt loanWords x) (l .offset) 0 (λ e. omega arith)
+      ∙ getD-set-other one (cellOf chunkAt loanWords p) (cellOf sizeAt loanWords x) (l .chunk) 0 (λ e. omega arith)
+      ∙ getD-set-other loans (cellOf serialAt loanWords p) (cellOf sizeAt loanWords x) (l .serial) 0 (λ e. omega arith)
 
   pub used-here : (l .size ≡ 0 → ⊥) → vacantAt (written loanRow p l loans) sizeAt loanWords p ≡ false
   used-here o =
       ap (λ (t : List ℕ). vacantAt t sizeAt loanWords p) by-words
-      ∙ ap (λ (w : ℕ). eqb w 0) (getD-set-same three (cellOf 3 loanWords p) (l .size) 0 (omega (arith, three-long)))
+      ∙ ap (λ (w : ℕ). eqb w 0) (getD-set-same three (cellOf sizeAt loanWords p) (l .size) 0 (omega (arith, three-long)))
       ∙ ne-eqb (l .size) 0 o
 
   pub used-other : (x : ℕ) → (x ≡ p → ⊥) → vacantAt (written loanRow p l loans) sizeAt loanWords x ≡ vacantAt loans sizeAt loanWords x
   used-other x o =
       ap (λ (t : List ℕ). vacantAt t sizeAt loanWords x) by-words
-      ∙ ap (λ (w : ℕ). eqb w 0) (getD-set-other three (cellOf 3 loanWords p) (cellOf 3 loanWords x) (l .size) 0 (λ e. o (omega arith)) ∙ size-three x)
+      ∙ ap (λ (w : ℕ). eqb w 0) (getD-set-other three (cellOf sizeAt loanWords p) (cellOf sizeAt loanWords x) (l .size) 0 (λ e. o (omega arith)) ∙ size-three x)
 
 -- ---- p put first in chain c, before f, and v the place vacated last
 
@@ -121,7 +121,7 @@ module _ (index : List ℕ) (n c p f v : ℕ) (long : length index ≡ indexWord
 
 -- ---- the loan at p struck out
 
-module _ (loans : List ℕ) (n p : ℕ) (long : length loans ≡ loanWords * n) (room : p < n) where
+module _ (loans : List ℕ) (n p : ℕ) (long : length loans ≡ loanWords + loanWords * n) (room : p < n) where
   pub serial-kept : (x : ℕ) → serialOf (set loans (cellOf sizeAt loanWords p) 0) x ≡ serialOf loans x
   serial-kept x = getD-set-other loans (cellOf sizeAt loanWords p) (cellOf serialAt loanWords x) 0 0 (λ e. omega arith)
 
@@ -130,7 +130,7 @@ module _ (loans : List ℕ) (n p : ℕ) (long : length loans ≡ loanWords * n) 
 
 -- the word at `at`, which leads to p, leads past it; `at` is no word that leads on among the vacant places
 module _ (index : List ℕ) (n at p : ℕ) (wide : length index ≡ indexWords n) (room : p < n) (inside : at < indexWords n)
-    (chained : at % 3 ≡ 0 → ⊥) (leads : getD index at 0 ≡ p) where
+    (chained : at % 3 ≡ 2 → ⊥) (leads : getD index at 0 ≡ p) where
   abbrev cut : List ℕ
   cut = set index at (getD index (nextOf p) 0)
 
@@ -147,7 +147,7 @@ module _ (index : List ℕ) (n at p : ℕ) (wide : length index ≡ indexWords n
   freed-long : length freed ≡ length index
   freed-long = length-set cut (cellOf vacantAfterAt entryWords p) (getD index vacatedAt 0) ∙ cut-long
 
-  pub struck-stays : (v : ℕ) → (v % 3 ≡ 0 → ⊥) → (v ≡ at → ⊥) → getD (struckIndex at index) v 0 ≡ getD index v 0
+  pub struck-stays : (v : ℕ) → (v % 3 ≡ 2 → ⊥) → (v ≡ at → ⊥) → getD (struckIndex at index) v 0 ≡ getD index v 0
   struck-stays v o e =
       ap (λ (t : List ℕ). getD t v 0) struck-as
       ∙ getD-set-other freed vacatedAt v p 0 (λ z. o (omega arith))

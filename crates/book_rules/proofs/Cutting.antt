@@ -45,10 +45,10 @@ module _ (index : List ℕ) where
         ∙ seek-found (nextOf x) (k - 1) p a b (c .1) (λ y m. h y (inr m)) (λ y m. f y (inr m)) e (omega arith)
 
 -- the word at `at` leads past p from now on; of the other words that lead on in chains, each stays
-module _ (index index′ : List ℕ) (at p : ℕ) (stays : (v : ℕ) → (v % 3 ≡ 0 → ⊥) → (v ≡ at → ⊥) → getD index′ v 0 ≡ getD index v 0)
+module _ (index index′ : List ℕ) (at p : ℕ) (stays : (v : ℕ) → (v % 3 ≡ 2 → ⊥) → (v ≡ at → ⊥) → getD index′ v 0 ≡ getD index v 0)
     (past : getD index′ at 0 ≡ getD index (nextOf p) 0) where
   -- the chain of p goes past it
-  pub chain-cut : (w : ℕ) (a b : List ℕ) → at ≡ wordPast w a → (w % 3 ≡ 0 → ⊥) → ((x : ℕ) → Mem x (a ++ (p ∷ b)) → w ≡ nextOf x → ⊥) → Distinct (a ++ (p ∷ b))
+  pub chain-cut : (w : ℕ) (a b : List ℕ) → at ≡ wordPast w a → (w % 3 ≡ 2 → ⊥) → ((x : ℕ) → Mem x (a ++ (p ∷ b)) → w ≡ nextOf x → ⊥) → Distinct (a ++ (p ∷ b))
       → Chain (λ x. getD index (nextOf x) 0) (getD index w 0) (a ++ (p ∷ b)) → Chain (λ x. getD index′ (nextOf x) 0) (getD index′ w 0) (a ++ b)
   chain-cut w [] b e o f d c =
       rw (← e, past)

@@ -26,23 +26,23 @@ on-loan-past l xs ys e = on-loan-append xs (l ∷ ys) ∙ rw e
 
 module _ (l : Loan) (some : eqb (l .size) 0 ≡ false) where
   -- in the next new place
-  amid-new : (n : ℕ) (t : List ℕ) → loanWords * (n + 1) ≤ length t → Amid l (loansOf n t) (loansOf (n + 1) (written loanRow n l t))
+  amid-new : (n : ℕ) (t : List ℕ) → loanWords + loanWords * (n + 1) ≤ length t → Amid l (loansOf n t) (loansOf (n + 1) (written loanRow n l t))
   unfolding loansOf
   amid-new n t h =
       let rs : List Loan = rows loanRow n t in
       let e : rows loanRow (n + 1) (written loanRow n l t) ≡ rs ++ (l ∷ []) =
       ap (rows loanRow (n + 1)) (appended loanRow n l t (omega arith))
-      ∙ rows-after loanRow (n + 1) (rs ++ (l ∷ [])) t (length-append rs (l ∷ []) ∙ ap (λ (k : ℕ). k + 1) (length-rows loanRow n t)) in
+      ∙ rows-after loanRow (n + 1) (rs ++ (l ∷ [])) t h (length-append rs (l ∷ []) ∙ ap (λ (k : ℕ). k + 1) (length-rows loanRow n t)) in
       record { earlier = onLoan rs; later = []; were = sym (append-nil (onLoan rs)); are = ap onLoan e ∙ on-loan-amid l rs [] some }
 
   -- in a vacant place
-  amid-again : (n p : ℕ) (t : List ℕ) → p < n → loanWords * n ≤ length t → eqb (row loanRow p t .size) 0 ≡ true → Amid l (loansOf n t) (loansOf n (written loanRow p l t))
+  amid-again : (n p : ℕ) (t : List ℕ) → p < n → loanWords + loanWords * n ≤ length t → eqb (row loanRow p t .size) 0 ≡ true → Amid l (loansOf n t) (loansOf n (written loanRow p l t))
   unfolding loansOf
   amid-again n p t g h v =
       let rs : List Loan = rows loanRow n t in
       let k : p < length rs = omega (arith, length-rows loanRow n t) in
       let e : rows loanRow n (written loanRow p l t) ≡ set rs p l =
-      ap (rows loanRow n) (updated-at loanRow n p l t g h) ∙ rows-after loanRow n (set rs p l) t (length-set rs p l ∙ length-rows loanRow n t) in
+      ap (rows loanRow n) (updated-at loanRow n p l t g h) ∙ rows-after loanRow n (set rs p l) t h (length-set rs p l ∙ length-rows loanRow n t) in
       let w : eqb (getD rs p noLoan .size) 0 ≡ true = ap (λ (d : Loan). eqb (d .size) 0) (getD-rows loanRow n p t noLoan g) ∙ v in
       record {
         earlier = onLoan (take p rs);
@@ -52,7 +52,7 @@ module _ (l : Loan) (some : eqb (l .size) 0 ≡ false) where
       }
 
   -- the place that is taken next is one of these
-  pub entered-amid : (loans index : List ℕ) (n places : ℕ) → n < nowhere → BookParted loans index n places → takenOf places index .place < n → loanWords * n ≤ length loans
+  pub entered-amid : (loans index : List ℕ) (n places : ℕ) → n < nowhere → BookParted loans index n places → takenOf places index .place < n → loanWords + loanWords * n ≤ length loans
       → Amid l (loansOf places loans) (loansOf (takenOf places index .slab .places) (entered places index l loans))
   unfolding entered
   entered-amid loans index n places few P room long =

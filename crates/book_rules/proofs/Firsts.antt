@@ -5,7 +5,7 @@ use Prim.Native.Nat.{ℕ, _+_, _*_, _<_}
 use native.Mathlib.Omega.{arith}
 use lib.ListN.{length, getD, replicate, length-replicate, getD-replicate}
 use Rattle.slab.specs.Slab.{nowhere}
-use Rattle.book_rules.specs.Book.{vacatedAt, indexWords, firstIn, freshIndex}
+use Rattle.book_rules.specs.Book.{vacatedAt, indexWords, firstIn, freshIndex, firstOf}
 
 pub fresh-wide : (n : ℕ) → length (freshIndex n) ≡ indexWords n
 unfolding freshIndex
@@ -17,7 +17,7 @@ fresh-vacated n = getD-replicate (indexWords n) vacatedAt nowhere 0 (omega arith
 
 pub fresh-first : (n i : ℕ) → i < n → firstIn (freshIndex n) i ≡ nowhere
 unfolding freshIndex
-fresh-first n i h = getD-replicate (indexWords n) (1 + 3 * i) nowhere 0 (omega arith)
+fresh-first n i h = getD-replicate (indexWords n) (firstOf i) nowhere 0 (omega arith)
 
 -- a table of that length, filled
 pub fresh-filled : (n : ℕ) (index x : List ℕ) → length index ≡ indexWords n → x ≡ replicate (length index) nowhere → x ≡ freshIndex n

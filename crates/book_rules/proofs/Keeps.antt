@@ -134,7 +134,7 @@ module _ (loans index : List ℕ) (n places : ℕ) (few : n < nowhere) (P : Book
           inl (e, ⊎-elim (λ (g : places + 1 < q). let z = k .grown (places + 1) g (λ f. omega arith) in absurd (omega arith)) (λ (g : q ≤ places + 1). omega arith) (lt-or-le (places + 1) q)))
           (lt-or-le p places)
 
-  module _ (given : ℕ) (l : Loan) (long : length loans ≡ loanWords * n) (wide : length index ≡ indexWords n)
+  module _ (given : ℕ) (l : Loan) (long : length loans ≡ loanWords + loanWords * n) (wide : length index ≡ indexWords n)
       (room : takenOf places index .place < n) (next : l .serial ≡ given + 1) (whole : l .size ≡ 0 → ⊥) where
     abbrev taken : ℕ
     taken = takenOf places index .place
@@ -252,12 +252,12 @@ module _ (loans index : List ℕ) (n places given : ℕ) (some : 0 < n) (limit :
     pub found : (wordTo loans index n places (serialOf loans p) < indexWords n) × (getD index (wordTo loans index n places (serialOf loans p)) 0 ≡ p)
     found = (found-inside, found-leads)
 
-    found-chained : at % 3 ≡ 0 → ⊥
+    found-chained : at % 3 ≡ 2 → ⊥
     found-chained z = ⊎-elim (λ e. omega arith) (λ r. omega (arith, r .is)) found-word
 
     -- ---- and struck out
 
-    module _ (long : length loans ≡ loanWords * n) (wide : length index ≡ indexWords n) where
+    module _ (long : length loans ≡ loanWords + loanWords * n) (wide : length index ≡ indexWords n) where
       room : p < n
       room = omega arith
 
@@ -265,7 +265,7 @@ module _ (loans index : List ℕ) (n places given : ℕ) (some : 0 < n) (limit :
       unfolding struck
       loans-as = ap (λ (q : ℕ). set loans (cellOf sizeAt loanWords q) 0) found-leads
 
-      stays : (v : ℕ) → (v % 3 ≡ 0 → ⊥) → (v ≡ at → ⊥) → getD (struckIndex at index) v 0 ≡ getD index v 0
+      stays : (v : ℕ) → (v % 3 ≡ 2 → ⊥) → (v ≡ at → ⊥) → getD (struckIndex at index) v 0 ≡ getD index v 0
       stays = struck-stays index n at p wide room found-inside found-chained found-leads
 
       past : getD (struckIndex at index) at 0 ≡ getD index (nextOf p) 0

@@ -29,16 +29,16 @@ module _ (t : List ℕ) (p : ℕ) where
   pub loan-along : loan (getD t (loanWords * p + serialAt) 0) (getD t (loanWords * p + chunkAt) 0) (getD t (loanWords * p + offsetAt) 0) (getD t (loanWords * p + sizeAt) 0) ≡ row loanRow p t
   loan-along = loan-read _ _ _ _ (read-on serialAt) (read-on chunkAt) (read-on offsetAt) (read-on sizeAt)
 
-  here : cellOf serialAt loanWords p ≡ loanWords * p
+  here : cellOf serialAt loanWords p ≡ loanWords + loanWords * p
   here = omega arith
 
-  next : cellOf chunkAt loanWords p ≡ suc (loanWords * p)
+  next : cellOf chunkAt loanWords p ≡ suc (loanWords + loanWords * p)
   next = omega arith
 
-  third : cellOf offsetAt loanWords p ≡ suc (suc (loanWords * p))
+  third : cellOf offsetAt loanWords p ≡ suc (suc (loanWords + loanWords * p))
   third = omega arith
 
-  fourth : cellOf sizeAt loanWords p ≡ suc (suc (suc (loanWords * p)))
+  fourth : cellOf sizeAt loanWords p ≡ suc (suc (suc (loanWords + loanWords * p)))
   fourth = omega arith
 
   pub loan-written : (a b c d : ℕ) (x y z w : List ℕ) → x ≡ set t (cellOf serialAt loanWords p) a → y ≡ set x (cellOf chunkAt loanWords p) b → z ≡ set y (cellOf offsetAt loanWords p) c → w ≡ set z (cellOf sizeAt loanWords p) d
@@ -48,8 +48,8 @@ module _ (t : List ℕ) (p : ℕ) where
   pub written-along : (a b c d : ℕ) → set (set (set (set t (loanWords * p + serialAt) a) (loanWords * p + chunkAt) b) (loanWords * p + offsetAt) c) (loanWords * p + sizeAt) d
       ≡ written loanRow p (loan a b c d) t
   written-along a b c d =
-      let e : loanWords * p + serialAt ≡ loanWords * p = omega arith in
-      let f : loanWords * p + chunkAt ≡ suc (loanWords * p) = omega arith in
-      let g : loanWords * p + offsetAt ≡ suc (suc (loanWords * p)) = omega arith in
-      let h : loanWords * p + sizeAt ≡ suc (suc (suc (loanWords * p))) = omega arith in
+      let e : loanWords * p + serialAt ≡ loanWords + loanWords * p = omega arith in
+      let f : loanWords * p + chunkAt ≡ suc (loanWords + loanWords * p) = omega arith in
+      let g : loanWords * p + offsetAt ≡ suc (suc (loanWords + loanWords * p)) = omega arith in
+      let h : loanWords * p + sizeAt ≡ suc (suc (suc (loanWords + loanWords * p))) = omega arith in
       (λ j. set (set (set (set t (e j) a) (f j) b) (g j) c) (h j) d)

@@ -19,21 +19,23 @@ use Rattle.store_rules.specs.declared.Loan.{Loan}
 abbrev pub entryWords : ℕ
 entryWords = 3
 
+-- of its own record: where the chain of vacant places begins
 abbrev pub vacatedAt : ℕ
-vacatedAt = 0
+vacatedAt = 2
 
+-- of the record of chain 0 and place 0
 abbrev pub firstAt : ℕ
-firstAt = 1
+firstAt = 3
 
 abbrev pub nextAt : ℕ
-nextAt = 2
+nextAt = 4
 
 abbrev pub vacantAfterAt : ℕ
-vacantAfterAt = 3
+vacantAfterAt = 5
 
 -- how many words the index of n loans takes
 abbrev pub indexWords : ℕ → ℕ
-indexWords n = 1 + entryWords * n
+indexWords n = entryWords + entryWords * n
 
 -- the words that lead to chain i, and on from place p
 abbrev pub firstOf : ℕ → ℕ

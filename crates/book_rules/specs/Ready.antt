@@ -2,7 +2,7 @@
 -- the tests behind it the place.
 use mathlib.Core.Path.{_≡_}
 use mathlib.Core.List.{List}
-use Prim.Native.Nat.{ℕ, _*_, _≤_, _<_}
+use Prim.Native.Nat.{ℕ, _+_, _*_, _≤_, _<_}
 use lib.ListN.{length, getD}
 use Rattle.counter.specs.Limits.{loansMost}
 use Rattle.words.specs.Words.{cellOf}
@@ -13,7 +13,7 @@ use Rattle.book_rules.specs.Book.{entryWords, vacantAfterAt, indexWords}
 pub record Opens (n p : ℕ) (loans index : List ℕ) : Type 0 where
   pub some : 0 < n
   pub most : n ≤ loansMost
-  pub loans-long : length loans ≡ loanWords * n
+  pub loans-long : length loans ≡ loanWords + loanWords * n
   pub index-long : length index ≡ indexWords n
   pub place : p < n
 

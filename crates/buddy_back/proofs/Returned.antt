@@ -10,22 +10,22 @@ use Rattle.counter.specs.Limits.{levelsMost}
 use Rattle.counter.specs.declared.answers.Block.{Block}
 use Rattle.counter.specs.declared.settings.BuddySettings.{BuddySettings}
 use Rattle.book_rules.specs.Book.{struck, struckIndex}
-use Rattle.buddy_rules.specs.Level.{levelWords}
+use Rattle.buddy_rules.specs.Level.{levelWords, levelStart}
 use Rattle.buddy_rules.specs.Tables.{Tables, tables, levelsAt, chunkWords, chunkSizeAt, afterAt, placeWords, nodesFrom}
 use Rattle.buddy_rules.specs.Moves.{Climbed, climbed}
 use Rattle.buddy_outcomes.specs.Return.{climbFor, vacatedTree, givenTables}
 
 -- a chunk's place vacated
-pub vacated-done : (s : BuddySettings) (c at last : ℕ) (tree t₁ t′ : List ℕ) → at ≡ levelWords (s .pairs) * levelsMost → last ≡ getD tree at 0
-    → t₁ ≡ set tree (cellOf (at + (1 + afterAt)) placeWords c) last → t′ ≡ set t₁ at c → t′ ≡ vacatedTree s c tree
+pub vacated-done : (s : BuddySettings) (c at last : ℕ) (tree t₁ t′ : List ℕ) → at ≡ levelStart (s .pairs) levelsMost → last ≡ getD tree at 0
+    → t₁ ≡ set tree (cellOf (at + (placeWords + afterAt)) placeWords c) last → t′ ≡ set t₁ at c → t′ ≡ vacatedTree s c tree
 unfolding vacatedTree
 vacated-done s c at last tree t₁ t′ e f g h =
     h
     ∙ ap (λ (t : List ℕ). set t at c) g
-    ∙ (λ j. set (set tree (cellOf (at + (1 + afterAt)) placeWords c) (f j)) at c)
-    ∙ (λ j. set (set tree (cellOf (e j + (1 + afterAt)) placeWords c) (getD tree (e j) 0)) (e j) c)
+    ∙ (λ j. set (set tree (cellOf (at + (placeWords + afterAt)) placeWords c) (f j)) at c)
+    ∙ (λ j. set (set tree (cellOf (e j + (placeWords + afterAt)) placeWords c) (getD tree (e j) 0)) (e j) c)
 
-module _ (s : BuddySettings) (b : Block) (w : ℕ) (head index tree : List ℕ) (levels level nodes k node : ℕ) (top : levels ≡ getD head levelsAt 0) (low : level ≡ levelOf (b .size) (s .minimal)) (beside : nodes ≡ levelWords (s .pairs) * levelsMost + (1 + placeWords * s .store .chunks)) (leads : k ≡ getD index w 0) (reads : node ≡ getD tree (nodes + k) 0) where
+module _ (s : BuddySettings) (b : Block) (w : ℕ) (head index tree : List ℕ) (levels level nodes k node : ℕ) (top : levels ≡ getD head levelsAt 0) (low : level ≡ levelOf (b .size) (s .minimal)) (beside : nodes ≡ levelStart (s .pairs) levelsMost + (placeWords + placeWords * s .store .chunks)) (leads : k ≡ getD index w 0) (reads : node ≡ getD tree (nodes + k) 0) where
   -- the climb from the node that was read
   pub climb-is : climbed (s .pairs) (levels - level) level node tree ≡ climbFor s b w (tables head [] [] index tree)
   climb-is =

@@ -25,7 +25,13 @@ pub fn vacate(s: BuddySettings, c: u64, chunks: &mut [u64], tree: &mut [u64])
     let at = buddy_levels::chunks_from(s.pairs);
     let last = words::word(tree, at);
     words::put_cell(chunks, CHUNK_SIZE_AT, CHUNK_WORDS, c as usize, 0);
-    words::put_cell(tree, at + (1 + AFTER_AT), PLACE_WORDS, c as usize, last);
+    words::put_cell(
+        tree,
+        at + (PLACE_WORDS + AFTER_AT),
+        PLACE_WORDS,
+        c as usize,
+        last,
+    );
     words::put(tree, at, c);
 }
 

@@ -15,9 +15,9 @@ use Rattle.slab.specs.Slab as Slab
 use Rattle.slab.specs.declared.Taken.{Taken}
 use Rattle.book_rules.specs.Returns as Returns
 use Rattle.buddy_trees.specs.Trees.{bytes}
-use Rattle.buddy_rules.specs.Level.{levelWords, ringAt, pairTaken}
+use Rattle.buddy_rules.specs.Level.{levelWords, ringAt, pairTaken, levelStart}
 use Rattle.buddy_levels.specs.Seen.{partSettings, levelPart}
-use Rattle.buddy_rules.specs.Tables.{Tables, tables, placesAt, levelStart, afterAt, placeWords}
+use Rattle.buddy_rules.specs.Tables.{Tables, tables, placesAt, afterAt, placeWords}
 use Rattle.buddy_outcomes.specs.Ask.{at, pairRoom, pairsRoom, chunkTaken, searchFrom}
 use Rattle.buddy_outcomes.specs.Ask as Ask
 use Rattle.buddy_outcomes.specs.Return.{onLoanOk, decideReturn}
@@ -27,11 +27,11 @@ use Rattle.buddy_decide.specs.declared.seeking.Found.the-variants.{At, O
 
 -- ---- the chunk place that is taken next
 
-pub taken-is : (pairs places : ℕ) (tree : List ℕ) (b v : ℕ) (r : Taken) → b ≡ levelWords pairs * levelsMost → v ≡ getD tree b 0
-    → r ≡ inserted (record { places = places; vacant = v }) tree (b + (1 + afterAt)) placeWords → r ≡ chunkTaken (partSettings 0 pairs 0) (levelPart 0 places [] tree)
+pub taken-is : (pairs places : ℕ) (tree : List ℕ) (b v : ℕ) (r : Taken) → b ≡ levelStart pairs levelsMost → v ≡ getD tree b 0
+    → r ≡ inserted (record { places = places; vacant = v }) tree (b + (placeWords + afterAt)) placeWords → r ≡ chunkTaken (partSettings 0 pairs 0) (levelPart 0 places [] tree)
 taken-is pairs places tree b v r d e f =
-    let g : v ≡ getD tree (levelWords pairs * levelsMost) 0 = e ∙ ap (λ (x : ℕ). getD tree x 0) d in
-    f ∙ (λ j. inserted (record { places = places; vacant = g j }) tree (d j + (1 + afterAt)) placeWords)
+    let g : v ≡ getD tree (levelStart pairs levelsMost) 0 = e ∙ ap (λ (x : ℕ). getD tree x 0) d in
+    f ∙ (λ j. inserted (record { places = places; vacant = g j }) tree (d j + (placeWords + afterAt)) placeWords)
 
 -- ---- places for the pairs of n levels from this one on, i of which are passed
 

@@ -81,5 +81,5 @@ pub fn chunk_taken(pairs: usize, places: u64, tree: &[u64]) -> Taken
         places: places,
         vacant: words::word(tree, at),
     };
-    s.insert(tree, at + (1 + AFTER_AT), PLACE_WORDS)
+    s.insert(tree, at + (PLACE_WORDS + AFTER_AT), PLACE_WORDS)
 }

@@ -14,7 +14,7 @@ use Rattle.counter.specs.declared.account.Account.{Account}
 use Rattle.counter.specs.declared.answers.Block.{Block}
 use Rattle.counter.specs.declared.settings.BuddySettings.{BuddySettings}
 use Rattle.counter.proofs.Papers.{kindOf}
-use Rattle.store_rules.specs.Loans.{loanWords}
+use Rattle.store_rules.specs.Loans.{loanWords, serialAt}
 use Rattle.store_rules.specs.Outcomes.{listed}
 use Rattle.store_rules.specs.declared.Loan.{Loan}
 use Rattle.engines.specs.Serials.{Gone, Counted, Counts}
@@ -58,14 +58,14 @@ gone-seen k u g =
     record {
       marked = g .marked;
       old = g .old;
-      away = λ l m e. let w = loan-live u l m in g .away (w .0) (w .1) (cell-row (u .loans) 0 loanWords (w .0) ∙ ap (λ (d : Loan). d .serial) (w .2) ∙ e);
+      away = λ l m e. let w = loan-live u l m in g .away (w .0) (w .1) (cell-row (u .loans) serialAt loanWords (w .0) ∙ ap (λ (d : Loan). d .serial) (w .2) ∙ e);
     }
 
 gone-placed : (k : ℕ) (t : Tables) → Gone buddyShape k t → Buddy.Gone k t
 gone-placed k t g =
     record {
       old = g .old;
-      away = λ p h e. g .away (loanAt t p) (live-loan t p h) (sym (cell-row (t .loans) 0 loanWords p) ∙ e);
+      away = λ p h e. g .away (loanAt t p) (live-loan t p h) (sym (cell-row (t .loans) serialAt loanWords p) ∙ e);
       marked = g .marked;
     }
 

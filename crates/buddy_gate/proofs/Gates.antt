@@ -45,10 +45,10 @@ joined true true true true e = refl
 
 module _ (s : BuddySettings) (t : Tables) where
   pub lengths-is : (nodes : ℕ) → nodes ≡ nodesFrom s
-      → (eqb (length (t .head)) headWords && (eqb (length (t .loans)) (loanWords * s .store .loans) && (eqb (length (t .chunks)) (chunkWords * s .store .chunks) && (eqb (length (t .index)) (indexWords (s .store .loans)) && eqb (length (t .room)) (nodes + s .store .loans))))) ≡ lengthsOk s t
+      → (eqb (length (t .head)) headWords && (eqb (length (t .loans)) (loanWords + loanWords * s .store .loans) && (eqb (length (t .chunks)) (chunkWords + chunkWords * s .store .chunks) && (eqb (length (t .index)) (indexWords (s .store .loans)) && eqb (length (t .room)) (nodes + s .store .loans))))) ≡ lengthsOk s t
   unfolding lengthsOk
   lengths-is nodes e =
-      joined (eqb (length (t .head)) headWords) (eqb (length (t .loans)) (loanWords * s .store .loans)) (eqb (length (t .chunks)) (chunkWords * s .store .chunks)) (eqb (length (t .index)) (indexWords (s .store .loans))) (eqb (length (t .room)) (nodes + s .store .loans))
+      joined (eqb (length (t .head)) headWords) (eqb (length (t .loans)) (loanWords + loanWords * s .store .loans)) (eqb (length (t .chunks)) (chunkWords + chunkWords * s .store .chunks)) (eqb (length (t .index)) (indexWords (s .store .loans))) (eqb (length (t .room)) (nodes + s .store .loans))
       ∙ rw e refl
 
   pub lent-yes : (share : Share) (own f : Bool) → buddyOk s ≡ true → own ≡ heapOk (share .heap) → f ≡ lengthsOk s t → (share .bounded && (own && f)) ≡ inTableOk s (holder (s .store) share) t

@@ -40,9 +40,9 @@ pub fn lengths_fit(
     let own = s.store;
     let nodes = buddy_levels::nodes_from(s.pairs, own.chunks);
     (head.len() == HEAD_WORDS)
-        & ((loans.len() == LOAN_WORDS * own.loans)
-            & ((chunks.len() == CHUNK_WORDS * own.chunks)
-                & ((index.len() == 1 + ENTRY_WORDS * own.loans)
+        & ((loans.len() == LOAN_WORDS + LOAN_WORDS * own.loans)
+            & ((chunks.len() == CHUNK_WORDS + CHUNK_WORDS * own.chunks)
+                & ((index.len() == ENTRY_WORDS + ENTRY_WORDS * own.loans)
                     & (tree.len() == nodes + own.loans))))
 }
 

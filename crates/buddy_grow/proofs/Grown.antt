@@ -8,8 +8,8 @@ use Rattle.counter.specs.declared.settings.BuddySettings.{BuddySettings}
 use Rattle.slab.specs.Slab.{nowhere}
 use Rattle.store_rules.specs.Loans.{loanWords}
 use Rattle.book_rules.specs.Book.{freshIndex}
-use Rattle.buddy_rules.specs.Level.{freshLevel}
-use Rattle.buddy_rules.specs.Tables.{tables, mark, markAt, givenAt, levelsAt, placesAt, chunkPlacesAt, headWords, chunkWords, chunksFrom, treeWords, levelStart, levelFrom, initialLevels}
+use Rattle.buddy_rules.specs.Level.{freshLevel, levelStart}
+use Rattle.buddy_rules.specs.Tables.{tables, mark, markAt, givenAt, levelsAt, placesAt, chunkPlacesAt, headWords, chunkWords, chunksFrom, treeWords, levelFrom, initialLevels}
 use Rattle.buddy_outcomes.specs.Ask.{freshLevels, grownTables}
 use Rattle.buddy_outcomes.specs.SetUp.{freshHead, freshTables}
 
@@ -58,7 +58,7 @@ head-fresh (a ∷ b ∷ c ∷ d ∷ []) n l = absurd (omega arith)
 head-fresh (a ∷ b ∷ c ∷ d ∷ f ∷ []) n l = refl
 head-fresh (a ∷ b ∷ c ∷ d ∷ f ∷ g ∷ t) n l = absurd (omega arith)
 
-pub fresh-done : (s : BuddySettings) (h l c i r : List ℕ) → h ≡ freshHead s → l ≡ replicate (loanWords * s .store .loans) 0 → c ≡ replicate (chunkWords * s .store .chunks) 0
+pub fresh-done : (s : BuddySettings) (h l c i r : List ℕ) → h ≡ freshHead s → l ≡ replicate (loanWords + loanWords * s .store .loans) 0 → c ≡ replicate (chunkWords + chunkWords * s .store .chunks) 0
     → i ≡ freshIndex (s .store .loans) → r ≡ set (freshLevels s 0 (initialLevels s) (replicate (treeWords s) 0)) (chunksFrom s) nowhere
     → tables h l c i r ≡ freshTables s
 unfolding freshTables

@@ -1,7 +1,7 @@
 // The words of a store with nothing in it.
 ghost use mathlib.Core.Path.{_≡_};
 ghost use mathlib.Core.List.{[], _∷_};
-ghost use Prim.Native.Nat.{_*_, _≤_};
+ghost use Prim.Native.Nat.{_*_, _≤_, _+_};
 ghost use lib.ListN.{length, set, replicate};
 ghost use Rattle.counter.specs.InTable.{BuddyIn};
 ghost use Rattle.counter.specs.Limits.{levelsMost};
@@ -55,9 +55,9 @@ fn fresh_initial(s: BuddySettings, head: &mut [u64], tree: &mut [u64])
 
 // No loan, no chunk, and no link from loan to loan.
 fn fresh_rows(s: BuddySettings, loans: &mut [u64], chunks: &mut [u64], index: &mut [u64])
-    requires { ⌜ (length (now loans) ≡ loanWords * s .store .loans) × (length (now chunks) ≡ chunkWords * s .store .chunks) × (length (now index) ≡ indexWords (s .store .loans)) ⌝ }
-    ensures { λ _. ⌜ now (loans .exit) ≡ replicate (loanWords * s .store .loans) 0 ⌝ }
-    ensures { λ _. ⌜ now (chunks .exit) ≡ replicate (chunkWords * s .store .chunks) 0 ⌝ }
+    requires { ⌜ (length (now loans) ≡ loanWords + loanWords * s .store .loans) × (length (now chunks) ≡ chunkWords + chunkWords * s .store .chunks) × (length (now index) ≡ indexWords (s .store .loans)) ⌝ }
+    ensures { λ _. ⌜ now (loans .exit) ≡ replicate (loanWords + loanWords * s .store .loans) 0 ⌝ }
+    ensures { λ _. ⌜ now (chunks .exit) ≡ replicate (chunkWords + chunkWords * s .store .chunks) 0 ⌝ }
     ensures { λ _. ⌜ now (index .exit) ≡ freshIndex (s .store .loans) ⌝ }
 {
     let own = s.store;

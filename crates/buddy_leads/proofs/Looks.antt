@@ -17,8 +17,8 @@ use Rattle.slab.specs.Slab.{nowhere}
 use Rattle.store_rules.specs.Loans.{loanWords, chunkAt, sizeAt, loanRow}
 use Rattle.store_rules.specs.declared.Loan.{Loan}
 use Rattle.buddy_rules.specs.Nodes.{loanWord, splitWord, vacant, Ent, pairOf, isLeft}
-use Rattle.buddy_rules.specs.Level.{levelWords, usedAt, pairIn}
-use Rattle.buddy_rules.specs.Tables.{chunkWords, chunkSizeAt, placeWords, topAt, levelStart}
+use Rattle.buddy_rules.specs.Level.{levelWords, usedAt, pairIn, levelStart}
+use Rattle.buddy_rules.specs.Tables.{chunkWords, chunkSizeAt, placeWords, topAt}
 use Rattle.buddy_rules.specs.Test.{every, leadsOk, pairOk, loanOk}
 use Rattle.buddy_rules.proofs.Tests.{every-stop, every-next}
 use Rattle.buddy_levels.specs.Seen.{partSettings, partTables, levelPart}
@@ -46,8 +46,8 @@ module _ (minimal pairs held level chunk w : ℕ) (chunks tree : List ℕ) where
   unfolding leadsOk
   top-vacant size e h z = rw (lt-ltb chunk held h, sym e, z) refl
 
-  pub top-is : (size at top high : ℕ) → size ≡ getD chunks (cellOf chunkSizeAt chunkWords chunk) 0 → chunk < held → (size ≡ 0 → ⊥) → at ≡ levelWords pairs * levelsMost
-      → top ≡ getD tree (cellOf (at + (1 + topAt)) placeWords chunk) 0 → high ≡ levelOf size minimal
+  pub top-is : (size at top high : ℕ) → size ≡ getD chunks (cellOf chunkSizeAt chunkWords chunk) 0 → chunk < held → (size ≡ 0 → ⊥) → at ≡ levelStart pairs levelsMost
+      → top ≡ getD tree (cellOf (at + (placeWords + topAt)) placeWords chunk) 0 → high ≡ levelOf size minimal
       → (eqb high level && eqb top w) ≡ topOk
   unfolding leadsOk
   top-is size at top high e h z a t l = rw (lt-ltb chunk held h, sym e, ne-eqb size 0 z, sym l, sym a, sym t) refl
@@ -152,7 +152,7 @@ module _ (minimal pairs most levels held place : ℕ) (loans chunks tree : List 
     unfolding loanOk
     lent-none z = rw (in-place, sym size-is, eq-eqb (l .size) 0 z) refl
 
-    pub lent-is : (r : Bool) (level from node w : ℕ) → (l .size ≡ 0 → ⊥) → level ≡ levelOf (l .size) minimal → from ≡ levelWords pairs * levelsMost + (1 + placeWords * most)
+    pub lent-is : (r : Bool) (level from node w : ℕ) → (l .size ≡ 0 → ⊥) → level ≡ levelOf (l .size) minimal → from ≡ levelStart pairs levelsMost + (placeWords + placeWords * most)
         → node ≡ getD tree (from + place) 0 → w ≡ loanWord place → r ≡ leadsOk (partSettings minimal pairs 0) (levelPart levels held chunks tree) level (l .chunk) node w → r ≡ lentOk (place + 1)
     unfolding loanOk
     lent-is r level from node w z e f g k h =

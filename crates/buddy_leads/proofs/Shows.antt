@@ -4,8 +4,8 @@ use mathlib.Core.Path.{_≡_, refl}
 use Prim.Native.Nat.{ℕ, _+_}
 use lib.ListN.{getD}
 use Rattle.counter.specs.declared.settings.BuddySettings.{BuddySettings}
-use Rattle.buddy_rules.specs.Level.{usedAt}
-use Rattle.buddy_rules.specs.Tables.{Tables, levelsIn, placesIn, chunkPlacesIn, levelStart, levelFrom}
+use Rattle.buddy_rules.specs.Level.{usedAt, levelStart}
+use Rattle.buddy_rules.specs.Tables.{Tables, levelsIn, placesIn, chunkPlacesIn, levelFrom}
 use Rattle.buddy_rules.specs.Test.{every, leadsOk, pairOk, loanOk}
 use Rattle.buddy_rules.proofs.Tests.{every-same}
 use Rattle.buddy_levels.specs.Seen.{partSettings, partTables, levelPart}

@@ -4,8 +4,7 @@ ghost use Prim.Native.Nat.{_+_, _≤_, _<_};
 ghost use lib.ListN.{getD};
 ghost use Rattle.counter.specs.Limits.{levelsMost, pairsMost, loansMost, chunksMost};
 ghost use Rattle.slab.specs.Slab.{nowhere};
-ghost use Rattle.buddy_rules.specs.Level.{usedAt};
-ghost use Rattle.buddy_rules.specs.Tables.{levelStart};
+ghost use Rattle.buddy_rules.specs.Level.{usedAt, levelStart};
 ghost use Rattle.buddy_rules.specs.Test.{every, leadsOk, pairOk, loanOk};
 ghost use Rattle.buddy_levels.specs.Seen.{partSettings, partTables, levelPart};
 use buddy_levels::USED_AT;
@@ -37,7 +36,7 @@ fn is_top(
     if size == 0 {
         return false;
     }
-    let at = buddy_levels::chunks_from(pairs) + (1 + TOP_AT);
+    let at = buddy_levels::chunks_from(pairs) + (PLACE_WORDS + TOP_AT);
     let top = words::cell(tree, at, PLACE_WORDS, chunk as usize);
     (rounding::level(size, minimal) as u64 == level) & (top == word)
 }

@@ -11,7 +11,7 @@ use Rattle.store_rules.specs.Loans.{loan, loanRow}
 use Rattle.store_rules.specs.declared.Loan.{Loan}
 use Rattle.book_rules.specs.Book.{vacatedAt, firstOf, nextOf, takenOf, entered, firstIn, enteredIndex}
 use Rattle.book.proofs.Entering.{entered-loans, entered-index}
-use Rattle.buddy_rules.specs.Level.{levelWords}
+use Rattle.buddy_rules.specs.Level.{levelWords, levelStart}
 use Rattle.buddy_rules.specs.Tables.{Tables, tables, givenAt, placesAt, placeWords, nodesFrom}
 use Rattle.buddy_outcomes.specs.Ask.{bookedTables}
 
@@ -45,6 +45,6 @@ module _ (s : BuddySettings) (head index : List ℕ) (taken : Taken) (next : tak
         (λ j. tables (h j) (x j) [] (y j) (t j)) ∙ (λ j. after (next j) (serial j))
 
 -- a loan's node, beside the tree
-pub node-put : (s : BuddySettings) (at place node : ℕ) (tree t′ : List ℕ) → at ≡ levelWords (s .pairs) * levelsMost + (1 + placeWords * s .store .chunks)
+pub node-put : (s : BuddySettings) (at place node : ℕ) (tree t′ : List ℕ) → at ≡ levelStart (s .pairs) levelsMost + (placeWords + placeWords * s .store .chunks)
     → t′ ≡ set tree (at + place) node → t′ ≡ set tree (nodesFrom s + place) node
 node-put s at place node tree t′ a t = t ∙ ap (λ (z : ℕ). set tree (z + place) node) a

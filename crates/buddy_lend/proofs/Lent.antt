@@ -13,10 +13,10 @@ use Rattle.book_rules.specs.Book.{takenOf}
 use Rattle.buddy_trees.specs.Trees.{bytes}
 use Rattle.buddy_rules.specs.Nodes.{freeWord, leftReady, Ent}
 use Rattle.buddy_rules.specs.Levels.{sideOf, baseOf}
-use Rattle.buddy_rules.specs.Level.{tagAt, pairCell, entOf, ringHead, acquired}
+use Rattle.buddy_rules.specs.Level.{tagAt, pairCell, entOf, ringHead, acquired, levelStart}
 use Rattle.buddy_levels.specs.Pairs.{entFrom}
 use Rattle.buddy_levels.specs.declared.pairs.Pair.{Pair}
-use Rattle.buddy_rules.specs.Tables.{Tables, tables, givenAt, placesAt, levelStart, levelFrom}
+use Rattle.buddy_rules.specs.Tables.{Tables, tables, givenAt, placesAt, levelFrom}
 use Rattle.buddy_rules.specs.Moves.{Cut, splitDown, readyNode}
 use Rattle.buddy_moves.specs.Roomy.{Roomy}
 use Rattle.buddy_outcomes.specs.Ask.{loanFrom, takenTables, bookedTables}

@@ -12,19 +12,19 @@ use Rattle.slab.specs.declared.Taken.{Taken}
 use Rattle.store_rules.specs.Loans.{loan}
 use Rattle.book_rules.specs.Book.{takenOf}
 use Rattle.buddy_rules.specs.Nodes.{splitWord}
-use Rattle.buddy_rules.specs.Level.{levelWords, pairTaken}
-use Rattle.buddy_rules.specs.Tables.{Tables, tables, givenAt, levelsAt, placesAt, chunkPlacesAt, chunkWords, memoryAt, chunkSizeAt, levelStart, levelFrom, chunksFrom, placeAt, topAt, placeWords}
+use Rattle.buddy_rules.specs.Level.{levelWords, pairTaken, levelStart}
+use Rattle.buddy_rules.specs.Tables.{Tables, tables, givenAt, levelsAt, placesAt, chunkPlacesAt, chunkWords, memoryAt, chunkSizeAt, levelFrom, chunksFrom, placeAt, topAt, placeWords}
 use Rattle.buddy_rules.specs.Moves.{Cut, splitChunk}
 use Rattle.buddy_levels.specs.Seen.{partSettings}
 use Rattle.buddy_outcomes.specs.Ask.{chunkTaken, bookedTables}
 use Rattle.buddy_outcomes.specs.Deliver.{chunkTables, servedTables}
 
-module _ (pairs at : ℕ) (e : at ≡ levelWords pairs * levelsMost) (tree : List ℕ) where
+module _ (pairs at : ℕ) (e : at ≡ levelStart pairs levelsMost) (tree : List ℕ) where
   -- the words of a chunk place in the tree
-  pub top-done : (c p w vacant : ℕ) (t₁ t′ : List ℕ) → t₁ ≡ set tree at vacant → w ≡ splitWord p → t′ ≡ set t₁ (cellOf (at + (1 + topAt)) placeWords c) w
+  pub top-done : (c p w vacant : ℕ) (t₁ t′ : List ℕ) → t₁ ≡ set tree at vacant → w ≡ splitWord p → t′ ≡ set t₁ (cellOf (at + (placeWords + topAt)) placeWords c) w
       → t′ ≡ set (set tree (chunksFrom (partSettings 0 pairs 0)) vacant) (cellOf (placeAt (partSettings 0 pairs 0) topAt) placeWords c) (splitWord p)
   top-done c p w vacant t₁ t′ f h g =
-      g ∙ (λ j. set (f j) (cellOf (at + (1 + topAt)) placeWords c) (h j)) ∙ (λ j. set (set tree (e j) vacant) (cellOf (e j + (1 + topAt)) placeWords c) (splitWord p))
+      g ∙ (λ j. set (f j) (cellOf (at + (placeWords + topAt)) placeWords c) (h j)) ∙ (λ j. set (set tree (e j) vacant) (cellOf (e j + (placeWords + topAt)) placeWords c) (splitWord p))
 
 module _ (s : BuddySettings) (head tree : List ℕ) where
   module _ (levels : ℕ) (top : levels ≡ getD head levelsAt 0) (b : ℕ) (at : b ≡ levelStart (s .pairs) (levels - 1)) (p : Taken) (next : p ≡ pairTaken b tree) where

@@ -44,7 +44,7 @@ fn put_top(pairs: usize, c: u64, p: u64, vacant: u64, tree: &mut [u64])
     words::put(tree, at, vacant);
     words::put_cell(
         tree,
-        at + (1 + TOP_AT),
+        at + (PLACE_WORDS + TOP_AT),
         PLACE_WORDS,
         c as usize,
         buddy_levels::split_word(p),

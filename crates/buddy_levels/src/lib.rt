@@ -40,6 +40,8 @@ use slab::Taken;
 
 // Where the words stand; specs/Level has the same names.
 pub const HEADER_WORDS: usize = 8;
+// Of the table itself, before the first level.
+pub const OWN_WORDS: usize = 8;
 
 pub const RING_AT: usize = 0;
 

@@ -3,9 +3,10 @@ ghost use mathlib.Core.Path.{_≡_};
 ghost use Prim.Native.Nat.{_+_, _*_, _^_, _≤_, _<_};
 ghost use Rattle.counter.specs.Limits.{levelsMost, pairsMost, chunksMost, minimalBits};
 ghost use Rattle.buddy_trees.specs.Trees.{bytes};
-ghost use Rattle.buddy_rules.specs.Level.{baseMost, levelWords};
-ghost use Rattle.buddy_rules.specs.Tables.{levelStart, placeWords};
+ghost use Rattle.buddy_rules.specs.Level.{baseMost, levelStart};
+ghost use Rattle.buddy_rules.specs.Tables.{placeWords};
 use crate::HEADER_WORDS;
+use crate::OWN_WORDS;
 use crate::PAIR_WORDS;
 use buddy_rules::PLACE_WORDS;
 use counter::LEVELS_MOST;
@@ -16,13 +17,13 @@ pub fn level_from(pairs: usize, l: usize) -> usize
     ensures { λ r. ⌜ r ≡ levelStart pairs l ⌝ }
     ensures { λ r. ⌜ r ≤ baseMost ⌝ }
 {
-    (HEADER_WORDS + PAIR_WORDS * pairs) * l
+    OWN_WORDS + (HEADER_WORDS + PAIR_WORDS * pairs) * l
 }
 
 // Where the word of the chunk place vacated last stands, and those of the chunk places after it.
 pub fn chunks_from(pairs: usize) -> usize
     requires { ⌜ pairs ≤ pairsMost ⌝ }
-    ensures { λ r. ⌜ r ≡ levelWords pairs * levelsMost ⌝ }
+    ensures { λ r. ⌜ r ≡ levelStart pairs levelsMost ⌝ }
     ensures { λ r. ⌜ r ≤ baseMost ⌝ }
 {
     level_from(pairs, LEVELS_MOST as usize)
@@ -31,10 +32,10 @@ pub fn chunks_from(pairs: usize) -> usize
 // Where the loans' nodes stand.
 pub fn nodes_from(pairs: usize, chunks: usize) -> usize
     requires { ⌜ (pairs ≤ pairsMost) × (chunks ≤ chunksMost) ⌝ }
-    ensures { λ r. ⌜ r ≡ levelWords pairs * levelsMost + (1 + placeWords * chunks) ⌝ }
+    ensures { λ r. ⌜ r ≡ levelStart pairs levelsMost + (placeWords + placeWords * chunks) ⌝ }
     ensures { λ r. ⌜ r ≤ baseMost ⌝ }
 {
-    chunks_from(pairs) + (1 + PLACE_WORDS * chunks)
+    chunks_from(pairs) + (PLACE_WORDS + PLACE_WORDS * chunks)
 }
 
 // How long a node of a level is.

@@ -18,6 +18,7 @@ use Rattle.counter.specs.declared.account.OpenOrder.{OpenOrder}
 use Rattle.counter.specs.declared.account.OpenOrder.the-variants.{Nothing, Kept}
 use Rattle.counter.specs.declared.answers.Outcome.{Outcome}
 use Rattle.counter.specs.declared.settings.BuddySettings.{BuddySettings}
+use Rattle.store_rules.specs.Loans as Loans
 use Rattle.store_rules.specs.Delivery.{Fate, kept, lost, buddy, fateOf, deliveryOk}
 use Rattle.store_rules.specs.Loans.{loanWords}
 use Rattle.store_rules.specs.Outcomes.{Out, out, chargedAccount}
@@ -142,7 +143,7 @@ module _ (s : BuddySettings) (t : Tables) (fit : BuddyIn s) (lengths : Lengths s
   no-loan : (l : Loan) → List·Memᴰ l (loansIn t) → l .chunk ≡ c → ⊥
   no-loan l m e =
       let w = loan-live t l m in
-      let i : loanIn s t (w .0) .chunk ≡ c = cell-row (t .loans) 1 loanWords (w .0) ∙ ap (λ (d : Loan). d .chunk) (w .2) ∙ e in
+      let i : loanIn s t (w .0) .chunk ≡ c = cell-row (t .loans) Loans.chunkAt loanWords (w .0) ∙ ap (λ (d : Loan). d .chunk) (w .2) ∙ e in
       true-false (heldIn t c) (sym (ap (heldIn t) i) ∙ sound .standing .has (w .0) (w .1) .0) not-held
 
   -- the block is no longer than it

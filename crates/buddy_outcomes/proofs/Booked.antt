@@ -18,7 +18,8 @@ use Rattle.counter.specs.declared.settings.BuddySettings.{BuddySettings}
 use Rattle.slab.specs.Slab.{nowhere, Parted}
 use Rattle.slab.specs.declared.Slab.{Slab}
 use Rattle.slab.proofs.Places.{parted-same}
-use Rattle.store_rules.specs.Loans.{loan, loanWords, sizeAt}
+use Rattle.store_rules.specs.Loans as Loans
+use Rattle.store_rules.specs.Loans.{loan, loanWords, sizeAt, offsetAt}
 use Rattle.store_rules.specs.declared.Loan.{Loan}
 use Rattle.book_rules.specs.Book.{takenOf, entered, enteredIndex}
 use Rattle.book_rules.proofs.Keeps.{BookChained, BookParted, entered-long, entered-wide, taken-where, entered-chained, entered-parted}
@@ -37,7 +38,7 @@ use Rattle.buddy_rules.proofs.Walks.{minimal-pos}
 use Rattle.buddy_outcomes.specs.Ask.{bookedTables}
 use Rattle.buddy_outcomes.proofs.Same.{sound-as}
 use Rattle.buddy_outcomes.proofs.Changed.{few-pairs, part-set}
-use Rattle.buddy_outcomes.proofs.Written.{chunk-here, offset-here, size-here, cell-other}
+use Rattle.buddy_outcomes.proofs.Written.{OfLoan, chunk-here, offset-here, size-here, cell-other}
 
 -- ---- what is asked of the tables before: all but the trees
 pub record Kept (s : BuddySettings) (t : Tables) : Type 0 where
@@ -142,7 +143,7 @@ module _ (s : BuddySettings) (t : Tables) (fit : BuddyIn s) (lengths : Lengths s
 
     -- ---- words of the loans
 
-    cell-same : (f x : ℕ) → f < loanWords → (x ≡ k → ⊥) → loanCell booked f x ≡ loanCell t f x
+    cell-same : (f x : ℕ) → OfLoan f → (x ≡ k → ⊥) → loanCell booked f x ≡ loanCell t f x
     unfolding entered
     cell-same f x h n = cell-other (t .loans) (s .store .loans) k new (lengths .loans) place f x h n
 
@@ -150,11 +151,11 @@ module _ (s : BuddySettings) (t : Tables) (fit : BuddyIn s) (lengths : Lengths s
     unfolding entered
     size-new = size-here (t .loans) (s .store .loans) k new (lengths .loans) place
 
-    chunk-new : loanCell booked 1 k ≡ c
+    chunk-new : loanCell booked Loans.chunkAt k ≡ c
     unfolding entered
     chunk-new = chunk-here (t .loans) (s .store .loans) k new (lengths .loans) place
 
-    offset-new : loanCell booked 2 k ≡ o
+    offset-new : loanCell booked offsetAt k ≡ o
     unfolding entered
     offset-new = offset-here (t .loans) (s .store .loans) k new (lengths .loans) place
 
@@ -183,8 +184,8 @@ module _ (s : BuddySettings) (t : Tables) (fit : BuddyIn s) (lengths : Lengths s
 
     loan-other : (x : ℕ) → (x ≡ k → ⊥) → loanIn s booked x ≡ loanIn s t x
     loan-other x n =
-        let a = cell-same 1 x (omega arith) n in
-        let b = cell-same 2 x (omega arith) n in
+        let a = cell-same Loans.chunkAt x (omega arith) n in
+        let b = cell-same offsetAt x (omega arith) n in
         let e = ap (λ (z : ℕ). levelOf z (s .minimal)) (cell-same sizeAt x (omega arith) n) in
         let f = tree-other (nodesFrom s + x) (omega arith) (λ z. n (omega arith)) in
         (λ j. record { chunk = a j; at = b j; lev = e j; node = f j })
@@ -235,11 +236,11 @@ module _ (s : BuddySettings) (t : Tables) (fit : BuddyIn s) (lengths : Lengths s
 
     loan-units : (j : ℕ) → liveIn booked j ≡ true → (j ≡ k) ⊎ (j ≡ k → ⊥) → (loanIn s booked j .at % (s .store .atom + 1) ≡ 0) × (loanCell booked sizeAt j % (s .store .atom + 1) ≡ 0)
     loan-units j h (inl e) =
-        subst (λ (x : ℕ). (loanCell booked 2 x % (s .store .atom + 1) ≡ 0) × (loanCell booked sizeAt x % (s .store .atom + 1) ≡ 0)) (sym e)
+        subst (λ (x : ℕ). (loanCell booked offsetAt x % (s .store .atom + 1) ≡ 0) × (loanCell booked sizeAt x % (s .store .atom + 1) ≡ 0)) (sym e)
         (ap (λ (z : ℕ). z % (s .store .atom + 1)) offset-new ∙ at-units, ap (λ (z : ℕ). z % (s .store .atom + 1)) size-new ∙ size-units)
     loan-units j h (inr n) =
         let r = K .units j (sym (live-other j n) ∙ h) in
-        (ap (λ (z : ℕ). z % (s .store .atom + 1)) (cell-same 2 j (omega arith) n) ∙ r .0, ap (λ (z : ℕ). z % (s .store .atom + 1)) (cell-same sizeAt j (omega arith) n) ∙ r .1)
+        (ap (λ (z : ℕ). z % (s .store .atom + 1)) (cell-same offsetAt j (omega arith) n) ∙ r .0, ap (λ (z : ℕ). z % (s .store .atom + 1)) (cell-same sizeAt j (omega arith) n) ∙ r .1)
 
     -- ---- the whole: W are the levels of the tree that was cut
 

@@ -28,11 +28,11 @@ use Rattle.buddy_rules.specs.Nodes.{Ent}
 use Rattle.buddy_rules.specs.Stores.{Store, grownTo}
 use Rattle.buddy_rules.specs.Stores as Stores
 use Rattle.buddy_rules.proofs.Made.{empty-sound, grown-sound}
-use Rattle.buddy_rules.specs.Level.{levelWords, ringHead, pairTaken, freshLevel, part, pairIn}
+use Rattle.buddy_rules.specs.Level.{levelWords, ringHead, pairTaken, freshLevel, part, pairIn, levelStart}
 use Rattle.buddy_rules.proofs.Fresh.{fresh-length, fresh-head, fresh-taken, fresh-none, fresh-good}
 use Rattle.buddy_rules.proofs.Ops.{levelOps}
 use Rattle.buddy_rules.proofs.Parts.{part-length, part-head, part-taken}
-use Rattle.buddy_rules.specs.Tables.{Tables, tables, Lengths, chunkWords, treeWords, markAt, givenAt, levelsAt, placesAt, chunkPlacesAt, givenIn, levelsIn, placesIn, chunkPlacesIn, levelFrom, chunksFrom, placeAt, topAt, placeWords, nodesFrom, loanIn, liveIn, heldIn, highIn, topIn, vacantChunk, chunkAfter, chunkSlab, vacantLoan, loanAfter, initialLevels}
+use Rattle.buddy_rules.specs.Tables.{Tables, tables, Lengths, chunkWords, treeWords, markAt, givenAt, levelsAt, placesAt, chunkPlacesAt, givenIn, levelsIn, placesIn, chunkPlacesIn, levelFrom, chunksFrom, placeAt, topAt, placeWords, nodesFrom, loanIn, liveIn, heldIn, highIn, topIn, vacantChunk, chunkAfter, chunkSlab, vacantLoan, loanAfter, initialLevels, chunkSizeAt}
 use Rattle.buddy_rules.specs.Sound.{Sound}
 use Rattle.buddy_rules.proofs.Abstract.{storeOf, levels-in, sound-store, Sizes, store-trees}
 use Rattle.buddy_rules.proofs.Walks.{minimal-pos}
@@ -47,11 +47,12 @@ few-pairs s fit = omega (arith, fit .pairs-most)
 pub part-set : (s : BuddySettings) (i j v : ℕ) (t : List ℕ) → i < levelsMost → chunksFrom s ≤ j → part (s .pairs) i (set t j v) ≡ part (s .pairs) i t
 part-set s i j v t h k =
     let m = levelWords (s .pairs) in
-    let a : m * i + m ≤ j = omega (arith, mul-suc m i, levels-in s i h) in
-    let e : j ≡ m * i + (j - m * i) = omega arith in
-    ap (λ (x : ℕ). take m (drop (m * i) (set t x v))) e
-    ∙ ap (take m) (drop-set-add (m * i) t (j - m * i) v)
-    ∙ take-set-le m (drop (m * i) t) (j - m * i) v (omega arith)
+    let b = levelStart (s .pairs) i in
+    let a : b + m ≤ j = omega (arith, mul-suc m i, levels-in s i h) in
+    let e : j ≡ b + (j - b) = omega arith in
+    ap (λ (x : ℕ). take m (drop b (set t x v))) e
+    ∙ ap (take m) (drop-set-add b t (j - b) v)
+    ∙ take-set-le m (drop b t) (j - b) v (omega arith)
 
 module _ (s : BuddySettings) (t : Tables) (fit : BuddyIn s) (lengths : Lengths s t) where
   abbrev small : s .pairs ≤ 2 ^ 32
@@ -79,8 +80,8 @@ module _ (s : BuddySettings) (t : Tables) (fit : BuddyIn s) (lengths : Lengths s
   fresh-lengths =
       record {
         head = refl;
-        loans = length-replicate (loanWords * s .store .loans) 0;
-        chunks = length-replicate (chunkWords * s .store .chunks) 0;
+        loans = length-replicate (loanWords + loanWords * s .store .loans) 0;
+        chunks = length-replicate (chunkWords + chunkWords * s .store .chunks) 0;
         index = fresh-wide (s .store .loans);
         room = length-set (freshLevels s 0 (initialLevels s) (replicate (treeWords s) 0)) (chunksFrom s) nowhere ∙ freshened-long s 0 (initialLevels s) (replicate (treeWords s) 0) ∙ length-replicate (treeWords s) 0;
       }
@@ -173,13 +174,13 @@ module _ (s : BuddySettings) (t : Tables) (fit : BuddyIn s) (lengths : Lengths s
       places = word placesAt (λ e. omega arith)
 
       held : (c : ℕ) → heldIn grown c ≡ heldIn t c
-      held c = ap (λ (p : ℕ). ltb c p && not (eqb (getD (t .chunks) (cellOf 1 2 c) 0) 0)) chunk-places
+      held c = ap (λ (p : ℕ). ltb c p && not (eqb (getD (t .chunks) (cellOf chunkSizeAt chunkWords c) 0) 0)) chunk-places
 
       live : (k : ℕ) → liveIn grown k ≡ liveIn t k
       live k = ap (λ (p : ℕ). ltb k p && not (eqb (getD (t .loans) (cellOf sizeAt loanWords k) 0) 0)) places
 
       high : (c : ℕ) → highIn s grown c ≡ highIn s t c
-      high c = ap (λ (b : Bool). cond b (levelOf (getD (t .chunks) (cellOf 1 2 c) 0) (s .minimal)) 0) (held c)
+      high c = ap (λ (b : Bool). cond b (levelOf (getD (t .chunks) (cellOf chunkSizeAt chunkWords c) 0) (s .minimal)) 0) (held c)
 
       top : (c : ℕ) → topIn s grown c ≡ topIn s t c
       top c =

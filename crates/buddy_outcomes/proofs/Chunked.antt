@@ -21,11 +21,12 @@ use Rattle.slab.specs.Slab.{nowhere, linkAt, inserted, Chain, Parted, changed}
 use Rattle.slab.specs.declared.Slab.{Slab}
 use Rattle.slab.specs.declared.Taken.{Taken}
 use Rattle.slab.proofs.Places.{parted-same, insert-first, insert-next, insert-last, inserted-parted, changed-here, changed-other}
+use Rattle.store_rules.specs.Loans.{sizeAt}
 use Rattle.book_rules.proofs.Keeps.{BookChained, BookParted}
 use Rattle.buddy_trees.specs.Trees.{bytes}
 use Rattle.buddy_trees.proofs.Bytes.{bytes-pos}
 use Rattle.buddy_rules.specs.Stores.{with}
-use Rattle.buddy_rules.specs.Level.{pairTaken, part}
+use Rattle.buddy_rules.specs.Level.{pairTaken, part, sideAt}
 use Rattle.buddy_rules.specs.Tables.{Tables, tables, Lengths, markAt, givenAt, levelsAt, placesAt, chunkPlacesAt, memoryAt, chunkSizeAt, chunkWords, givenIn, levelsIn, placesIn, chunkPlacesIn, memoryIn, chunkSizeIn, levelFrom, chunksFrom, placeAt, topAt, afterAt, placeWords, nodesFrom, loanIn, liveIn, loanCell, heldIn, highIn, topIn, vacantChunk, chunkAfter, chunkSlab, initialLevels}
 use Rattle.buddy_rules.specs.Sound.{Sound}
 use Rattle.buddy_rules.proofs.Walks.{minimal-pos, level-bytes}
@@ -120,7 +121,7 @@ module _ (s : BuddySettings) (t : Tables) (fit : BuddyIn s) (lengths : Lengths s
     -- ---- the loans are the same
 
     pub chunked-live : (j : ℕ) → liveIn chunked j ≡ liveIn t j
-    chunked-live j = ap (λ (n : ℕ). ltb j n && not (eqb (loanCell t 3 j) 0)) chunked-places
+    chunked-live j = ap (λ (n : ℕ). ltb j n && not (eqb (loanCell t sizeAt j) 0)) chunked-places
 
     pub chunked-loan : (j : ℕ) → loanIn s chunked j ≡ loanIn s t j
     chunked-loan j =
@@ -132,7 +133,7 @@ module _ (s : BuddySettings) (t : Tables) (fit : BuddyIn s) (lengths : Lengths s
     abbrev first : List ℕ
     first = set (t .chunks) (cellOf memoryAt chunkWords p) memory
 
-    first-long : length first ≡ chunkWords * s .store .chunks
+    first-long : length first ≡ chunkWords + chunkWords * s .store .chunks
     first-long = length-set (t .chunks) (cellOf memoryAt chunkWords p) memory ∙ lengths .chunks
 
     pub size-here : chunkSizeIn chunked (chunkTaken s t .place) ≡ z

@@ -132,7 +132,7 @@ unfolding deniedTables
 denied-tables s size mask n t = ⊎-elim (λ e. inl (rw e)) (λ e. inr (rw e)) (told (eqb n 9))
 
 -- a loan that is entered stands amid those that there were
-booked-amid : (s : BuddySettings) (t : Tables) (c o size : ℕ) (cut : Cut) → BuddyIn s → length (t .head) ≡ headWords → length (t .loans) ≡ loanWords * s .store .loans → BookParted (t .loans) (t .index) (s .store .loans) (placesIn t)
+booked-amid : (s : BuddySettings) (t : Tables) (c o size : ℕ) (cut : Cut) → BuddyIn s → length (t .head) ≡ headWords → length (t .loans) ≡ loanWords + loanWords * s .store .loans → BookParted (t .loans) (t .index) (s .store .loans) (placesIn t)
     → takenOf (placesIn t) (t .index) .place < s .store .loans → (size ≡ 0 → ⊥) → Amid (loan (givenIn t + 1) c o size) (loansIn t) (loansIn (bookedTables s c o size cut t))
 unfolding bookedTables
 booked-amid s t c o size cut fit head long parted room some =

@@ -4,7 +4,7 @@ use mathlib.Core.Path.{_≡_, refl, sym, ap, subst, _∙_}
 use mathlib.Core.Bool.{Bool, true, false, cond, not, _&&_, and-false}
 use mathlib.Core.Logic.{⊎-elim}
 use mathlib.Core.List.{List, [], _∷_, _++_}
-use Prim.Native.Nat.{ℕ, zero, suc, _*_, _-_, _≤_, _<_}
+use Prim.Native.Nat.{ℕ, zero, suc, _*_, _-_, _≤_, _<_, _+_}
 use native.Mathlib.Omega.{arith}
 use lib.Dec.{eqb, ltb}
 use lib.ListN.{length, getD, set, take, length-append}
@@ -62,7 +62,7 @@ module _ (s : BuddySettings) (t : Tables) (fit : BuddyIn s) (lengths : Lengths s
   back-loans =
       let o = on-loan-is s t fit lengths sound b on in
       let u = live-used t k (o .0) in
-      let h : loanWords * placesIn t ≤ length (t .loans) = omega (arith, lengths .loans, sound .loans-parted .limit) in
+      let h : loanWords + loanWords * placesIn t ≤ length (t .loans) = omega (arith, lengths .loans, sound .loans-parted .limit) in
       let z : eqb (loanAt t k .size) 0 ≡ false = ap (λ (n : ℕ). eqb n 0) (sym (cell-row (t .loans) sizeAt loanWords k)) ∙ u .1 in
       let xs = earlier (placesIn t) k (t .loans) (u .0) h in
       let ys = later (placesIn t) k (t .loans) (u .0) h in

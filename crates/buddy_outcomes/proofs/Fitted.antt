@@ -19,8 +19,9 @@ use Rattle.counter.specs.declared.account.Account.{Account}
 use Rattle.counter.specs.declared.settings.BuddySettings.{BuddySettings}
 use Rattle.slab.specs.Slab.{nowhere}
 pub use Rattle.store_rules.proofs.Said.{order-block, refusal-block, same-block}
+use Rattle.store_rules.specs.Loans as Loans
 use Rattle.store_rules.specs.Orders.{Plan, deny, take, buy, orderFrom}
-use Rattle.store_rules.specs.Loans.{loanWords, sizeAt}
+use Rattle.store_rules.specs.Loans.{loanWords, sizeAt, offsetAt}
 use Rattle.store_rules.specs.declared.Chunk.{Chunk}
 use Rattle.store_rules.specs.declared.Loan.{Loan}
 use Rattle.buddy_trees.specs.Trees.{Tree, free, loan, split, Piece, Has, Quiet, bytes, up}
@@ -87,15 +88,15 @@ pub record Stretch (z : ℕ) (t : Tables) (chunk start : ℕ) : Type 0 where
   pub held : heldIn t chunk ≡ true
   pub aligned : start % z ≡ 0
   pub inside : start + z ≤ chunkSizeIn t chunk
-  pub quiet : (k : ℕ) → liveIn t k ≡ true → loanCell t 1 k ≡ chunk → (loanCell t 2 k + loanCell t sizeAt k ≤ start) ⊎ (start + z ≤ loanCell t 2 k)
+  pub quiet : (k : ℕ) → liveIn t k ≡ true → loanCell t Loans.chunkAt k ≡ chunk → (loanCell t offsetAt k + loanCell t sizeAt k ≤ start) ⊎ (start + z ≤ loanCell t offsetAt k)
 
 module _ (s : BuddySettings) (t : Tables) (z : ℕ) where
   -- no loan meets it
   pub stretch-apart : (chunk start : ℕ) → Stretch z t chunk start → (l : Loan) → List·Memᴰ l (loansIn t) → l .chunk ≡ chunk → (l .offset + l .size ≤ start) ⊎ (start + z ≤ l .offset)
   stretch-apart chunk start f l m e =
       let w = loan-live t l m in
-      let c : loanCell t 1 (w .0) ≡ l .chunk = cell-row (t .loans) 1 loanWords (w .0) ∙ ap (λ (d : Loan). d .chunk) (w .2) in
-      let o : loanCell t 2 (w .0) ≡ l .offset = cell-row (t .loans) 2 loanWords (w .0) ∙ ap (λ (d : Loan). d .offset) (w .2) in
+      let c : loanCell t Loans.chunkAt (w .0) ≡ l .chunk = cell-row (t .loans) Loans.chunkAt loanWords (w .0) ∙ ap (λ (d : Loan). d .chunk) (w .2) in
+      let o : loanCell t offsetAt (w .0) ≡ l .offset = cell-row (t .loans) offsetAt loanWords (w .0) ∙ ap (λ (d : Loan). d .offset) (w .2) in
       let n : loanCell t sizeAt (w .0) ≡ l .size = cell-row (t .loans) sizeAt loanWords (w .0) ∙ ap (λ (d : Loan). d .size) (w .2) in
       ⊎-elim (λ q. inl (omega (arith, o, n, q))) (λ q. inr (omega (arith, o, q))) (f .quiet (w .0) (w .1) (c ∙ e))
 
@@ -119,9 +120,9 @@ module _ (s : BuddySettings) (t : Tables) (z : ℕ) where
         aligned = f .aligned;
         inside = omega (arith, f .inside, n);
         quiet = λ k l e.
-            let o : loanCell t 2 k ≡ loanAt t k .offset = cell-row (t .loans) 2 loanWords k in
+            let o : loanCell t offsetAt k ≡ loanAt t k .offset = cell-row (t .loans) offsetAt loanWords k in
             let y : loanCell t sizeAt k ≡ loanAt t k .size = cell-row (t .loans) sizeAt loanWords k in
-            ⊎-elim (λ q. inl (omega (arith, o, y, q))) (λ q. inr (omega (arith, o, q))) (f .quiet (loanAt t k) (live-loan t k l) (sym (cell-row (t .loans) 1 loanWords k) ∙ e));
+            ⊎-elim (λ q. inl (omega (arith, o, y, q))) (λ q. inr (omega (arith, o, q))) (f .quiet (loanAt t k) (live-loan t k l) (sym (cell-row (t .loans) Loans.chunkAt loanWords k) ∙ e));
       }
 
 module _ (s : BuddySettings) (t : Tables) (fit : BuddyIn s) (lengths : Lengths s t) (sound : Sound s t) where

@@ -18,7 +18,8 @@ use Rattle.counter.specs.InTable.{BuddyIn}
 use Rattle.counter.specs.declared.answers.Block.{Block}
 use Rattle.counter.specs.declared.settings.BuddySettings.{BuddySettings}
 use Rattle.slab.specs.Slab.{nowhere}
-use Rattle.store_rules.specs.Loans.{loanWords, serialAt, sizeAt}
+use Rattle.store_rules.specs.Loans as Loans
+use Rattle.store_rules.specs.Loans.{loanWords, serialAt, sizeAt, onLoan, offsetAt}
 use Rattle.store_rules.specs.declared.Loan.{Loan}
 use Rattle.book_rules.specs.Book.{indexWords, serialOf, wordTo, struck, struckIndex}
 use Rattle.book_rules.proofs.Changed.{vacant-now}
@@ -40,6 +41,7 @@ use Rattle.buddy_rules.proofs.Walks.{minimal-pos}
 use Rattle.buddy_outcomes.specs.Return.{wordFor, onLoanOk, climbFor, givenTables}
 use Rattle.buddy_outcomes.proofs.Agree.{Agree, agree-sound}
 use Rattle.buddy_outcomes.proofs.Loaned.{live-used, on-loan-is}
+use Rattle.buddy_outcomes.proofs.Written.{OfLoan}
 use Rattle.buddy_outcomes.proofs.Vacated.{Past, tablesBy, part-by, word-by, tree-by, chunks-by, memory-by, still-held, high-by, top-by, parted-by}
 
 module _ (s : BuddySettings) (t : Tables) (fit : BuddyIn s) (lengths : Lengths s t) (sound : Sound s t) (b : Block) (on : onLoanOk s b t ≡ true) where
@@ -82,7 +84,7 @@ module _ (s : BuddySettings) (t : Tables) (fit : BuddyIn s) (lengths : Lengths s
   -- its words are the block's
   pub record Says : Type 0 where
     pub serial : serialOf (t .loans) k ≡ b .serial
-    pub chunk : loanCell t 1 k ≡ b .chunk
+    pub chunk : loanCell t Loans.chunkAt k ≡ b .chunk
     pub size : loanCell t sizeAt k ≡ b .size
 
   pub says : Says
@@ -90,7 +92,7 @@ module _ (s : BuddySettings) (t : Tables) (fit : BuddyIn s) (lengths : Lengths s
       let r = on-loan-is s t fit lengths sound b on .1 in
       record {
         serial = cell-row (t .loans) serialAt loanWords k ∙ r .serial;
-        chunk = cell-row (t .loans) 1 loanWords k ∙ r .chunk;
+        chunk = cell-row (t .loans) Loans.chunkAt loanWords k ∙ r .chunk;
         size = cell-row (t .loans) sizeAt loanWords k ∙ r .size;
       }
 
@@ -135,9 +137,9 @@ module _ (s : BuddySettings) (t : Tables) (fit : BuddyIn s) (lengths : Lengths s
   still-live : (f : Bool) (j : ℕ) → liveIn (after f) j ≡ true → (j ≡ k → ⊥) × (liveIn t j ≡ true)
   still-live f j h = still j (sym (live-left f j) ∙ h)
 
-  cell-left : (g : Bool) (f j : ℕ) → f < loanWords → (j ≡ k → ⊥) → loanCell (after g) f j ≡ loanCell t f j
+  cell-left : (g : Bool) (f j : ℕ) → OfLoan f → (j ≡ k → ⊥) → loanCell (after g) f j ≡ loanCell t f j
   unfolding struck
-  cell-left g f j h o = getD-set-other (t .loans) (cellOf sizeAt loanWords k) (cellOf f loanWords j) 0 0 (λ e. o (omega arith))
+  cell-left g f j h o = getD-set-other (t .loans) (cellOf sizeAt loanWords k) (cellOf f loanWords j) 0 0 (λ e. o (omega (arith, h .0, h .1)))
 
   after-chained : BookChained loans′ index′ n (placesIn t) (givenIn t)
   after-chained =
@@ -181,8 +183,8 @@ module _ (s : BuddySettings) (t : Tables) (fit : BuddyIn s) (lengths : Lengths s
 
     loan-left : (f : Bool) (j : ℕ) → (j ≡ k → ⊥) → loanIn s (after f) j ≡ loanIn s t j
     loan-left f j o =
-        let chunk = cell-left f 1 j (omega arith) o in
-        let at = cell-left f 2 j (omega arith) o in
+        let chunk = cell-left f Loans.chunkAt j (omega arith) o in
+        let at = cell-left f offsetAt j (omega arith) o in
         let size = cell-left f sizeAt j (omega arith) o in
         let node = word-by s t c (r .room) loans′ index′ lengths past f (nodesFrom s + j) (omega arith) (λ z. omega (arith, past .inside)) in
         (λ i. record { chunk = chunk i; at = at i; lev = levelOf (size i) (s .minimal); node = node i })
@@ -250,7 +252,7 @@ module _ (s : BuddySettings) (t : Tables) (fit : BuddyIn s) (lengths : Lengths s
               let z = still-live f j h in
               let u = sound .loans-units j (z .1) in
               let unit : ℕ → ℕ = λ d. d % (s .store .atom + 1) in
-              (ap unit (cell-left f 2 j (omega arith) (z .0)) ∙ u .0, ap unit (cell-left f sizeAt j (omega arith) (z .0)) ∙ u .1);
+              (ap unit (cell-left f offsetAt j (omega arith) (z .0)) ∙ u .0, ap unit (cell-left f sizeAt j (omega arith) (z .0)) ∙ u .1);
         }
 
   few-pairs : s .pairs ≤ 2 ^ 32

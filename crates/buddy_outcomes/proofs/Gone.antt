@@ -26,7 +26,7 @@ use Rattle.counter.specs.declared.settings.BuddySettings.{BuddySettings}
 use Rattle.counter.proofs.Papers.{kindOf}
 use Rattle.counter.proofs.Reasoned.{given-then}
 use Rattle.store_rules.specs.Delivery.{Fate, kept, lost, buddy, fateOf, deliveryOk}
-use Rattle.store_rules.specs.Loans.{loan, loanWords, sizeAt}
+use Rattle.store_rules.specs.Loans.{loan, loanWords, sizeAt, serialAt}
 use Rattle.store_rules.specs.Orders.{Plan, deny, take, buy}
 use Rattle.store_rules.specs.Outcomes.{Listed, listed, listOk}
 use Rattle.store_rules.specs.declared.Loan.{Loan}
@@ -55,12 +55,12 @@ use Rattle.buddy_outcomes.proofs.Plans.{Takes, takes, Buys}
 use Rattle.buddy_outcomes.proofs.Refused.{return-refused}
 use Rattle.buddy_outcomes.proofs.Returned.{ReturnComes, return-comes, given-tables}
 use Rattle.buddy_outcomes.proofs.Searches.{room-place}
-use Rattle.buddy_outcomes.proofs.Written.{serial-here, cell-other}
+use Rattle.buddy_outcomes.proofs.Written.{OfLoan, serial-here, cell-other}
 
 -- serial k was given by a buddy store, and no loan of these tables has it
 pub record Gone (k : ℕ) (t : Tables) : Type 0 where
   pub old : k ≤ givenIn t
-  pub away : (p : ℕ) → liveIn t p ≡ true → loanCell t 0 p ≡ k → ⊥
+  pub away : (p : ℕ) → liveIn t p ≡ true → loanCell t serialAt p ≡ k → ⊥
   pub marked : getD (t .head) markAt 0 ≡ mark
 
 -- ---- levels grow, and a chunk arrives: the loans, their places and the serials given are as they were
@@ -92,7 +92,7 @@ module _ (s : BuddySettings) (memory z : ℕ) (t : Tables) where
 -- what is asked of the book
 record Roomy (s : BuddySettings) (t : Tables) : Type 0 where
   head : length (t .head) ≡ headWords
-  loans : length (t .loans) ≡ loanWords * s .store .loans
+  loans : length (t .loans) ≡ loanWords + loanWords * s .store .loans
   place : takenOf (placesIn t) (t .index) .place < s .store .loans
   parted : BookParted (t .loans) (t .index) (s .store .loans) (placesIn t)
 
@@ -106,11 +106,11 @@ module _ (k : ℕ) (s : BuddySettings) (t : Tables) (fit : BuddyIn s) (r : Roomy
   abbrev booked : Tables
   booked = bookedTables s c o size cut t
 
-  booked-serial : loanCell booked 0 here ≡ givenIn t + 1
+  booked-serial : loanCell booked serialAt here ≡ givenIn t + 1
   unfolding bookedTables entered
   booked-serial = serial-here (t .loans) (s .store .loans) here new (r .loans) (r .place)
 
-  booked-cell : (f x : ℕ) → f < loanWords → (x ≡ here → ⊥) → loanCell booked f x ≡ loanCell t f x
+  booked-cell : (f x : ℕ) → OfLoan f → (x ≡ here → ⊥) → loanCell booked f x ≡ loanCell t f x
   unfolding bookedTables entered
   booked-cell f x h n = cell-other (t .loans) (s .store .loans) here new (r .loans) (r .place) f x h n
 
@@ -128,8 +128,8 @@ module _ (k : ℕ) (s : BuddySettings) (t : Tables) (fit : BuddyIn s) (r : Roomy
   booked-gone g = record {
     old = omega (arith, g .old, booked-given s t c o size cut (r .head));
     away = λ p h e. ⊎-elim
-        (λ i. let z : loanCell booked 0 p ≡ givenIn t + 1 = ap (loanCell booked 0) i ∙ booked-serial in omega (arith, g .old, z, e))
-        (λ n. g .away p (sym (booked-live p n) ∙ h) (sym (booked-cell 0 p (omega arith) n) ∙ e))
+        (λ i. let z : loanCell booked serialAt p ≡ givenIn t + 1 = ap (loanCell booked serialAt) i ∙ booked-serial in omega (arith, g .old, z, e))
+        (λ n. g .away p (sym (booked-live p n) ∙ h) (sym (booked-cell serialAt p (omega arith) n) ∙ e))
         (same? p here);
     marked = booked-mark s t c o size cut ∙ g .marked;
   }
@@ -226,9 +226,9 @@ module _ (s : BuddySettings) (b : Block) (t : Tables) (fit : BuddyIn s) (lengths
   abbrev given : Tables
   given = givenTables s b (wordFor s b t) t
 
-  given-serial : (j : ℕ) → loanCell given 0 j ≡ loanCell t 0 j
+  given-serial : (j : ℕ) → loanCell given serialAt j ≡ loanCell t serialAt j
   unfolding givenTables struck
-  given-serial j = getD-set-other (t .loans) (cellOf sizeAt loanWords back) (cellOf 0 loanWords j) 0 0 (λ e. omega arith)
+  given-serial j = getD-set-other (t .loans) (cellOf sizeAt loanWords back) (cellOf serialAt loanWords j) 0 0 (λ e. omega arith)
 
   -- a loan that is left was there
   given-was : (j : ℕ) → liveIn given j ≡ true → liveIn t j ≡ true
@@ -256,14 +256,14 @@ module _ (s : BuddySettings) (b : Block) (t : Tables) (fit : BuddyIn s) (lengths
       omega (arith, live-given s t fit sound back (Back.live s t fit lengths sound b on), Back.says s t fit lengths sound b on .serial)
 
   -- and one loan alone had it
-  back-once : (j : ℕ) → liveIn t j ≡ true → loanCell t 0 j ≡ b .serial → j ≡ back
+  back-once : (j : ℕ) → liveIn t j ≡ true → loanCell t serialAt j ≡ b .serial → j ≡ back
   back-once j h e =
       let u = live-used t j h in
       let v = live-used t back (Back.live s t fit lengths sound b on) in
       serial-once (freeIn (t .loans)) (chainStart t) (chainNext t) (serialOf (t .loans)) (s .store .loans) (placesIn t) (givenIn t) j back (fit .store .loans-some) (sound .chained) (u .0) (v .0) (u .1) (v .1)
       (e ∙ sym (Back.says s t fit lengths sound b on .serial))
 
-  back-away : (j : ℕ) → liveIn given j ≡ true → loanCell given 0 j ≡ b .serial → ⊥
+  back-away : (j : ℕ) → liveIn given j ≡ true → loanCell given serialAt j ≡ b .serial → ⊥
   back-away j h e =
       let i : j ≡ back = back-once j (given-was j h) (sym (given-serial j) ∙ e) in
       true-false (liveIn given j) h (ap (liveIn given) i ∙ given-left)

@@ -18,18 +18,19 @@ use Rattle.counter.specs.declared.settings.BuddySettings.{BuddySettings}
 use Rattle.slab.specs.Slab.{linkAt, removed, removedLinks, Parted, changed}
 use Rattle.slab.proofs.Places.{parted-same, removed-parted, vacant-set}
 use Rattle.buddy_rules.specs.Stores.{with}
-use Rattle.buddy_rules.specs.Level.{levelWords, part}
+use Rattle.buddy_rules.specs.Level.{levelWords, part, levelStart}
 use Rattle.buddy_rules.specs.Tables.{Tables, tables, Lengths, chunkWords, memoryAt, chunkSizeAt, chunkPlacesIn, memoryIn, chunkSizeIn, chunksFrom, placeAt, topAt, afterAt, placeWords, heldIn, highIn, topIn, vacantChunk, chunkAfter, chunkSlab}
 use Rattle.buddy_rules.proofs.Abstract.{levels-in}
 use Rattle.buddy_outcomes.specs.Return.{vacatedTree}
 
 -- a word past a level is none of its
-part-past : (pairs i j v : ℕ) (t : List ℕ) → levelWords pairs * (i + 1) ≤ j → part pairs i (set t j v) ≡ part pairs i t
+part-past : (pairs i j v : ℕ) (t : List ℕ) → levelStart pairs (i + 1) ≤ j → part pairs i (set t j v) ≡ part pairs i t
 part-past pairs i j v t h =
     let m = levelWords pairs in
-    let e : j ≡ m * i + (j - m * i) = omega (arith, mul-suc m i) in
-    let k : m ≤ j - m * i = omega (arith, mul-suc m i) in
-    ap (λ (x : ℕ). part pairs i (set t x v)) e ∙ ap (take m) (drop-set-add (m * i) t (j - m * i) v) ∙ take-set-le m (drop (m * i) t) (j - m * i) v k
+    let b = levelStart pairs i in
+    let e : j ≡ b + (j - b) = omega (arith, mul-suc m i) in
+    let k : m ≤ j - b = omega (arith, mul-suc m i) in
+    ap (λ (x : ℕ). part pairs i (set t x v)) e ∙ ap (take m) (drop-set-add b t (j - b) v) ∙ take-set-le m (drop b t) (j - b) v k
 
 -- tree is t's but for the levels, and c is a chunk place
 pub record Past (s : BuddySettings) (t : Tables) (c : ℕ) (tree : List ℕ) : Type 0 where
@@ -54,7 +55,7 @@ module _ (s : BuddySettings) (t : Tables) (c : ℕ) (tree loans index : List ℕ
     pub part-by : (f : Bool) (i : ℕ) → i < levelsMost → part (s .pairs) i (tablesBy f .room) ≡ part (s .pairs) i tree
     unfolding vacatedTree
     part-by true i h =
-        let k : levelWords (s .pairs) * (i + 1) ≤ chunksFrom s = levels-in s i h in
+        let k : levelStart (s .pairs) (i + 1) ≤ chunksFrom s = levels-in s i h in
         part-past (s .pairs) i (chunksFrom s) c linked k ∙ part-past (s .pairs) i after (getD tree (chunksFrom s) 0) tree (omega arith)
     part-by false i h = refl
 

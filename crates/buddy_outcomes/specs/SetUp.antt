@@ -1,7 +1,7 @@
 -- What set-up of a buddy store says and leaves.
 use mathlib.Core.Bool.{Bool, _&&_}
 use mathlib.Core.List.{List, [], _∷_}
-use Prim.Native.Nat.{ℕ, _*_}
+use Prim.Native.Nat.{ℕ, _*_, _+_}
 use lib.ListN.{set, replicate}
 use Rattle.counter.specs.Gate.{Verdict, pass, refuse, first}
 use Rattle.counter.specs.Paper as Paper
@@ -24,8 +24,8 @@ unfoldable pub freshTables : BuddySettings → Tables
 freshTables s =
     tables
     (freshHead s)
-    (replicate (loanWords * s .store .loans) 0)
-    (replicate (chunkWords * s .store .chunks) 0)
+    (replicate (loanWords + loanWords * s .store .loans) 0)
+    (replicate (chunkWords + chunkWords * s .store .chunks) 0)
     (freshIndex (s .store .loans))
     (set (freshLevels s 0 (initialLevels s) (replicate (treeWords s) 0)) (chunksFrom s) nowhere)
 

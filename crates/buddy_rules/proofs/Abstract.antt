@@ -20,7 +20,7 @@ use Rattle.buddy_rules.specs.Returns.{entries}
 use Rattle.buddy_rules.proofs.Frames.{frame}
 use Rattle.buddy_rules.proofs.Sides.{not-taken}
 use Rattle.buddy_trees.proofs.Canon.{free?}
-use Rattle.buddy_rules.specs.Level.{levelWords, Good, part, pairIn}
+use Rattle.buddy_rules.specs.Level.{levelWords, Good, part, pairIn, levelStart}
 use Rattle.buddy_rules.proofs.Ops.{levelOps}
 use Rattle.buddy_rules.proofs.Cells.{tagged-used}
 use Rattle.buddy_rules.proofs.Rings.{used-below}
@@ -41,8 +41,8 @@ storeOf s small t =
     }
 
 -- the levels lie in the table, before its chunks
-pub levels-in : (s : BuddySettings) (i : ℕ) → i < levelsMost → levelWords (s .pairs) * (i + 1) ≤ chunksFrom s
-levels-in s i h = let k : i + 1 ≤ levelsMost = omega arith in mul-le-mul-left (levelWords (s .pairs)) k
+pub levels-in : (s : BuddySettings) (i : ℕ) → i < levelsMost → levelStart (s .pairs) (i + 1) ≤ chunksFrom s
+levels-in s i h = let k : i + 1 ≤ levelsMost = omega arith in omega (arith, mul-le-mul-left (levelWords (s .pairs)) k)
 
 not-free : (x : Tree) → Taken x → x ≡ free → ⊥
 not-free x h e = rw e at h

@@ -14,7 +14,8 @@ use Rattle.rounding_rules.specs.Raising.{levelOf}
 use Rattle.counter.specs.InTable.{BuddyIn}
 use Rattle.counter.specs.declared.settings.BuddySettings.{BuddySettings}
 use Rattle.slab.specs.Slab.{nowhere}
-use Rattle.store_rules.specs.Loans.{loanWords, serialAt, sizeAt}
+use Rattle.store_rules.specs.Loans as Loans
+use Rattle.store_rules.specs.Loans.{loanWords, serialAt, sizeAt, offsetAt}
 use Rattle.store_rules.specs.declared.Chunk.{Chunk}
 use Rattle.store_rules.specs.declared.Loan.{Loan}
 use Rattle.book_rules.specs.Book.{serialOf}
@@ -95,11 +96,11 @@ module _ (s : BuddySettings) (t : Tables) where
   abbrev pub serialAtPlace : ℕ → ℕ
   serialAtPlace k = loanAt t k .serial
 
-  chunk-cell : (k : ℕ) → loanCell t 1 k ≡ loanAt t k .chunk
-  chunk-cell k = cell-row (t .loans) 1 loanWords k
+  chunk-cell : (k : ℕ) → loanCell t Loans.chunkAt k ≡ loanAt t k .chunk
+  chunk-cell k = cell-row (t .loans) Loans.chunkAt loanWords k
 
-  at-cell : (k : ℕ) → loanCell t 2 k ≡ loanAt t k .offset
-  at-cell k = cell-row (t .loans) 2 loanWords k
+  at-cell : (k : ℕ) → loanCell t offsetAt k ≡ loanAt t k .offset
+  at-cell k = cell-row (t .loans) offsetAt loanWords k
 
   size-cell : (k : ℕ) → loanCell t sizeAt k ≡ loanAt t k .size
   size-cell k = cell-row (t .loans) sizeAt loanWords k

@@ -19,7 +19,7 @@ use Rattle.slab.proofs.Places.{parted-same, insert-first, insert-next}
 use Rattle.ring_rules.proofs.Rings.{ring-same, ring-near}
 use Rattle.buddy_rules.specs.Nodes.{Side}
 use Rattle.buddy_rules.specs.Levels.{sideOf}
-use Rattle.buddy_rules.specs.Level.{headerWords, ringAt, usedAt, vacatedAt, pairWords, tagAt, chunkAt, offAt, leftAt, rightAt, upAt, readyTag, nextAt, prevAt, sideAt, levelWords, fieldAt, pairCell, entOf, pairIn, ringHead, slabIn, pairTaken, dropped, backed, acquired, added, freshLevel, vacantIn, vacantAfter, Good, part}
+use Rattle.buddy_rules.specs.Level.{headerWords, ringAt, usedAt, vacatedAt, pairWords, tagAt, chunkAt, offAt, leftAt, rightAt, upAt, readyTag, nextAt, prevAt, sideAt, levelWords, fieldAt, pairCell, entOf, pairIn, ringHead, slabIn, pairTaken, dropped, backed, acquired, added, freshLevel, vacantIn, vacantAfter, Good, part, levelStart}
 use Rattle.buddy_rules.proofs.Cells.{plain-in, ent-same, pair-same, tagged-used}
 use Rattle.buddy_rules.proofs.Rings.{used-below, ready-mem, head-mem}
 use Rattle.buddy_rules.proofs.Rows.{
@@ -84,33 +84,33 @@ module _ (b b′ pairs : ℕ) (t t′ : List ℕ) (same : (i : ℕ) → i < leve
 
 module _ (pairs l : ℕ) (t : List ℕ) where
   abbrev b : ℕ
-  b = levelWords pairs * l
+  b = levelStart pairs l
 
   abbrev v : List ℕ
   v = part pairs l t
 
-  pub part-length : levelWords pairs * (l + 1) ≤ length t → length (part pairs l t) ≡ levelWords pairs
+  pub part-length : levelStart pairs (l + 1) ≤ length t → length (part pairs l t) ≡ levelWords pairs
   part-length h = length-take-le (levelWords pairs) (drop b t) (rw (length-drop b t) (omega (arith, mul-suc (levelWords pairs) l)))
 
-  pub part-word : (i : ℕ) → i < levelWords pairs → getD (part pairs l t) i 0 ≡ getD t (levelWords pairs * l + i) 0
+  pub part-word : (i : ℕ) → i < levelWords pairs → getD (part pairs l t) i 0 ≡ getD t (levelStart pairs l + i) 0
   part-word i h = getD-take (levelWords pairs) (drop b t) i 0 h ∙ getD-drop b t i 0
 
   word-out : (i : ℕ) → i < levelWords pairs → getD v (0 + i) 0 ≡ getD t (b + i) 0
   word-out i h = ap (λ k. getD v k 0) (omega arith) ∙ part-word i h
 
-  pub part-ent : (p : ℕ) → p < pairs → entOf (levelWords pairs * l) t p ≡ entOf 0 (part pairs l t) p
+  pub part-ent : (p : ℕ) → p < pairs → entOf (levelStart pairs l) t p ≡ entOf 0 (part pairs l t) p
   part-ent p h = sym (ent-as b 0 pairs t v word-out p h)
 
-  pub part-pair : (p : ℕ) → getD t (levelWords pairs * l + usedAt) 0 ≤ pairs → pairIn (levelWords pairs * l) t p ≡ pairIn 0 (part pairs l t) p
+  pub part-pair : (p : ℕ) → getD t (levelStart pairs l + usedAt) 0 ≤ pairs → pairIn (levelStart pairs l) t p ≡ pairIn 0 (part pairs l t) p
   part-pair p k = sym (pair-same b 0 t v p (used-as b 0 pairs t v word-out) (λ h. ent-as b 0 pairs t v word-out p (omega arith)))
 
-  pub part-good : Good (levelWords pairs * l) pairs t ↔ Good 0 pairs (part pairs l t)
+  pub part-good : Good (levelStart pairs l) pairs t ↔ Good 0 pairs (part pairs l t)
   part-good = (good-as b 0 pairs t v word-out, good-as 0 b pairs v t (λ i h. sym (word-out i h)))
 
-  pub part-head : ringHead (levelWords pairs * l) t ≡ ringHead 0 (part pairs l t)
+  pub part-head : ringHead (levelStart pairs l) t ≡ ringHead 0 (part pairs l t)
   part-head = sym (word-out ringAt (omega arith))
 
-  pub part-taken : Good (levelWords pairs * l) pairs t → pairTaken (levelWords pairs * l) t ≡ pairTaken 0 (part pairs l t)
+  pub part-taken : Good (levelStart pairs l) pairs t → pairTaken (levelStart pairs l) t ≡ pairTaken 0 (part pairs l t)
   part-taken G = by (lt-or-le (slabIn b t .vacant) (slabIn b t .places))
     where
       by : (slabIn b t .vacant < slabIn b t .places) ⊎ (slabIn b t .places ≤ slabIn b t .vacant) → pairTaken b t ≡ pairTaken 0 v
@@ -154,10 +154,10 @@ module _ (pairs l : ℕ) (t : List ℕ) where
 
   -- ---- so level l of the table becomes what its words alone become, and nothing else changes
 
-  pub part-fresh : Within pairs l t (freshLevel (levelWords pairs * l) t) (freshLevel 0 (part pairs l t))
+  pub part-fresh : Within pairs l t (freshLevel (levelStart pairs l) t) (freshLevel 0 (part pairs l t))
   part-fresh = rw (fresh-puts b t, fresh-puts 0 v) (within pairs l t (freshRow b) (freshRow 0) ((refl, omega arith, refl), ((refl, omega arith, refl), ((refl, omega arith, refl), tt))))
 
-  module _ (G : Good (levelWords pairs * l) pairs t) where
+  module _ (G : Good (levelStart pairs l) pairs t) where
     mem-in : (p : ℕ) → Mem p (G .ring) → p < pairs
     mem-in p m = used-below b pairs t G p (G .below p m)
 
@@ -170,7 +170,7 @@ module _ (pairs l : ℕ) (t : List ℕ) where
     member-moved : (p : ℕ) → Mem p (G .ring) → Moved b (levelWords pairs) (leavesRow b p t) (leavesRow 0 p v)
     member-moved p m = leaves-moved p (mem-in p m) (near-in p m .0) (near-in p m .1)
 
-    pub part-dropped : (p : ℕ) → 1 < pairIn (levelWords pairs * l) t p .tag → Within pairs l t (dropped (levelWords pairs * l) p t) (dropped 0 p (part pairs l t))
+    pub part-dropped : (p : ℕ) → 1 < pairIn (levelStart pairs l) t p .tag → Within pairs l t (dropped (levelStart pairs l) p t) (dropped 0 p (part pairs l t))
     part-dropped p r =
         let m = ready-mem b pairs t G p r in
         let h = mem-in p m in
@@ -179,7 +179,7 @@ module _ (pairs l : ℕ) (t : List ℕ) where
         (moved-append b (levelWords pairs) (leavesRow b p t) (leavesRow 0 p v) (droppedRow b p t) (droppedRow 0 p v) (member-moved p m)
         (cell-moved tagAt p 0 0 (omega arith) h refl, (cell-moved offAt p _ _ (omega arith) h (sym (word-out vacatedAt (omega arith))), ((refl, omega arith, refl), tt)))))
 
-    pub part-backed : (p : ℕ) (s : Side) → pairIn (levelWords pairs * l) t p .tag ≡ 1 → Within pairs l t (backed (levelWords pairs * l) p s t) (backed 0 p s (part pairs l t))
+    pub part-backed : (p : ℕ) (s : Side) → pairIn (levelStart pairs l) t p .tag ≡ 1 → Within pairs l t (backed (levelStart pairs l) p s t) (backed 0 p s (part pairs l t))
     part-backed p s e =
         let h : p < pairs = used-below b pairs t G p (tagged-used b t p (omega arith)) in
         let near : (ringHead b t ≡ nowhere → ⊥) → (ringHead b t < pairs) × (getD t (pairCell b prevAt (ringHead b t)) 0 < pairs) = λ some. (mem-in (ringHead b t) (head-mem b pairs t G some), near-in (ringHead b t) (head-mem b pairs t G some) .0) in
@@ -187,7 +187,7 @@ module _ (pairs l : ℕ) (t : List ℕ) where
         (within pairs l t (joinsRow b p t ++ tagRow b p (readyTag s) s 0) (joinsRow 0 p v ++ tagRow 0 p (readyTag s) s 0)
         (moved-append b (levelWords pairs) (joinsRow b p t) (joinsRow 0 p v) (tagRow b p (readyTag s) s 0) (tagRow 0 p (readyTag s) s 0) (joins-moved p h near) (tag-moved p (readyTag s) s 0 h)))
 
-    pub part-acquired : (w : ℕ) → (ringHead (levelWords pairs * l) t ≡ nowhere → ⊥) → Within pairs l t (acquired (levelWords pairs * l) w t) (acquired 0 w (part pairs l t))
+    pub part-acquired : (w : ℕ) → (ringHead (levelStart pairs l) t ≡ nowhere → ⊥) → Within pairs l t (acquired (levelStart pairs l) w t) (acquired 0 w (part pairs l t))
     part-acquired w some =
         let p = ringHead b t in
         let m = head-mem b pairs t G some in
@@ -196,7 +196,7 @@ module _ (pairs l : ℕ) (t : List ℕ) where
         (within pairs l t (leavesRow b p t ++ tagRow b p 1 s w) (leavesRow 0 p v ++ tagRow 0 p 1 s w)
         (moved-append b (levelWords pairs) (leavesRow b p t) (leavesRow 0 p v) (tagRow b p 1 s w) (tagRow 0 p 1 s w) (member-moved p m) (tag-moved p 1 s w (mem-in p m))))
 
-    pub part-added : (c o n w : ℕ) → pairTaken (levelWords pairs * l) t .place < pairs → Within pairs l t (added (levelWords pairs * l) c o n w t) (added 0 c o n w (part pairs l t))
+    pub part-added : (c o n w : ℕ) → pairTaken (levelStart pairs l) t .place < pairs → Within pairs l t (added (levelStart pairs l) c o n w t) (added 0 c o n w (part pairs l t))
     part-added c o n w h =
         rw (added-puts b c o n w t, added-puts 0 c o n w v, ← part-taken G)
         (within pairs l t (addedRow b c o n w t) ((0 + usedAt, pairTaken b t .slab .places) ∷ (0 + vacatedAt, pairTaken b t .slab .vacant) ∷ enteredRow 0 p c o n w) (

@@ -16,7 +16,7 @@ use Rattle.ring_rules.proofs.Keeps.{ring-frame}
 use Rattle.ring_rules.proofs.Linking.{unlinked-first, unlinked-ring, linked-ring}
 use Rattle.buddy_rules.specs.Nodes.{Side}
 use Rattle.buddy_rules.specs.Levels.{sideOf}
-use Rattle.buddy_rules.specs.Level.{ringAt, usedAt, nextAt, prevAt, pairWords, headerWords, levelWords, readyTag, fieldAt, pairCell, entOf, pairIn, ringHead, pairTaken, leaves, joins, dropped, backed, acquired, added, Good, part}
+use Rattle.buddy_rules.specs.Level.{ringAt, usedAt, nextAt, prevAt, pairWords, headerWords, levelWords, readyTag, fieldAt, pairCell, entOf, pairIn, ringHead, pairTaken, leaves, joins, dropped, backed, acquired, added, Good, part, levelStart}
 use Rattle.buddy_rules.specs.Ringed.{Ringed, beforeIn, pastIn, outOf, tailOf}
 use Rattle.buddy_rules.proofs.Stores.{puts}
 use Rattle.buddy_rules.proofs.Rows.{tagRow, acquired-puts, backed-puts}
@@ -151,8 +151,8 @@ ringed-as b b′ pairs t t′ R same r = record {
         ∙ ap (λ i. getD t i 0) (omega arith)
 
 module _ (pairs l : ℕ) (t R : List ℕ) where
-  pub part-ringed : Ringed (levelWords pairs * l) pairs t R → Ringed 0 pairs (part pairs l t) R
-  part-ringed = ringed-as (levelWords pairs * l) 0 pairs t (part pairs l t) R (λ i h. ap (λ (k : ℕ). getD (part pairs l t) k 0) (omega arith) ∙ part-word pairs l t i h)
+  pub part-ringed : Ringed (levelStart pairs l) pairs t R → Ringed 0 pairs (part pairs l t) R
+  part-ringed = ringed-as (levelStart pairs l) 0 pairs t (part pairs l t) R (λ i h. ap (λ (k : ℕ). getD (part pairs l t) k 0) (omega arith) ∙ part-word pairs l t i h)
 
-  pub ringed-part : Ringed 0 pairs (part pairs l t) R → Ringed (levelWords pairs * l) pairs t R
-  ringed-part = ringed-as 0 (levelWords pairs * l) pairs (part pairs l t) t R (λ i h. sym (ap (λ (k : ℕ). getD (part pairs l t) k 0) (omega arith) ∙ part-word pairs l t i h))
+  pub ringed-part : Ringed 0 pairs (part pairs l t) R → Ringed (levelStart pairs l) pairs t R
+  ringed-part = ringed-as 0 (levelStart pairs l) pairs (part pairs l t) t R (λ i h. sym (ap (λ (k : ℕ). getD (part pairs l t) k 0) (omega arith) ∙ part-word pairs l t i h))

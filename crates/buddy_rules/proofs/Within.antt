@@ -10,7 +10,7 @@ use lib.ListN.{length, getD, set, take, drop}
 use lib.Seq.{drop-set-add, drop-set-lt, take-set-lt, take-set-le}
 use Rattle.lists.specs.Members.{NotIn}
 use Rattle.lists.proofs.Bools.{lt-or-le}
-use Rattle.buddy_rules.specs.Level.{levelWords, part}
+use Rattle.buddy_rules.specs.Level.{levelWords, part, levelStart, ownWords}
 use Rattle.buddy_rules.proofs.Stores.{puts, stored, length-puts, kept}
 
 -- the stores of the second row, b words on; each within m words
@@ -66,26 +66,26 @@ module _ (b m : ℕ) where
 pub record Within (pairs l : ℕ) (t t′ v : List ℕ) : Type 0 where
   pub here : part pairs l t′ ≡ v
   pub others : (j : ℕ) → (j ≡ l → ⊥) → part pairs j t′ ≡ part pairs j t
-  pub past : (i : ℕ) → levelWords pairs * (l + 1) ≤ i → getD t′ i 0 ≡ getD t i 0
+  pub past : (i : ℕ) → levelStart pairs (l + 1) ≤ i → getD t′ i 0 ≡ getD t i 0
   pub long : length t′ ≡ length t
 
 -- two levels have no word in common
-levels-apart : (m j l : ℕ) → (j ≡ l → ⊥) → (m * j + m ≤ m * l) ⊎ (m * l + m ≤ m * j)
-levels-apart m j l ne = by (lt-or-le j l)
+levels-apart : (o m j l : ℕ) → (j ≡ l → ⊥) → (o + m * j + m ≤ o + m * l) ⊎ (o + m * l + m ≤ o + m * j)
+levels-apart o m j l ne = by (lt-or-le j l)
   where
-    before : (a c : ℕ) → a < c → m * a + m ≤ m * c
+    before : (a c : ℕ) → a < c → o + m * a + m ≤ o + m * c
     before a c h =
         let k : m * suc a ≤ m * c = mul-le-mul-left m h in
         omega (arith, mul-suc m a)
 
-    by : (j < l) ⊎ (l ≤ j) → (m * j + m ≤ m * l) ⊎ (m * l + m ≤ m * j)
+    by : (j < l) ⊎ (l ≤ j) → (o + m * j + m ≤ o + m * l) ⊎ (o + m * l + m ≤ o + m * j)
     by (inl h) = inl (before j l h)
     by (inr h) = inr (before l j (⊎-elim (λ k. k) (λ k. absurd (ne (omega arith))) (lt-or-le l j)))
 
-pub within : (pairs l : ℕ) (t : List ℕ) (r k : List (ℕ × ℕ)) → Moved (levelWords pairs * l) (levelWords pairs) r k → Within pairs l t (puts t r) (puts (part pairs l t) k)
+pub within : (pairs l : ℕ) (t : List ℕ) (r k : List (ℕ × ℕ)) → Moved (levelStart pairs l) (levelWords pairs) r k → Within pairs l t (puts t r) (puts (part pairs l t) k)
 within pairs l t r k m = record {
-  here = here (levelWords pairs * l) (levelWords pairs) t r k m;
-  others = λ j ne. apart (levelWords pairs * l) (levelWords pairs) (levelWords pairs * j) (levels-apart (levelWords pairs) j l ne) t r k m;
-  past = λ i h. kept t r i (past (levelWords pairs * l) (levelWords pairs) i (omega (arith, mul-suc (levelWords pairs) l)) r k m);
+  here = here (levelStart pairs l) (levelWords pairs) t r k m;
+  others = λ j ne. apart (levelStart pairs l) (levelWords pairs) (levelStart pairs j) (levels-apart ownWords (levelWords pairs) j l ne) t r k m;
+  past = λ i h. kept t r i (past (levelStart pairs l) (levelWords pairs) i (omega (arith, mul-suc (levelWords pairs) l)) r k m);
   long = length-puts t r;
 }

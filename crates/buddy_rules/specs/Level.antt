@@ -71,6 +71,14 @@ readyTag R = rightReady
 abbrev pub levelWords : ℕ → ℕ
 levelWords pairs = headerWords + pairWords * pairs
 
+-- the table's own record stands before the first level
+abbrev pub ownWords : ℕ
+ownWords = 8
+
+-- where level l begins
+abbrev pub levelStart : ℕ → ℕ → ℕ
+levelStart pairs l = ownWords + levelWords pairs * l
+
 -- where a level begins at most, for the code: no table has that many words
 abbrev pub baseMost : ℕ
 baseMost = 2 ^ 60
@@ -170,4 +178,4 @@ module _ (b : ℕ) where
 
 -- the words of level l
 abbrev pub part : ℕ → ℕ → List ℕ → List ℕ
-part pairs l t = take (levelWords pairs) (drop (levelWords pairs * l) t)
+part pairs l t = take (levelWords pairs) (drop (levelStart pairs l) t)

@@ -17,7 +17,7 @@ use Rattle.store_rules.specs.Loans.{loanWords, chunkAt, offsetAt, sizeAt}
 pub use Rattle.store_rules.specs.Tables.{Tables, tables}
 use Rattle.book_rules.specs.Book.{indexWords, entryWords, vacantAfterAt, nextOf, slabOf, firstIn}
 use Rattle.buddy_rules.specs.Nodes.{Ent, Loan}
-use Rattle.buddy_rules.specs.Level.{levelWords, pairIn}
+use Rattle.buddy_rules.specs.Level.{levelStart, pairIn}
 
 -- ---- head: a mark; serials given, levels now; loan places and chunk places ever used
 
@@ -55,16 +55,16 @@ placesIn t = getD (t .head) placesAt 0
 abbrev pub chunkPlacesIn : Tables → ℕ
 chunkPlacesIn t = getD (t .head) chunkPlacesAt 0
 
--- ---- chunks: memory number and size in bytes, 0 at a vacant place
+-- ---- chunks: memory number and size in bytes, 0 at a vacant place; those of place 0 stand behind the table's own record
 
 abbrev pub chunkWords : ℕ
 chunkWords = 2
 
 abbrev pub memoryAt : ℕ
-memoryAt = 0
+memoryAt = 2
 
 abbrev pub chunkSizeAt : ℕ
-chunkSizeAt = 1
+chunkSizeAt = 3
 
 abbrev pub memoryIn : Tables → ℕ → ℕ
 memoryIn t c = getD (t .chunks) (cellOf memoryAt chunkWords c) 0
@@ -72,20 +72,17 @@ memoryIn t c = getD (t .chunks) (cellOf memoryAt chunkWords c) 0
 abbrev pub chunkSizeIn : Tables → ℕ → ℕ
 chunkSizeIn t c = getD (t .chunks) (cellOf chunkSizeAt chunkWords c) 0
 
--- ---- tree: the levels one after the other; the chunk place vacated last; for each chunk place its top node's word and the
--- vacant place after it; for each loan place its node
-
-abbrev pub levelStart : ℕ → ℕ → ℕ
-levelStart pairs l = levelWords pairs * l
+-- ---- tree, in records of eight words: the table's own; the levels one after the other; of the chunk places first their own, which
+-- begins with the place vacated last, then for each its top node's word and the vacant place after it; for each loan place its node
 
 abbrev pub levelFrom : BuddySettings → ℕ → ℕ
 levelFrom s l = levelStart (s .pairs) l
 
 abbrev pub chunksFrom : BuddySettings → ℕ
-chunksFrom s = levelWords (s .pairs) * levelsMost
+chunksFrom s = levelStart (s .pairs) levelsMost
 
 abbrev pub placeWords : ℕ
-placeWords = 2
+placeWords = 8
 
 abbrev pub topAt : ℕ
 topAt = 0
@@ -94,10 +91,10 @@ abbrev pub afterAt : ℕ
 afterAt = 1
 
 abbrev pub placeAt : BuddySettings → ℕ → ℕ
-placeAt s f = chunksFrom s + (1 + f)
+placeAt s f = chunksFrom s + (placeWords + f)
 
 abbrev pub nodesFrom : BuddySettings → ℕ
-nodesFrom s = chunksFrom s + (1 + placeWords * s .store .chunks)
+nodesFrom s = chunksFrom s + (placeWords + placeWords * s .store .chunks)
 
 abbrev pub treeWords : BuddySettings → ℕ
 treeWords s = nodesFrom s + s .store .loans
@@ -107,8 +104,8 @@ treeWords s = nodesFrom s + s .store .loans
 abbrev pub lengthsRow : BuddySettings → Tables → List Bool
 lengthsRow s t =
     eqb (length (t .head)) headWords
-    ∷ eqb (length (t .loans)) (loanWords * s .store .loans)
-    ∷ eqb (length (t .chunks)) (chunkWords * s .store .chunks)
+    ∷ eqb (length (t .loans)) (loanWords + loanWords * s .store .loans)
+    ∷ eqb (length (t .chunks)) (chunkWords + chunkWords * s .store .chunks)
     ∷ eqb (length (t .index)) (indexWords (s .store .loans))
     ∷ eqb (length (t .room)) (treeWords s)
     ∷ []
@@ -118,8 +115,8 @@ lengthsOk s t = all (lengthsRow s t)
 
 pub record Lengths (s : BuddySettings) (t : Tables) : Type 0 where
   pub head : length (t .head) ≡ headWords
-  pub loans : length (t .loans) ≡ loanWords * s .store .loans
-  pub chunks : length (t .chunks) ≡ chunkWords * s .store .chunks
+  pub loans : length (t .loans) ≡ loanWords + loanWords * s .store .loans
+  pub chunks : length (t .chunks) ≡ chunkWords + chunkWords * s .store .chunks
   pub index : length (t .index) ≡ indexWords (s .store .loans)
   pub room : length (t .room) ≡ treeWords s
 

@@ -15,11 +15,11 @@ pub const HEAD_WORDS: usize = 5;
 // Of a chunk.
 pub const CHUNK_WORDS: usize = 2;
 
-pub const MEMORY_AT: usize = 0;
+pub const MEMORY_AT: usize = 2;
 
-pub const CHUNK_SIZE_AT: usize = 1;
+pub const CHUNK_SIZE_AT: usize = 3;
 // Of a chunk place in the tree.
-pub const PLACE_WORDS: usize = 2;
+pub const PLACE_WORDS: usize = 8;
 
 pub const TOP_AT: usize = 0;
 

@@ -6,9 +6,9 @@ use Prim.Native.Nat.{ℕ, _+_}
 use lib.ListN.{getD}
 use Rattle.lists.proofs.Bools.{not-yes, not-no}
 use Rattle.counter.specs.declared.settings.BuddySettings.{BuddySettings}
-use Rattle.buddy_rules.specs.Level.{usedAt}
+use Rattle.buddy_rules.specs.Level.{usedAt, levelStart}
 use Rattle.buddy_levels.specs.Seen.{partSettings, partTables, levelPart}
-use Rattle.buddy_rules.specs.Tables.{Tables, levelsIn, placesIn, chunkPlacesIn, levelStart}
+use Rattle.buddy_rules.specs.Tables.{Tables, levelsIn, placesIn, chunkPlacesIn}
 use Rattle.buddy_rules.specs.Test.{every, chunkOk, pairOk, loanOk, treesOk}
 use Rattle.buddy_rules.proofs.Tests.{every-same}
 use Rattle.buddy_walk.proofs.Shows.{chunk-shows}

@@ -18,10 +18,10 @@ use Rattle.book_rules.specs.Book.{serialOf}
 use Rattle.book_rules.specs.Chains.{chainsOk}
 use Rattle.book_rules.specs.Kept.{keptOk}
 use Rattle.book_rules.proofs.Keeping.{kept-most}
-use Rattle.buddy_rules.specs.Level.{usedAt}
+use Rattle.buddy_rules.specs.Level.{usedAt, levelStart}
 use Rattle.buddy_rules.specs.LevelTest.{goodOk}
 use Rattle.buddy_levels.specs.Seen.{partSettings, partTables, levelPart}
-use Rattle.buddy_rules.specs.Tables.{Tables, tables, mark, markAt, givenIn, levelsIn, placesIn, chunkPlacesIn, levelStart, vacantLoan, loanAfter, loanSlab, chainStart, chainNext, vacantChunk, chunkAfter, chunkSlab, initialLevels}
+use Rattle.buddy_rules.specs.Tables.{Tables, tables, mark, markAt, givenIn, levelsIn, placesIn, chunkPlacesIn, vacantLoan, loanAfter, loanSlab, chainStart, chainNext, vacantChunk, chunkAfter, chunkSlab, initialLevels}
 use Rattle.buddy_rules.specs.Test.{every, memoriesOk, treesOk, unitsOk, soundOk}
 use Rattle.buddy_rules.proofs.Tests.{every-yes}
 use Rattle.buddy_test.proofs.Trees.{trees-shown}

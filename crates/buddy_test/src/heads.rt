@@ -9,7 +9,8 @@ ghost use Rattle.counter.specs.InTable.{BuddyIn};
 ghost use Rattle.counter.specs.Limits.{levelsMost, pairsMost, loansMost};
 ghost use Rattle.slab.specs.Test.{partedOk};
 ghost use Rattle.buddy_rules.specs.LevelTest.{goodOk};
-ghost use Rattle.buddy_rules.specs.Tables.{mark, markAt, levelsAt, initialLevels, levelStart, vacantChunk, chunkAfter, chunkSlab};
+ghost use Rattle.buddy_rules.specs.Level.{levelStart};
+ghost use Rattle.buddy_rules.specs.Tables.{mark, markAt, levelsAt, initialLevels, vacantChunk, chunkAfter, chunkSlab};
 ghost use Rattle.buddy_rules.specs.Test.{every, unitsOk};
 ghost use Rattle.buddy_levels.specs.Seen.{partTables, levelPart};
 use buddy_rules::AFTER_AT;
@@ -45,7 +46,7 @@ pub fn are_places(s: BuddySettings, n: u64, chunks: &[u64], tree: &[u64]) -> boo
         places: n,
         vacant: words::word(tree, at),
     };
-    let after = at + (1 + AFTER_AT);
+    let after = at + (PLACE_WORDS + AFTER_AT);
     slab::is_parted(
         places,
         own.chunks as u64,

@@ -78,9 +78,9 @@ module _ (s : BuddySettings) (t : Tables) (c z : ℕ) (used : c < chunkPlacesIn 
     chunk-high e = middle-no (eqb z (bytes (s .minimal) h)) (ltb 0 h) (leb f h) (leb h (levelsIn t)) _ e ∙ chunk-is (topIn s t c) refl
 
     -- b is where the chunk places' words begin, w the word of its top node, y the length of a node of its level
-    module _ (b w y : ℕ) (from : b ≡ chunksFrom s) (top : w ≡ getD (t .room) (cellOf (b + (1 + topAt)) placeWords c) 0) (long : y ≡ bytes (s .minimal) h) where
+    module _ (b w y : ℕ) (from : b ≡ chunksFrom s) (top : w ≡ getD (t .room) (cellOf (b + (placeWords + topAt)) placeWords c) 0) (long : y ≡ bytes (s .minimal) h) where
       word : w ≡ topIn s t c
-      word = top ∙ ap (λ (x : ℕ). getD (t .room) (cellOf (x + (1 + topAt)) placeWords c) 0) from ∙ sym top-is
+      word = top ∙ ap (λ (x : ℕ). getD (t .room) (cellOf (x + (placeWords + topAt)) placeWords c) 0) from ∙ sym top-is
 
       abbrev wrong : Bool
       wrong = not (eqb z y) || eqb w freeWord

@@ -40,7 +40,7 @@ fn is_chunk(
     }
     let top = words::cell(
         tree,
-        buddy_levels::chunks_from(s.pairs) + (1 + TOP_AT),
+        buddy_levels::chunks_from(s.pairs) + (PLACE_WORDS + TOP_AT),
         PLACE_WORDS,
         c as usize,
     );

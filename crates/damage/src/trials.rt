@@ -1,8 +1,8 @@
 // One sound store: each of its words damaged in turn, and on what is left ten calls, nine of a buddy store, and a set-up. A free
-// list of L loans and C chunks at most has 8 + 10 L + 6 C words in its tables (head 6, loans 4 L, chunks 3 C, regions
-// 3 (L + C) + 1, index 1 + 3 L): the six of data/ have 66 + 60 + 76 + 86 + 60 + 70 = 418. A buddy store has 6 + 7 L + 2 C beside its
-// tree, of which damage_parts says what is tried: of the six of data/ 119 + 111 + 135 + 95 + 143 + 111 = 714 words in all. With 5
-// values for each word that makes 5 x (11 x 418 + 10 x 714) = 58,690 calls.
+// list of L loans and C chunks at most has 19 + 10 L + 6 C words in its tables (head 6, loans 4 (L + 1), chunks 3 (C + 1), index
+// 3 (L + 1), regions 3 (L + C + 1)): the six of data/ have 77 + 71 + 87 + 97 + 71 + 81 = 484. A buddy store has 14 + 7 L + 2 C beside
+// its tree, of which damage_parts says what is tried: of the six of data/ 154 + 146 + 170 + 130 + 178 + 146 = 924 words in all. With 5
+// values for each word that makes 5 x (11 x 484 + 10 x 924) = 72,820 calls.
 use crate::calls::run;
 use crate::calls::set_up;
 use counter::Account;

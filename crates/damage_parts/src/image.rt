@@ -5,9 +5,11 @@ ghost use Prim.Native.Nat.{_≤_};
 ghost use lib.ListN.{length};
 ghost use Rattle.words.specs.Words.{atMost};
 use buddy_levels::HEADER_WORDS;
+use buddy_levels::OWN_WORDS;
 use buddy_levels::PAIR_WORDS;
 use buddy_levels::USED_AT;
 use buddy_rules::LEVELS_AT;
+use buddy_rules::PLACE_WORDS;
 use counter::Block;
 use counter::BuddySettings;
 use counter::LEVELS_MOST;
@@ -15,7 +17,11 @@ use freelist_rules::REGION_WORDS;
 use reel::Lengths;
 use reel::Limits;
 use reel::Settings;
+use store_rules::CHUNK_AT;
 use store_rules::LOAN_WORDS;
+use store_rules::OFFSET_AT;
+use store_rules::SERIAL_AT;
+use store_rules::SIZE_AT;
 
 // the greatest limits of a store that is tried
 pub const LOANS: usize = 8;
@@ -25,12 +31,14 @@ pub const CHUNKS: usize = 4;
 pub const PAIRS: usize = 4;
 
 // the words of the longest table of both engines at these limits, the loans
-pub const ROOM: usize = LOAN_WORDS * LOANS;
+pub const ROOM: usize = LOAN_WORDS + LOAN_WORDS * LOANS;
 
-// of the engine's own table: a buddy store's levels, and a free list's regions, which are more than the rest of a tree
-pub const OWN_ROOM: usize = (HEADER_WORDS + PAIR_WORDS * PAIRS) * (LEVELS_MOST as usize)
-    + REGION_WORDS * (LOANS + CHUNKS)
-    + 1;
+// of the engine's own table: a buddy store's tree, which is longer than the regions, and three words for each loan
+pub const OWN_ROOM: usize = OWN_WORDS
+    + (HEADER_WORDS + PAIR_WORDS * PAIRS) * (LEVELS_MOST as usize)
+    + PLACE_WORDS
+    + PLACE_WORDS * CHUNKS
+    + REGION_WORDS * LOANS;
 
 // where each stands
 pub const HEAD_AT: usize = 0;
@@ -63,11 +71,11 @@ fn pairs_of(settings: Settings) -> usize {
 
 // How many words of each table the store is lent.
 pub fn lent_words(settings: Settings) -> Lengths
-    ensures { λ r. ⌜ r .head ≤ 32 ⌝ }
-    ensures { λ r. ⌜ r .loans ≤ 32 ⌝ }
-    ensures { λ r. ⌜ r .chunks ≤ 32 ⌝ }
-    ensures { λ r. ⌜ r .index ≤ 32 ⌝ }
-    ensures { λ r. ⌜ r .own ≤ 1317 ⌝ }
+    ensures { λ r. ⌜ r .head ≤ 36 ⌝ }
+    ensures { λ r. ⌜ r .loans ≤ 36 ⌝ }
+    ensures { λ r. ⌜ r .chunks ≤ 36 ⌝ }
+    ensures { λ r. ⌜ r .index ≤ 36 ⌝ }
+    ensures { λ r. ⌜ r .own ≤ 1352 ⌝ }
 {
     let most = Limits {
         loans: LOANS,
@@ -118,16 +126,16 @@ fn level_rows(s: BuddySettings) -> usize
     }
 }
 
-// Whether a word of a buddy store's tree is damaged: those in use, and some past them. In use are what stands after the levels,
-// and of each level that there is its own words and its pairs' up to the last place used. Past them are all pairs of the
+// Whether a word of a buddy store's tree is damaged: those in use, and some past them. In use are what stands before and after the
+// levels, and of each level that there is its own words and its pairs' up to the last place used. Past them are all pairs of the
 // lowest level, and the own words of the first level that there isn't.
 fn is_tried_in_tree(s: BuddySettings, image: &[u64], word: usize) -> bool {
     let rows = level_rows(s);
-    let row = word / PAIR_WORDS;
+    let row = std::num::wrapping_sub_usize(word / PAIR_WORDS, 1);
     let level = (row / rows) as u64;
     let pair = row % rows;
     let first = std::num::wrapping_sub_usize(row, pair);
-    let used = words::cell(image, OWN_AT + USED_AT, PAIR_WORDS, first);
+    let used = words::cell(image, OWN_AT + OWN_WORDS + USED_AT, PAIR_WORDS, first);
     let levels = words::word(image, HEAD_AT + LEVELS_AT);
     ((LEVELS_MOST as u64) <= level)
         | ((level < levels) & ((pair as u64) <= used))
@@ -145,7 +153,7 @@ pub fn is_tried(settings: Settings, image: &[u64], table: u64, word: usize) -> b
 // A table, or the list, taken out of the row, from a place on.
 pub fn table_from(image: &[u64], from: usize) -> [u64; ROOM]
     requires { ⌜ from ≤ atMost ⌝ }
-    ensures { λ r. ⌜ length r ≡ 32 ⌝ }
+    ensures { λ r. ⌜ length r ≡ 36 ⌝ }
 {
     let mut table = [0u64; ROOM];
     load(&mut table, image, from, ROOM);
@@ -166,7 +174,7 @@ fn load(table: &mut [u64], image: &[u64], from: usize, n: usize)
 
 // The engine's own table likewise, of which so many words are lent.
 pub fn own_from(image: &[u64], n: usize) -> [u64; OWN_ROOM]
-    ensures { λ r. ⌜ length r ≡ 1317 ⌝ }
+    ensures { λ r. ⌜ length r ≡ 1352 ⌝ }
 {
     let mut own = [0u64; OWN_ROOM];
     load(&mut own, image, OWN_AT, n);
@@ -175,7 +183,7 @@ pub fn own_from(image: &[u64], n: usize) -> [u64; OWN_ROOM]
 
 // A row that holds what the store takes up of this one.
 pub fn copy_of(settings: Settings, image: &[u64]) -> [u64; ROW_MOST]
-    ensures { λ r. ⌜ length r ≡ 1477 ⌝ }
+    ensures { λ r. ⌜ length r ≡ 1532 ⌝ }
 {
     let n = row_words(settings);
     let mut row = [0u64; ROW_MOST];
@@ -228,10 +236,10 @@ pub fn is_same(x: &[u64], y: &[u64], n: usize) -> bool {
 // The loan at a place, as the block that was lent.
 fn block_at(image: &[u64], place: usize) -> Block {
     Block {
-        serial: words::cell(image, LOANS_AT, LOAN_WORDS, place),
-        chunk: words::cell(image, LOANS_AT + 1, LOAN_WORDS, place),
-        offset: words::cell(image, LOANS_AT + 2, LOAN_WORDS, place),
-        size: words::cell(image, LOANS_AT + 3, LOAN_WORDS, place),
+        serial: words::cell(image, LOANS_AT + SERIAL_AT, LOAN_WORDS, place),
+        chunk: words::cell(image, LOANS_AT + CHUNK_AT, LOAN_WORDS, place),
+        offset: words::cell(image, LOANS_AT + OFFSET_AT, LOAN_WORDS, place),
+        size: words::cell(image, LOANS_AT + SIZE_AT, LOAN_WORDS, place),
     }
 }
 

@@ -44,7 +44,7 @@ halves = record { store = record { number = 7; memtype = 0; properties = 1; heap
 -- a store as it is set up, whatever stood in its tables
 abbrev pub empty : Tables
 empty =
-    setUpOf halves (tables (replicate 5 9) (replicate 16 9) (replicate 4 9) (replicate 13 9) (replicate (treeWords halves) 9)) .tables
+    setUpOf halves (tables (replicate 5 9) (replicate 20 9) (replicate 6 9) (replicate 15 9) (replicate (treeWords halves) 9)) .tables
 
 -- the day's calls, each on what the one before left
 abbrev pub asked : Out Tables

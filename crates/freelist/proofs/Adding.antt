@@ -66,7 +66,7 @@ module _ (s : FreeListSettings) (h : Heap) (objects size mask : ℕ) (t : Tables
   few = chunk-place s t (buy-held s h objects size mask t z order .2 .1 .1 .0)
 
   -- regions are no more than loans and chunks, of which one more is allowed
-  room : regionsIn s t < regionsMost s
+  room : regionsIn t < regionsMost s
   room = omega (arith, room-enough s (storeOf s t) fit (sound .store), regions-length s t, chunks-length s t, loans-few s t sound, few)
 
   pub adds-ready : Adds s (t .head) (t .chunks) (t .room)
@@ -94,7 +94,7 @@ module _ (s : FreeListSettings) (h : Heap) (objects size mask : ℕ) (t : Tables
     after-room = omega (arith, after-length, regions-length s t, room)
 
     -- the chunk's region is the last
-    last-region : getD (regionsOf s (deliveredTables s memory z t .room)) (length (storeOf s t .regions)) noRegion ≡ region (storeOf s t .made + 1) 0 z
+    last-region : getD (regionsOf (deliveredTables s memory z t .room)) (length (storeOf s t .regions)) noRegion ≡ region (storeOf s t .made + 1) 0 z
     unfolding deliveredTables
     last-region =
         ap (λ (rs : List Region). getD rs (length (storeOf s t .regions)) noRegion) (laid-regions s after (t .room) (regions-fit s t fit lengths sound) after-room)
@@ -106,7 +106,7 @@ module _ (s : FreeListSettings) (h : Heap) (objects size mask : ℕ) (t : Tables
     delivered-ready n m k g =
         let w = buy-held s h objects size mask t z order .2 in
         let old = regions-fit s t fit lengths sound in
-        let count : getD (laidRegions s after (t .room)) (regionCountAt s) 0 ≡ length after = laid-count s after (t .room) old after-room in
+        let count : getD (laidRegions after (t .room)) regionCountAt 0 ≡ length after = laid-count s after (t .room) old after-room in
         record {
           fit = laid-fit s after (t .room) old after-room;
           here = omega (arith, count, after-length);
@@ -117,7 +117,7 @@ module _ (s : FreeListSettings) (h : Heap) (objects size mask : ℕ) (t : Tables
 
 -- the region of a chunk that is added is the last
 pub delivered-last : (s : FreeListSettings) (memory z : ℕ) (t : Tables) → Adds s (t .head) (t .chunks) (t .room)
-    → getD (regionsOf s (deliveredTables s memory z t .room)) (length (storeOf s t .regions)) noRegion ≡ region (storeOf s t .made + 1) 0 z
+    → getD (regionsOf (deliveredTables s memory z t .room)) (length (storeOf s t .regions)) noRegion ≡ region (storeOf s t .made + 1) 0 z
 unfolding deliveredTables
 delivered-last s memory z t adds =
     let last = region (storeOf s t .made + 1) 0 z in

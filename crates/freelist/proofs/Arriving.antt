@@ -166,11 +166,11 @@ module _ (s : FreeListSettings) (share : Share) (k : KeptOrder) (memory : ℕ) (
   abbrev last : ℕ
   last = length (storeOf s start .regions)
 
-  last-is : (i : ℕ) → i ≡ getD regions (regionCountAt s) 0 → i ≡ last
+  last-is : (i : ℕ) → i ≡ getD regions regionCountAt 0 → i ≡ last
   last-is i e = e ∙ sym (regions-length s start)
 
   -- of the tables that a chunk added leaves
-  pub lends-now : (i x : ℕ) (h₁ c₁ r₁ : List ℕ) → i ≡ getD regions (regionCountAt s) 0 → x ≡ downTo (k .order .size - b .size) (b .mask)
+  pub lends-now : (i x : ℕ) (h₁ c₁ r₁ : List ℕ) → i ≡ getD regions regionCountAt 0 → x ≡ downTo (k .order .size - b .size) (b .mask)
       → tables h₁ [] c₁ [] r₁ ≡ deliveredTables s memory (k .order .size) (tables head [] chunks [] regions)
       → Lends s i x (b .loan .place) h₁ loans r₁ index
   lends-now i x h₁ c₁ r₁ e d f =
@@ -190,7 +190,7 @@ module _ (s : FreeListSettings) (share : Share) (k : KeptOrder) (memory : ℕ) (
   unfolding deliveredTables
   loan-now = keeps .planned .2 ∙ ap (λ (p : ℕ). takenOf p index) (sym (places-stay s memory (k .order .size) start))
 
-  pub kept-done : (i x : ℕ) (h₁ c₁ r₁ h₂ l₂ r₂ i₂ : List ℕ) (after paid : Share) (order : OpenOrder) (l : Loan) (said : Said) → i ≡ getD regions (regionCountAt s) 0
+  pub kept-done : (i x : ℕ) (h₁ c₁ r₁ h₂ l₂ r₂ i₂ : List ℕ) (after paid : Share) (order : OpenOrder) (l : Loan) (said : Said) → i ≡ getD regions regionCountAt 0
       → x ≡ downTo (k .order .size - b .size) (b .mask) → paid ≡ chargedShare share (k .order .size)
       → tables h₁ [] c₁ [] r₁ ≡ deliveredTables s memory (k .order .size) (tables head [] chunks [] regions)
       → l ≡ lentFrom s x (tables h₁ [] [] [] r₁) i

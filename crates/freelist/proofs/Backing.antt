@@ -48,7 +48,7 @@ module _ (s : FreeListSettings) (t : Tables) (fit : FreeListIn s) (sound : Sound
       record {
         fit = regions-fit s t fit lengths sound;
         rise = sound .store .regions-rise;
-        stand = regions-stand (regionsOf s (t .room)) (sound .store .regions-rise) (region-low s (storeOf s t) fit (sound .store));
+        stand = regions-stand (regionsOf (t .room)) (sound .store .regions-rise) (region-low s (storeOf s t) fit (sound .store));
         low = omega (arith, block-low s t fit sound b lent);
         short = omega (arith, block-low s t fit sound b lent);
         room = back-room s t fit sound b lent;

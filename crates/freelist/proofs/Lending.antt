@@ -41,7 +41,7 @@ module _ (s : FreeListSettings) (h : Heap) (objects size mask : ℕ) (t : Tables
   unfolding storeOf
   lends-ready fit lengths sound i start k e f g =
       let w = take-is s h objects size mask t i e in
-      let r : Region = getD (regionsOf s (t .room)) i noRegion in
+      let r : Region = getD (regionsOf (t .room)) i noRegion in
       record {
         fit = regions-fit s t fit lengths sound;
         here = omega (arith, find-fits (maskFor s mask) (sizeFor s size) i (storeOf s t .regions) noRegion (w .0) .0, regions-length s t);

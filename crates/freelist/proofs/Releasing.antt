@@ -26,9 +26,9 @@ use Rattle.freelist_outcomes.proofs.Backs.{returning, Back, block-back, back-ro
 
 -- what a release asks of the counts
 abbrev pub Bounds : FreeListSettings → Tables → Type 0
-Bounds s t = (chunkWords * chunksIn t ≤ length (t .chunks)) × (regionWords * regionsIn s t ≤ length (t .room)) × (regionsIn s t ≤ loansMost + chunksMost)
+Bounds s t = (chunkWords + chunkWords * chunksIn t ≤ length (t .chunks)) × (regionWords + regionWords * regionsIn t ≤ length (t .room)) × (regionsIn t ≤ loansMost + chunksMost)
 
-bounds : (s : FreeListSettings) (t : Tables) → RegionsFit s (t .room) → length (t .chunks) ≡ chunkWords * s .store .chunks → chunksIn t ≤ s .store .chunks → Bounds s t
+bounds : (s : FreeListSettings) (t : Tables) → RegionsFit s (t .room) → length (t .chunks) ≡ chunkWords + chunkWords * s .store .chunks → chunksIn t ≤ s .store .chunks → Bounds s t
 bounds s t fit long few =
     (omega arith, omega (arith, fit .count, fit .long), omega (arith, fit .count, fit .settings .store .loans-most, fit .settings .store .chunks-most))
 

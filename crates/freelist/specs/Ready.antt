@@ -82,7 +82,7 @@ Releases s objects spare t list = Frees s (t .head) (t .chunks) (t .room) list �
 
 -- the table of regions with a block's bytes among them
 abbrev pub joined : FreeListSettings → Block → List ℕ → List ℕ
-joined s b regions = laidRegions s (insert (region (b .chunk) (b .offset) (b .offset + b .size)) (regionsOf s regions)) regions
+joined s b regions = laidRegions (insert (region (b .chunk) (b .offset) (b .offset + b .size)) (regionsOf regions)) regions
 
 -- the loan that word w leads to can be struck out, its block go back, and then wholly free chunks go
 pub record TakesBack (s : FreeListSettings) (objects : ℕ) (b : Block) (w : ℕ) (t : Tables) (list : List ℕ) : Type 0 where

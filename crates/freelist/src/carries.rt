@@ -108,7 +108,7 @@ fn keep_chunk(
 {
     let order = k.order;
     let loan = b.loan;
-    let i = freelist_regions::region_count(s, regions);
+    let i = freelist_regions::region_count(regions);
     let start = rounding::lower_to_unit(order.size - b.size, b.mask);
     let charged = store_accounts::charged(share, order.size);
     freelist_place::add_chunk(s, memory, order.size, head, chunks, regions);

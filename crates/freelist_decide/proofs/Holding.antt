@@ -14,7 +14,7 @@ use Rattle.counter.specs.declared.answers.Outcome.the-variants as O
 use Rattle.store_rules.specs.Delivery.{holds}
 use Rattle.store_rules.specs.declared.Chunk.{Chunk}
 use Rattle.store.specs.Comings.{knownIn}
-use Rattle.freelist_rules.specs.Records.{chunkWords, chunkRow}
+use Rattle.freelist_rules.specs.Records.{chunkWords, chunkRow, chunkMemoryAt}
 use Rattle.freelist_rules.specs.Tables.{chunksAt}
 use Rattle.freelist_rules.specs.Walk.{memories}
 
@@ -30,9 +30,9 @@ held-snoc m (d ∷ cs) c = next (eqb (d .memory) m) (holds m (memories cs)) (eqb
     next true b d e = refl
     next false b d e = e
 
-pub held-next : (m i v : ℕ) (b : Bool) (t : List ℕ) → b ≡ holds m (memories (rows chunkRow i t)) → v ≡ getD t (cellOf 1 chunkWords i) 0 → (b || eqb v m) ≡ holds m (memories (rows chunkRow (i + 1) t))
+pub held-next : (m i v : ℕ) (b : Bool) (t : List ℕ) → b ≡ holds m (memories (rows chunkRow i t)) → v ≡ getD t (cellOf chunkMemoryAt chunkWords i) 0 → (b || eqb v m) ≡ holds m (memories (rows chunkRow (i + 1) t))
 held-next m i v b t e c =
-    let g : v ≡ row chunkRow i t .memory = c ∙ cell-row t 1 chunkWords i in
+    let g : v ≡ row chunkRow i t .memory = c ∙ cell-row t chunkMemoryAt chunkWords i in
     (λ j. e j || eqb (g j) m) ∙ sym (ap (λ (cs : List Chunk). holds m (memories cs)) (rows-snoc chunkRow i t) ∙ held-snoc m (rows chunkRow i t) (row chunkRow i t))
 
 pub known-made : (k : ℕ) (r : Bool) (head t : List ℕ) (o : Outcome) (d : Memory) → o ≡ O.Made d → k ≡ getD head chunksAt 0 → r ≡ holds (d .number) (memories (rows chunkRow k t)) → r ≡ knownIn (memories (rows chunkRow (getD head chunksAt 0) t)) o

@@ -109,7 +109,7 @@ module _ (s : FreeListSettings) (h : Heap) (objects size mask : ℕ) (head regio
   abbrev all : Tables
   all = tables head [] [] index regions
 
-  pub found-is : (f : Found) (m n k : ℕ) → f ≡ find m n (rows regionRow k regions) → m ≡ maskFor s mask → n ≡ sizeFor s size → k ≡ getD regions (regionCountAt s) 0 → f ≡ foundFor s size mask all
+  pub found-is : (f : Found) (m n k : ℕ) → f ≡ find m n (rows regionRow k regions) → m ≡ maskFor s mask → n ≡ sizeFor s size → k ≡ getD regions regionCountAt 0 → f ≡ foundFor s size mask all
   unfolding storeOf
   found-is f m n k e a b c = e ∙ (λ j. find (a j) (b j) (rows regionRow (c j) regions))
 
@@ -143,7 +143,7 @@ module _ (s : FreeListSettings) (h : Heap) (objects size mask : ℕ) (head regio
 
   -- ---- what the plan carries
 
-  pub start-is : (i x m n k : ℕ) (f : Regions.Found) → f ≡ At i x → Starts m n (rows regionRow k regions) f → m ≡ maskFor s mask → n ≡ sizeFor s size → k ≡ getD regions (regionCountAt s) 0
+  pub start-is : (i x m n k : ℕ) (f : Regions.Found) → f ≡ At i x → Starts m n (rows regionRow k regions) f → m ≡ maskFor s mask → n ≡ sizeFor s size → k ≡ getD regions regionCountAt 0
       → x ≡ blockAt s size mask all i .start
   unfolding storeOf
   start-is i x m n k f e g a b c =

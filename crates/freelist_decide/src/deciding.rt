@@ -136,7 +136,7 @@ pub fn decide(
     }
     let n = freelist_regions::size_for(s, size);
     let m = freelist_regions::mask_for(s, mask);
-    let k = freelist_regions::region_count(s, regions);
+    let k = freelist_regions::region_count(regions);
     let found = freelist_regions::find_fit(regions, k, m, n);
     match found {
         Found::At(i, start) => decide_take(s, i, start, head, index),

@@ -12,7 +12,7 @@ use Rattle.lists.proofs.Bools.{and-left, and-right, and-both, true-false, told,
 use Rattle.words.specs.Words.{cellOf}
 use Rattle.words.specs.Rows.{rows}
 use Rattle.words.proofs.Records.{length-rows}
-use Rattle.freelist_rules.specs.Records.{chunkRow}
+use Rattle.freelist_rules.specs.Records.{chunkRow, chunkNumberAt, chunkWords}
 use Rattle.freelist_rules.specs.Walk.{numbersRise}
 use Rattle.store_rules.specs.declared.Chunk.{Chunk}
 use Rattle.freelist_rules.proofs.Decides.{numbers-yes}
@@ -94,7 +94,7 @@ numbers-order q (suc i) (suc j) (c ∷ cs) r h k = numbers-order (0 + suc (c .nu
 
 module _ (t : List ℕ) (k n : ℕ) (rise : numbersRise 1 (rows chunkRow k t) ≡ true) where
   abbrev number : ℕ → ℕ
-  number i = getD t (cellOf 0 3 i) 0
+  number i = getD t (cellOf chunkNumberAt chunkWords i) 0
 
   number-order : (i j : ℕ) → i < j → j < k → number i < number j
   number-order i j h g =
@@ -108,7 +108,7 @@ module _ (t : List ℕ) (k n : ℕ) (rise : numbersRise 1 (rows chunkRow k t) �
   pub numbers-part : Parting (reaches t n) k
   numbers-part i j h g e = le-leb n (number j) (omega (arith, number-order i j h g, leb-true n (number i) e))
 
-  module _ (i found : ℕ) (parts : Parts (reaches t n) k i) (read : found ≡ getD t (cellOf 0 3 i) 0) where
+  module _ (i found : ℕ) (parts : Parts (reaches t n) k i) (read : found ≡ getD t (cellOf chunkNumberAt chunkWords i) 0) where
     pub rank-found : (ltb i k && eqb found n) ≡ true → i ≡ rankOf n (rows chunkRow k t)
     rank-found e =
         let h = ltb-true i k (and-left (ltb i k) (eqb found n) e) in

@@ -21,9 +21,9 @@ use Rattle.store_rules.specs.Loans.{loanWords}
 use Rattle.store_rules.proofs.Holders.{holding, orderBy, holder}
 use Rattle.store_rules.specs.Tests.{noOrder, coversOk}
 use Rattle.book_rules.specs.Book.{indexWords}
-use Rattle.freelist_rules.specs.Records.{chunkWords, chunkRow}
+use Rattle.freelist_rules.specs.Records.{chunkWords, chunkRow, chunkBytesAt}
 use Rattle.freelist_rules.specs.Pieces.{total}
-use Rattle.freelist_rules.specs.Tables.{Tables, headWords, chunksAt, chunksIn, regionCountAt, lengthsOk, storeOf, soundOk}
+use Rattle.freelist_rules.specs.Tables.{Tables, headWords, chunksAt, chunksIn, roomWords, lengthsOk, storeOf, soundOk}
 use Rattle.store_rules.specs.declared.Chunk.{Chunk}
 use Rattle.store_rules.specs.declared.Share.{Share}
 use Rattle.store_rules.proofs.Shares.{held-heap, held-table, held-free}
@@ -34,10 +34,9 @@ use Rattle.freelist_outcomes.proofs.Passing.{lent-in}
 use Rattle.freelist_gate.specs.Gates.{storeGate}
 
 module _ (s : FreeListSettings) (t : Tables) where
-  pub lengths-is : (count : ℕ) → count ≡ regionCountAt s
-      → ((((eqb (length (t .head)) headWords && eqb (length (t .loans)) (loanWords * s .store .loans)) && eqb (length (t .chunks)) (chunkWords * s .store .chunks)) && eqb (length (t .index)) (indexWords (s .store .loans))) && eqb (length (t .room)) (count + 1)) ≡ lengthsOk s t
+  pub lengths-is : ((((eqb (length (t .head)) headWords && eqb (length (t .loans)) (loanWords + loanWords * s .store .loans)) && eqb (length (t .chunks)) (chunkWords + chunkWords * s .store .chunks)) && eqb (length (t .index)) (indexWords (s .store .loans))) && eqb (length (t .room)) (roomWords s)) ≡ lengthsOk s t
   unfolding lengthsOk
-  lengths-is count e = rw e refl
+  lengths-is = refl
 
   -- the share's word on all heaps and its own heap's test are the test of the heaps that hold it
   pub lent-yes : (share : Share) (b f : Bool) → freeListOk s ≡ true → b ≡ heapOk (share .heap) → f ≡ lengthsOk s t → (share .bounded && (b && f)) ≡ inTableOk s (holder (s .store) share) t
@@ -69,11 +68,11 @@ module _ (s : FreeListSettings) (t : Tables) where
 abbrev pub bytes : ℕ → List ℕ → ℕ
 bytes i t = total (λ (c : Chunk). c .size) (rows chunkRow i t)
 
-pub bytes-next : (i v sum : ℕ) (t : List ℕ) → sum ≡ bytes i t → v ≡ getD t (cellOf 2 chunkWords i) 0 → sum + v ≡ bytes (i + 1) t
+pub bytes-next : (i v sum : ℕ) (t : List ℕ) → sum ≡ bytes i t → v ≡ getD t (cellOf chunkBytesAt chunkWords i) 0 → sum + v ≡ bytes (i + 1) t
 bytes-next i v sum t e c =
     let f : bytes (i + 1) t ≡ bytes i t + (row chunkRow i t .size + 0) =
     ap (total (λ (d : Chunk). d .size)) (rows-snoc chunkRow i t) ∙ total-append (λ (d : Chunk). d .size) (rows chunkRow i t) (row chunkRow i t ∷ []) in
-    let g : v ≡ row chunkRow i t .size = c ∙ cell-row t 2 chunkWords i in
+    let g : v ≡ row chunkRow i t .size = c ∙ cell-row t chunkBytesAt chunkWords i in
     omega (arith, e, f, g)
 
 -- ---- the gate

@@ -24,6 +24,7 @@ use freelist_rules::CHUNK_BYTES_AT;
 use freelist_rules::CHUNK_WORDS;
 use freelist_rules::CHUNKS_AT;
 use freelist_rules::HEAD_WORDS;
+use freelist_rules::REGION_WORDS;
 use store_rules::LOAN_WORDS;
 use store_rules::Share;
 
@@ -39,12 +40,11 @@ pub fn lengths_fit(
     ensures { λ r. ⌜ r ≡ lengthsOk s (tables (now (head .entry)) (now (loans .entry)) (now (chunks .entry)) (now (index .entry)) (now (regions .entry))) ⌝ }
 {
     let store = s.store;
-    let count = freelist_regions::count_at(s);
     (head.len() == HEAD_WORDS)
-        & (loans.len() == LOAN_WORDS * store.loans)
-        & (chunks.len() == CHUNK_WORDS * store.chunks)
-        & (index.len() == 1 + ENTRY_WORDS * store.loans)
-        & (regions.len() == count + 1)
+        & (loans.len() == LOAN_WORDS + LOAN_WORDS * store.loans)
+        & (chunks.len() == CHUNK_WORDS + CHUNK_WORDS * store.chunks)
+        & (index.len() == ENTRY_WORDS + ENTRY_WORDS * store.loans)
+        & (regions.len() == REGION_WORDS + REGION_WORDS * (store.loans + store.chunks))
 }
 
 // Whether a store with these settings can be set up in these tables: test 1, but for the account.

@@ -12,7 +12,7 @@ use Rattle.words.specs.Words.{cellOf}
 use Rattle.words.specs.Rows.{row, rows}
 use Rattle.words.proofs.Records.{length-rows, getD-rows, cell-row}
 use Rattle.lists.proofs.Bools.{and-left, and-right, and-both, told, true-false, same?, lt-or-le}
-use Rattle.freelist_rules.specs.Records.{chunkRow, regionRow}
+use Rattle.freelist_rules.specs.Records.{chunkRow, regionRow, chunkNumberAt, regionStartAt, chunkWords, regionWords}
 use Rattle.freelist_rules.specs.Release.{covers, wholly, goes, memoryOf}
 use Rattle.store_rules.specs.declared.Chunk.{Chunk}
 use Rattle.store_rules.specs.declared.Region.{Region}
@@ -50,16 +50,16 @@ found-none n [] never = refl
 found-none n (c ∷ cs) never = rw (ne-eqb n (c .number) (never 0 (omega arith))) (found-none n cs (λ i h. never (suc i) (omega arith)))
 
 module _ (t : List ℕ) (k n : ℕ) (up : NumbersRise (rows chunkRow k t)) where
-  number-read : (i : ℕ) → i < k → getD t (cellOf 0 3 i) 0 ≡ numberAt (rows chunkRow k t) i
-  number-read i h = cell-row t 0 3 i ∙ sym (ap (λ (c : Chunk). c .number) (getD-rows chunkRow k i t noChunk h))
+  number-read : (i : ℕ) → i < k → getD t (cellOf chunkNumberAt chunkWords i) 0 ≡ numberAt (rows chunkRow k t) i
+  number-read i h = cell-row t chunkNumberAt chunkWords i ∙ sym (ap (λ (c : Chunk). c .number) (getD-rows chunkRow k i t noChunk h))
 
   long : length (rows chunkRow k t) ≡ k
   long = length-rows chunkRow k t
 
   pub numbers-part : Parting (reaches t n) k
   numbers-part i j h g e =
-      le-leb n (getD t (cellOf 0 3 j) 0)
-      (omega (arith, leb-true n (getD t (cellOf 0 3 i) 0) e, number-read i (omega arith), number-read j g, numbers-order 1 (rows chunkRow k t) up i j h (omega (arith, long))))
+      le-leb n (getD t (cellOf chunkNumberAt chunkWords j) 0)
+      (omega (arith, leb-true n (getD t (cellOf chunkNumberAt chunkWords i) 0) e, number-read i (omega arith), number-read j g, numbers-order 1 (rows chunkRow k t) up i j h (omega (arith, long))))
 
   module _ (j : ℕ) (at : Parts (reaches t n) k j) (c : Chunk) (is : c ≡ row chunkRow j t) where
     in-rows : j < k → c ≡ getD (rows chunkRow k t) j noChunk
@@ -75,7 +75,7 @@ module _ (t : List ℕ) (k n : ℕ) (up : NumbersRise (rows chunkRow k t)) where
     nowhere e = found-none n (rows chunkRow k t) none
       where
         other : (i : ℕ) → i < k → n ≡ numberAt (rows chunkRow k t) i → (i < j) ⊎ (j ≤ i) → ⊥
-        other i h q (inl a) = omega (arith, leb-false n (getD t (cellOf 0 3 i) 0) (at .below i a), number-read i h, q)
+        other i h q (inl a) = omega (arith, leb-false n (getD t (cellOf chunkNumberAt chunkWords i) 0) (at .below i a), number-read i h, q)
         other i h q (inr a) = ⊎-elim here past (same? i j)
           where
             here : i ≡ j → ⊥
@@ -88,7 +88,7 @@ module _ (t : List ℕ) (k n : ℕ) (up : NumbersRise (rows chunkRow k t)) where
             past : (i ≡ j → ⊥) → ⊥
             past s =
                 let l : j < i = omega (arith, s, a) in
-                omega (arith, q, leb-true n (getD t (cellOf 0 3 j) 0) (at .above j (omega arith) (omega arith)), number-read j (omega arith), numbers-order 1 (rows chunkRow k t) up j i l (omega (arith, long)))
+                omega (arith, q, leb-true n (getD t (cellOf chunkNumberAt chunkWords j) 0) (at .above j (omega arith) (omega arith)), number-read j (omega arith), numbers-order 1 (rows chunkRow k t) up j i l (omega (arith, long)))
 
         none : (i : ℕ) → i < length (rows chunkRow k t) → n ≡ numberAt (rows chunkRow k t) i → ⊥
         none i h q = other i (omega (arith, long)) q (lt-or-le i j)
@@ -137,12 +137,12 @@ wholly-late r z (c ∷ cs) = go (eqb (r .chunk) (c .number)) (wholly-late r z cs
     go true ih = rw (ne-eqb (r .start) 0 z) ih
     go false ih = ih
 
-module _ (t u : List ℕ) (k i : ℕ) (up : NumbersRise (rows chunkRow k t)) (spared : Bool) (start : ℕ) (read : start ≡ getD u (cellOf 1 3 i) 0) where
+module _ (t u : List ℕ) (k i : ℕ) (up : NumbersRise (rows chunkRow k t)) (spared : Bool) (start : ℕ) (read : start ≡ getD u (cellOf regionStartAt regionWords i) 0) where
   abbrev Told : Bool → Type 0
   Told b = b ≡ (not spared && wholly (rows chunkRow k t) (row regionRow i u))
 
   starts : row regionRow i u .start ≡ start
-  starts = sym (read ∙ cell-row u 1 3 i)
+  starts = sym (read ∙ cell-row u regionStartAt regionWords i)
 
   pub goes-whole : start ≡ 0 → (r : Region) → r ≡ row regionRow i u → (c : Chunk) → c ≡ numbered (r .chunk) (rows chunkRow k t) → (all : Bool) → all ≡ fills r c → Told (not spared && all)
   goes-whole z r is c e all f =

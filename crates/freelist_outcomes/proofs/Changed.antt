@@ -21,7 +21,7 @@ use Rattle.freelist_rules.specs.Place.{sizeFor}
 use Rattle.freelist_rules.specs.Release.{staying, remaining}
 use Rattle.freelist_rules.specs.Sound.{Sound}
 use Rattle.freelist_rules.specs.Steps.{fresh, raised, delivered, released}
-use Rattle.freelist_rules.specs.Tables.{Tables, tables, markAt, givenAt, madeAt, chunkSizeAt, placesAt, chunksAt, headWords, regionsMost, regionCountAt, Lengths, placesIn, chunksIn, regionsIn, ordered, storeOf, vacantIn, vacantAfterIn, SoundTables, laidRegions, RegionsFit}
+use Rattle.freelist_rules.specs.Tables.{Tables, tables, markAt, givenAt, madeAt, chunkSizeAt, placesAt, chunksAt, headWords, regionsMost, regionCountAt, Lengths, placesIn, chunksIn, regionsIn, ordered, storeOf, vacantIn, vacantAfterIn, SoundTables, laidRegions, RegionsFit, roomWords}
 use Rattle.store_rules.specs.declared.Chunk.{Chunk}
 use Rattle.store_rules.specs.declared.Region.{Region}
 use Rattle.freelist_rules.proofs.Delivers.{fresh-sound, raised-sound, delivered-sound}
@@ -49,13 +49,13 @@ module _ (s : FreeListSettings) (t : Tables) (fit : FreeListIn s) (lengths : Len
   -- ---- set-up
 
   -- no region is counted
-  fresh-count : regionsIn s (freshTables s) ≡ 0
+  fresh-count : regionsIn (freshTables s) ≡ 0
   unfolding freshTables
-  fresh-count = getD-replicate (regionCountAt s + 1) (regionCountAt s) 0 0 (omega arith)
+  fresh-count = getD-replicate (roomWords s) regionCountAt 0 0 (omega arith)
 
   pub fresh-store : storeOf s (freshTables s) ≡ fresh s
   unfolding freshTables storeOf loansOf ordered
-  fresh-store = ap (λ (n : ℕ). record { given = 0; made = 0; size = s .start; loans = []; chunks = []; regions = rows regionRow n (replicate (regionCountAt s + 1) 0) }) fresh-count
+  fresh-store = ap (λ (n : ℕ). record { given = 0; made = 0; size = s .start; loans = []; chunks = []; regions = rows regionRow n (replicate (roomWords s) 0) }) fresh-count
 
   pub fresh-tables-sound : SoundTables s (freshTables s)
   unfolding freshTables
@@ -82,7 +82,7 @@ module _ (s : FreeListSettings) (t : Tables) (fit : FreeListIn s) (lengths : Len
     changed-lengths made size held chunks regions c r =
         record { head = refl; loans = lengths .loans; chunks = c ∙ lengths .chunks; room = r ∙ lengths .room; index = lengths .index }
 
-    changed-sound : (made size held : ℕ) (chunks regions : List ℕ) → held ≤ s .store .chunks → getD regions (regionCountAt s) 0 ≤ regionsMost s → Sound s (storeOf s (changed made size held chunks regions))
+    changed-sound : (made size held : ℕ) (chunks regions : List ℕ) → held ≤ s .store .chunks → getD regions regionCountAt 0 ≤ regionsMost s → Sound s (storeOf s (changed made size held chunks regions))
         → SoundTables s (changed made size held chunks regions)
     changed-sound made size held chunks regions c r w =
         record { marked = sound .marked; chunks-fit = c; regions-fit = r; parted = sound .parted; chained = sound .chained; store = w }
@@ -112,7 +112,7 @@ module _ (s : FreeListSettings) (t : Tables) (fit : FreeListIn s) (lengths : Len
     next made size cs rs = record { given = storeOf s t .given; made = made; size = size; loans = storeOf s t .loans; chunks = cs; regions = rs }
 
     abbrev laidTables : ℕ → ℕ → List Chunk → List Region → Tables
-    laidTables made size cs rs = changed made size (length cs) (laid chunkRow cs (t .chunks)) (laidRegions s rs (t .room))
+    laidTables made size cs rs = changed made size (length cs) (laid chunkRow cs (t .chunks)) (laidRegions rs (t .room))
 
     module _ (made size : ℕ) (cs : List Chunk) (rs : List Region) (few : length cs ≤ s .store .chunks) (w : Sound s (next made size cs rs)) where
       -- regions are no more than loans and chunks
@@ -124,17 +124,17 @@ module _ (s : FreeListSettings) (t : Tables) (fit : FreeListIn s) (lengths : Len
 
       laid-lengths : Lengths s (laidTables made size cs rs)
       laid-lengths =
-          changed-lengths made size (length cs) (laid chunkRow cs (t .chunks)) (laidRegions s rs (t .room))
+          changed-lengths made size (length cs) (laid chunkRow cs (t .chunks)) (laidRegions rs (t .room))
           (length-laid chunkRow cs (t .chunks) (omega (arith, lengths .chunks)))
           (laid-long s rs (t .room) before room ∙ sym (lengths .room))
 
       laid-store : storeOf s (laidTables made size cs rs) ≡ next made size cs rs
       unfolding storeOf
-      laid-store = (λ j. next made size (rows-laid chunkRow cs (t .chunks) j) (laid-regions s rs (t .room) before room j))
+      laid-store = (λ j. next made size (rows-laid chunkRow cs (t .chunks) (omega (arith, lengths .chunks)) j) (laid-regions s rs (t .room) before room j))
 
       laid-sound : SoundTables s (laidTables made size cs rs)
       laid-sound =
-          changed-sound made size (length cs) (laid chunkRow cs (t .chunks)) (laidRegions s rs (t .room)) few
+          changed-sound made size (length cs) (laid chunkRow cs (t .chunks)) (laidRegions rs (t .room)) few
           (omega (arith, laid-count s rs (t .room) before room, room))
           (subst (Sound s) (sym laid-store) w)
 
@@ -156,7 +156,7 @@ module _ (s : FreeListSettings) (t : Tables) (fit : FreeListIn s) (lengths : Len
       released-is : releasedTables s spare t ≡ laidTables (storeOf s t .made) (storeOf s t .size) kept stays
       unfolding releasedTables storeOf
       released-is =
-          ap (λ (h : List ℕ). tables (set h chunksAt (length kept)) (t .loans) (laid chunkRow kept (t .chunks)) (t .index) (laidRegions s stays (t .room))) (six-words (t .head) (lengths .head))
+          ap (λ (h : List ℕ). tables (set h chunksAt (length kept)) (t .loans) (laid chunkRow kept (t .chunks)) (t .index) (laidRegions stays (t .room))) (six-words (t .head) (lengths .head))
 
     pub released-lengths : (spare : Bool) → Lengths s (releasedTables s spare t)
     released-lengths spare =
@@ -197,7 +197,7 @@ module _ (s : FreeListSettings) (t : Tables) (fit : FreeListIn s) (lengths : Len
           (t .loans)
           (laid chunkRow (after .chunks) (t .chunks))
           (t .index)
-          (laidRegions s (after .regions) (t .room)))
+          (laidRegions (after .regions) (t .room)))
 
       pub delivered-lengths : Lengths s (deliveredTables s memory (raisedFor s size t) t)
       delivered-lengths = subst (Lengths s) (sym delivered-is) (laid-lengths (after .made) (after .size) (after .chunks) (after .regions) after-few after-sound)

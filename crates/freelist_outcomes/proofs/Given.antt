@@ -154,7 +154,7 @@ module _ (s : FreeListSettings) (t : Tables) (fit : FreeListIn s) (lengths : Len
   unfolding storeOf
   given-loans =
       let l = row loanRow place (t .loans) in
-      let long : loanWords * placesIn t ≤ length (t .loans) = omega (arith, lengths .loans, limit) in
+      let long : loanWords + loanWords * placesIn t ≤ length (t .loans) = omega (arith, lengths .loans, limit) in
       let xs = earlier (placesIn t) place (t .loans) (leads .0) long in
       let ys = later (placesIn t) place (t .loans) (leads .0) long in
       let serial : serialOf (t .loans) place ≡ l .serial = cell-row (t .loans) serialAt loanWords place in

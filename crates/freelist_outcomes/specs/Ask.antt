@@ -98,7 +98,7 @@ bookedTables s l t =
 
 -- these are the free regions from now on
 abbrev pub withRegions : FreeListSettings → List Region → Tables → Tables
-withRegions s rs t = tables (t .head) (t .loans) (t .chunks) (t .index) (laidRegions s rs (t .room))
+withRegions s rs t = tables (t .head) (t .loans) (t .chunks) (t .index) (laidRegions rs (t .room))
 
 -- "The block runs from there to the region's end": it is cut off region i and lent
 unfoldable pub takenTables : FreeListSettings → ℕ → ℕ → Tables → ℕ → Tables

@@ -45,7 +45,7 @@ deliveredTables s memory z t =
     (t .loans)
     (laid chunkRow (storeOf s t .chunks ++ (chunk (storeOf s t .made + 1) memory z ∷ [])) (t .chunks))
     (t .index)
-    (laidRegions s (storeOf s t .regions ++ (region (storeOf s t .made + 1) 0 z ∷ [])) (t .room))
+    (laidRegions (storeOf s t .regions ++ (region (storeOf s t .made + 1) 0 z ∷ [])) (t .room))
 
 -- it is kept, and the kept ask is served from its region, the last; or it is lost
 unfoldable pub carryFate : FreeListSettings → Account → KeptOrder → Tables → Fate → Out Tables

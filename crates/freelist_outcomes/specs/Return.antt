@@ -37,7 +37,7 @@ givenTables s b w t =
     (struck w (t .index) (t .loans))
     (t .chunks)
     (struckIndex w (t .index))
-    (laidRegions s (insert (region (b .chunk) (b .offset) (b .offset + b .size)) (storeOf s t .regions)) (t .room))
+    (laidRegions (insert (region (b .chunk) (b .offset) (b .offset + b .size)) (storeOf s t .regions)) (t .room))
 
 -- ---- the release
 
@@ -52,7 +52,7 @@ releasedTables s spare t =
     (t .loans)
     (laid chunkRow (remaining (goneFrom s spare t) (storeOf s t .chunks)) (t .chunks))
     (t .index)
-    (laidRegions s (staying (storeOf s t .chunks) spare (storeOf s t .regions)) (t .room))
+    (laidRegions (staying (storeOf s t .chunks) spare (storeOf s t .regions)) (t .room))
 
 unfoldable pub releaseOf : FreeListSettings → Account → Bool → Tables → List ℕ → Listed Tables
 releaseOf s a spare t list =

@@ -11,7 +11,7 @@ use Rattle.store_rules.specs.Loans.{loanWords}
 use Rattle.book_rules.specs.Book.{freshIndex}
 pub use Rattle.store_rules.specs.Tables.{Begun, begun}
 use Rattle.freelist_rules.specs.Records.{chunkWords}
-use Rattle.freelist_rules.specs.Tables.{Tables, tables, mark, regionCountAt, lengthsOk}
+use Rattle.freelist_rules.specs.Tables.{Tables, tables, mark, regionCountAt, lengthsOk, roomWords}
 
 -- the mark; nothing given or held, and the chunk size of the settings
 abbrev pub freshHead : FreeListSettings → List ℕ
@@ -22,10 +22,10 @@ unfoldable pub freshTables : FreeListSettings → Tables
 freshTables s =
     tables
     (freshHead s)
-    (replicate (loanWords * s .store .loans) 0)
-    (replicate (chunkWords * s .store .chunks) 0)
+    (replicate (loanWords + loanWords * s .store .loans) 0)
+    (replicate (chunkWords + chunkWords * s .store .chunks) 0)
     (freshIndex (s .store .loans))
-    (replicate (regionCountAt s + 1) 0)
+    (replicate (roomWords s) 0)
 
 -- 1, but for the account, which set-up does not take
 unfoldable pub fitOk : FreeListSettings → Tables → Bool

@@ -16,37 +16,34 @@ use Rattle.store_rules.specs.declared.Region.{Region}
 use Rattle.freelist_regions.specs.Order.{RegionsStand, LowPlace}
 
 -- the count as the code reads it
-module _ (s : FreeListSettings) (t : List ℕ) (fit : RegionsFit s t) (at n : ℕ) (a : at ≡ regionCountAt s) (c : n ≡ getD t at 0) where
-  pub counted : n ≡ getD t (regionCountAt s) 0
-  counted = c ∙ ap (λ (i : ℕ). getD t i 0) a
-
-  regions-are : rows regionRow n t ≡ regionsOf s t
+module _ (s : FreeListSettings) (t : List ℕ) (fit : RegionsFit s t) (n : ℕ) (counted : n ≡ getD t regionCountAt 0) where
+  regions-are : rows regionRow n t ≡ regionsOf t
   regions-are = ap (λ (k : ℕ). rows regionRow k t) counted
 
-  room : 3 * n ≤ length t
+  room : 3 + 3 * n ≤ length t
   room = omega (arith, counted, fit .count, fit .long)
 
   -- so one more is no number too many
   pub few : n ≤ loansMost + chunksMost
   few = omega (arith, counted, fit .count, fit .settings .store .loans-most, fit .settings .store .chunks-most)
 
-  pub cut-fits : (i : ℕ) → i < getD t (regionCountAt s) 0 → (i < n) × (3 * n ≤ length t)
+  pub cut-fits : (i : ℕ) → i < getD t regionCountAt 0 → (i < n) × (3 + 3 * n ≤ length t)
   cut-fits i h = (omega (arith, counted), room)
 
-  pub join-fits : (b : Region) → Rising lo hi 1 0 (regionsOf s t) → RegionsStand (regionsOf s t) → LowPlace (b .start) → length (insert b (regionsOf s t)) ≤ regionsMost s
-      → (3 * n ≤ length t) × Rising lo hi 1 0 (rows regionRow n t) × RegionsStand (rows regionRow n t) × LowPlace (b .start) × (3 * length (insert b (rows regionRow n t)) ≤ length t)
+  pub join-fits : (b : Region) → Rising lo hi 1 0 (regionsOf t) → RegionsStand (regionsOf t) → LowPlace (b .start) → length (insert b (regionsOf t)) ≤ regionsMost s
+      → (3 + 3 * n ≤ length t) × Rising lo hi 1 0 (rows regionRow n t) × RegionsStand (rows regionRow n t) × LowPlace (b .start) × (3 + 3 * length (insert b (rows regionRow n t)) ≤ length t)
   join-fits b rise stand low l = (room, rw regions-are rise, rw regions-are stand, low, rw regions-are (omega (arith, fit .long, l)))
 
   -- the regions as f leaves them, and then their count
-  pub laid-done : (f : List Region → List Region) (left : ℕ) (u v : List ℕ) → left ≡ length (f (rows regionRow n t)) → u ≡ laid regionRow (f (rows regionRow n t)) t → v ≡ set u at left
-      → v ≡ laidRegions s (f (regionsOf s t)) t
+  pub laid-done : (f : List Region → List Region) (left : ℕ) (u v : List ℕ) → left ≡ length (f (rows regionRow n t)) → u ≡ laid regionRow (f (rows regionRow n t)) t → v ≡ set u regionCountAt left
+      → v ≡ laidRegions (f (regionsOf t)) t
   unfolding laidRegions
   laid-done f left u v l p q =
-      q ∙ rw (p, l, a, regions-are)
+      q ∙ rw (p, l, regions-are)
 
   -- one more, after the others
-  pub appended-done : (r : Region) (m : ℕ) (u v : List ℕ) → getD t (regionCountAt s) 0 < regionsMost s → u ≡ written regionRow n r t → m ≡ n + 1 → v ≡ set u at m
-      → v ≡ laidRegions s (regionsOf s t ++ (r ∷ [])) t
+  pub appended-done : (r : Region) (m : ℕ) (u v : List ℕ) → getD t regionCountAt 0 < regionsMost s → u ≡ written regionRow n r t → m ≡ n + 1 → v ≡ set u regionCountAt m
+      → v ≡ laidRegions (regionsOf t ++ (r ∷ [])) t
   appended-done r m u v h p l q =
       laid-done (λ (rs : List Region). rs ++ (r ∷ [])) m u v
       (l ∙ sym (length-append (rows regionRow n t) (r ∷ []) ∙ ap (λ (k : ℕ). k + 1) (length-rows regionRow n t)))

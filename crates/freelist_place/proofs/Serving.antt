@@ -24,15 +24,15 @@ module _ (s : FreeListSettings) (i start : ℕ) (head regions : List ℕ) where
   Served = lentFrom s start (tables head [] [] [] regions) i
 
   pub loan-done : (w : ℕ) (r : Region) (l : Loan) → w ≡ getD head givenAt 0 → r ≡ row regionRow i regions
-      → l ≡ record { serial = w + 1; chunk = r .chunk; offset = start; size = r .end - start } → i < getD regions (regionCountAt s) 0 → l ≡ Served
+      → l ≡ record { serial = w + 1; chunk = r .chunk; offset = start; size = r .end - start } → i < getD regions regionCountAt 0 → l ≡ Served
   unfolding storeOf
   loan-done w r l c d e h =
-      let f : r ≡ getD (regionsOf s regions) i noRegion = d ∙ sym (getD-rows regionRow (getD regions (regionCountAt s) 0) i regions noRegion h) in
+      let f : r ≡ getD (regionsOf regions) i noRegion = d ∙ sym (getD-rows regionRow (getD regions regionCountAt 0) i regions noRegion h) in
       e ∙ (λ j. lentLoan (c j + 1) (region (f j .chunk) start (f j .end)))
 
-  pub start-within : (r : Region) → r ≡ row regionRow i regions → i < getD regions (regionCountAt s) 0 → start ≤ getD (regionsOf s regions) i noRegion .end → start ≤ r .end
+  pub start-within : (r : Region) → r ≡ row regionRow i regions → i < getD regions regionCountAt 0 → start ≤ getD (regionsOf regions) i noRegion .end → start ≤ r .end
   start-within r e below h =
-      let f : getD (regionsOf s regions) i noRegion ≡ row regionRow i regions = getD-rows regionRow (getD regions (regionCountAt s) 0) i regions noRegion below in
+      let f : getD (regionsOf regions) i noRegion ≡ row regionRow i regions = getD-rows regionRow (getD regions regionCountAt 0) i regions noRegion below in
       omega (arith, ap (λ (x : Region). x .end) e, ap (λ (x : Region). x .end) f, h)
 
   -- the tables as the loan l at its place k leaves them
@@ -46,10 +46,10 @@ module _ (s : FreeListSettings) (i start : ℕ) (head regions : List ℕ) where
       (set (set index vacatedAt (k .slab .vacant)) (nextOf (k .place)) (firstIn index (l .serial % s .store .loans)))
       (firstOf (l .serial % s .store .loans))
       (k .place))
-      (laidRegions s (cutOff start i (regionsOf s regions)) regions)
+      (laidRegions (cutOff start i (regionsOf regions)) regions)
 
   pub lent-done : (loans index h′ l′ r′ i′ : List ℕ) (k : Taken) (l : Loan) → l ≡ Served
-      → r′ ≡ laidRegions s (cutOff start i (regionsOf s regions)) regions
+      → r′ ≡ laidRegions (cutOff start i (regionsOf regions)) regions
       → l′ ≡ written loanRow (k .place) l loans
       → i′ ≡ set (set (set index vacatedAt (k .slab .vacant)) (nextOf (k .place)) (firstIn index (l .serial % s .store .loans))) (firstOf (l .serial % s .store .loans)) (k .place)
       → h′ ≡ set (set head givenAt (l .serial)) placesAt (k .slab .places)

@@ -30,11 +30,11 @@ module _ (s : FreeListSettings) (memory size : ℕ) (head chunks regions : List 
       []
       (laid chunkRow (rows chunkRow k chunks ++ (chunk (made + 1) memory size ∷ [])) chunks)
       []
-      (laidRegions s (regionsOf s regions ++ (region (made + 1) 0 size ∷ [])) regions)
+      (laidRegions (regionsOf regions ++ (region (made + 1) 0 size ∷ [])) regions)
 
   pub added-done : (k made twice : ℕ) (h′ c′ r′ : List ℕ) → k ≡ getD head chunksAt 0 → made ≡ getD head madeAt 0 → twice ≡ doubled size (s .last)
       → c′ ≡ written chunkRow k (chunk (made + 1) memory size) chunks
-      → r′ ≡ laidRegions s (regionsOf s regions ++ (region (made + 1) 0 size ∷ [])) regions
+      → r′ ≡ laidRegions (regionsOf regions ++ (region (made + 1) 0 size ∷ [])) regions
       → h′ ≡ set (set (set head madeAt (made + 1)) chunkSizeAt twice) chunksAt (k + 1)
       → tables h′ [] c′ [] r′ ≡ deliveredTables s memory size (tables head [] chunks [] regions)
   unfolding storeOf deliveredTables
@@ -43,7 +43,7 @@ module _ (s : FreeListSettings) (memory size : ℕ) (head chunks regions : List 
       (λ j. tables (h j) [] (e j) [] (r j)) ∙ (λ j. after (a j) (b j) (d j))
 
 pub given-done : (s : FreeListSettings) (b : Block) (at : ℕ) (loans regions index l′ r′ i′ : List ℕ)
-    → r′ ≡ laidRegions s (insert (region (b .chunk) (b .offset) (b .offset + b .size)) (regionsOf s regions)) regions
+    → r′ ≡ laidRegions (insert (region (b .chunk) (b .offset) (b .offset + b .size)) (regionsOf regions)) regions
     → l′ ≡ struck at index loans → i′ ≡ struckIndex at index
     → tables [] l′ [] i′ r′ ≡ givenTables s b at (tables [] loans [] index regions)
 unfolding storeOf givenTables

@@ -38,4 +38,4 @@ lentTables s start k t i =
     (written loanRow (k .place) (lentFrom s start t i) (t .loans))
     (t .chunks)
     (enteredAt (s .store .loans) k (storeOf s t .given + 1) (t .index))
-    (laidRegions s (cutOff start i (storeOf s t .regions)) (t .room))
+    (laidRegions (cutOff start i (storeOf s t .regions)) (t .room))

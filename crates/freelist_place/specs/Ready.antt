@@ -17,24 +17,24 @@ use Rattle.freelist_regions.specs.Order.{RegionsStand, LowPlace}
 -- region i can be lent from, from this start on, and the loan entered at place p of the book
 pub record Lends (s : FreeListSettings) (i start p : ℕ) (head loans regions index : List ℕ) : Type 0 where
   pub fit : RegionsFit s regions
-  pub here : i < getD regions (regionCountAt s) 0
-  pub within : start ≤ getD (regionsOf s regions) i noRegion .end
+  pub here : i < getD regions regionCountAt 0
+  pub within : start ≤ getD (regionsOf regions) i noRegion .end
   pub serial : getD head givenAt 0 < spent
   pub opens : Opens (s .store .loans) p loans index
 
 -- there is room for one chunk more
 pub record Adds (s : FreeListSettings) (head chunks regions : List ℕ) : Type 0 where
   pub fit : RegionsFit s regions
-  pub room : getD regions (regionCountAt s) 0 < regionsMost s
-  pub long : length chunks ≡ chunkWords * s .store .chunks
+  pub room : getD regions regionCountAt 0 < regionsMost s
+  pub long : length chunks ≡ chunkWords + chunkWords * s .store .chunks
   pub few : getD head chunksAt 0 < s .store .chunks
   pub number : getD head madeAt 0 < spent
 
 -- a block's bytes may go back among the regions
 pub record Backs (s : FreeListSettings) (b : Block) (regions : List ℕ) : Type 0 where
   pub fit : RegionsFit s regions
-  pub rise : Rising lo hi 1 0 (regionsOf s regions)
-  pub stand : RegionsStand (regionsOf s regions)
+  pub rise : Rising lo hi 1 0 (regionsOf regions)
+  pub stand : RegionsStand (regionsOf regions)
   pub low : LowPlace (b .offset)
   pub short : b .offset + b .size < 2 ^ 64
-  pub room : length (insert (region (b .chunk) (b .offset) (b .offset + b .size)) (regionsOf s regions)) ≤ regionsMost s
+  pub room : length (insert (region (b .chunk) (b .offset) (b .offset + b .size)) (regionsOf regions)) ≤ regionsMost s

@@ -1,7 +1,7 @@
 -- A region cut short, in words.
 use mathlib.Core.Path.{_≡_, sym, ap, _∙_}
 use mathlib.Core.List.{List}
-use Prim.Native.Nat.{ℕ, _*_, _-_, _≤_, _<_}
+use Prim.Native.Nat.{ℕ, _*_, _-_, _≤_, _<_, _+_}
 use native.Mathlib.Omega.{arith}
 use lib.ListN.{length, getD, length-set}
 use borrow.Author.Tests.{lt-ltb, le-ltb}
@@ -13,7 +13,7 @@ use Rattle.freelist_rules.specs.Place.{cutOff}
 use Rattle.store_rules.specs.declared.Region.{Region}
 use Rattle.freelist_regions.specs.Ended.{endedAt}
 
-module _ (t : List ℕ) (n i x : ℕ) (h : i < n) (f : 3 * n ≤ length t) (r : Region) (e : r ≡ row regionRow i t) where
+module _ (t : List ℕ) (n i x : ℕ) (h : i < n) (f : 3 + 3 * n ≤ length t) (r : Region) (e : r ≡ row regionRow i t) where
   is : r ≡ getD (rows regionRow n t) i (region 0 0 0)
   is = e ∙ sym (getD-rows regionRow n i t (region 0 0 0) h)
 

@@ -5,13 +5,13 @@ use mathlib.Core.List.{List, _++_}
 use Prim.Native.Nat.{ℕ, suc, _+_, _*_, _-_, _≤_, _<_}
 use native.Mathlib.Omega.{arith}
 use lib.Dec.{ltb}
-use lib.ListN.{length, drop, getD, set, length-set}
+use lib.ListN.{length, drop, getD, set, length-set, take}
 use borrow.Author.Tests.{lt-ltb, ltb-true}
 use Rattle.lists.proofs.Bools.{and-left, and-right}
 use Rattle.words.specs.Words.{opened, closed}
 use Rattle.words.specs.Rows.{row, rows, flat, laid, written, insertAt, removeAt}
-use Rattle.words.proofs.Records.{length-rows, getD-rows, updated-at, removed-at, inserted-at, rows-after, laid-rows, laid-set-drop, length-laid, length-removeAt, length-insertAt}
-use Rattle.freelist_rules.specs.Records.{region, regionRow}
+use Rattle.words.proofs.Records.{take-laid, length-rows, getD-rows, updated-at, removed-at, inserted-at, rows-after, laid-rows, laid-set-drop, length-laid, length-removeAt, length-insertAt}
+use Rattle.freelist_rules.specs.Records.{region, regionRow, regionChunkAt, regionWords}
 use Rattle.freelist_rules.specs.Pieces.{lo, hi, Rising}
 use Rattle.freelist_rules.specs.Join.{meets, join, insert}
 use Rattle.store_rules.specs.declared.Region.{Region}
@@ -22,9 +22,9 @@ use Rattle.freelist_regions.specs.Order.{LowPlace, RegionsStand}
 use Rattle.freelist_regions.specs.Stand.{after, Parts}
 use Rattle.freelist_regions.proofs.Standing.{region-before, region-past}
 
-module _ (t : List ℕ) (n k : ℕ) (b : Region) (room : 3 * n ≤ length t) (rise : Rising lo hi 1 0 (rows regionRow n t)) (stand : RegionsStand (rows regionRow n t)) (low : LowPlace (b .start))
-    (fits : 3 * length (insert b (rows regionRow n t)) ≤ length t)
-    (w : Parts (after t 0 3 (b .chunk) (b .start)) n k) where
+module _ (t : List ℕ) (n k : ℕ) (b : Region) (room : 3 + 3 * n ≤ length t) (rise : Rising lo hi 1 0 (rows regionRow n t)) (stand : RegionsStand (rows regionRow n t)) (low : LowPlace (b .start))
+    (fits : 3 + 3 * length (insert b (rows regionRow n t)) ≤ length t)
+    (w : Parts (after t regionChunkAt regionWords (b .chunk) (b .start)) n k) where
   abbrev rs : List Region
   rs = rows regionRow n t
 
@@ -67,7 +67,7 @@ module _ (t : List ℕ) (n k : ℕ) (b : Region) (room : 3 * n ≤ length t) (ri
   joined-alone u v p q x y =
       let e : insert b rs ≡ insertAt k b rs = insert-alone b 0 rs noRegion rise k (omega (arith, long, w .most)) (apart p) ahead (nextNo q) in
       let z : length (insert b rs) ≡ n + 1 = ap length e ∙ length-insertAt k b rs (omega (arith, long, w .most)) ∙ ap (λ (m : ℕ). m + 1) long in
-      let f : 3 * n + 3 ≤ length t = omega (arith, fits, z) in
+      let f : 3 + 3 * n + 3 ≤ length t = omega (arith, fits, z) in
       (sym z, rw e (y ∙ ap (written regionRow k b) x ∙ inserted-at regionRow n k b t (w .most) f))
 
   -- the next one only
@@ -115,13 +115,14 @@ module _ (t : List ℕ) (n k : ℕ) (b : Region) (room : 3 * n ≤ length t) (ri
       rw s at (insert-both b 0 rs noRegion rise (k - 1) (omega (arith, long)) (before (k - 1) (omega (arith, g .0))) (g .1) (omega (arith, long, m .0)) (rw s (m .1))) in
       let z : r ≡ getD rs k noRegion = is ∙ at k (m .0) in
       let a : u ≡ laid regionRow qs t = x ∙ ap (λ (d : Region). endedAt (k - 1) (d .end) t) z ∙ ended-is (k - 1) (getD rs k noRegion .end) h in
-      let lu : 3 * n ≤ length (laid regionRow qs t) = rw (length-laid regionRow qs t (rw ql room)) room in
+      let lu : 3 + 3 * n ≤ length (laid regionRow qs t) = rw (length-laid regionRow qs t (rw ql room)) room in
       let c : closed 3 n k (laid regionRow qs t) ≡ laid regionRow (removeAt k (rows regionRow n (laid regionRow qs t))) (laid regionRow qs t) = removed-at regionRow n k (laid regionRow qs t) (m .0) lu in
-      let d : rows regionRow n (laid regionRow qs t) ≡ qs = rows-after regionRow n qs t ql in
+      let d : rows regionRow n (laid regionRow qs t) ≡ qs = rows-after regionRow n qs t room ql in
       let o : length (removeAt k qs) ≡ n - 1 = length-removeAt k qs (omega (arith, ql, m .0)) ∙ ap (λ (i : ℕ). i - 1) ql in
-      let kept : drop (3 * length (removeAt k qs)) (laid regionRow qs t) ≡ drop (3 * length (removeAt k qs)) t =
-      rw o (laid-set-drop regionRow (k - 1) (n - 1) j rs t (omega (arith, m .0, g .0)) (omega (arith, long)) ∙ ap (drop (3 * (n - 1))) (laid-rows regionRow n t room)) in
+      let own : take 3 (laid regionRow qs t) ≡ take 3 t = take-laid regionRow qs t (omega arith) in
+      let kept : drop (3 + 3 * length (removeAt k qs)) (laid regionRow qs t) ≡ drop (3 + 3 * length (removeAt k qs)) t =
+      rw o (laid-set-drop regionRow (k - 1) (n - 1) j rs t (omega arith) (omega (arith, m .0, g .0)) (omega (arith, long)) ∙ ap (drop (3 + 3 * (n - 1))) (laid-rows regionRow n t room)) in
       rw e (
         sym o,
-        y ∙ ap (closed 3 n k) a ∙ c ∙ ap (λ (l : List Region). laid regionRow (removeAt k l) (laid regionRow qs t)) d ∙ ap (λ (l : List ℕ). flat regionRow (removeAt k qs) ++ l) kept,
+        y ∙ ap (closed 3 n k) a ∙ c ∙ ap (λ (l : List Region). laid regionRow (removeAt k l) (laid regionRow qs t)) d ∙ (λ i. own i ++ (flat regionRow (removeAt k qs) ++ kept i)),
       )

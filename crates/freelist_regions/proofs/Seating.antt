@@ -7,10 +7,11 @@ use native.Mathlib.Omega.{arith}
 use lib.ListN.{getD}
 use borrow.Author.Tests.{le-leb, lt-leb}
 use Rattle.words.specs.Words.{cellOf}
+use Rattle.freelist_rules.specs.Records.{chunkNumberAt, chunkWords}
 use Rattle.freelist_regions.specs.Seat.{reaches}
 
-pub reach-yes : (t : List ℕ) (n i c : ℕ) → c ≡ getD t (cellOf 0 3 i) 0 → n ≤ c → reaches t n i ≡ true
-reach-yes t n i c e h = le-leb n (getD t (cellOf 0 3 i) 0) (omega (arith, e, h))
+pub reach-yes : (t : List ℕ) (n i c : ℕ) → c ≡ getD t (cellOf chunkNumberAt chunkWords i) 0 → n ≤ c → reaches t n i ≡ true
+reach-yes t n i c e h = le-leb n (getD t (cellOf chunkNumberAt chunkWords i) 0) (omega (arith, e, h))
 
-pub reach-not : (t : List ℕ) (n i c : ℕ) → c ≡ getD t (cellOf 0 3 i) 0 → c < n → reaches t n i ≡ false
-reach-not t n i c e h = lt-leb n (getD t (cellOf 0 3 i) 0) (omega (arith, e, h))
+pub reach-not : (t : List ℕ) (n i c : ℕ) → c ≡ getD t (cellOf chunkNumberAt chunkWords i) 0 → c < n → reaches t n i ≡ false
+reach-not t n i c e h = lt-leb n (getD t (cellOf chunkNumberAt chunkWords i) 0) (omega (arith, e, h))

@@ -10,7 +10,7 @@ use borrow.Author.Tests.{lt-ltb, ltb-true, ltb-false}
 use Rattle.words.specs.Words.{cellOf}
 use Rattle.words.specs.Rows.{rows}
 use Rattle.words.proofs.Records.{length-rows, getD-rows, cell-row}
-use Rattle.freelist_rules.specs.Records.{regionRow}
+use Rattle.freelist_rules.specs.Records.{regionRow, regionChunkAt, regionStartAt, regionWords}
 use Rattle.store_rules.specs.declared.Region.{Region}
 use Rattle.freelist_rules.specs.Pieces.{line, lo}
 use Rattle.lists.specs.Pairs.{earlier}
@@ -38,10 +38,10 @@ module _ (t : List ℕ) (n : ℕ) (stand : RegionsStand (rows regionRow n t)) wh
   abbrev regionStart : ℕ → ℕ
   regionStart i = getD (rows regionRow n t) i noRegion .start
 
-  region-reads : (i : ℕ) → i < n → (getD t (cellOf 0 3 i) 0 ≡ regionChunk i) × (getD t (cellOf 1 3 i) 0 ≡ regionStart i)
+  region-reads : (i : ℕ) → i < n → (getD t (cellOf regionChunkAt regionWords i) 0 ≡ regionChunk i) × (getD t (cellOf regionStartAt regionWords i) 0 ≡ regionStart i)
   region-reads i h =
       let e = getD-rows regionRow n i t noRegion h in
-      (cell-row t 0 3 i ∙ sym (ap (λ (d : Region). d .chunk) e), cell-row t 1 3 i ∙ sym (ap (λ (d : Region). d .start) e))
+      (cell-row t regionChunkAt regionWords i ∙ sym (ap (λ (d : Region). d .chunk) e), cell-row t regionStartAt regionWords i ∙ sym (ap (λ (d : Region). d .start) e))
 
   regions-long : length (rows regionRow n t) ≡ n
   regions-long = length-rows regionRow n t
@@ -51,17 +51,17 @@ module _ (t : List ℕ) (n : ℕ) (stand : RegionsStand (rows regionRow n t)) wh
       sym (line-earlier (regionChunk i) (regionStart i) (regionChunk j) (regionStart j) (stand .low i (omega (arith, regions-long))) (stand .low j (omega (arith, regions-long))))
       ∙ lt-ltb _ _ (stand .rise i j h (omega (arith, regions-long)))
 
-  pub regions-part : (c p : ℕ) → Parting (after t 0 3 c p) n
-  regions-part c p = keys-part t 0 3 n regionChunk regionStart region-reads region-sorted c p
+  pub regions-part : (c p : ℕ) → Parting (after t regionChunkAt regionWords c p) n
+  regions-part c p = keys-part t regionChunkAt regionWords n regionChunk regionStart region-reads region-sorted c p
 
-  region-line : (c p i : ℕ) → LowPlace p → i < n → ltb (line c p) (lo (getD (rows regionRow n t) i noRegion)) ≡ after t 0 3 c p i
+  region-line : (c p i : ℕ) → LowPlace p → i < n → ltb (line c p) (lo (getD (rows regionRow n t) i noRegion)) ≡ after t regionChunkAt regionWords c p i
   region-line c p i low h =
       line-earlier c p (regionChunk i) (regionStart i) low (stand .low i (omega (arith, regions-long)))
-      ∙ sym (key-read t 0 3 n regionChunk regionStart region-reads region-sorted c p i h)
+      ∙ sym (key-read t regionChunkAt regionWords n regionChunk regionStart region-reads region-sorted c p i h)
 
   -- the regions before where the search ends begin at the place or before it, the others past it
-  pub region-before : (c p k : ℕ) → LowPlace p → Parts (after t 0 3 c p) n k → (i : ℕ) → i < k → lo (getD (rows regionRow n t) i noRegion) ≤ line c p
+  pub region-before : (c p k : ℕ) → LowPlace p → Parts (after t regionChunkAt regionWords c p) n k → (i : ℕ) → i < k → lo (getD (rows regionRow n t) i noRegion) ≤ line c p
   region-before c p k low w i h = ltb-false _ _ (region-line c p i low (omega (arith, w .most)) ∙ w .below i h)
 
-  pub region-past : (c p k : ℕ) → LowPlace p → Parts (after t 0 3 c p) n k → (i : ℕ) → k ≤ i → i < n → line c p < lo (getD (rows regionRow n t) i noRegion)
+  pub region-past : (c p k : ℕ) → LowPlace p → Parts (after t regionChunkAt regionWords c p) n k → (i : ℕ) → k ≤ i → i < n → line c p < lo (getD (rows regionRow n t) i noRegion)
   region-past c p k low w i h g = ltb-true _ _ (region-line c p i low g ∙ w .above i h g)

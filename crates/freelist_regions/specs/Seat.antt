@@ -5,8 +5,8 @@ use Prim.Native.Nat.{ℕ}
 use lib.Dec.{leb}
 use lib.ListN.{getD}
 use Rattle.words.specs.Words.{cellOf}
-use Rattle.freelist_rules.specs.Records.{chunkWords}
+use Rattle.freelist_rules.specs.Records.{chunkWords, chunkNumberAt}
 
 -- the i-th chunk record of a table has the number n or a higher one
 abbrev pub reaches : List ℕ → ℕ → ℕ → Bool
-reaches t n i = leb n (getD t (cellOf 0 chunkWords i) 0)
+reaches t n i = leb n (getD t (cellOf chunkNumberAt chunkWords i) 0)

@@ -1,25 +1,11 @@
-// How many free regions a table holds: the word behind all that it has room for.
+// How many free regions a table holds, which its own record says.
 ghost use mathlib.Core.Path.{_≡_};
 ghost use lib.ListN.{getD};
-ghost use Rattle.counter.specs.InTable.{FreeListIn};
 ghost use Rattle.freelist_rules.specs.Tables.{regionCountAt};
-use counter::FreeListSettings;
-use freelist_rules::REGION_WORDS;
+use freelist_rules::REGION_COUNT_AT;
 
-// Where the count stands.
-pub fn count_at(s: FreeListSettings) -> usize
-    requires { ⌜ FreeListIn s ⌝ }
-    ensures { λ r. ⌜ r ≡ regionCountAt s ⌝ }
+pub fn region_count(regions: &[u64]) -> usize
+    ensures { λ r. ⌜ r ≡ getD (now (regions .entry)) regionCountAt 0 ⌝ }
 {
-    let store = s.store;
-    REGION_WORDS * (store.loans + store.chunks)
-}
-
-// How many regions there are.
-pub fn region_count(s: FreeListSettings, regions: &[u64]) -> usize
-    requires { ⌜ FreeListIn s ⌝ }
-    ensures { λ r. ⌜ r ≡ getD (now (regions .entry)) (regionCountAt s) 0 ⌝ }
-{
-    let at = count_at(s);
-    words::word(regions, at) as usize
+    words::word(regions, REGION_COUNT_AT) as usize
 }

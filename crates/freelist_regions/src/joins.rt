@@ -49,7 +49,7 @@ fn touches_next(t: &[u64], n: usize, k: usize, b: Region) -> bool
 
 // b put among n free regions by its place, joined with both neighbours; how many there are then.
 pub fn join_region(t: &mut [u64], n: usize, b: Region) -> usize
-    requires { ⌜ (regionWords * n ≤ length (now t)) × Rising lo hi 1 0 (rows regionRow n (now t)) × RegionsStand (rows regionRow n (now t)) × LowPlace (b .start) × (regionWords * length (insert b (rows regionRow n (now t))) ≤ length (now t)) ⌝ }
+    requires { ⌜ (regionWords + regionWords * n ≤ length (now t)) × Rising lo hi 1 0 (rows regionRow n (now t)) × RegionsStand (rows regionRow n (now t)) × LowPlace (b .start) × (regionWords + regionWords * length (insert b (rows regionRow n (now t))) ≤ length (now t)) ⌝ }
     ensures { λ r. ⌜ r ≡ length (insert b (rows regionRow n (now (t .entry)))) ⌝ }
     ensures { λ _. ⌜ now (t .exit) ≡ laid regionRow (insert b (rows regionRow n (now (t .entry)))) (now (t .entry)) ⌝ }
 {

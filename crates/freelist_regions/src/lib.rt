@@ -11,7 +11,6 @@ mod stands;
 
 pub use asks::mask_for;
 pub use asks::size_for;
-pub use counts::count_at;
 pub use counts::region_count;
 pub use joins::join_region;
 pub use records::chunk_at;

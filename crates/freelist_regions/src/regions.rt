@@ -1,6 +1,6 @@
 // A free region cut short by a block.
 ghost use mathlib.Core.Path.{_≡_};
-ghost use Prim.Native.Nat.{_*_, _≤_, _<_};
+ghost use Prim.Native.Nat.{_*_, _≤_, _<_, _+_};
 ghost use lib.ListN.{length};
 ghost use Rattle.words.specs.Rows.{rows, laid};
 ghost use Rattle.freelist_rules.specs.Records.{regionRow, regionWords};
@@ -11,7 +11,7 @@ use freelist_rules::REGION_WORDS;
 
 // Region i of n ends at `place` from now on, or is gone where that is its start; how many are left.
 pub fn cut_region(t: &mut [u64], n: usize, i: usize, place: u64) -> usize
-    requires { ⌜ (i < n) × (regionWords * n ≤ length (now t)) ⌝ }
+    requires { ⌜ (i < n) × (regionWords + regionWords * n ≤ length (now t)) ⌝ }
     ensures { λ r. ⌜ r ≡ length (cutOff place i (rows regionRow n (now (t .entry)))) ⌝ }
     ensures { λ _. ⌜ now (t .exit) ≡ laid regionRow (cutOff place i (rows regionRow n (now (t .entry)))) (now (t .entry)) ⌝ }
 {

@@ -29,25 +29,22 @@ module _ (s : FreeListSettings) (spare : Bool) (head chunks regions list : List 
   abbrev pub gone : ℕ → ℕ → List Region
   gone k n = leaving (held k) spare [] (free n)
 
-  -- what is left, the count of the regions standing at `at`
-  abbrev leaves : ℕ → ℕ → ℕ → Tables
-  leaves k n at =
+  -- what is left
+  abbrev leaves : ℕ → ℕ → Tables
+  leaves k n =
       tables
       (set head chunksAt (length (remaining (gone k n) (held k))))
       []
       (laid chunkRow (remaining (gone k n) (held k)) chunks)
       []
-      (set (laid regionRow (staying (held k) spare (free n)) regions) at (length (staying (held k) spare (free n))))
+      (set (laid regionRow (staying (held k) spare (free n)) regions) regionCountAt (length (staying (held k) spare (free n))))
 
   abbrev now : Tables
   now = tables head [] chunks [] regions
 
-  module _ (k n at : ℕ) (a-is : at ≡ regionCountAt s) (k-is : k ≡ getD head chunksAt 0) (n-is : n ≡ getD regions at 0) where
-    count-is : n ≡ getD regions (regionCountAt s) 0
-    count-is = n-is ∙ ap (λ (i : ℕ). getD regions i 0) a-is
-
+  module _ (k n : ℕ) (k-is : k ≡ getD head chunksAt 0) (count-is : n ≡ getD regions regionCountAt 0) where
     module _ (f : Frees s head chunks regions list) where
-      pub drop-fits : (chunkWords * k ≤ length chunks) × (regionWords * n ≤ length regions) × (k ≤ length list) × (n ≤ loansMost + chunksMost)
+      pub drop-fits : (chunkWords + chunkWords * k ≤ length chunks) × (regionWords + regionWords * n ≤ length regions) × (k ≤ length list) × (n ≤ loansMost + chunksMost)
       drop-fits = (
         omega (arith, k-is, f .chunks-fit),
         omega (arith, count-is, f .regions-fit),
@@ -75,10 +72,10 @@ module _ (s : FreeListSettings) (spare : Bool) (head chunks regions list : List 
     pub gone-tables : (few left : ℕ) (h′ c′ r r′ : List ℕ)
         → few ≡ length (remaining (gone k n) (held k)) → left ≡ length (staying (held k) spare (free n))
         → c′ ≡ laid chunkRow (remaining (gone k n) (held k)) chunks → r ≡ laid regionRow (staying (held k) spare (free n)) regions
-        → h′ ≡ set head chunksAt few → r′ ≡ set r at left
+        → h′ ≡ set head chunksAt few → r′ ≡ set r regionCountAt left
         → tables h′ [] c′ [] r′ ≡ releasedTables s spare now
     unfolding releasedTables storeOf laidRegions
     gone-tables few left h′ c′ r r′ m f c p g q =
         let h-is = g ∙ ap (λ (v : ℕ). set head chunksAt v) m in
-        let r-is = q ∙ (λ j. set (p j) at (f j)) in
-        (λ j. tables (h-is j) [] (c j) [] (r-is j)) ∙ (λ j. leaves (k-is j) (count-is j) (a-is j))
+        let r-is = q ∙ (λ j. set (p j) regionCountAt (f j)) in
+        (λ j. tables (h-is j) [] (c j) [] (r-is j)) ∙ (λ j. leaves (k-is j) (count-is j))

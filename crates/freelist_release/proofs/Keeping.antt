@@ -2,27 +2,26 @@
 use mathlib.Core.Path.{_≡_, refl, sym, ap, _∙_}
 use mathlib.Core.List.{List, [], _∷_, _++_, append-nil}
 use Prim.Native.Nat.{ℕ, _+_, _-_, _*_, _≤_}
-use native.Mathlib.Nat.{mul-zero, mul-add, mul-le-mul-left}
+use native.Mathlib.Nat.{mul-zero, mul-le-mul-left}
 use native.Mathlib.Omega.{arith}
 use lib.ListN.{length, drop, length-append, drop-of-length-le}
-use lib.Seq.{drop-drop, append-snoc}
+use lib.Seq.{append-snoc}
 use Rattle.words.specs.Rows.{Layout, row, laid, written}
-use Rattle.words.proofs.Records.{rows-laid, drop-laid, length-laid, laid-laid, appended}
+use Rattle.words.proofs.Records.{rows-laid, laid-rows, row-behind, drop-past, length-laid, laid-laid, appended}
 
 module _ {R : Type 0} (L : Layout R) where
   -- a record at or past the end of those laid is as it was
-  row-past : (ys : List R) (t : List ℕ) (i : ℕ) → length ys ≤ i → row L i (laid L ys t) ≡ row L i t
-  row-past ys t i h =
+  row-past : (ys : List R) (t : List ℕ) (i : ℕ) → length ys ≤ i → L .width + L .width * i + L .width ≤ length t → row L i (laid L ys t) ≡ row L i t
+  row-past ys t i h k =
       let w : ℕ = L .width in
-      let d : ℕ = i - length ys in
-      let e : w * i ≡ w * length ys + w * d = ap (λ (k : ℕ). w * k) (omega arith) ∙ mul-add w (length ys) d in
-      ap (L .dec) (rw e (sym (drop-drop (w * d) (w * length ys) (laid L ys t)) ∙ ap (drop (w * d)) (drop-laid L ys t) ∙ drop-drop (w * d) (w * length ys) t))
+      let m : w * length ys ≤ w * i = mul-le-mul-left w h in
+      row-behind L i (laid L ys t) t (omega (arith, length-laid L ys t (omega arith))) k (drop-past L ys t i (omega arith) h)
 
-  laid-next : (ys : List R) (r : R) (t : List ℕ) → L .width * length ys + L .width ≤ length t → written L (length ys) r (laid L ys t) ≡ laid L (ys ++ (r ∷ [])) t
+  laid-next : (ys : List R) (r : R) (t : List ℕ) → L .width + L .width * length ys + L .width ≤ length t → written L (length ys) r (laid L ys t) ≡ laid L (ys ++ (r ∷ [])) t
   laid-next ys r t h =
       appended L (length ys) r (laid L ys t) (rw (length-laid L ys t (omega arith)) h)
-      ∙ ap (λ (z : List R). laid L (z ++ (r ∷ [])) (laid L ys t)) (rows-laid L ys t)
-      ∙ laid-laid L (ys ++ (r ∷ [])) ys t (omega (arith, length-append ys (r ∷ [])))
+      ∙ ap (λ (z : List R). laid L (z ++ (r ∷ [])) (laid L ys t)) (rows-laid L ys t (omega arith))
+      ∙ laid-laid L (ys ++ (r ∷ [])) ys t (omega arith) (omega (arith, length-append ys (r ∷ [])))
 
   -- of the first i records, those that f leaves stand in front
   pub record Kept (f : List R → List R) (rs : List R) (t u : List ℕ) (i kept : ℕ) : Type 0 where
@@ -33,14 +32,14 @@ module _ {R : Type 0} (L : Layout R) where
     pub within : kept ≤ i
 
   module _ (f : List R → List R) (rs : List R) (t : List ℕ) where
-    pub kept-none : Kept f rs t t 0 0
-    kept-none = record { front = []; so-far = refl; count = refl; table = sym (ap (λ (k : ℕ). drop k t) (mul-zero (L .width))); within = omega arith }
+    pub kept-none : L .width ≤ length t → Kept f rs t t 0 0
+    kept-none h = record { front = []; so-far = refl; count = refl; table = sym (laid-rows L 0 t (omega (arith, mul-zero (L .width)))); within = omega arith }
 
     module _ (u : List ℕ) (i kept : ℕ) (now : Kept f rs t u i kept) where
-      pub kept-row : row L i u ≡ row L i t
-      kept-row = ap (row L i) (now .table) ∙ row-past (now .front) t i (omega (arith, now .count, now .within))
+      pub kept-row : L .width + L .width * i + L .width ≤ length t → row L i u ≡ row L i t
+      kept-row h = ap (row L i) (now .table) ∙ row-past (now .front) t i (omega (arith, now .count, now .within)) h
 
-      pub kept-length : (n : ℕ) → i ≤ n → L .width * n ≤ length t → length u ≡ length t
+      pub kept-length : (n : ℕ) → i ≤ n → L .width + L .width * n ≤ length t → length u ≡ length t
       kept-length n g h =
           let m : L .width * length (now .front) ≤ L .width * n = mul-le-mul-left (L .width) (omega (arith, now .count, now .within)) in
           ap length (now .table) ∙ length-laid L (now .front) t (omega (arith, m, h))
@@ -55,7 +54,7 @@ module _ {R : Type 0} (L : Layout R) where
             within = omega (arith, now .within);
           }
 
-      pub kept-more : (r : R) (v : List ℕ) → f (drop i rs) ≡ r ∷ f (drop (i + 1) rs) → v ≡ written L kept r u → L .width * i + L .width ≤ length t → Kept f rs t v (i + 1) (kept + 1)
+      pub kept-more : (r : R) (v : List ℕ) → f (drop i rs) ≡ r ∷ f (drop (i + 1) rs) → v ≡ written L kept r u → L .width + L .width * i + L .width ≤ length t → Kept f rs t v (i + 1) (kept + 1)
       kept-more r v e p h =
           let m : L .width * length (now .front) ≤ L .width * i = mul-le-mul-left (L .width) (omega (arith, now .count, now .within)) in
           record {

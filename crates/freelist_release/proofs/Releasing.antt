@@ -61,7 +61,7 @@ module _ (t : List ℕ) (k : ℕ) (u : List ℕ) (n : ℕ) (spare : Bool) (l : L
         let e : unlisted (take m l′) cs ≡ remaining gone cs = ap (λ (z : List ℕ). unlisted z cs) front ∙ unlisted-remain cs rs spare fit in
         (em, (eb, (ec .0 ∙ ap length e, (er .0, (ec .1 ∙ ap (λ (z : List Chunk). laid chunkRow z t) e, (er .1, el))))))
 
-    pub released-none : (z : m ≡ 0) → 3 * k ≤ length t → 3 * n ≤ length u → Released 0 0 k n t u l′
+    pub released-none : (z : m ≡ 0) → 3 + 3 * k ≤ length t → 3 + 3 * n ≤ length u → Released 0 0 k n t u l′
     released-none z ht hu =
         let e : 0 ≡ length gone = sym z ∙ em in
         let a : cs ≡ remaining gone cs = all-remain gone cs e in

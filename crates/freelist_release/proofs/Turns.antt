@@ -24,9 +24,9 @@ module _ (cs : List Chunk) (spare : Bool) (t : List ℕ) (n : ℕ) where
     pub regions-done : n ≤ i → (kept ≡ length (staying cs spare (rows regionRow n t))) × (u ≡ laid regionRow (staying cs spare (rows regionRow n t)) t)
     regions-done h = kept-all regionRow (staying cs spare) (rows regionRow n t) t u i kept now (staying-end cs spare) (omega (arith, length-rows regionRow n t))
 
-    module _ (h : i < n) (b : Bool) (e : b ≡ (not (spare && eqb (i + 1) n) && wholly cs (row regionRow i u))) where
+    module _ (h : i < n) (long : 3 + 3 * n ≤ length t) (b : Bool) (e : b ≡ (not (spare && eqb (i + 1) n) && wholly cs (row regionRow i u))) where
       same : row regionRow i u ≡ row regionRow i t
-      same = kept-row regionRow (staying cs spare) (rows regionRow n t) t u i kept now
+      same = kept-row regionRow (staying cs spare) (rows regionRow n t) t u i kept now (omega arith)
 
       tested : b ≡ (not (spare && eqb (i + 1) n) && wholly cs (row regionRow i t))
       tested = e ∙ ap (λ (r : Region). not (spare && eqb (i + 1) n) && wholly cs r) same
@@ -34,8 +34,8 @@ module _ (cs : List Chunk) (spare : Bool) (t : List ℕ) (n : ℕ) where
       pub region-past : b ≡ true → KeptRegions u (i + 1) kept
       region-past q = kept-past regionRow (staying cs spare) (rows regionRow n t) t u i kept now (staying-past cs spare t n i h b tested q)
 
-      pub region-more : b ≡ false → 3 * n ≤ length t → (r : Region) → r ≡ row regionRow i u → (v : List ℕ) → v ≡ written regionRow kept r u → KeptRegions v (i + 1) (kept + 1)
-      region-more q long r is v p =
+      pub region-more : b ≡ false → (r : Region) → r ≡ row regionRow i u → (v : List ℕ) → v ≡ written regionRow kept r u → KeptRegions v (i + 1) (kept + 1)
+      region-more q r is v p =
           kept-more regionRow (staying cs spare) (rows regionRow n t) t u i kept now (row regionRow i t) v (staying-more cs spare t n i h b tested q)
           (p ∙ ap (λ (z : Region). written regionRow kept z u) (is ∙ same)) (omega arith)
 
@@ -47,13 +47,13 @@ module _ (ms t : List ℕ) (k : ℕ) where
     pub chunks-done : k ≤ i → (kept ≡ length (unlisted ms (rows chunkRow k t))) × (u ≡ laid chunkRow (unlisted ms (rows chunkRow k t)) t)
     chunks-done h = kept-all chunkRow (unlisted ms) (rows chunkRow k t) t u i kept now (unlisted-end ms) (omega (arith, length-rows chunkRow k t))
 
-    module _ (h : i < k) (c : Chunk) (is : c ≡ row chunkRow i u) (b : Bool) (e : b ≡ among (c .memory) ms) where
+    module _ (h : i < k) (long : 3 + 3 * k ≤ length t) (c : Chunk) (is : c ≡ row chunkRow i u) (b : Bool) (e : b ≡ among (c .memory) ms) where
       first : c ≡ row chunkRow i t
-      first = is ∙ kept-row chunkRow (unlisted ms) (rows chunkRow k t) t u i kept now
+      first = is ∙ kept-row chunkRow (unlisted ms) (rows chunkRow k t) t u i kept now (omega arith)
 
       pub chunk-past : b ≡ true → KeptChunks u (i + 1) kept
       chunk-past q = kept-past chunkRow (unlisted ms) (rows chunkRow k t) t u i kept now (unlisted-past ms chunkRow t k i h c first b e q)
 
-      pub chunk-more : b ≡ false → 3 * k ≤ length t → (v : List ℕ) → v ≡ written chunkRow kept c u → KeptChunks v (i + 1) (kept + 1)
-      chunk-more q long v p =
+      pub chunk-more : b ≡ false → (v : List ℕ) → v ≡ written chunkRow kept c u → KeptChunks v (i + 1) (kept + 1)
+      chunk-more q v p =
           kept-more chunkRow (unlisted ms) (rows chunkRow k t) t u i kept now c v (unlisted-more ms chunkRow t k i h c first b e q) p (omega arith)

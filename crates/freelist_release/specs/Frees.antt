@@ -17,8 +17,8 @@ chunksOf head chunks = rows chunkRow (getD head chunksAt 0) chunks
 
 pub record Frees (s : FreeListSettings) (head chunks regions list : List ℕ) : Type 0 where
   pub settings : FreeListIn s
-  pub ready : Releasable (chunksOf head chunks) (regionsOf s regions)
-  pub chunks-fit : chunkWords * getD head chunksAt 0 ≤ length chunks
-  pub regions-fit : regionWords * getD regions (regionCountAt s) 0 ≤ length regions
-  pub few : getD regions (regionCountAt s) 0 ≤ loansMost + chunksMost
+  pub ready : Releasable (chunksOf head chunks) (regionsOf regions)
+  pub chunks-fit : chunkWords + chunkWords * getD head chunksAt 0 ≤ length chunks
+  pub regions-fit : regionWords + regionWords * getD regions regionCountAt 0 ≤ length regions
+  pub few : getD regions regionCountAt 0 ≤ loansMost + chunksMost
   pub long : getD head chunksAt 0 ≤ length list

@@ -30,7 +30,7 @@ pub fn drop_chunks(
     spare: bool,
     list: &mut [u64],
 ) -> Tally
-    requires { ⌜ (chunkWords * k ≤ length (now chunks)) × (regionWords * n ≤ length (now regions)) × (k ≤ length (now list)) × (n ≤ loansMost + chunksMost) ⌝ }
+    requires { ⌜ (chunkWords + chunkWords * k ≤ length (now chunks)) × (regionWords + regionWords * n ≤ length (now regions)) × (k ≤ length (now list)) × (n ≤ loansMost + chunksMost) ⌝ }
     requires { ⌜ Releasable (rows chunkRow k (now chunks)) (rows regionRow n (now regions)) ⌝ }
     ensures { λ r. ⌜ r .count ≡ length (leaving (rows chunkRow k (now (chunks .entry))) spare [] (rows regionRow n (now (regions .entry)))) ⌝ }
     ensures { λ r. ⌜ r .bytes ≡ bytesOf (leaving (rows chunkRow k (now (chunks .entry))) spare [] (rows regionRow n (now (regions .entry)))) ⌝ }

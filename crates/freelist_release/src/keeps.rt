@@ -1,6 +1,6 @@
 // What stays, moved together in its table. Records are read before those in front of them are written over.
 ghost use mathlib.Core.Path.{_≡_};
-ghost use Prim.Native.Nat.{_*_, _≤_};
+ghost use Prim.Native.Nat.{_*_, _≤_, _+_};
 ghost use lib.ListN.{length, take};
 ghost use Rattle.words.specs.Rows.{rows, laid};
 ghost use Rattle.freelist_rules.specs.Records.{chunkRow, chunkWords, regionRow, regionWords};
@@ -15,7 +15,7 @@ use freelist_regions::region_at;
 
 // The regions that stay; how many they are.
 pub fn keep_regions(chunks: &[u64], k: usize, regions: &mut [u64], n: usize, spare: bool) -> usize
-    requires { ⌜ (regionWords * n ≤ length (now regions)) × NumbersRise (rows chunkRow k (now chunks)) ⌝ }
+    requires { ⌜ (regionWords + regionWords * n ≤ length (now regions)) × NumbersRise (rows chunkRow k (now chunks)) ⌝ }
     ensures { λ r. ⌜ r ≡ length (staying (rows chunkRow k (now (chunks .entry))) spare (rows regionRow n (now (regions .entry)))) ⌝ }
     ensures { λ _. ⌜ now (regions .exit) ≡ laid regionRow (staying (rows chunkRow k (now (chunks .entry))) spare (rows regionRow n (now (regions .entry)))) (now (regions .entry)) ⌝ }
 {
@@ -51,7 +51,7 @@ fn is_listed(list: &[u64], m: usize, x: u64) -> bool
 
 // The chunks whose memory is none of the first m words of the list; how many they are.
 pub fn keep_chunks(chunks: &mut [u64], k: usize, list: &[u64], m: usize) -> usize
-    requires { ⌜ (chunkWords * k ≤ length (now chunks)) × (m ≤ length (now list)) ⌝ }
+    requires { ⌜ (chunkWords + chunkWords * k ≤ length (now chunks)) × (m ≤ length (now list)) ⌝ }
     ensures { λ r. ⌜ r ≡ length (unlisted (take m (now (list .entry))) (rows chunkRow k (now (chunks .entry)))) ⌝ }
     ensures { λ _. ⌜ now (chunks .exit) ≡ laid chunkRow (unlisted (take m (now (list .entry))) (rows chunkRow k (now (chunks .entry)))) (now (chunks .entry)) ⌝ }
 {

@@ -13,6 +13,7 @@ ghost use Rattle.freelist_release.specs.Frees.{Frees};
 use crate::dropping::drop_chunks;
 use counter::FreeListSettings;
 use freelist_rules::CHUNKS_AT;
+use freelist_rules::REGION_COUNT_AT;
 
 // So many chunks went, of so many bytes in all.
 pub struct Freed {
@@ -35,12 +36,11 @@ pub fn release(
     ensures { λ _. ⌜ tables (now (head .exit)) [] (now (chunks .exit)) [] (now (regions .exit)) ≡ releasedTables s spare (tables (now (head .entry)) [] (now (chunks .entry)) [] (now (regions .entry))) ⌝ }
     ensures { λ _. ⌜ now (list .exit) ≡ sets (now (list .entry)) 0 (memoriesOf (storeOf s (tables (now (head .entry)) [] (now (chunks .entry)) [] (now (regions .entry))) .chunks) (goneFrom s spare (tables (now (head .entry)) [] (now (chunks .entry)) [] (now (regions .entry))))) ⌝ }
 {
-    let at = freelist_regions::count_at(s);
     let k = words::word(head, CHUNKS_AT) as usize;
-    let n = words::word(regions, at) as usize;
+    let n = words::word(regions, REGION_COUNT_AT) as usize;
     let gone = drop_chunks(chunks, k, regions, n, spare, list);
     words::put(head, CHUNKS_AT, gone.chunks as u64);
-    words::put(regions, at, gone.regions as u64);
+    words::put(regions, REGION_COUNT_AT, gone.regions as u64);
     Freed {
         count: gone.count,
         bytes: gone.bytes,

@@ -11,13 +11,13 @@ use lib.Seq.{getD-set-same, take-set-le, drop-set-add, take-at}
 use borrow.Author.Tests.{eqb-true, eq-eqb}
 use Rattle.lists.proofs.Bools.{told, all-each, each-all}
 use Rattle.words.specs.Rows.{rows, flat, laid}
-use Rattle.words.proofs.Records.{length-rows, length-flat, length-laid, rows-flat}
+use Rattle.words.proofs.Records.{length-rows, length-laid, rows-own, rows-laid}
 use Rattle.counter.specs.InTable.{FreeListIn}
 use Rattle.counter.specs.declared.settings.FreeListSettings.{FreeListSettings}
 use Rattle.store_rules.specs.Loans.{loanRow, onLoan, loansOf}
 use Rattle.store_rules.specs.declared.Loan.{Loan}
 use Rattle.freelist_rules.specs.Records.{chunkRow, regionRow}
-use Rattle.freelist_rules.specs.Tables.{Tables, regionsMost, regionCountAt, lengthsRow, lengthsOk, Lengths, placesIn, chunksIn, regionsIn, storeOf, SoundTables, laidRegions, RegionsFit, regionsOf}
+use Rattle.freelist_rules.specs.Tables.{Tables, regionsMost, regionCountAt, lengthsRow, lengthsOk, Lengths, placesIn, chunksIn, regionsIn, storeOf, SoundTables, laidRegions, RegionsFit, regionsOf, roomWords}
 use Rattle.store_rules.specs.declared.Region.{Region}
 use Rattle.freelist_rules.proofs.Ordered.{ordered-length}
 
@@ -54,9 +54,9 @@ module _ (s : FreeListSettings) (t : Tables) where
   unfolding storeOf
   chunks-length = length-rows chunkRow (chunksIn t) (t .chunks)
 
-  pub regions-length : length (storeOf s t .regions) ≡ regionsIn s t
+  pub regions-length : length (storeOf s t .regions) ≡ regionsIn t
   unfolding storeOf
-  regions-length = length-rows regionRow (regionsIn s t) (t .room)
+  regions-length = length-rows regionRow (regionsIn t) (t .room)
 
   -- no more are on loan than places were ever used
   pub loans-length : length (storeOf s t .loans) ≤ placesIn t
@@ -76,35 +76,24 @@ module _ (s : FreeListSettings) (t : Tables) where
 -- ---- the regions written back
 
 module _ (s : FreeListSettings) (rs : List Region) (t : List ℕ) (fit : RegionsFit s t) (room : length rs ≤ regionsMost s) where
-  laid-length : length (laid regionRow rs t) ≡ regionCountAt s + 1
+  laid-length : length (laid regionRow rs t) ≡ roomWords s
   laid-length = length-laid regionRow rs t (omega (arith, fit .long)) ∙ fit .long
 
-  pub laid-long : length (laidRegions s rs t) ≡ regionCountAt s + 1
+  pub laid-long : length (laidRegions rs t) ≡ roomWords s
   unfolding laidRegions
-  laid-long = length-set (laid regionRow rs t) (regionCountAt s) (length rs) ∙ laid-length
+  laid-long = length-set (laid regionRow rs t) regionCountAt (length rs) ∙ laid-length
 
-  pub laid-count : getD (laidRegions s rs t) (regionCountAt s) 0 ≡ length rs
+  pub laid-count : getD (laidRegions rs t) regionCountAt 0 ≡ length rs
   unfolding laidRegions
-  laid-count = getD-set-same (laid regionRow rs t) (regionCountAt s) (length rs) 0 (omega (arith, laid-length))
+  laid-count = getD-set-same (laid regionRow rs t) regionCountAt (length rs) 0 (omega (arith, laid-length))
 
-  pub laid-fit : RegionsFit s (laidRegions s rs t)
+  pub laid-fit : RegionsFit s (laidRegions rs t)
   laid-fit = record { settings = fit .settings; long = laid-long; count = omega (arith, laid-count) }
 
-  -- the count stands past the records
-  laid-front : laidRegions s rs t ≡ flat regionRow rs ++ set (drop (3 * length rs) (laid regionRow rs t)) (regionCountAt s - 3 * length rs) (length rs)
+  -- the count stands in the table's own record
+  pub laid-regions : regionsOf (laidRegions rs t) ≡ rs
   unfolding laidRegions
-  laid-front =
-      let u : List ℕ = laid regionRow rs t in
-      let n : ℕ = 3 * length rs in
-      let e : n + (regionCountAt s - n) ≡ regionCountAt s = omega arith in
-      let v : List ℕ = set u (n + (regionCountAt s - n)) (length rs) in
-      let a : take n v ≡ flat regionRow rs = take-set-le n u (n + (regionCountAt s - n)) (length rs) (omega arith) ∙ take-at (flat regionRow rs) (drop n t) n (length-flat regionRow rs) in
-      ap (λ (k : ℕ). set u k (length rs)) (sym e)
-      ∙ sym (take-append-drop n v)
-      ∙ (λ j. a j ++ drop-set-add n u (regionCountAt s - n) (length rs) j)
-
-  pub laid-regions : regionsOf s (laidRegions s rs t) ≡ rs
   laid-regions =
-      ap (λ (k : ℕ). rows regionRow k (laidRegions s rs t)) laid-count
-      ∙ ap (λ (u : List ℕ). rows regionRow (length rs) u) laid-front
-      ∙ rows-flat regionRow rs (set (drop (3 * length rs) (laid regionRow rs t)) (regionCountAt s - 3 * length rs) (length rs))
+      ap (λ (k : ℕ). rows regionRow k (laidRegions rs t)) laid-count
+      ∙ rows-own regionRow (length rs) regionCountAt (length rs) (laid regionRow rs t) (omega arith) (omega (arith, laid-length))
+      ∙ rows-laid regionRow rs t (omega (arith, fit .long))

@@ -85,7 +85,7 @@ module _ (s : FreeListSettings) (t : Tables) (fit : FreeListIn s) where
       record {
         marked = eqb-true (getD (t .head) markAt 0) mark (at .0);
         chunks-fit = leb-true (chunksIn t) (s .store .chunks) (at .1 .0);
-        regions-fit = leb-true (regionsIn s t) (regionsMost s) (at .1 .1 .0);
+        regions-fit = leb-true (regionsIn t) (regionsMost s) (at .1 .1 .0);
         parted = decides-yes (vacantIn t) (vacantAfterIn t) (slabOf (placesIn t) (t .index)) (s .store .loans) (omega arith) (at .1 .1 .1 .0);
         chained = chained;
         store = sound-yes s (storeOf s t) fit (each-all (Walk.soundRow s (storeOf s t)) (sized .0, (numbers .0, (chunks .0, (loans-in-order (each .0), (fills, (differ .0, (once, tt))))))));
@@ -102,7 +102,7 @@ module _ (s : FreeListSettings) (t : Tables) (fit : FreeListIn s) where
         (
           le-leb (chunksIn t) (s .store .chunks) (S .chunks-fit),
           (
-            le-leb (regionsIn s t) (regionsMost s) (S .regions-fit),
+            le-leb (regionsIn t) (regionsMost s) (S .regions-fit),
             (
               decides-all (vacantIn t) (vacantAfterIn t) (slabOf (placesIn t) (t .index)) (s .store .loans) (S .parted),
               (

@@ -50,21 +50,26 @@ chunksAt = 5
 abbrev pub headWords : ℕ
 headWords = 6
 
--- ---- lengths: "free-list regions: loans + chunks, so a return always has room"; the regions' count is the last word
+-- ---- the regions' own record: how many there are
+
+abbrev pub regionCountAt : ℕ
+regionCountAt = 1
+
+-- ---- lengths: "free-list regions: loans + chunks, so a return always has room"
 
 abbrev pub regionsMost : FreeListSettings → ℕ
 regionsMost s = s .store .loans + s .store .chunks
 
-abbrev pub regionCountAt : FreeListSettings → ℕ
-regionCountAt s = regionWords * regionsMost s
+abbrev pub roomWords : FreeListSettings → ℕ
+roomWords s = regionWords + regionWords * regionsMost s
 
 abbrev pub lengthsRow : FreeListSettings → Tables → List Bool
 lengthsRow s t =
     eqb (length (t .head)) headWords
-    ∷ eqb (length (t .loans)) (loanWords * s .store .loans)
-    ∷ eqb (length (t .chunks)) (chunkWords * s .store .chunks)
+    ∷ eqb (length (t .loans)) (loanWords + loanWords * s .store .loans)
+    ∷ eqb (length (t .chunks)) (chunkWords + chunkWords * s .store .chunks)
     ∷ eqb (length (t .index)) (indexWords (s .store .loans))
-    ∷ eqb (length (t .room)) (regionCountAt s + 1)
+    ∷ eqb (length (t .room)) (roomWords s)
     ∷ []
 
 unfoldable pub lengthsOk : FreeListSettings → Tables → Bool
@@ -73,10 +78,10 @@ lengthsOk s t = all (lengthsRow s t)
 -- the same as facts
 pub record Lengths (s : FreeListSettings) (t : Tables) : Type 0 where
   pub head : length (t .head) ≡ headWords
-  pub loans : length (t .loans) ≡ loanWords * s .store .loans
-  pub chunks : length (t .chunks) ≡ chunkWords * s .store .chunks
+  pub loans : length (t .loans) ≡ loanWords + loanWords * s .store .loans
+  pub chunks : length (t .chunks) ≡ chunkWords + chunkWords * s .store .chunks
   pub index : length (t .index) ≡ indexWords (s .store .loans)
-  pub room : length (t .room) ≡ regionCountAt s + 1
+  pub room : length (t .room) ≡ roomWords s
 
 -- ---- the store that the tables hold
 
@@ -86,8 +91,8 @@ placesIn t = getD (t .head) placesAt 0
 abbrev pub chunksIn : Tables → ℕ
 chunksIn t = getD (t .head) chunksAt 0
 
-abbrev pub regionsIn : FreeListSettings → Tables → ℕ
-regionsIn s t = getD (t .room) (regionCountAt s) 0
+abbrev pub regionsIn : Tables → ℕ
+regionsIn t = getD (t .room) regionCountAt 0
 
 -- loans put in order by chunk and place
 unfoldable pub ordered : List Loan → List Loan
@@ -102,7 +107,7 @@ storeOf s t =
       size = getD (t .head) chunkSizeAt 0;
       loans = ordered (loansOf (placesIn t) (t .loans));
       chunks = rows chunkRow (chunksIn t) (t .chunks);
-      regions = rows regionRow (regionsIn s t) (t .room);
+      regions = rows regionRow (regionsIn t) (t .room);
     }
 
 -- ---- soundness of the tables
@@ -125,7 +130,7 @@ chainNext t p = getD (t .index) (nextOf p) 0
 pub record SoundTables (s : FreeListSettings) (t : Tables) : Type 0 where
   pub marked : getD (t .head) markAt 0 ≡ mark
   pub chunks-fit : chunksIn t ≤ s .store .chunks
-  pub regions-fit : regionsIn s t ≤ regionsMost s
+  pub regions-fit : regionsIn t ≤ regionsMost s
   pub parted : Parted (vacantIn t) (vacantAfterIn t) (slabOf (placesIn t) (t .index)) (s .store .loans)
   pub chained : Chained (vacantIn t) (chainStart t) (chainNext t) (serialOf (t .loans)) (s .store .loans) (placesIn t) (getD (t .head) givenAt 0)
   pub store : Sound s (storeOf s t)
@@ -142,7 +147,7 @@ abbrev pub soundRow : FreeListSettings → Tables → List Bool
 soundRow s t =
     eqb (getD (t .head) markAt 0) mark
     ∷ leb (chunksIn t) (s .store .chunks)
-    ∷ leb (regionsIn s t) (regionsMost s)
+    ∷ leb (regionsIn t) (regionsMost s)
     ∷ partedIn s t
     ∷ chainedIn s t
     ∷ sizedOk s (storeOf s t .size)
@@ -158,15 +163,15 @@ soundOk s t = all (soundRow s t)
 
 -- ---- the regions written back: the records from the front, and their count
 
-unfoldable pub laidRegions : FreeListSettings → List Region → List ℕ → List ℕ
-laidRegions s rs t = set (laid regionRow rs t) (regionCountAt s) (length rs)
+unfoldable pub laidRegions : List Region → List ℕ → List ℕ
+laidRegions rs t = set (laid regionRow rs t) regionCountAt (length rs)
 
 -- the regions that a table holds
-abbrev pub regionsOf : FreeListSettings → List ℕ → List Region
-regionsOf s t = rows regionRow (getD t (regionCountAt s) 0) t
+abbrev pub regionsOf : List ℕ → List Region
+regionsOf t = rows regionRow (getD t regionCountAt 0) t
 
 -- settings in 01's table, and a table of regions of the right length with a count within it
 pub record RegionsFit (s : FreeListSettings) (t : List ℕ) : Type 0 where
   pub settings : FreeListIn s
-  pub long : length t ≡ regionCountAt s + 1
-  pub count : getD t (regionCountAt s) 0 ≤ regionsMost s
+  pub long : length t ≡ roomWords s
+  pub count : getD t regionCountAt 0 ≤ regionsMost s

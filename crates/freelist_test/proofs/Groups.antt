@@ -24,7 +24,7 @@ use Rattle.store_rules.specs.declared.Loan.{Loan}
 use Rattle.rounding_rules.proofs.Masks.{masked}
 use Rattle.book_rules.specs.Book.{entryWords, vacatedAt, vacantAfterAt, nextOf, serialOf, firstIn}
 use Rattle.book_rules.specs.Chains.{chainsOk}
-use Rattle.freelist_rules.specs.Records.{chunkRow}
+use Rattle.freelist_rules.specs.Records.{chunkRow, chunkMemoryAt, chunkWords}
 use Rattle.freelist_rules.specs.Pieces.{All}
 use Rattle.freelist_rules.specs.Tables.{tables, mark, markAt, givenAt, placesAt, chunksAt, regionsMost, partedIn}
 use Rattle.freelist_rules.specs.Walk.{sizedOk, numbersRise, chunkOk, loanOk, apart, memories}
@@ -35,16 +35,16 @@ use Rattle.freelist_test.specs.Parts.{counted, headOk, bookOk, eachOk, c
 
 -- ---- the memories, as the code reads them
 
-memories-from : (t : List ℕ) (i k : ℕ) → columnFrom t 1 3 i k ≡ memories (rows chunkRow k (drop (3 * i) t))
+memories-from : (t : List ℕ) (i k : ℕ) → columnFrom t chunkMemoryAt chunkWords i k ≡ memories (rows chunkRow k (drop (3 * i) t))
 memories-from t i zero = refl
 memories-from t i (suc k) =
     let e : 3 * i + 3 ≡ 3 * suc i = omega arith in
-    rw (cell-row t 1 3 i, memories-from t (suc i) k, drop-drop, e)
+    rw (cell-row t chunkMemoryAt chunkWords i, memories-from t (suc i) k, drop-drop, e)
 
-memories-read : (t : List ℕ) (k : ℕ) → column t 1 3 k ≡ memories (rows chunkRow k t)
+memories-read : (t : List ℕ) (k : ℕ) → column t chunkMemoryAt chunkWords k ≡ memories (rows chunkRow k t)
 memories-read t k = memories-from t 0 k
 
-pub apart-told : (t : List ℕ) (k : ℕ) (r : Bool) → (r ≡ true → Distinct (column t 1 3 k)) → (Distinct (column t 1 3 k) → r ≡ true) → r ≡ apart (memories (rows chunkRow k t))
+pub apart-told : (t : List ℕ) (k : ℕ) (r : Bool) → (r ≡ true → Distinct (column t chunkMemoryAt chunkWords k)) → (Distinct (column t chunkMemoryAt chunkWords k) → r ≡ true) → r ≡ apart (memories (rows chunkRow k t))
 apart-told t k r f g =
     same-test r (apart (memories (rows chunkRow k t)))
     (λ e. apart-all (memories (rows chunkRow k t)) (rw (memories-read t k) at (f e)))

@@ -33,14 +33,14 @@ module _ (s : FreeListSettings) (head loans chunks regions index : List ℕ) whe
   fillsPart k p n = fillsOk (rows chunkRow k chunks) (ordered (loansOf p loans)) (rows regionRow n regions)
 
   -- the row is its groups
-  parts : whole ≡ (headOk s head (getD regions (regionCountAt s) 0) && (bookOk s head loans index && (chunksPart (getD head madeAt 0) (getD head chunkSizeAt 0) (getD head chunksAt 0)
-      && (loansPart (getD head givenAt 0) (getD head placesAt 0) && fillsPart (getD head chunksAt 0) (getD head placesAt 0) (getD regions (regionCountAt s) 0)))))
+  parts : whole ≡ (headOk s head (getD regions regionCountAt 0) && (bookOk s head loans index && (chunksPart (getD head madeAt 0) (getD head chunkSizeAt 0) (getD head chunksAt 0)
+      && (loansPart (getD head givenAt 0) (getD head placesAt 0) && fillsPart (getD head chunksAt 0) (getD head placesAt 0) (getD regions regionCountAt 0)))))
   unfolding soundOk storeOf headOk bookOk chunksOk eachOk chunkOk loanOk
   parts =
       regroup
       (eqb (getD head markAt 0) mark)
       (leb (getD head chunksAt 0) (s .store .chunks))
-      (leb (getD regions (regionCountAt s) 0) (regionsMost s))
+      (leb (getD regions regionCountAt 0) (regionsMost s))
       (partedIn s (tables head loans [] index []))
       (chainedIn s (tables head loans [] index []))
       (sizedOk s (getD head chunkSizeAt 0))
@@ -48,11 +48,11 @@ module _ (s : FreeListSettings) (head loans chunks regions index : List ℕ) whe
       (allOk (chunkOk s (counted 0 (getD head madeAt 0) (getD head chunkSizeAt 0))) (rows chunkRow (getD head chunksAt 0) chunks))
       (apart (memories (rows chunkRow (getD head chunksAt 0) chunks)))
       (loansPart (getD head givenAt 0) (getD head placesAt 0))
-      (fillsPart (getD head chunksAt 0) (getD head placesAt 0) (getD regions (regionCountAt s) 0))
+      (fillsPart (getD head chunksAt 0) (getD head placesAt 0) (getD regions regionCountAt 0))
 
   -- one group after the other, with what the code has read and was told
-  module _ (n : ℕ) (hd : Bool) (ns : n ≡ getD regions (regionCountAt s) 0) (hs : hd ≡ headOk s head n) where
-    head-is : headOk s head (getD regions (regionCountAt s) 0) ≡ hd
+  module _ (n : ℕ) (hd : Bool) (ns : n ≡ getD regions regionCountAt 0) (hs : hd ≡ headOk s head n) where
+    head-is : headOk s head (getD regions regionCountAt 0) ≡ hd
     head-is = sym (hs ∙ ap (headOk s head) ns)
 
     pub head-fails : hd ≡ false → false ≡ whole

@@ -27,7 +27,7 @@ pub fn is_sound(
     requires { ⌜ FreeListIn s × (lengthsOk s (tables (now head) (now loans) (now chunks) (now index) (now regions)) ≡ true) ⌝ }
     ensures { λ r. ⌜ r ≡ soundOk s (tables (now (head .entry)) (now (loans .entry)) (now (chunks .entry)) (now (index .entry)) (now (regions .entry))) ⌝ }
 {
-    let n = freelist_regions::region_count(s, regions);
+    let n = freelist_regions::region_count(regions);
     if !heads::is_head(s, head, n as u64) {
         return false;
     }

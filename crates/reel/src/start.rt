@@ -56,17 +56,17 @@ fn free_list_lengths(loans: usize, chunks: usize) -> Lengths
     requires { ⌜ loans ≤ 512 ⌝ }
     requires { ⌜ chunks ≤ 64 ⌝ }
     ensures { λ r. ⌜ r .head ≤ 6 ⌝ }
-    ensures { λ r. ⌜ r .loans ≤ 4 * loans ⌝ }
-    ensures { λ r. ⌜ r .chunks ≤ 3 * chunks ⌝ }
-    ensures { λ r. ⌜ r .index ≤ 1 + 3 * loans ⌝ }
-    ensures { λ r. ⌜ r .own ≤ 3 * (loans + chunks) + 1 ⌝ }
+    ensures { λ r. ⌜ r .loans ≤ 4 + 4 * loans ⌝ }
+    ensures { λ r. ⌜ r .chunks ≤ 3 + 3 * chunks ⌝ }
+    ensures { λ r. ⌜ r .index ≤ 3 + 3 * loans ⌝ }
+    ensures { λ r. ⌜ r .own ≤ 3 + 3 * (loans + chunks) ⌝ }
 {
     Lengths {
         head: freelist_rules::HEAD_WORDS,
-        loans: store_rules::LOAN_WORDS * loans,
-        chunks: freelist_rules::CHUNK_WORDS * chunks,
-        index: 1 + book::ENTRY_WORDS * loans,
-        own: freelist_rules::REGION_WORDS * (loans + chunks) + 1,
+        loans: store_rules::LOAN_WORDS + store_rules::LOAN_WORDS * loans,
+        chunks: freelist_rules::CHUNK_WORDS + freelist_rules::CHUNK_WORDS * chunks,
+        index: book::ENTRY_WORDS + book::ENTRY_WORDS * loans,
+        own: freelist_rules::REGION_WORDS + freelist_rules::REGION_WORDS * (loans + chunks),
     }
 }
 
@@ -75,16 +75,16 @@ fn buddy_lengths(loans: usize, chunks: usize, pairs: usize) -> Lengths
     requires { ⌜ chunks ≤ 64 ⌝ }
     requires { ⌜ pairs ≤ 256 ⌝ }
     ensures { λ r. ⌜ r .head ≤ 6 ⌝ }
-    ensures { λ r. ⌜ r .loans ≤ 4 * loans ⌝ }
-    ensures { λ r. ⌜ r .chunks ≤ 3 * chunks ⌝ }
-    ensures { λ r. ⌜ r .index ≤ 1 + 3 * loans ⌝ }
-    ensures { λ r. ⌜ r .own ≤ 256 * (1 + pairs) + 3 * (loans + chunks) + 1 ⌝ }
+    ensures { λ r. ⌜ r .loans ≤ 4 + 4 * loans ⌝ }
+    ensures { λ r. ⌜ r .chunks ≤ 3 + 3 * chunks ⌝ }
+    ensures { λ r. ⌜ r .index ≤ 3 + 3 * loans ⌝ }
+    ensures { λ r. ⌜ r .own ≤ 256 * (1 + pairs) + 16 + 3 * loans + 8 * chunks ⌝ }
 {
     Lengths {
         head: buddy_rules::HEAD_WORDS,
-        loans: store_rules::LOAN_WORDS * loans,
-        chunks: buddy_rules::CHUNK_WORDS * chunks,
-        index: 1 + book::ENTRY_WORDS * loans,
+        loans: store_rules::LOAN_WORDS + store_rules::LOAN_WORDS * loans,
+        chunks: buddy_rules::CHUNK_WORDS + buddy_rules::CHUNK_WORDS * chunks,
+        index: book::ENTRY_WORDS + book::ENTRY_WORDS * loans,
         own: buddy_levels::nodes_from(pairs, chunks) + loans,
     }
 }
@@ -95,10 +95,10 @@ pub fn table_lengths(settings: Settings, most: Limits) -> Lengths
     requires { ⌜ most .chunks ≤ 64 ⌝ }
     requires { ⌜ most .pairs ≤ 256 ⌝ }
     ensures { λ r. ⌜ r .head ≤ 6 ⌝ }
-    ensures { λ r. ⌜ r .loans ≤ 4 * (most .loans) ⌝ }
-    ensures { λ r. ⌜ r .chunks ≤ 3 * (most .chunks) ⌝ }
-    ensures { λ r. ⌜ r .index ≤ 1 + 3 * (most .loans) ⌝ }
-    ensures { λ r. ⌜ r .own ≤ 256 * (1 + most .pairs) + 3 * (most .loans + most .chunks) + 1 ⌝ }
+    ensures { λ r. ⌜ r .loans ≤ 4 + 4 * (most .loans) ⌝ }
+    ensures { λ r. ⌜ r .chunks ≤ 3 + 3 * (most .chunks) ⌝ }
+    ensures { λ r. ⌜ r .index ≤ 3 + 3 * (most .loans) ⌝ }
+    ensures { λ r. ⌜ r .own ≤ 256 * (1 + most .pairs) + 16 + 3 * (most .loans) + 8 * (most .chunks) ⌝ }
 {
     let store = store_of(settings);
     let loans = least(store.loans, most.loans);

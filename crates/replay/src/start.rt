@@ -2,6 +2,7 @@
 use crate::run::run;
 use buddy_levels::HEADER_WORDS;
 use buddy_levels::PAIR_WORDS;
+use buddy_rules::PLACE_WORDS;
 use counter::CHUNKS_MOST;
 use counter::LEVELS_MOST;
 use counter::LOANS_MOST;
@@ -14,17 +15,20 @@ use reel::Limits;
 use reel::Settings;
 
 // each table at the greatest limits, in words, for either engine: a free list's head and chunks are the longer
-const LOANS_WORDS: usize = store_rules::LOAN_WORDS * LOANS_MOST;
+const LOANS_WORDS: usize = store_rules::LOAN_WORDS + store_rules::LOAN_WORDS * LOANS_MOST;
 
-const CHUNKS_WORDS: usize = CHUNK_WORDS * CHUNKS_MOST;
+const CHUNKS_WORDS: usize = CHUNK_WORDS + CHUNK_WORDS * CHUNKS_MOST;
 
-const INDEX_WORDS: usize = 1 + book::ENTRY_WORDS * LOANS_MOST;
+const INDEX_WORDS: usize = book::ENTRY_WORDS + book::ENTRY_WORDS * LOANS_MOST;
 
-// a buddy store's levels; and regions, which are more than the rest of a tree
-const REGIONS_WORDS: usize = REGION_WORDS * (LOANS_MOST + CHUNKS_MOST) + 1;
+// a buddy store's tree, which is longer than the regions: its own record, the levels, the chunk places with theirs; and three words
+// for each loan
+const TREE_WORDS: usize = buddy_levels::OWN_WORDS
+    + (HEADER_WORDS + PAIR_WORDS * PAIRS_MOST) * (LEVELS_MOST as usize)
+    + PLACE_WORDS
+    + PLACE_WORDS * CHUNKS_MOST;
 
-const OWN_WORDS: usize = (HEADER_WORDS + PAIR_WORDS * PAIRS_MOST) * (LEVELS_MOST as usize)
-    + REGIONS_WORDS;
+const ROOM_WORDS: usize = TREE_WORDS + REGION_WORDS * LOANS_MOST;
 
 pub fn begin(fd: i32, s: Settings, heap_size: u64, objects: u32) {
     let most = Limits {
@@ -42,7 +46,7 @@ pub fn begin(fd: i32, s: Settings, heap_size: u64, objects: u32) {
     let mut loans = [0u64; LOANS_WORDS];
     let mut chunks = [0u64; CHUNKS_WORDS];
     let mut index = [0u64; INDEX_WORDS];
-    let mut own = [0u64; OWN_WORDS];
+    let mut own = [0u64; ROOM_WORDS];
     replay(
         fd,
         s,

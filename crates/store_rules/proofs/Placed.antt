@@ -78,7 +78,7 @@ place-loan n t p h e =
 
 -- ---- among the records of a table
 
-module _ (n p : ℕ) (t : List ℕ) (h : p < n) (long : loanWords * n ≤ length t) where
+module _ (n p : ℕ) (t : List ℕ) (h : p < n) (long : loanWords + loanWords * n ≤ length t) where
   abbrev all : List Loan
   all = rows loanRow n t
 
@@ -112,7 +112,7 @@ module _ (n p : ℕ) (t : List ℕ) (h : p < n) (long : loanWords * n ≤ length
       let z : gone .size ≡ 0 = getD-set-same (drop (loanWords * p) t) sizeAt 0 0 (simp length-drop (omega arith)) in
       let v : eqb (gone .size) 0 ≡ true = eq-eqb (gone .size) 0 z in
       let e : rows loanRow n (set t (cellOf sizeAt loanWords p) 0) ≡ set all p gone =
-      ap (rows loanRow n) (stored-at loanRow n p sizeAt 0 t h long (omega arith))
-      ∙ rows-after loanRow n (set all p gone) t (length-set all p gone ∙ length-rows loanRow n t) in
+      ap (rows loanRow n) (stored-at loanRow n p sizeAt 0 t h long (omega arith) (omega arith))
+      ∙ rows-after loanRow n (set all p gone) t long (length-set all p gone ∙ length-rows loanRow n t) in
       let f : onLoan (gone ∷ drop (suc p) all) ≡ later = rw v in
       ap onLoan (e ∙ set-split all p gone inside) ∙ on-loan-append (take p all) (gone ∷ drop (suc p) all) ∙ ap (λ (xs : List Loan). earlier ++ xs) f

@@ -4,16 +4,16 @@ use counter::Heap;
 use counter::OpenOrder;
 use counter::ReleaseAnswer;
 
-// How many words a loan takes in a table, and which is which; specs/Loans has the same names.
+// How many words a loan takes in a table, and where those of the one at place 0 stand; specs/Loans has the same names.
 pub const LOAN_WORDS: usize = 4;
 
-pub const SERIAL_AT: usize = 0;
+pub const SERIAL_AT: usize = 4;
 
-pub const CHUNK_AT: usize = 1;
+pub const CHUNK_AT: usize = 5;
 
-pub const OFFSET_AT: usize = 2;
+pub const OFFSET_AT: usize = 6;
 
-pub const SIZE_AT: usize = 3;
+pub const SIZE_AT: usize = 7;
 
 // A block on loan. 01: "A block carries serial, chunk, offset, size."
 pub struct Loan {

@@ -2,4 +2,5 @@
 pub mod Cells
 pub mod Filled
 pub mod Moved
+pub mod Packed
 pub mod Records

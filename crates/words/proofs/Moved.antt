@@ -153,7 +153,7 @@ both-fit a b room h = by (leb a room) refl
 pub one-leaves : (a b room : ℕ) → (leb a room && leb b room) ≡ false → a ≤ room → room < b
 one-leaves a b room h k = leb-false b room (rw (le-leb a room k) at h)
 
--- ---- room closed and opened among n records of w words
+-- ---- room closed and opened among n records of w words behind the table's own
 
 pub record-and-next : (w i : ℕ) → w * (i + 1) ≡ w * i + w
 record-and-next w i = rw add-one (mul-suc w i)
@@ -179,7 +179,7 @@ module _ (w n i : ℕ) (t : List ℕ) where
   closed-none h = moved-none t _ _ _ (no-records w _ (omega arith))
 
   -- the records leave the table
-  pub closed-out : length t < w * n → closed w n i t ≡ t
+  pub closed-out : length t < w + w * n → closed w n i t ≡ t
   closed-out h = by (ltb i n) refl
     where
       by : (b : Bool) → ltb i n ≡ b → closed w n i t ≡ t
@@ -191,7 +191,7 @@ module _ (w n i : ℕ) (t : List ℕ) where
   opened-none h = moved-none t _ _ _ (no-records w _ (omega arith))
 
   -- the records and one more leave the table
-  pub opened-out : length t < w * n + w → opened w n i t ≡ t
+  pub opened-out : length t < w + w * n + w → opened w n i t ≡ t
   opened-out h = by (ltb i n) refl
     where
       by : (b : Bool) → ltb i n ≡ b → opened w n i t ≡ t

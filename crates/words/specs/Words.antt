@@ -23,10 +23,10 @@ cellOf at w i = at + w * i
 unfoldable pub moved : ℕ → ℕ → ℕ → List ℕ → List ℕ
 moved src dst m t = cond (leb (src + m) (length t) && leb (dst + m) (length t)) (paste t dst (drop src t) m) t
 
--- of n records of w words, those past the i-th go down by one: the i-th is gone
+-- of n records of w words behind the table's own, those past the i-th go down by one: the i-th is gone
 abbrev pub closed : ℕ → ℕ → ℕ → List ℕ → List ℕ
-closed w n i t = moved (w * (i + 1)) (w * i) (w * (n - i - 1)) t
+closed w n i t = moved (w + w * i + w) (w + w * i) (w * (n - i - 1)) t
 
--- of n records of w words, those from the i-th on go up by one: there is room at i
+-- of n records of w words behind the table's own, those from the i-th on go up by one: there is room at i
 abbrev pub opened : ℕ → ℕ → ℕ → List ℕ → List ℕ
-opened w n i t = moved (w * i) (w * i + w) (w * (n - i)) t
+opened w n i t = moved (w + w * i) (w + w * i + w) (w * (n - i)) t

@@ -1,4 +1,4 @@
-// Room made and closed among records of one width, densely from the front of a lent table.
+// Room made and closed among records of one width, densely behind a lent table's own.
 ghost use mathlib.Core.Path.{_≡_};
 ghost use Prim.Native.Nat.{_≤_, _<_};
 ghost use Rattle.words.specs.Words.{widest, closed, opened};
@@ -10,7 +10,7 @@ pub fn close_row(t: &mut [u64], w: usize, n: usize, i: usize)
 {
     if n <= t.len() {
         if i < n {
-            let at = w * i;
+            let at = w + w * i;
             crate::moves::shift(t, at + w, at, w * (n - i - 1));
         }
     }
@@ -23,7 +23,7 @@ pub fn open_row(t: &mut [u64], w: usize, n: usize, i: usize)
 {
     if n <= t.len() {
         if i <= n {
-            let at = w * i;
+            let at = w + w * i;
             crate::moves::shift(t, at, at + w, w * (n - i));
         }
     }

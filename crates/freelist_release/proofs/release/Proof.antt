@@ -3,9 +3,6 @@ use Rattle.freelist_release.proofs.Freeing.{drop-fits, drop-ready, gone
 use Rattle.freelist_release.proofs.release.Statement.{statement}
 use Rattle.freelist_release.proofs.release.Tie as tie
 
-count-at-requires : tie.Need-count-at-requires
-count-at-requires c κs = search needs
-
 word-requires : tie.Need-word-requires
 word-requires c κs = search needs
 
@@ -16,10 +13,9 @@ drop-chunks-requires : tie.Need-drop-chunks-requires
 drop-chunks-requires c κs =
     let n = c .before .before .before in
     let k = n .before .before in
-    let at = k .before .before in
-    let b = at .before .before .before .before .before in
+    let b = k .before .before .before .before .before .before in
     let a = b .args in
-    (drop-fits (a .s) (a .spare) (a .head .now) (a .chunks .now) (a .regions .now) (a .list .now) _ _ _ (at .count-at .ensures) (k .word .ensures) (n .word2 .ensures) (b .pre), drop-ready (a .s) (a .spare) (a .head .now) (a .chunks .now) (a .regions .now) (a .list .now) _ _ _ (at .count-at .ensures) (k .word .ensures) (n .word2 .ensures) (b .pre))
+    (drop-fits (a .s) (a .spare) (a .head .now) (a .chunks .now) (a .regions .now) (a .list .now) _ _ (k .word .ensures) (n .word2 .ensures) (b .pre), drop-ready (a .s) (a .spare) (a .head .now) (a .chunks .now) (a .regions .now) (a .list .now) _ _ (k .word .ensures) (n .word2 .ensures) (b .pre))
 
 put-requires : tie.Need-put-requires
 put-requires c κs = search needs
@@ -46,18 +42,16 @@ returns c =
     let g = h .before .before .before .before .before .before .before .before in
     let n = g .before .before .before .before in
     let k = n .before .before in
-    let at = k .before .before in
-    let a = at .before .before .before .before .before .args in
+    let a = k .before .before .before .before .before .before .args in
     let e = g .drop-chunks .ensures in
     let b = e .1 .1 in
     let l = b .1 .1 .1 in
-    (gone-count (a .s) (a .spare) (a .head .now) (a .chunks .now) (a .regions .now) (a .list .now) _ _ _ (at .count-at .ensures) (k .word .ensures) (n .word2 .ensures) _ (e .0), (gone-bytes (a .s) (a .spare) (a .head .now) (a .chunks .now) (a .regions .now) (a .list .now) _ _ _ (at .count-at .ensures) (k .word .ensures) (n .word2 .ensures) _ (e .1 .0), (gone-tables (a .s) (a .spare) (a .head .now) (a .chunks .now) (a .regions .now) (a .list .now) _ _ _ (at .count-at .ensures) (k .word .ensures) (n .word2 .ensures) _ _ _ _ _ _ (b .0) (b .1 .0) (b .1 .1 .0) (l .0) (h .put .ensures) (r .put2 .ensures), gone-list (a .s) (a .spare) (a .head .now) (a .chunks .now) (a .regions .now) (a .list .now) _ _ _ (at .count-at .ensures) (k .word .ensures) (n .word2 .ensures) _ (l .1))))
+    (gone-count (a .s) (a .spare) (a .head .now) (a .chunks .now) (a .regions .now) (a .list .now) _ _ (k .word .ensures) (n .word2 .ensures) _ (e .0), (gone-bytes (a .s) (a .spare) (a .head .now) (a .chunks .now) (a .regions .now) (a .list .now) _ _ (k .word .ensures) (n .word2 .ensures) _ (e .1 .0), (gone-tables (a .s) (a .spare) (a .head .now) (a .chunks .now) (a .regions .now) (a .list .now) _ _ (k .word .ensures) (n .word2 .ensures) _ _ _ _ _ _ (b .0) (b .1 .0) (b .1 .1 .0) (l .0) (h .put .ensures) (r .put2 .ensures), gone-list (a .s) (a .spare) (a .head .now) (a .chunks .now) (a .regions .now) (a .list .now) _ _ (k .word .ensures) (n .word2 .ensures) _ (l .1))))
 
 pub release-spec : {M : Type 1} → statement M
 release-spec =
     tie.close
     (tie.spec
-    count-at-requires
     word-requires
     word-requires-2
     drop-chunks-requires

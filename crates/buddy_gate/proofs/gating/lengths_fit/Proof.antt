@@ -10,17 +10,23 @@ nodes-from-requires c κs = search needs
 mul-result : tie.Need-mul-result
 mul-result c = search needs
 
+add-result : tie.Need-add-result
+add-result c = search needs
+
 mul-result-2 : tie.Need-mul-result-2
 mul-result-2 c = search needs
+
+add-result-2 : tie.Need-add-result-2
+add-result-2 c = search needs
 
 mul-result-3 : tie.Need-mul-result-3
 mul-result-3 c = search needs
 
-add-result : tie.Need-add-result
-add-result c = search needs
+add-result-3 : tie.Need-add-result-3
+add-result-3 c = search needs
 
-add-result-2 : tie.Need-add-result-2
-add-result-2 c = search needs
+add-result-4 : tie.Need-add-result-4
+add-result-4 c = search needs
 
 returns : tie.Need-returns
 returns c =
@@ -34,8 +40,10 @@ lengths-fit-spec =
     (tie.spec
     nodes-from-requires
     mul-result
-    mul-result-2
-    mul-result-3
     add-result
+    mul-result-2
     add-result-2
+    mul-result-3
+    add-result-3
+    add-result-4
     returns)

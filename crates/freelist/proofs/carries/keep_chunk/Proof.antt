@@ -5,8 +5,7 @@ use Rattle.freelist.proofs.carries.keep_chunk.Statement.{statement}
 use Rattle.freelist.proofs.carries.keep_chunk.Tie as tie
 
 region-count-requires : tie.Need-region-count-requires
-region-count-requires c κs =
-    c .before .before .before .before .before .before .before .before .pre .adds .fit .settings
+region-count-requires c κs = search needs
 
 sub-lower-to-unit : tie.Need-sub-lower-to-unit
 sub-lower-to-unit c =

@@ -4,9 +4,6 @@ use Rattle.freelist_place.proofs.Counting.{few, appended-done}
 use Rattle.freelist_place.proofs.counted.append.Statement.{statement}
 use Rattle.freelist_place.proofs.counted.append.Tie as tie
 
-count-at-requires : tie.Need-count-at-requires
-count-at-requires c κs = search needs
-
 word-requires : tie.Need-word-requires
 word-requires c κs = search needs
 
@@ -16,8 +13,8 @@ put-region-requires c κs = search needs
 add-put : tie.Need-add-put
 add-put c =
     let w = c .before .before .before .before .before in
-    let b = w .before .before .before .before in
-    let h = few (b .args .s) (b .args .regions .now) (b .pre .0) _ _ (w .before .before .count-at .ensures) (w .word .ensures) in
+    let b = w .before .before .before in
+    let h = few (b .args .s) (b .args .regions .now) (b .pre .0) _ (w .word .ensures) in
     search needs
 
 put-requires : tie.Need-put-requires
@@ -29,14 +26,13 @@ same-length c = search needs
 returns : tie.Need-returns
 returns c =
     let w = c .before .before .before .before .before .before .before .before in
-    let b = w .before .before .before .before in
-    appended-done (b .args .s) (b .args .regions .now) (b .pre .0) _ _ (w .before .before .count-at .ensures) (w .word .ensures) (b .args .r) _ _ _ (b .pre .1) (c .before .before .before .before .before .before .put-region .ensures) refl (c .before .before .put .ensures)
+    let b = w .before .before .before in
+    appended-done (b .args .s) (b .args .regions .now) (b .pre .0) _ (w .word .ensures) (b .args .r) _ _ _ (b .pre .1) (c .before .before .before .before .before .before .put-region .ensures) refl (c .before .before .put .ensures)
 
 pub append-spec : {M : Type 1} → statement M
 append-spec =
     tie.close
     (tie.spec
-    count-at-requires
     word-requires
     put-region-requires
     add-put

@@ -19,7 +19,7 @@ abbrev μ-loop : tie.MeasureT-loop
 loop-holds : tie.Need-loop-holds Inv-loop μ-loop
 loop-holds c =
     let a = c .before .before .args in
-    (omega arith, kept-none chunkRow (unlisted (take (a .m) (a .list .now))) (rows chunkRow (a .k) (a .chunks .now)) (a .chunks .now))
+    (omega arith, kept-none chunkRow (unlisted (take (a .m) (a .list .now))) (rows chunkRow (a .k) (a .chunks .now)) (a .chunks .now) (omega (arith, c .before .before .pre .0)))
 
 chunk-at-requires : tie.Need-chunk-at-requires Inv-loop μ-loop
 chunk-at-requires c κs = search needs
@@ -38,9 +38,10 @@ loop-again c =
     let g = c .before in
     let r = g .before in
     let l = r .before .before .before in
-    let a = l .before .before .before .args in (
+    let s = l .before .before .before in
+    let a = s .args in (
       omega arith,
-      chunk-past (take (a .m) (a .list .now)) (a .chunks .now) (a .k) (l .loop .chunks) (l .loop .i) (l .loop .kept) (l .loop .inv .1) (search needs) (r .chunk-at .result) (r .chunk-at .ensures) _ (g .is-listed .ensures) (c .if1 .taken),
+      chunk-past (take (a .m) (a .list .now)) (a .chunks .now) (a .k) (l .loop .chunks) (l .loop .i) (l .loop .kept) (l .loop .inv .1) (search needs) (s .pre .0) (r .chunk-at .result) (r .chunk-at .ensures) _ (g .is-listed .ensures) (c .if1 .taken),
     )
 
 put-chunk-requires : tie.Need-put-chunk-requires Inv-loop μ-loop
@@ -65,7 +66,7 @@ loop-again-2 c =
     let s = l .before .before .before in
     let a = s .args in (
       omega arith,
-      chunk-more (take (a .m) (a .list .now)) (a .chunks .now) (a .k) (l .loop .chunks) (l .loop .i) (l .loop .kept) (l .loop .inv .1) (search needs) (r .chunk-at .result) (r .chunk-at .ensures) _ (g .is-listed .ensures) (f .if1 .left) (s .pre .0) _ (p .put-chunk .ensures),
+      chunk-more (take (a .m) (a .list .now)) (a .chunks .now) (a .k) (l .loop .chunks) (l .loop .i) (l .loop .kept) (l .loop .inv .1) (search needs) (s .pre .0) (r .chunk-at .result) (r .chunk-at .ensures) _ (g .is-listed .ensures) (f .if1 .left) _ (p .put-chunk .ensures),
     )
 
 same-length : tie.Need-same-length Inv-loop μ-loop

@@ -18,7 +18,7 @@ abbrev μ-loop : tie.MeasureT-loop
 loop-holds : tie.Need-loop-holds Inv-loop μ-loop
 loop-holds c =
     let a = c .before .before .args in
-    (omega arith, kept-none regionRow (staying (rows chunkRow (a .k) (a .chunks .now)) (a .spare)) (rows regionRow (a .n) (a .regions .now)) (a .regions .now))
+    (omega arith, kept-none regionRow (staying (rows chunkRow (a .k) (a .chunks .now)) (a .spare)) (rows regionRow (a .n) (a .regions .now)) (a .regions .now) (omega (arith, c .before .before .pre .0)))
 
 add-goes-at : tie.Need-add-goes-at Inv-loop μ-loop
 add-goes-at c = search needs
@@ -36,9 +36,10 @@ loop-again : tie.Need-loop-again Inv-loop μ-loop
 loop-again c =
     let g = c .before in
     let l = g .before .before .before in
-    let a = l .before .before .before .args in (
+    let s = l .before .before .before in
+    let a = s .args in (
       omega arith,
-      region-past (rows chunkRow (a .k) (a .chunks .now)) (a .spare) (a .regions .now) (a .n) (l .loop .regions) (l .loop .i) (l .loop .kept) (l .loop .inv .1) (search needs) _ (g .goes-at .ensures) (c .if1 .taken),
+      region-past (rows chunkRow (a .k) (a .chunks .now)) (a .spare) (a .regions .now) (a .n) (l .loop .regions) (l .loop .i) (l .loop .kept) (l .loop .inv .1) (search needs) (s .pre .0) _ (g .goes-at .ensures) (c .if1 .taken),
     )
 
 region-at-requires : tie.Need-region-at-requires Inv-loop μ-loop
@@ -66,7 +67,7 @@ loop-again-2 c =
     let s = l .before .before .before in
     let a = s .args in (
       omega arith,
-      region-more (rows chunkRow (a .k) (a .chunks .now)) (a .spare) (a .regions .now) (a .n) (l .loop .regions) (l .loop .i) (l .loop .kept) (l .loop .inv .1) (search needs) _ (g .goes-at .ensures) (f .if1 .left) (s .pre .0) (r .region-at .result) (r .region-at .ensures) _ (p .put-region .ensures),
+      region-more (rows chunkRow (a .k) (a .chunks .now)) (a .spare) (a .regions .now) (a .n) (l .loop .regions) (l .loop .i) (l .loop .kept) (l .loop .inv .1) (search needs) (s .pre .0) _ (g .goes-at .ensures) (f .if1 .left) (r .region-at .result) (r .region-at .ensures) _ (p .put-region .ensures),
     )
 
 same-length : tie.Need-same-length Inv-loop μ-loop

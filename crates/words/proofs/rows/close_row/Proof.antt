@@ -11,6 +11,9 @@ use Rattle.words.proofs.rows.close_row.Tie as tie
 mul-at : tie.Need-mul-at
 mul-at c = let a = c .before .before .before .args in omega (arith, scaled (a .w) (a .i) (search needs))
 
+add-at : tie.Need-add-at
+add-at c = let a = c .before .before .before .args in omega (arith, scaled (a .w) (a .i) (search needs))
+
 add-shift : tie.Need-add-shift
 add-shift c = let a = c .before .before .before .before .args in omega (arith, scaled (a .w) (a .i) (search needs))
 
@@ -30,9 +33,7 @@ same-length : tie.Need-same-length
 same-length c = search needs
 
 returns : tie.Need-returns
-returns c =
-    let a = c .before .before .before .before .before .before .before .args in
-    rw (record-and-next (a .w) (a .i)) (c .before .before .shift .ensures)
+returns c = c .before .before .shift .ensures
 
 returns-2 : tie.Need-returns-2
 returns-2 c = let a = c .before .before .before .args in sym (closed-none (a .w) (a .n) (a .i) (now (a .t)) (omega arith))
@@ -47,6 +48,7 @@ close-row-spec =
     tie.close
     (tie.spec
     mul-at
+    add-at
     add-shift
     sub-shift
     sub-shift-2

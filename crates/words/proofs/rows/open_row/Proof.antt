@@ -11,6 +11,9 @@ use Rattle.words.proofs.rows.open_row.Tie as tie
 mul-at : tie.Need-mul-at
 mul-at c = let a = c .before .before .before .args in omega (arith, scaled (a .w) (a .i) (search needs))
 
+add-at : tie.Need-add-at
+add-at c = let a = c .before .before .before .args in omega (arith, scaled (a .w) (a .i) (search needs))
+
 add-shift : tie.Need-add-shift
 add-shift c = let a = c .before .before .before .before .args in omega (arith, scaled (a .w) (a .i) (search needs))
 
@@ -37,4 +40,4 @@ returns-3 c =
 pub open-row-spec : {M : Type 1} → statement M
 open-row-spec =
     tie.close
-    (tie.spec mul-at add-shift mul-shift shift-requires same-length returns returns-2 returns-3)
+    (tie.spec mul-at add-at add-shift mul-shift shift-requires same-length returns returns-2 returns-3)
