@@ -34,12 +34,12 @@ const NEXT_AT: usize = 4;
 
 pub const VACANT_AFTER_AT: usize = 5;
 
-// The index of n loans with no loan in it: no word leads anywhere.
-pub fn fresh_index(n: usize, index: &mut [u64])
+// The index of n loans with no loan in it: behind its mark no word leads anywhere.
+pub fn fresh_index(mark: u64, n: usize, index: &mut [u64])
     requires { ⌜ length (now index) ≡ indexWords n ⌝ }
-    ensures { λ _. ⌜ now (index .exit) ≡ freshIndex n ⌝ }
+    ensures { λ _. ⌜ now (index .exit) ≡ freshIndex mark n ⌝ }
 {
-    words::fill(index, NOWHERE);
+    words::put_blank(index, mark, NOWHERE);
 }
 
 // The place that the next loan takes, and the slab from then on.

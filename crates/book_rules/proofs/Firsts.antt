@@ -1,25 +1,24 @@
 -- An index with no loan in it: no word leads anywhere.
 use mathlib.Core.Path.{_≡_, ap, _∙_}
 use mathlib.Core.List.{List}
-use Prim.Native.Nat.{ℕ, _+_, _*_, _<_}
+use Prim.Native.Nat.{ℕ, _<_}
 use native.Mathlib.Omega.{arith}
-use lib.ListN.{length, getD, replicate, length-replicate, getD-replicate}
+use lib.ListN.{length, getD}
+use Rattle.words.specs.Words.{blank}
+use Rattle.words.proofs.Filled.{blank-long, blank-other}
 use Rattle.slab.specs.Slab.{nowhere}
 use Rattle.book_rules.specs.Book.{vacatedAt, indexWords, firstIn, freshIndex, firstOf}
 
-pub fresh-wide : (n : ℕ) → length (freshIndex n) ≡ indexWords n
-unfolding freshIndex
-fresh-wide n = length-replicate (indexWords n) _
+module _ (mark n : ℕ) where
+  pub fresh-wide : length (freshIndex mark n) ≡ indexWords n
+  fresh-wide = blank-long (indexWords n) mark nowhere
 
-pub fresh-vacated : (n : ℕ) → getD (freshIndex n) vacatedAt 0 ≡ nowhere
-unfolding freshIndex
-fresh-vacated n = getD-replicate (indexWords n) vacatedAt nowhere 0 (omega arith)
+  pub fresh-vacated : getD (freshIndex mark n) vacatedAt 0 ≡ nowhere
+  fresh-vacated = blank-other (indexWords n) mark nowhere vacatedAt (omega arith) (omega arith)
 
-pub fresh-first : (n i : ℕ) → i < n → firstIn (freshIndex n) i ≡ nowhere
-unfolding freshIndex
-fresh-first n i h = getD-replicate (indexWords n) (firstOf i) nowhere 0 (omega arith)
+  pub fresh-first : (i : ℕ) → i < n → firstIn (freshIndex mark n) i ≡ nowhere
+  fresh-first i h = blank-other (indexWords n) mark nowhere (firstOf i) (omega arith) (omega arith)
 
--- a table of that length, filled
-pub fresh-filled : (n : ℕ) (index x : List ℕ) → length index ≡ indexWords n → x ≡ replicate (length index) nowhere → x ≡ freshIndex n
-unfolding freshIndex
-fresh-filled n index x l e = e ∙ ap (λ (k : ℕ). replicate k nowhere) l
+-- a table of that length, written through
+pub fresh-filled : (mark n : ℕ) (index x : List ℕ) → length index ≡ indexWords n → x ≡ blank (length index) mark nowhere → x ≡ freshIndex mark n
+fresh-filled mark n index x l e = e ∙ ap (λ (k : ℕ). blank k mark nowhere) l

@@ -13,3 +13,5 @@ pub mod Keeps
 pub mod Uses
 pub mod Keeping
 pub mod Entering
+pub mod Owns
+pub mod Truth

@@ -5,8 +5,8 @@ use mathlib.Core.Bool.{cond}
 use mathlib.Core.List.{List}
 use Prim.Native.Nat.{ℕ, zero, suc, _+_, _*_, _%_}
 use lib.Dec.{eqb, ltb}
-use lib.ListN.{getD, set, replicate}
-use Rattle.words.specs.Words.{cellOf}
+use lib.ListN.{getD, set}
+use Rattle.words.specs.Words.{cellOf, blank}
 use Rattle.words.specs.Rows.{written}
 use Rattle.slab.specs.Slab.{nowhere, inserted}
 use Rattle.slab.specs.declared.Slab.{Slab}
@@ -56,10 +56,10 @@ slabOf places index = record { places = places; vacant = getD index vacatedAt 0 
 abbrev pub firstIn : List ℕ → ℕ → ℕ
 firstIn index i = getD index (firstOf i) 0
 
--- ---- no loan yet: no word leads anywhere
+-- ---- no loan yet: behind the mark no word leads anywhere
 
-unfoldable pub freshIndex : ℕ → List ℕ
-freshIndex n = replicate (indexWords n) nowhere
+abbrev pub freshIndex : ℕ → ℕ → List ℕ
+freshIndex mark n = blank (indexWords n) mark nowhere
 
 -- ---- a loan is entered
 

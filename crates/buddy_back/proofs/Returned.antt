@@ -10,7 +10,7 @@ use Rattle.counter.specs.Limits.{levelsMost}
 use Rattle.counter.specs.declared.answers.Block.{Block}
 use Rattle.counter.specs.declared.settings.BuddySettings.{BuddySettings}
 use Rattle.book_rules.specs.Book.{struck, struckIndex}
-use Rattle.buddy_rules.specs.Level.{levelWords, levelStart}
+use Rattle.buddy_rules.specs.Level.{levelStart}
 use Rattle.buddy_rules.specs.Tables.{Tables, tables, levelsAt, chunkWords, chunkSizeAt, afterAt, placeWords, nodesFrom}
 use Rattle.buddy_rules.specs.Moves.{Climbed, climbed}
 use Rattle.buddy_outcomes.specs.Return.{climbFor, vacatedTree, givenTables}

@@ -6,6 +6,7 @@ use Prim.Native.Nat.{ℕ}
 use native.Mathlib.Omega.{arith}
 use lib.ListN.{getD}
 use Rattle.words.proofs.Records.{cell-row}
+use Rattle.words.specs.Words.{markAt}
 use Rattle.counter.specs.Gate.{Verdict, pass, refuse}
 use Rattle.counter.specs.Paper.{Said}
 use Rattle.counter.specs.Paper as Paper
@@ -20,7 +21,7 @@ use Rattle.store_rules.specs.declared.Loan.{Loan}
 use Rattle.engines.specs.Serials.{Gone, Counted, Counts}
 use Rattle.store_rules.specs.Rows.{listRows}
 use Rattle.engines.specs.Shapes.{Call, setsUp, asks, delivers, returns, others, does, Marked, wordsOf}
-use Rattle.buddy_rules.specs.Tables.{Tables, mark, markAt, givenIn}
+use Rattle.buddy_rules.specs.Tables.{Tables, givenIn, marks}
 use Rattle.buddy_rules.proofs.Viewed.{loanAt, live-loan, loan-live}
 use Rattle.buddy_outcomes.specs.SetUp.{freshTables, planSetUp, carrySetUp, setUpOf}
 use Rattle.buddy_outcomes.proofs.Gone as Buddy
@@ -30,18 +31,18 @@ use Rattle.buddy_engine.proofs.Stepping.{Stepped, ask-stepped, deliver-
 
 -- ---- set-up
 
-begins : (s : BuddySettings) (t : Tables) → setUpOf s t .said ≡ Paper.ready → (getD (setUpOf s t .tables .head) markAt 0 ≡ mark) × (givenIn (setUpOf s t .tables) ≡ 0)
+begins : (s : BuddySettings) (t : Tables) → setUpOf s t .said ≡ Paper.ready → (getD (setUpOf s t .tables .head) markAt 0 ≡ marks .head) × (givenIn (setUpOf s t .tables) ≡ 0)
 unfolding setUpOf carrySetUp freshTables
 begins s t e = by (planSetUp s t) e
   where
-    by : (v : Verdict) → carrySetUp s t v .said ≡ Paper.ready → (getD (carrySetUp s t v .tables .head) markAt 0 ≡ mark) × (givenIn (carrySetUp s t v .tables) ≡ 0)
+    by : (v : Verdict) → carrySetUp s t v .said ≡ Paper.ready → (getD (carrySetUp s t v .tables .head) markAt 0 ≡ marks .head) × (givenIn (carrySetUp s t v .tables) ≡ 0)
     by pass q = (refl, refl)
     by (refuse n) q = let z : kindOf (Paper.refusal n []) ≡ kindOf Paper.ready = ap kindOf q in absurd (omega arith)
 
 -- ---- the other calls
 
 counted-as : (t : Tables) (u : Tables) (said : Said) → Marked buddyShape t → Stepped t u said → Counted buddyShape t u said
-counted-as t u said m w = record { gives = w .gives; nexts = w .nexts; marks = w .marks m }
+counted-as t u said m w = record { gives = w .gives; nexts = w .nexts; marks = w .mark-stays m }
 
 counted : (s : BuddySettings) (a : Account) (t : Tables) (c : Call ⊥) → (c ≡ setsUp → ⊥) → Marked buddyShape t
     → Counted buddyShape t (does buddyShape s a t c .tables) (does buddyShape s a t c .said)

@@ -1,5 +1,6 @@
 -- The buddy is an engine.
 pub mod Stepping
+pub mod Signing
 pub mod Counting
 pub mod Refusing
 pub mod Leaving

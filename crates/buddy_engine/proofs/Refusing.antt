@@ -6,8 +6,7 @@ use mathlib.Core.Logic.{_↔_}
 use mathlib.Core.List.{List, []}
 use Prim.Native.Nat.{ℕ, _≤_, _<_}
 use native.Mathlib.Omega.{arith}
-use lib.ListN.{getD}
-use borrow.Author.Tests.{eqb-true, ne-eqb}
+use borrow.Author.Tests.{ne-eqb}
 use Rattle.lists.proofs.Bools.{and-left, all-each}
 use Rattle.counter.specs.Gate.{pass, refuse}
 use Rattle.counter.specs.Paper as Paper
@@ -21,9 +20,10 @@ use Rattle.store_rules.specs.Outcomes.{Out, out, listed, listOk}
 use Rattle.store_rules.specs.Tests.{noOrder, openFor, gateRow}
 use Rattle.engines.specs.Refuses.{Refuses}
 use Rattle.store_rules.specs.Rows.{gateRows, keptRows}
+use Rattle.store_rules.proofs.Signed.{signed-yes}
 use Rattle.engines.specs.Shapes.{Call, setsUp, asks, delivers, returns, others, does, Marked, lentList, wordsOf}
 use Rattle.engines.proofs.Shutting.{shut}
-use Rattle.buddy_rules.specs.Tables.{Tables, mark, markAt}
+use Rattle.buddy_rules.specs.Tables.{Tables, marks, Signed}
 use Rattle.buddy_rules.specs.Views.{viewOf}
 use Rattle.buddy_rules.specs.Test.{soundRow, soundOk}
 use Rattle.buddy_outcomes.specs.Gate.{inTableOk, accountOk, gateOf}
@@ -37,12 +37,12 @@ use Rattle.buddy_outcomes.proofs.Lendings.{grown-view}
 use Rattle.buddy_outcomes.proofs.Refused.{set-up-refused, ask-refused, return-refused, set-up-leaves, ask-leaves, ask-leaves-grown, deliver-leaves, return-leaves}
 use Rattle.buddy_engine.specs.Shape.{buddyShape}
 
--- ---- tables without the mark
+-- ---- tables without the marks
 
-module _ (s : BuddySettings) (a : Account) (t : Tables) (other : getD (t .head) markAt 0 ≡ mark → ⊥) where
+module _ (s : BuddySettings) (a : Account) (t : Tables) (other : Signed marks t → ⊥) where
   not-sound : soundOk s t ≡ true → ⊥
   unfolding soundOk
-  not-sound e = other (eqb-true (getD (t .head) markAt 0) mark (all-each (soundRow s t) e .0))
+  not-sound e = other (signed-yes marks t (all-each (soundRow s t) e .0))
 
   gate-shut : (list : Bool) → (n : ℕ) × (gateOf s a t list ≡ refuse n) × (0 < n) × (n ≤ 3)
   unfolding gateOf
@@ -71,15 +71,20 @@ module _ (s : BuddySettings) (a : Account) (t : Tables) (other : getD (t .head) 
   return-shut b list = let g = gate-shut (listOk (s .store) list) in let e = g .1 in (g .0, rw e, g .2, g .3)
 
 -- each call but set-up is refused there, by 1, 2 or 3, and leaves everything
+pub unsigned-refused : (s : BuddySettings) (a : Account) (t : Tables) (c : Call ⊥) → (c ≡ setsUp → ⊥) → (Signed marks t → ⊥)
+    → (n : ℕ) × (does buddyShape s a t c ≡ listed (Paper.refusal n []) a t (lentList c)) × (0 < n) × (n ≤ 3)
+unsigned-refused s a t setsUp f m = absurd (f refl)
+unsigned-refused s a t (asks size mask) f m =
+    let r = ask-shut s a t m size mask in (r .0, ap (λ (o : Out Tables). listed (o .said) (o .account) (o .tables) []) (r .1), r .2, r .3)
+unsigned-refused s a t (delivers x) f m =
+    let r = deliver-shut s a t m x in (r .0, ap (λ (o : Out Tables). listed (o .said) (o .account) (o .tables) []) (r .1), r .2, r .3)
+unsigned-refused s a t (returns b list) f m = let r = return-shut s a t m b list in (r .0, (r .1), r .2, r .3)
+unsigned-refused s a t (others c list) f m = absurd c
+
+-- and so where the head's mark is not there
 foreign : (s : BuddySettings) (a : Account) (t : Tables) (c : Call ⊥) → (c ≡ setsUp → ⊥) → (Marked buddyShape t → ⊥)
     → (n : ℕ) × (does buddyShape s a t c ≡ listed (Paper.refusal n []) a t (lentList c)) × (0 < n) × (n ≤ 3)
-foreign s a t setsUp f m = absurd (f refl)
-foreign s a t (asks size mask) f m =
-    let r = ask-shut s a t m size mask in (r .0, ap (λ (o : Out Tables). listed (o .said) (o .account) (o .tables) []) (r .1), r .2, r .3)
-foreign s a t (delivers x) f m =
-    let r = deliver-shut s a t m x in (r .0, ap (λ (o : Out Tables). listed (o .said) (o .account) (o .tables) []) (r .1), r .2, r .3)
-foreign s a t (returns b list) f m = let r = return-shut s a t m b list in (r .0, (r .1), r .2, r .3)
-foreign s a t (others c list) f m = absurd c
+foreign s a t c f m = unsigned-refused s a t c f (λ S. m (S .head))
 
 -- ---- the tests 1 to 4
 

@@ -25,7 +25,7 @@ use Rattle.store_rules.specs.Orders.{Plan, deny, take, buy}
 use Rattle.store_rules.specs.Outcomes.{Listed}
 use Rattle.store_rules.specs.Tests.{openFor, gateRow}
 use Rattle.engines.specs.Serials.{serialSaid, upFrom}
-use Rattle.buddy_rules.specs.Tables.{Tables, mark, markAt, givenAt, headWords, givenIn, chunkPlacesIn, memories}
+use Rattle.buddy_rules.specs.Tables.{Tables, givenAt, headWords, givenIn, chunkPlacesIn, memories, marks}
 use Rattle.buddy_rules.specs.Test.{soundOk}
 use Rattle.buddy_outcomes.specs.Gate.{inTableOk, accountOk, gateOf}
 use Rattle.buddy_outcomes.specs.Ask as Ask
@@ -36,12 +36,13 @@ use Rattle.buddy_outcomes.specs.Return.{wordFor, climbFor, givenTables, release
 use Rattle.buddy_outcomes.proofs.Heads.{grown-word, grown-head-words, chunk-word, chunk-head, booked-mark, booked-given}
 use Rattle.buddy_outcomes.proofs.Passing.{gate-passed, lent-in}
 use Rattle.buddy_outcomes.proofs.Returned.{ReturnComes, denied, takes, return-comes}
+use Rattle.words.specs.Words.{markAt}
 
 -- what a call leaves: as many serials more as it lent blocks, the next ones, and the mark
 pub record Stepped (t t′ : Tables) (said : Said) : Type 0 where
   pub gives : givenIn t′ ≡ givenIn t + length (serialSaid said)
   pub nexts : serialSaid said ≡ upFrom (givenIn t) (length (serialSaid said))
-  pub marks : getD (t .head) markAt 0 ≡ mark → getD (t′ .head) markAt 0 ≡ mark
+  pub mark-stays : getD (t .head) markAt 0 ≡ marks .head → getD (t′ .head) markAt 0 ≡ marks .head
 
 -- nothing is lent: the tables are as they were, or their levels have grown
 abbrev Silent : Tables → Tables → Type 0
@@ -52,7 +53,7 @@ quiet t t′ said e w =
     record {
       gives = let z : length (serialSaid said) ≡ 0 = ap length e in omega (arith, w .0, z);
       nexts = rw e;
-      marks = λ m. w .1 ∙ m;
+      mark-stays = λ m. w .1 ∙ m;
     }
 
 grown-silent : (s : BuddySettings) (n : ℕ) (t : Tables) → Silent t (grownTables s n t)
@@ -76,7 +77,7 @@ module _ (s : BuddySettings) (a : Account) (size mask : ℕ) (t : Tables) where
   carried : length (t .head) ≡ headWords → (p : Plan ℕ) → Stepped t (carryAsk s a size mask t p .tables) (carryAsk s a size mask t p .said)
   unfolding carryAsk
   carried head (deny n) = quiet t (deniedTables s (levelFor s size mask) n t) (Paper.refusal n []) refl (denied-silent n)
-  carried head (take i) = record { gives = taken-given head i; nexts = refl; marks = λ m. taken-mark i ∙ m }
+  carried head (take i) = record { gives = taken-given head i; nexts = refl; mark-stays = λ m. taken-mark i ∙ m }
   carried head (buy z) = quiet t (grownTables s (grownTo (levelFor s size mask) t) t) _ refl (grown-silent s (grownTo (levelFor s size mask) t) t)
 
   after-ask : (v : Verdict) → gateOf s a t true ≡ v → (p : Plan ℕ) → Stepped t (carryAsk s a size mask t (gated Ask.deny v p) .tables) (carryAsk s a size mask t (gated Ask.deny v p) .said)
@@ -112,7 +113,7 @@ module _ (s : BuddySettings) (a : Account) (t : Tables) where
       record {
         gives = served-given (k .ask .size) (k .ask .mask) m (k .order .size) u h ∙ ap (λ (g : ℕ). g + 1) (w .0);
         nexts = ap (λ (g : ℕ). (g + 1) ∷ []) (w .0);
-        marks = λ e. served-mark (k .ask .size) (k .ask .mask) m (k .order .size) u ∙ w .1 ∙ e;
+        mark-stays = λ e. served-mark (k .ask .size) (k .ask .mask) m (k .order .size) u ∙ w .1 ∙ e;
       }
   fated head k (lost n c back) = quiet t (asOrdered s k t) (Paper.refusal n back) refl (grown-silent s (grownTo (levelFor s (k .ask .size) (k .ask .mask)) t) t)
 

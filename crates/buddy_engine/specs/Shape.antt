@@ -4,11 +4,10 @@ use Prim.Native.Nat.{ℕ}
 use Rattle.counter.specs.InTable.{BuddyIn}
 use Rattle.counter.specs.declared.settings.BuddySettings.{BuddySettings}
 use Rattle.store_rules.specs.Delivery.{buddy}
-use Rattle.store_rules.specs.Outcomes.{Out, out, Listed, listed}
 use Rattle.engines.specs.Shapes.{Shape}
 use Rattle.buddy_trees.specs.Chunks.{atOnce}
 use Rattle.buddy_rules.specs.Sound.{Sound}
-use Rattle.buddy_rules.specs.Tables.{Tables, tables, Lengths, mark, givenIn, levelsIn}
+use Rattle.buddy_rules.specs.Tables.{Tables, Lengths, givenIn, levelsIn, marks}
 use Rattle.buddy_rules.specs.Views.{loansIn, viewOf}
 use Rattle.buddy_outcomes.specs.Gate.{gateOf}
 use Rattle.buddy_outcomes.specs.Ask.{orderBytes, askOf, levelFor}
@@ -38,7 +37,7 @@ buddyShape =
       return = returnOf;
       other = λ s a c t list. absurd c;
       engine = buddy;
-      mark = mark;
+      mark = marks .head;
       given = λ t. givenIn t;
       loans = λ t. loansIn t;
       view = λ s t. viewOf s t;

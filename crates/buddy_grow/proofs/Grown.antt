@@ -3,15 +3,16 @@ use mathlib.Core.Path.{_≡_, refl, _∙_}
 use mathlib.Core.List.{List, [], _∷_}
 use Prim.Native.Nat.{ℕ, zero, suc, _+_, _-_, _*_, _<_}
 use native.Mathlib.Omega.{arith}
-use lib.ListN.{length, getD, set, replicate}
+use lib.ListN.{length, getD, set}
 use Rattle.counter.specs.declared.settings.BuddySettings.{BuddySettings}
 use Rattle.slab.specs.Slab.{nowhere}
 use Rattle.store_rules.specs.Loans.{loanWords}
 use Rattle.book_rules.specs.Book.{freshIndex}
 use Rattle.buddy_rules.specs.Level.{freshLevel, levelStart}
-use Rattle.buddy_rules.specs.Tables.{tables, mark, markAt, givenAt, levelsAt, placesAt, chunkPlacesAt, headWords, chunkWords, chunksFrom, treeWords, levelFrom, initialLevels}
+use Rattle.buddy_rules.specs.Tables.{tables, givenAt, levelsAt, placesAt, chunkPlacesAt, headWords, chunkWords, chunksFrom, treeWords, levelFrom, initialLevels, marks}
 use Rattle.buddy_outcomes.specs.Ask.{freshLevels, grownTables}
 use Rattle.buddy_outcomes.specs.SetUp.{freshHead, freshTables}
+use Rattle.words.specs.Words.{markAt, blank}
 
 module _ (s : BuddySettings) where
   pub fresh-none : (l n : ℕ) (t : List ℕ) → n ≡ 0 → freshLevels s l n t ≡ t
@@ -49,7 +50,7 @@ module _ (s : BuddySettings) where
 
 -- ---- at set-up
 
-pub head-fresh : (t : List ℕ) (n : ℕ) → length t ≡ headWords → set (set (set (set (set t markAt mark) givenAt 0) levelsAt n) placesAt 0) chunkPlacesAt 0 ≡ mark ∷ 0 ∷ n ∷ 0 ∷ 0 ∷ []
+pub head-fresh : (t : List ℕ) (n : ℕ) → length t ≡ headWords → set (set (set (set (set t markAt (marks .head)) givenAt 0) levelsAt n) placesAt 0) chunkPlacesAt 0 ≡ marks .head ∷ 0 ∷ n ∷ 0 ∷ 0 ∷ []
 head-fresh [] n l = absurd (omega arith)
 head-fresh (a ∷ []) n l = absurd (omega arith)
 head-fresh (a ∷ b ∷ []) n l = absurd (omega arith)
@@ -58,8 +59,8 @@ head-fresh (a ∷ b ∷ c ∷ d ∷ []) n l = absurd (omega arith)
 head-fresh (a ∷ b ∷ c ∷ d ∷ f ∷ []) n l = refl
 head-fresh (a ∷ b ∷ c ∷ d ∷ f ∷ g ∷ t) n l = absurd (omega arith)
 
-pub fresh-done : (s : BuddySettings) (h l c i r : List ℕ) → h ≡ freshHead s → l ≡ replicate (loanWords + loanWords * s .store .loans) 0 → c ≡ replicate (chunkWords + chunkWords * s .store .chunks) 0
-    → i ≡ freshIndex (s .store .loans) → r ≡ set (freshLevels s 0 (initialLevels s) (replicate (treeWords s) 0)) (chunksFrom s) nowhere
+pub fresh-done : (s : BuddySettings) (h l c i r : List ℕ) → h ≡ freshHead s → l ≡ blank (loanWords + loanWords * s .store .loans) (marks .loans) 0 → c ≡ blank (chunkWords + chunkWords * s .store .chunks) (marks .chunks) 0
+    → i ≡ freshIndex (marks .index) (s .store .loans) → r ≡ set (freshLevels s 0 (initialLevels s) (blank (treeWords s) (marks .room) 0)) (chunksFrom s) nowhere
     → tables h l c i r ≡ freshTables s
 unfolding freshTables
 fresh-done s h l c i r eh el ec ei er = λ j. tables (eh j) (el j) (ec j) (ei j) (er j)

@@ -2,42 +2,47 @@
 ghost use mathlib.Core.Path.{_≡_};
 ghost use mathlib.Core.List.{[], _∷_};
 ghost use Prim.Native.Nat.{_*_, _≤_, _+_};
-ghost use lib.ListN.{length, set, replicate};
+ghost use lib.ListN.{length, set};
+ghost use Rattle.words.specs.Words.{blank};
 ghost use Rattle.counter.specs.InTable.{BuddyIn};
 ghost use Rattle.counter.specs.Limits.{levelsMost};
 ghost use Rattle.slab.specs.Slab.{nowhere};
 ghost use Rattle.store_rules.specs.Loans.{loanWords};
 ghost use Rattle.book_rules.specs.Book.{indexWords, freshIndex};
-ghost use Rattle.buddy_rules.specs.Tables.{tables, Lengths, mark, headWords, chunkWords, chunksFrom, treeWords, initialLevels};
+ghost use Rattle.buddy_rules.specs.Tables.{tables, Lengths, marks, headWords, chunkWords, chunksFrom, treeWords, initialLevels};
 ghost use Rattle.buddy_outcomes.specs.Ask.{freshLevels};
 ghost use Rattle.buddy_outcomes.specs.SetUp.{freshHead, freshTables};
 use buddy_rules::CHUNK_PLACES_AT;
+use buddy_rules::CHUNKS_MARK;
 use buddy_rules::GIVEN_AT;
+use buddy_rules::HEAD_MARK;
+use buddy_rules::INDEX_MARK;
 use buddy_rules::LEVELS_AT;
-use buddy_rules::MARK;
-use buddy_rules::MARK_AT;
+use buddy_rules::LOANS_MARK;
 use buddy_rules::PLACES_AT;
+use buddy_rules::ROOM_MARK;
 use counter::BuddySettings;
 use slab::NOWHERE;
+use words::MARK_AT;
 
 // The mark; nothing given, so many levels, no place used.
 fn fresh_head(levels: u64, head: &mut [u64])
     requires { ⌜ length (now head) ≡ headWords ⌝ }
-    ensures { λ _. ⌜ now (head .exit) ≡ mark ∷ 0 ∷ levels ∷ 0 ∷ 0 ∷ [] ⌝ }
+    ensures { λ _. ⌜ now (head .exit) ≡ marks .head ∷ 0 ∷ levels ∷ 0 ∷ 0 ∷ [] ⌝ }
 {
-    words::put(head, MARK_AT, MARK);
+    words::put(head, MARK_AT, HEAD_MARK);
     words::put(head, GIVEN_AT, 0);
     words::put(head, LEVELS_AT, levels);
     words::put(head, PLACES_AT, 0);
     words::put(head, CHUNK_PLACES_AT, 0);
 }
 
-// So many levels are there and empty, and no chunk place is vacated; every other word is 0.
+// So many levels are there and empty, and no chunk place is vacated; every other word behind the mark is 0.
 fn fresh_tree(s: BuddySettings, levels: usize, tree: &mut [u64])
     requires { ⌜ BuddyIn s × (levels ≤ levelsMost) × (length (now tree) ≡ treeWords s) ⌝ }
-    ensures { λ _. ⌜ now (tree .exit) ≡ set (freshLevels s 0 levels (replicate (treeWords s) 0)) (chunksFrom s) nowhere ⌝ }
+    ensures { λ _. ⌜ now (tree .exit) ≡ set (freshLevels s 0 levels (blank (treeWords s) (marks .room) 0)) (chunksFrom s) nowhere ⌝ }
 {
-    words::fill(tree, 0);
+    words::put_blank(tree, ROOM_MARK, 0);
     crate::growing::fresh_levels(s, 0, levels, tree);
     words::put(tree, buddy_levels::chunks_from(s.pairs), NOWHERE);
 }
@@ -46,24 +51,24 @@ fn fresh_tree(s: BuddySettings, levels: usize, tree: &mut [u64])
 fn fresh_initial(s: BuddySettings, head: &mut [u64], tree: &mut [u64])
     requires { ⌜ BuddyIn s × (length (now head) ≡ headWords) × (length (now tree) ≡ treeWords s) ⌝ }
     ensures { λ _. ⌜ now (head .exit) ≡ freshHead s ⌝ }
-    ensures { λ _. ⌜ now (tree .exit) ≡ set (freshLevels s 0 (initialLevels s) (replicate (treeWords s) 0)) (chunksFrom s) nowhere ⌝ }
+    ensures { λ _. ⌜ now (tree .exit) ≡ set (freshLevels s 0 (initialLevels s) (blank (treeWords s) (marks .room) 0)) (chunksFrom s) nowhere ⌝ }
 {
     let levels = rounding::level(s.initial, s.minimal);
     fresh_head(levels as u64, head);
     fresh_tree(s, levels as usize, tree);
 }
 
-// No loan, no chunk, and no link from loan to loan.
+// Behind the marks no loan, no chunk, and no link from loan to loan.
 fn fresh_rows(s: BuddySettings, loans: &mut [u64], chunks: &mut [u64], index: &mut [u64])
     requires { ⌜ (length (now loans) ≡ loanWords + loanWords * s .store .loans) × (length (now chunks) ≡ chunkWords + chunkWords * s .store .chunks) × (length (now index) ≡ indexWords (s .store .loans)) ⌝ }
-    ensures { λ _. ⌜ now (loans .exit) ≡ replicate (loanWords + loanWords * s .store .loans) 0 ⌝ }
-    ensures { λ _. ⌜ now (chunks .exit) ≡ replicate (chunkWords + chunkWords * s .store .chunks) 0 ⌝ }
-    ensures { λ _. ⌜ now (index .exit) ≡ freshIndex (s .store .loans) ⌝ }
+    ensures { λ _. ⌜ now (loans .exit) ≡ blank (loanWords + loanWords * s .store .loans) (marks .loans) 0 ⌝ }
+    ensures { λ _. ⌜ now (chunks .exit) ≡ blank (chunkWords + chunkWords * s .store .chunks) (marks .chunks) 0 ⌝ }
+    ensures { λ _. ⌜ now (index .exit) ≡ freshIndex (marks .index) (s .store .loans) ⌝ }
 {
     let own = s.store;
-    words::fill(loans, 0);
-    words::fill(chunks, 0);
-    book::fresh_index(own.loans, index);
+    words::put_blank(loans, LOANS_MARK, 0);
+    words::put_blank(chunks, CHUNKS_MARK, 0);
+    book::fresh_index(INDEX_MARK, own.loans, index);
 }
 
 // Every word of every table, so that nothing of what was lent is left.

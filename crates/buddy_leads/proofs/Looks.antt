@@ -17,7 +17,7 @@ use Rattle.slab.specs.Slab.{nowhere}
 use Rattle.store_rules.specs.Loans.{loanWords, chunkAt, sizeAt, loanRow}
 use Rattle.store_rules.specs.declared.Loan.{Loan}
 use Rattle.buddy_rules.specs.Nodes.{loanWord, splitWord, vacant, Ent, pairOf, isLeft}
-use Rattle.buddy_rules.specs.Level.{levelWords, usedAt, pairIn, levelStart}
+use Rattle.buddy_rules.specs.Level.{usedAt, pairIn, levelStart}
 use Rattle.buddy_rules.specs.Tables.{chunkWords, chunkSizeAt, placeWords, topAt}
 use Rattle.buddy_rules.specs.Test.{every, leadsOk, pairOk, loanOk}
 use Rattle.buddy_rules.proofs.Tests.{every-stop, every-next}

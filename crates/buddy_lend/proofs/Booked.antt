@@ -11,7 +11,7 @@ use Rattle.store_rules.specs.Loans.{loan, loanRow}
 use Rattle.store_rules.specs.declared.Loan.{Loan}
 use Rattle.book_rules.specs.Book.{vacatedAt, firstOf, nextOf, takenOf, entered, firstIn, enteredIndex}
 use Rattle.book.proofs.Entering.{entered-loans, entered-index}
-use Rattle.buddy_rules.specs.Level.{levelWords, levelStart}
+use Rattle.buddy_rules.specs.Level.{levelStart}
 use Rattle.buddy_rules.specs.Tables.{Tables, tables, givenAt, placesAt, placeWords, nodesFrom}
 use Rattle.buddy_outcomes.specs.Ask.{bookedTables}
 

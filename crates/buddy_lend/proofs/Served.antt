@@ -1,7 +1,7 @@
 -- A chunk added, and its left end lent, leave the tables as they are defined.
 use mathlib.Core.Path.{_≡_, sym, ap, subst, _∙_}
 use mathlib.Core.List.{List, []}
-use Prim.Native.Nat.{ℕ, _+_, _-_, _*_, _<_}
+use Prim.Native.Nat.{ℕ, _+_, _-_, _<_}
 use native.Mathlib.Omega.{arith}
 use lib.ListN.{getD, set}
 use lib.Seq.{getD-set-other}
@@ -12,7 +12,7 @@ use Rattle.slab.specs.declared.Taken.{Taken}
 use Rattle.store_rules.specs.Loans.{loan}
 use Rattle.book_rules.specs.Book.{takenOf}
 use Rattle.buddy_rules.specs.Nodes.{splitWord}
-use Rattle.buddy_rules.specs.Level.{levelWords, pairTaken, levelStart}
+use Rattle.buddy_rules.specs.Level.{pairTaken, levelStart}
 use Rattle.buddy_rules.specs.Tables.{Tables, tables, givenAt, levelsAt, placesAt, chunkPlacesAt, chunkWords, memoryAt, chunkSizeAt, levelFrom, chunksFrom, placeAt, topAt, placeWords}
 use Rattle.buddy_rules.specs.Moves.{Cut, splitChunk}
 use Rattle.buddy_levels.specs.Seen.{partSettings}

@@ -9,7 +9,6 @@ use Rattle.buddy_rules.specs.Nodes.{freeWord, loanWord, Side, L, R, nodeOf}
 use Rattle.buddy_rules.specs.Levels.{sideBy, sideOf}
 use Rattle.buddy_rules.proofs.Climbs.{node-pair, node-side}
 use Rattle.buddy_rules.specs.Level.{tagAt, sideAt, pairCell, ringHead, acquired, levelStart}
-use Rattle.buddy_rules.specs.Tables.{}
 use Rattle.buddy_rules.specs.Moves.{Cut, readyNode, splitDown}
 use Rattle.buddy_rules.proofs.Worded.{acquired-again}
 use Rattle.buddy_moves.specs.Roomy.{Roomy}

@@ -7,7 +7,6 @@ use lib.Pow.{shl-exact, pow-mono}
 use Rattle.counter.specs.Limits.{levelsMost, pairsMost, minimalBits}
 use Rattle.buddy_trees.specs.Trees.{bytes}
 use Rattle.buddy_rules.specs.Level.{baseMost, levelStart, levelStart, levelWords}
-use Rattle.buddy_rules.specs.Tables.{}
 
 pub level-low : (pairs l : ℕ) → pairs ≤ pairsMost → l ≤ levelsMost → levelStart pairs l ≤ baseMost
 level-low pairs l p h = omega (arith, mul-le-mul-left (levelWords pairs) h)

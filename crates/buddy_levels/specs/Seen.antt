@@ -3,7 +3,7 @@
 use mathlib.Core.List.{List, [], _∷_}
 use Prim.Native.Nat.{ℕ}
 use Rattle.counter.specs.declared.settings.BuddySettings.{BuddySettings}
-use Rattle.buddy_rules.specs.Tables.{Tables, tables, mark}
+use Rattle.buddy_rules.specs.Tables.{Tables, tables, marks}
 
 -- settings with this minimal size, so many pairs a level and so many chunk places
 abbrev pub partSettings : ℕ → ℕ → ℕ → BuddySettings
@@ -17,7 +17,7 @@ partSettings minimal pairs chunks =
 
 -- tables whose head has so many levels, loan places and chunk places
 abbrev pub partTables : ℕ → ℕ → ℕ → List ℕ → List ℕ → List ℕ → Tables
-partTables levels places chunkPlaces loans chunks tree = tables (mark ∷ 0 ∷ levels ∷ places ∷ chunkPlaces ∷ []) loans chunks [] tree
+partTables levels places chunkPlaces loans chunks tree = tables (marks .head ∷ 0 ∷ levels ∷ places ∷ chunkPlaces ∷ []) loans chunks [] tree
 
 -- of these a walk down a chunk reads the loan places, the loans and the tree
 abbrev pub loanPart : ℕ → List ℕ → List ℕ → Tables

@@ -14,7 +14,6 @@ use Rattle.slab.specs.Slab.{nowhere}
 use Rattle.buddy_rules.specs.Nodes.{freeWord, loanWord, splitWord, L, nodeOf, pairOf, isLeft, other, word}
 use Rattle.buddy_rules.specs.Levels.{sideBy}
 use Rattle.buddy_rules.specs.Level.{entOf, pairCell, sideAt, leftAt, rightAt, upAt, pairTaken, dropped, backed, added, levelStart}
-use Rattle.buddy_rules.specs.Tables.{}
 use Rattle.buddy_rules.specs.Moves.{Cut, sideIn, climbed, worded, leftNext, splitInto, splitDown, splitChunk}
 use Rattle.buddy_trees.specs.Trees.{up}
 use Rattle.buddy_rules.proofs.Fitting.{up-add}

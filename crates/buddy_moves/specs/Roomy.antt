@@ -3,7 +3,6 @@ use mathlib.Core.List.{List}
 use Prim.Native.Nat.{ℕ, zero, suc, _<_}
 use Rattle.buddy_trees.specs.Trees.{up}
 use Rattle.buddy_rules.specs.Level.{pairTaken, levelStart}
-use Rattle.buddy_rules.specs.Tables.{}
 use Rattle.buddy_rules.specs.Moves.{leftNext, splitInto}
 
 module _ (pairs : ℕ) where

@@ -10,7 +10,7 @@ use lib.ListN.{length, getD, set, length-set}
 use lib.Seq.{getD-set-same, getD-set-other}
 use borrow.Author.Tests.{eq-eqb, ne-eqb, lt-ltb, le-ltb, ltb-true}
 use Rattle.lists.proofs.Bools.{told, and-left, same?, lt-or-le}
-use Rattle.words.specs.Words.{cellOf}
+use Rattle.words.specs.Words.{cellOf, markAt}
 use Rattle.rounding_rules.specs.Raising.{levelOf}
 use Rattle.counter.specs.InTable.{BuddyIn}
 use Rattle.counter.specs.Limits.{levelsMost}
@@ -19,10 +19,11 @@ use Rattle.slab.specs.Slab.{nowhere, Parted}
 use Rattle.slab.specs.declared.Slab.{Slab}
 use Rattle.slab.proofs.Places.{parted-same}
 use Rattle.store_rules.specs.Loans as Loans
-use Rattle.store_rules.specs.Loans.{loan, loanWords, sizeAt, offsetAt}
+use Rattle.store_rules.specs.Loans.{loan, sizeAt, offsetAt}
 use Rattle.store_rules.specs.declared.Loan.{Loan}
 use Rattle.book_rules.specs.Book.{takenOf, entered, enteredIndex}
 use Rattle.book_rules.proofs.Keeps.{BookChained, BookParted, entered-long, entered-wide, taken-where, entered-chained, entered-parted}
+use Rattle.book_rules.proofs.Owns.{entered-mark, entered-index-mark}
 use Rattle.buddy_trees.specs.Trees.{Tree, bytes}
 use Rattle.buddy_trees.proofs.Bytes.{bytes-pos}
 use Rattle.buddy_rules.specs.Nodes as Nodes
@@ -30,7 +31,7 @@ use Rattle.buddy_rules.specs.Stores.{with}
 use Rattle.buddy_rules.specs.Stores as Stores
 use Rattle.buddy_rules.specs.Level.{part}
 use Rattle.buddy_rules.proofs.Ops.{levelOps}
-use Rattle.buddy_rules.specs.Tables.{Tables, tables, Lengths, mark, markAt, givenAt, levelsAt, placesAt, chunkPlacesAt, givenIn, levelsIn, placesIn, chunkPlacesIn, memoryIn, chunkSizeIn, chunksFrom, placeAt, topAt, afterAt, placeWords, nodesFrom, loanCell, loanIn, liveIn, heldIn, highIn, topIn, vacantChunk, chunkAfter, chunkSlab, initialLevels}
+use Rattle.buddy_rules.specs.Tables.{Tables, tables, Lengths, givenAt, levelsAt, placesAt, chunkPlacesAt, givenIn, levelsIn, placesIn, chunkPlacesIn, memoryIn, chunkSizeIn, chunksFrom, placeAt, topAt, afterAt, placeWords, nodesFrom, loanCell, loanIn, liveIn, heldIn, highIn, topIn, vacantChunk, chunkAfter, chunkSlab, initialLevels, marks, Signed}
 use Rattle.buddy_rules.specs.Moves.{Cut}
 use Rattle.buddy_rules.specs.Sound.{Sound}
 use Rattle.buddy_rules.proofs.Abstract.{storeOf, Sizes, store-trees}
@@ -42,7 +43,7 @@ use Rattle.buddy_outcomes.proofs.Written.{OfLoan, chunk-here, offset-he
 
 -- ---- what is asked of the tables before: all but the trees
 pub record Kept (s : BuddySettings) (t : Tables) : Type 0 where
-  pub marked : getD (t .head) markAt 0 ≡ mark
+  pub signed : Signed marks t
   pub levels-least : initialLevels s ≤ levelsIn t
   pub levels-most : levelsIn t ≤ levelsMost
   pub loans-parted : BookParted (t .loans) (t .index) (s .store .loans) (placesIn t)
@@ -126,7 +127,7 @@ module _ (s : BuddySettings) (t : Tables) (fit : BuddyIn s) (lengths : Lengths s
 
   module _ (lev : ℕ) (K : Kept s t) (place : takenOf (placesIn t) (t .index) .place < s .store .loans)
       (level : levelOf size (s .minimal) ≡ lev) (is : size ≡ bytes (s .minimal) lev) (at-units : o % (s .store .atom + 1) ≡ 0) (size-units : size % (s .store .atom + 1) ≡ 0)
-      (past : (i : ℕ) → chunksFrom s ≤ i → getD (cut .room) i 0 ≡ getD (t .room) i 0) where
+      (past : (i : ℕ) → chunksFrom s ≤ i → getD (cut .room) i 0 ≡ getD (t .room) i 0) (own : getD (cut .room) markAt 0 ≡ getD (t .room) markAt 0) where
     few : s .store .loans < nowhere
     few = omega (arith, fit .store .loans-most)
 
@@ -268,7 +269,14 @@ module _ (s : BuddySettings) (t : Tables) (fit : BuddyIn s) (lengths : Lengths s
           let X = store-trees s (few-pairs s fit) booked T fit booked-long booked-store sizes (omega (arith, count, K .levels-most)) in
           let n : ℕ = s .store .loans in
           record {
-            marked = head-other markAt (λ e. omega arith) (λ e. omega arith) ∙ K .marked;
+            signed =
+                record {
+                  head = head-other markAt (λ e. omega arith) (λ e. omega arith) ∙ K .signed .head;
+                  loans = entered-mark (placesIn t) (t .index) new (t .loans) ∙ K .signed .loans;
+                  chunks = K .signed .chunks;
+                  index = entered-index-mark n (placesIn t) (givenIn t + 1) (t .index) ∙ K .signed .index;
+                  room = getD-set-other (cut .room) (nodesFrom s + k) markAt (cut .node) 0 (λ e. omega arith) ∙ own ∙ K .signed .room;
+                };
             levels-least = omega (arith, count, K .levels-least);
             levels-most = omega (arith, count, K .levels-most);
             loans-parted =

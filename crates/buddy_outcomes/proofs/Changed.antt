@@ -3,15 +3,16 @@ use mathlib.Core.Path.{_≡_, refl, sym, ap, _∙_, subst}
 use mathlib.Core.Bool.{Bool, true, false, cond, _&&_, not}
 use mathlib.Core.Logic.{⊎-elim}
 use mathlib.Core.List.{List}
-use Prim.Native.Nat.{ℕ, _+_, _-_, _*_, _^_, _≤_, _<_}
+use Prim.Native.Nat.{ℕ, _+_, _-_, _*_, _^_, _≤_, _<_, zero, suc}
 use native.Mathlib.Nat.{mul-suc}
 use native.Mathlib.Omega.{arith}
 use lib.Dec.{eqb, ltb}
-use lib.ListN.{length, getD, set, take, drop, replicate, length-set, length-replicate}
+use lib.ListN.{length, getD, set, take, drop, length-set}
 use lib.Seq.{getD-set-same, getD-set-other, drop-set-add, take-set-le}
 use borrow.Author.Tests.{le-ltb}
 use Rattle.lists.proofs.Bools.{true-false, lt-or-le}
-use Rattle.words.specs.Words.{cellOf}
+use Rattle.words.specs.Words.{cellOf, markAt, blank}
+use Rattle.words.proofs.Filled.{blank-long, blank-mark}
 use Rattle.rounding_rules.specs.Raising.{levelOf}
 use Rattle.counter.specs.InTable.{BuddyIn}
 use Rattle.counter.specs.Limits.{levelsMost}
@@ -28,20 +29,27 @@ use Rattle.buddy_rules.specs.Nodes.{Ent}
 use Rattle.buddy_rules.specs.Stores.{Store, grownTo}
 use Rattle.buddy_rules.specs.Stores as Stores
 use Rattle.buddy_rules.proofs.Made.{empty-sound, grown-sound}
-use Rattle.buddy_rules.specs.Level.{levelWords, ringHead, pairTaken, freshLevel, part, pairIn, levelStart}
+use Rattle.buddy_rules.specs.Level.{levelWords, ringHead, pairTaken, freshLevel, part, pairIn, levelStart, ownWords}
 use Rattle.buddy_rules.proofs.Fresh.{fresh-length, fresh-head, fresh-taken, fresh-none, fresh-good}
 use Rattle.buddy_rules.proofs.Ops.{levelOps}
 use Rattle.buddy_rules.proofs.Parts.{part-length, part-head, part-taken}
-use Rattle.buddy_rules.specs.Tables.{Tables, tables, Lengths, chunkWords, treeWords, markAt, givenAt, levelsAt, placesAt, chunkPlacesAt, givenIn, levelsIn, placesIn, chunkPlacesIn, levelFrom, chunksFrom, placeAt, topAt, placeWords, nodesFrom, loanIn, liveIn, heldIn, highIn, topIn, vacantChunk, chunkAfter, chunkSlab, vacantLoan, loanAfter, initialLevels, chunkSizeAt}
+use Rattle.buddy_rules.specs.Tables.{Tables, tables, Lengths, chunkWords, treeWords, givenAt, levelsAt, placesAt, chunkPlacesAt, givenIn, levelsIn, placesIn, chunkPlacesIn, levelFrom, chunksFrom, placeAt, topAt, placeWords, nodesFrom, loanIn, liveIn, heldIn, highIn, topIn, vacantChunk, chunkAfter, chunkSlab, vacantLoan, loanAfter, initialLevels, chunkSizeAt, marks}
 use Rattle.buddy_rules.specs.Sound.{Sound}
 use Rattle.buddy_rules.proofs.Abstract.{storeOf, levels-in, sound-store, Sizes, store-trees}
 use Rattle.buddy_rules.proofs.Walks.{minimal-pos}
+use Rattle.buddy_rules.proofs.Owns.{fresh-own}
 use Rattle.buddy_outcomes.specs.Ask.{freshLevels, grownTables}
 use Rattle.buddy_outcomes.specs.SetUp.{freshTables}
 use Rattle.buddy_outcomes.proofs.Same.{sound-levels, sound-as, Freshened, freshened, freshened-long}
 
 pub few-pairs : (s : BuddySettings) → BuddyIn s → s .pairs ≤ 2 ^ 32
 few-pairs s fit = omega (arith, fit .pairs-most)
+
+-- levels made anew leave the table's own words
+pub fresh-levels-own : (s : BuddySettings) (i : ℕ) → i < ownWords → (l n : ℕ) (t : List ℕ) → getD (freshLevels s l n t) i 0 ≡ getD t i 0
+unfolding freshLevels
+fresh-levels-own s i h l zero t = refl
+fresh-levels-own s i h l (suc n) t = fresh-levels-own s i h (suc l) n (freshLevel (levelFrom s l) t) ∙ fresh-own (levelFrom s l) i (omega arith) t
 
 -- a word past a level is none of its own
 pub part-set : (s : BuddySettings) (i j v : ℕ) (t : List ℕ) → i < levelsMost → chunksFrom s ≤ j → part (s .pairs) i (set t j v) ≡ part (s .pairs) i t
@@ -73,6 +81,10 @@ module _ (s : BuddySettings) (t : Tables) (fit : BuddyIn s) (lengths : Lengths s
       let l : length (part (s .pairs) i r) ≡ levelWords (s .pairs) = fresh-part r i long h in
       ap (λ (w : List ℕ). pairIn 0 w p .tag) e ∙ ap (λ (x : Ent). x .tag) (fresh-none 0 (part (s .pairs) i r) (omega arith) p)
 
+  -- the tree with its mark alone
+  abbrev blankTree : List ℕ
+  blankTree = blank (treeWords s) (marks .room) 0
+
   -- ---- set-up
 
   pub fresh-lengths : Lengths s (freshTables s)
@@ -80,10 +92,10 @@ module _ (s : BuddySettings) (t : Tables) (fit : BuddyIn s) (lengths : Lengths s
   fresh-lengths =
       record {
         head = refl;
-        loans = length-replicate (loanWords + loanWords * s .store .loans) 0;
-        chunks = length-replicate (chunkWords + chunkWords * s .store .chunks) 0;
-        index = fresh-wide (s .store .loans);
-        room = length-set (freshLevels s 0 (initialLevels s) (replicate (treeWords s) 0)) (chunksFrom s) nowhere ∙ freshened-long s 0 (initialLevels s) (replicate (treeWords s) 0) ∙ length-replicate (treeWords s) 0;
+        loans = blank-long (loanWords + loanWords * s .store .loans) (marks .loans) 0;
+        chunks = blank-long (chunkWords + chunkWords * s .store .chunks) (marks .chunks) 0;
+        index = fresh-wide (marks .index) (s .store .loans);
+        room = length-set (freshLevels s 0 (initialLevels s) blankTree) (chunksFrom s) nowhere ∙ freshened-long s 0 (initialLevels s) blankTree ∙ blank-long (treeWords s) (marks .room) 0;
       }
 
   fresh-held : (c : ℕ) → heldIn (freshTables s) c ≡ false
@@ -97,15 +109,15 @@ module _ (s : BuddySettings) (t : Tables) (fit : BuddyIn s) (lengths : Lengths s
   none-vacated : getD (freshTables s .room) (chunksFrom s) 0 ≡ nowhere
   unfolding freshTables
   none-vacated =
-      getD-set-same (freshLevels s 0 (initialLevels s) (replicate (treeWords s) 0)) (chunksFrom s) nowhere 0
-      (omega (arith, freshened-long s 0 (initialLevels s) (replicate (treeWords s) 0), length-replicate {A = ℕ} (treeWords s) 0))
+      getD-set-same (freshLevels s 0 (initialLevels s) blankTree) (chunksFrom s) nowhere 0
+      (omega (arith, freshened-long s 0 (initialLevels s) blankTree, blank-long (treeWords s) (marks .room) 0))
 
   module _ (few : initialLevels s ≤ levelsMost) where
-    fresh-level : (i : ℕ) → i < initialLevels s → part (s .pairs) i (freshTables s .room) ≡ freshLevel 0 (part (s .pairs) i (replicate (treeWords s) 0))
+    fresh-level : (i : ℕ) → i < initialLevels s → part (s .pairs) i (freshTables s .room) ≡ freshLevel 0 (part (s .pairs) i blankTree)
     unfolding freshTables
     fresh-level i h =
-        part-set s i (chunksFrom s) nowhere (freshLevels s 0 (initialLevels s) (replicate (treeWords s) 0)) (omega arith) (omega arith)
-        ∙ freshened s 0 (initialLevels s) (replicate (treeWords s) 0) (omega arith) .inside i (omega arith) (omega arith)
+        part-set s i (chunksFrom s) nowhere (freshLevels s 0 (initialLevels s) blankTree) (omega arith) (omega arith)
+        ∙ freshened s 0 (initialLevels s) blankTree (omega arith) .inside i (omega arith) (omega arith)
 
     fresh-store : Stores.Sound (s .minimal) (levelOps (s .pairs) small) (storeOf s small (freshTables s)) (λ (c : ℕ). free)
     unfolding freshTables
@@ -116,7 +128,7 @@ module _ (s : BuddySettings) (t : Tables) (fit : BuddyIn s) (lengths : Lengths s
         (record { count = initialLevels s; levels = W; loans = loanIn s u; live = λ k. false; high = λ c. 0; top = λ c. 0 })
         (storeOf s small u) (λ (c : ℕ). free)
         (empty-sound (s .minimal) (levelOps (s .pairs) small) (minimal-pos s fit) (initialLevels s) W (loanIn s u)
-        (λ i h. level-good (replicate (treeWords s) 0) i (W i) (length-replicate (treeWords s) 0) (omega arith) (fresh-level i h)) (λ i p h. level-none (replicate (treeWords s) 0) i p (W i) (length-replicate (treeWords s) 0) (omega arith) (fresh-level i h)))
+        (λ i h. level-good blankTree i (W i) (blank-long (treeWords s) (marks .room) 0) (omega arith) (fresh-level i h)) (λ i p h. level-none blankTree i p (W i) (blank-long (treeWords s) (marks .room) 0) (omega arith) (fresh-level i h)))
         refl (λ i h. refl) (λ k. refl) fresh-live (λ c. rw (fresh-held c)) (λ c. rw (fresh-held c))
 
   pub fresh-sound : initialLevels s ≤ levelsMost → Sound s (freshTables s)
@@ -128,11 +140,21 @@ module _ (s : BuddySettings) (t : Tables) (fit : BuddyIn s) (lengths : Lengths s
       let Z : Sizes s u = record { chunks = λ c h. absurd (never c h); loans = λ k h. absurd (dead k h) } in
       let X = store-trees s small u (λ (c : ℕ). free) fit fresh-lengths (fresh-store few) Z few in
       record {
-        marked = refl;
+        signed =
+            record {
+              head = refl;
+              loans = blank-mark _ (marks .loans) 0 (omega arith);
+              chunks = blank-mark _ (marks .chunks) 0 (omega arith);
+              index = blank-mark _ (marks .index) nowhere (omega arith);
+              room =
+                  getD-set-other (freshLevels s 0 (initialLevels s) blankTree) (chunksFrom s) markAt nowhere 0 (λ e. omega arith)
+                  ∙ fresh-levels-own s markAt (omega arith) 0 (initialLevels s) blankTree
+                  ∙ blank-mark (treeWords s) (marks .room) 0 (omega arith);
+            };
         levels-least = omega arith;
         levels-most = few;
-        loans-parted = subst (λ (v : ℕ). Parted (vacantLoan u) (loanAfter u) (record { places = 0; vacant = v }) (s .store .loans)) (sym (fresh-vacated (s .store .loans))) (parted-fresh (vacantLoan u) (loanAfter u) (s .store .loans));
-        chained = fresh-chained (u .loans) (u .index) (s .store .loans) 0 (fresh-first (s .store .loans));
+        loans-parted = subst (λ (v : ℕ). Parted (vacantLoan u) (loanAfter u) (record { places = 0; vacant = v }) (s .store .loans)) (sym (fresh-vacated (marks .index) (s .store .loans))) (parted-fresh (vacantLoan u) (loanAfter u) (s .store .loans));
+        chained = fresh-chained (u .loans) (u .index) (s .store .loans) 0 (fresh-first (marks .index) (s .store .loans));
         chunks-parted = subst (λ (v : ℕ). Parted (vacantChunk u) (chunkAfter s u) (record { places = 0; vacant = v }) (s .store .chunks)) (sym none-vacated) (parted-fresh (vacantChunk u) (chunkAfter s u) (s .store .chunks));
         memories-differ = λ c d h. absurd (never c h);
         good = X .1;
@@ -218,7 +240,14 @@ module _ (s : BuddySettings) (t : Tables) (fit : BuddyIn s) (lengths : Lengths s
           let e = sym places in
           let f : givenIn t ≡ givenIn grown = sym (word givenAt (λ e. omega arith)) in
           record {
-            marked = word markAt (λ e. omega arith) ∙ sound .marked;
+            signed =
+                record {
+                  head = word markAt (λ e. omega arith) ∙ sound .signed .head;
+                  loans = sound .signed .loans;
+                  chunks = sound .signed .chunks;
+                  index = sound .signed .index;
+                  room = fresh-levels-own s markAt (omega arith) (levelsIn t) (n - levelsIn t) (t .room) ∙ sound .signed .room;
+                };
             levels-least = omega (arith, count, sound .levels-least);
             levels-most = omega (arith, count);
             loans-parted = subst (λ (p : ℕ). BookParted (t .loans) (t .index) (s .store .loans) p) e (sound .loans-parted);

@@ -12,7 +12,7 @@ use lib.Seq.{getD-set-same, getD-set-other}
 use borrow.Author.Tests.{eq-eqb, ne-eqb, lt-ltb, le-ltb}
 use Rattle.lists.specs.Members.{Below, headOr}
 use Rattle.lists.proofs.Bools.{same?}
-use Rattle.words.specs.Words.{cellOf}
+use Rattle.words.specs.Words.{cellOf, markAt}
 use Rattle.rounding_rules.specs.Raising.{levelOf}
 use Rattle.counter.specs.InTable.{BuddyIn}
 use Rattle.counter.specs.Limits.{levelsMost}
@@ -26,8 +26,8 @@ use Rattle.book_rules.proofs.Keeps.{BookChained, BookParted}
 use Rattle.buddy_trees.specs.Trees.{bytes}
 use Rattle.buddy_trees.proofs.Bytes.{bytes-pos}
 use Rattle.buddy_rules.specs.Stores.{with}
-use Rattle.buddy_rules.specs.Level.{pairTaken, part, sideAt}
-use Rattle.buddy_rules.specs.Tables.{Tables, tables, Lengths, markAt, givenAt, levelsAt, placesAt, chunkPlacesAt, memoryAt, chunkSizeAt, chunkWords, givenIn, levelsIn, placesIn, chunkPlacesIn, memoryIn, chunkSizeIn, levelFrom, chunksFrom, placeAt, topAt, afterAt, placeWords, nodesFrom, loanIn, liveIn, loanCell, heldIn, highIn, topIn, vacantChunk, chunkAfter, chunkSlab, initialLevels}
+use Rattle.buddy_rules.specs.Level.{pairTaken, part}
+use Rattle.buddy_rules.specs.Tables.{Tables, tables, Lengths, givenAt, levelsAt, placesAt, chunkPlacesAt, memoryAt, chunkSizeAt, chunkWords, givenIn, levelsIn, placesIn, chunkPlacesIn, memoryIn, chunkSizeIn, levelFrom, chunksFrom, placeAt, topAt, afterAt, placeWords, nodesFrom, loanIn, liveIn, loanCell, heldIn, highIn, topIn, vacantChunk, chunkAfter, chunkSlab, initialLevels}
 use Rattle.buddy_rules.specs.Sound.{Sound}
 use Rattle.buddy_rules.proofs.Walks.{minimal-pos, level-bytes}
 use Rattle.buddy_outcomes.specs.Ask.{chunkTaken}
@@ -103,6 +103,12 @@ module _ (s : BuddySettings) (t : Tables) (fit : BuddyIn s) (lengths : Lengths s
 
   pub chunked-level : (i : ℕ) → i < levelsMost → part (s .pairs) i (chunked .room) ≡ part (s .pairs) i (t .room)
   chunked-level i h = part-set s i topCell topWord (set (t .room) (chunksFrom s) (chunkTaken s t .slab .vacant)) h (omega arith) ∙ part-set s i (chunksFrom s) (chunkTaken s t .slab .vacant) (t .room) h (omega arith)
+
+  -- the chunks' mark stays
+  chunks-mark : getD (chunked .chunks) markAt 0 ≡ getD (t .chunks) markAt 0
+  chunks-mark =
+      getD-set-other (set (t .chunks) (cellOf memoryAt chunkWords p) memory) (cellOf chunkSizeAt chunkWords p) markAt z 0 (λ e. omega arith)
+      ∙ getD-set-other (t .chunks) (cellOf memoryAt chunkWords p) markAt memory 0 (λ e. omega arith)
 
   -- ---- words of the tree
 
@@ -252,7 +258,14 @@ module _ (s : BuddySettings) (t : Tables) (fit : BuddyIn s) (lengths : Lengths s
           let e = sym chunked-places in
           let f : givenIn t ≡ givenIn chunked = sym (head-other givenAt (λ e. omega arith)) in
           record {
-            marked = head-other markAt (λ e. omega arith) ∙ sound .marked;
+            signed =
+                record {
+                  head = head-other markAt (λ e. omega arith) ∙ sound .signed .head;
+                  loans = sound .signed .loans;
+                  chunks = chunks-mark ∙ sound .signed .chunks;
+                  index = sound .signed .index;
+                  room = tree-other markAt (λ e. omega arith) (λ e. omega arith) ∙ sound .signed .room;
+                };
             levels-least = omega (arith, chunked-count, sound .levels-least);
             levels-most = omega (arith, chunked-count, sound .levels-most);
             loans-parted = subst (λ (n : ℕ). BookParted (t .loans) (t .index) (s .store .loans) n) e (sound .loans-parted);

@@ -10,7 +10,7 @@ use lib.ListN.{length, getD}
 use lib.Seq.{getD-set-other}
 use borrow.Author.Tests.{eq-eqb, ne-eqb, ltb-true}
 use Rattle.lists.proofs.Bools.{same?, true-false, and-left, and-right, not-yes}
-use Rattle.words.specs.Words.{cellOf}
+use Rattle.words.specs.Words.{cellOf, markAt}
 use Rattle.words.proofs.Records.{cell-row}
 use Rattle.rounding_rules.specs.Raising.{levelOf}
 use Rattle.counter.specs.Limits.{levelsMost}
@@ -19,11 +19,12 @@ use Rattle.counter.specs.declared.answers.Block.{Block}
 use Rattle.counter.specs.declared.settings.BuddySettings.{BuddySettings}
 use Rattle.slab.specs.Slab.{nowhere}
 use Rattle.store_rules.specs.Loans as Loans
-use Rattle.store_rules.specs.Loans.{loanWords, serialAt, sizeAt, onLoan, offsetAt}
+use Rattle.store_rules.specs.Loans.{loanWords, serialAt, sizeAt, offsetAt}
 use Rattle.store_rules.specs.declared.Loan.{Loan}
 use Rattle.book_rules.specs.Book.{indexWords, serialOf, wordTo, struck, struckIndex}
 use Rattle.book_rules.proofs.Changed.{vacant-now}
 use Rattle.book_rules.proofs.Keeps.{BookChained, BookParted, freeIn, found, struck-long, struck-wide, struck-chained, struck-parted}
+use Rattle.book_rules.proofs.Owns.{struck-mark, struck-index-mark, word-past-mark}
 use Rattle.buddy_trees.specs.Trees.{Tree, remove, bytes}
 use Rattle.buddy_rules.specs.Nodes as Nodes
 use Rattle.buddy_rules.specs.Returns.{Out}
@@ -38,11 +39,12 @@ use Rattle.buddy_rules.specs.Moves.{Climbed, climbed}
 use Rattle.buddy_rules.proofs.Abstract.{storeOf, treeIn, sound-store, Sizes, store-trees}
 use Rattle.buddy_rules.proofs.Climbing.{climbed-is}
 use Rattle.buddy_rules.proofs.Walks.{minimal-pos}
+use Rattle.buddy_rules.proofs.Owns.{climbed-own}
 use Rattle.buddy_outcomes.specs.Return.{wordFor, onLoanOk, climbFor, givenTables}
 use Rattle.buddy_outcomes.proofs.Agree.{Agree, agree-sound}
 use Rattle.buddy_outcomes.proofs.Loaned.{live-used, on-loan-is}
 use Rattle.buddy_outcomes.proofs.Written.{OfLoan}
-use Rattle.buddy_outcomes.proofs.Vacated.{Past, tablesBy, part-by, word-by, tree-by, chunks-by, memory-by, still-held, high-by, top-by, parted-by}
+use Rattle.buddy_outcomes.proofs.Vacated.{Past, tablesBy, part-by, word-by, tree-by, chunks-by, memory-by, still-held, high-by, top-by, parted-by, chunks-mark-by, tree-mark-by}
 
 module _ (s : BuddySettings) (t : Tables) (fit : BuddyIn s) (lengths : Lengths s t) (sound : Sound s t) (b : Block) (on : onLoanOk s b t ≡ true) where
   abbrev w : ℕ
@@ -239,7 +241,14 @@ module _ (s : BuddySettings) (t : Tables) (fit : BuddyIn s) (lengths : Lengths s
         let memory = memory-by s t c (r .room) loans′ index′ lengths past f in
         let was : (x : ℕ) → heldIn (after f) x ≡ true → heldIn t x ≡ true = λ x h. still-held s t c (r .room) loans′ index′ lengths past f x h .0 in
         record {
-          marked = sound .marked;
+          signed =
+              record {
+                head = sound .signed .head;
+                loans = struck-mark (wordFor s b t) (t .index) (t .loans) ∙ sound .signed .loans;
+                chunks = chunks-mark-by s t c (r .room) loans′ index′ f ∙ sound .signed .chunks;
+                index = struck-index-mark (wordFor s b t) (t .index) (word-past-mark (t .loans) (t .index) n (placesIn t) (b .serial)) ∙ sound .signed .index;
+                room = tree-mark-by s t c (r .room) loans′ index′ f ∙ climbed-own (s .pairs) markAt (omega arith) _ _ _ (t .room) ∙ sound .signed .room;
+              };
           levels-least = sound .levels-least;
           levels-most = sound .levels-most;
           loans-parted = after-parted;

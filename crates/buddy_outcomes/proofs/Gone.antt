@@ -10,7 +10,7 @@ use lib.Dec.{eqb, ltb}
 use lib.ListN.{length, getD}
 use lib.Seq.{getD-set-same, getD-set-other}
 use Rattle.lists.proofs.Bools.{told, true-false, same?}
-use Rattle.words.specs.Words.{cellOf}
+use Rattle.words.specs.Words.{cellOf, markAt}
 use Rattle.counter.specs.Account.{heapAt}
 use Rattle.counter.specs.Gate.{Verdict, refuse, pass, gated}
 use Rattle.counter.specs.InTable.{BuddyIn}
@@ -33,7 +33,7 @@ use Rattle.store_rules.specs.declared.Loan.{Loan}
 use Rattle.book_rules.specs.Book.{takenOf, entered, serialOf, struck}
 use Rattle.book_rules.proofs.Decides.{serial-once}
 use Rattle.book_rules.proofs.Keeps.{BookParted, freeIn, taken-where}
-use Rattle.buddy_rules.specs.Tables.{Tables, Lengths, mark, markAt, givenAt, levelsAt, placesAt, headWords, givenIn, placesIn, chunkPlacesIn, loanCell, liveIn, chainStart, chainNext, memories}
+use Rattle.buddy_rules.specs.Tables.{Tables, Lengths, givenAt, levelsAt, placesAt, headWords, givenIn, placesIn, chunkPlacesIn, loanCell, liveIn, chainStart, chainNext, memories, marks}
 use Rattle.buddy_rules.specs.Moves.{Cut}
 use Rattle.buddy_rules.specs.Sound.{Sound}
 use Rattle.buddy_outcomes.specs.Gate.{gateOf}
@@ -61,7 +61,7 @@ use Rattle.buddy_outcomes.proofs.Written.{OfLoan, serial-here, cell-oth
 pub record Gone (k : ℕ) (t : Tables) : Type 0 where
   pub old : k ≤ givenIn t
   pub away : (p : ℕ) → liveIn t p ≡ true → loanCell t serialAt p ≡ k → ⊥
-  pub marked : getD (t .head) markAt 0 ≡ mark
+  pub marked : getD (t .head) markAt 0 ≡ marks .head
 
 -- ---- levels grow, and a chunk arrives: the loans, their places and the serials given are as they were
 
@@ -270,7 +270,7 @@ module _ (s : BuddySettings) (b : Block) (t : Tables) (fit : BuddyIn s) (lengths
 
   back-gone : Gone (b .serial) given
   unfolding givenTables
-  back-gone = record { old = back-old; away = back-away; marked = sound .marked }
+  back-gone = record { old = back-old; away = back-away; marked = sound .signed .head }
 
 module _ (s : BuddySettings) (a : Account) (b : Block) (t : Tables) (list : List ℕ) where
   pub return-gone-stays : (k : ℕ) → Gone k t → Gone k (returnOf s a b t list .tables)

@@ -6,10 +6,11 @@ use lib.ListN.{length, getD, set, length-set}
 use lib.Seq.{getD-set-same, getD-set-other}
 use Rattle.counter.specs.declared.settings.BuddySettings.{BuddySettings}
 use Rattle.book_rules.specs.Book.{takenOf}
-use Rattle.buddy_rules.specs.Tables.{Tables, markAt, givenAt, levelsAt, placesAt, chunkPlacesAt, headWords, givenIn, placesIn}
+use Rattle.buddy_rules.specs.Tables.{Tables, givenAt, levelsAt, placesAt, chunkPlacesAt, headWords, givenIn, placesIn}
 use Rattle.buddy_rules.specs.Moves.{Cut}
 use Rattle.buddy_outcomes.specs.Ask.{grownTables, bookedTables}
 use Rattle.buddy_outcomes.specs.Deliver.{chunkTables}
+use Rattle.words.specs.Words.{markAt}
 
 -- grown levels change no other word
 pub grown-word : (s : BuddySettings) (n : ℕ) (t : Tables) (i : ℕ) → (i ≡ levelsAt → ⊥) → getD (grownTables s n t .head) i 0 ≡ getD (t .head) i 0

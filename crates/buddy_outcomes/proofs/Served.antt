@@ -1,5 +1,5 @@
 -- What the tables hold when a chunk was delivered and its left end lent: they are sound.
-use mathlib.Core.Path.{_≡_, refl, ap, _∙_, subst}
+use mathlib.Core.Path.{_≡_, refl, ap, _∙_}
 use mathlib.Core.Bool.{Bool, true, false, cond}
 use mathlib.Core.List.{List}
 use Prim.Native.Nat.{ℕ, suc, _+_, _-_, _*_, _%_, _≤_, _<_}
@@ -31,6 +31,7 @@ use Rattle.buddy_rules.specs.Sound.{Sound}
 use Rattle.buddy_rules.proofs.Abstract.{storeOf, sound-store}
 use Rattle.buddy_rules.proofs.Splitting.{grown-in}
 use Rattle.buddy_rules.proofs.Walks.{minimal-pos}
+use Rattle.buddy_rules.proofs.Owns.{split-chunk-own}
 use Rattle.buddy_outcomes.specs.Ask.{sizeFor, levelFor, sizeOk, chunkTaken, bookedTables}
 use Rattle.buddy_outcomes.specs.Deliver.{chunkTables, servedTables}
 use Rattle.buddy_outcomes.proofs.Same.{sound-as}
@@ -39,6 +40,7 @@ use Rattle.buddy_outcomes.proofs.Rounds.{size-level, size-units}
 use Rattle.buddy_outcomes.proofs.Booked.{booked-lengths, booked-sound}
 use Rattle.buddy_outcomes.proofs.Taken.{place-dead, level-empty, level-room}
 use Rattle.buddy_outcomes.proofs.Chunked.{chunked, chunked-lengths, chunked-count, chunked-places, chunked-level, chunked-live, chunked-loan, taken-dead, chunked-high, chunked-top, chunked-kept}
+use Rattle.words.specs.Words.{markAt}
 
 module _ (s : BuddySettings) (t : Tables) (fit : BuddyIn s) (lengths : Lengths s t) (sound : Sound s t) (size lev d memory z : ℕ)
     (top : levelsIn t ≡ up (suc d) lev) (is-chunk : z ≡ bytes (s .minimal) (levelsIn t))
@@ -147,7 +149,7 @@ module _ (s : BuddySettings) (t : Tables) (fit : BuddyIn s) (lengths : Lengths s
     served-tables-sound : Sound s (bookedTables s c 0 size cut u)
     served-tables-sound =
         booked-sound s u fit (chunked-lengths s t fit lengths memory z) c 0 size cut (is-cut .3) lev (chunked-kept s t fit lengths memory z chunk-room sound tall is-chunk new) (rw same-place place) level is
-        (zero-mod (s .store .atom + 1)) units (is-cut .2) T′ W′ (is-cut .1) after-as
+        (zero-mod (s .store .atom + 1)) units (is-cut .2) (split-chunk-own (s .pairs) markAt (omega arith) _ _ _ _ (u .room)) T′ W′ (is-cut .1) after-as
 
 -- ---- for an ask that no level has a ready side for, and all have a vacant pair place
 

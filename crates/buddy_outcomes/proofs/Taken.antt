@@ -37,12 +37,14 @@ use Rattle.buddy_rules.specs.Sound.{Sound}
 use Rattle.buddy_rules.proofs.Abstract.{storeOf, sound-store}
 use Rattle.buddy_rules.proofs.Splitting.{head-is, lent-is}
 use Rattle.buddy_rules.proofs.Walks.{minimal-pos}
+use Rattle.buddy_rules.proofs.Owns.{split-down-own, acquired-own}
 use Rattle.buddy_outcomes.specs.Ask.{at, sizeFor, levelFor, foundFrom, sizeOk, roomOk, bookedTables, headEnt, takenTables}
 use Rattle.buddy_outcomes.proofs.Same.{sound-as}
 use Rattle.buddy_outcomes.proofs.Changed.{few-pairs}
 use Rattle.buddy_outcomes.proofs.Rounds.{size-level, size-units}
 use Rattle.buddy_outcomes.proofs.Searches.{search-at, room-place, room-pair}
 use Rattle.buddy_outcomes.proofs.Booked.{Kept, and-no, booked-lengths, booked-sound}
+use Rattle.words.specs.Words.{markAt}
 
 -- a multiple of whole units is one
 pub units-times : (r z m : ℕ) → z % m ≡ 0 → (r * z) % m ≡ 0
@@ -56,7 +58,7 @@ module _ (s : BuddySettings) (t : Tables) (fit : BuddyIn s) (sound : Sound s t) 
   -- all but the trees
   pub sound-kept : Kept s t
   sound-kept = record {
-    marked = sound .marked;
+    signed = sound .signed;
     levels-least = sound .levels-least;
     levels-most = sound .levels-most;
     loans-parted = sound .loans-parted;
@@ -164,7 +166,7 @@ module _ (s : BuddySettings) (t : Tables) (fit : BuddyIn s) (lengths : Lengths s
     lent-tables-sound : Sound s (bookedTables s (e .chunk) (baseOf (s .minimal) e (up d lev)) size cut t)
     lent-tables-sound =
         let X = lent-is s (few-pairs s fit) t fit lengths sound lev d k below some-in room-in in
-        booked-sound s t fit lengths (e .chunk) (baseOf (s .minimal) e (up d lev)) size cut cut-long lev (sound-kept s t fit sound) place level is at-units units (X .2) T′ W′ (X .1) after-as
+        booked-sound s t fit lengths (e .chunk) (baseOf (s .minimal) e (up d lev)) size cut cut-long lev (sound-kept s t fit sound) place level is at-units units (X .2) (split-down-own (s .pairs) markAt (omega arith) _ _ _ _ _ _ _ ∙ acquired-own (levelFrom s (up d lev)) markAt (omega arith) 0 (t .room)) T′ W′ (X .1) after-as
 
 -- ---- of the first level with a ready side
 

@@ -3,7 +3,7 @@ use mathlib.Core.Path.{_≡_, refl, sym, ap, subst, _∙_}
 use mathlib.Core.Bool.{Bool, true, false, cond, not, _&&_, and-false}
 use mathlib.Core.Logic.{_⊎_, inl, inr, ⊎-elim}
 use mathlib.Core.List.{List}
-use Prim.Native.Nat.{ℕ, _+_, _*_, _-_, _≤_, _<_}
+use Prim.Native.Nat.{ℕ, _+_, _-_, _≤_, _<_}
 use native.Mathlib.Nat.{mul-suc}
 use native.Mathlib.Omega.{arith}
 use lib.Dec.{eqb, ltb}
@@ -11,7 +11,7 @@ use lib.ListN.{length, length-set, getD, set, take, drop}
 use lib.Seq.{getD-set-same, getD-set-other, drop-set-add, take-set-le}
 use borrow.Author.Tests.{eq-eqb, ne-eqb}
 use Rattle.lists.proofs.Bools.{same?, true-false}
-use Rattle.words.specs.Words.{cellOf}
+use Rattle.words.specs.Words.{cellOf, markAt}
 use Rattle.rounding_rules.specs.Raising.{levelOf}
 use Rattle.counter.specs.Limits.{levelsMost}
 use Rattle.counter.specs.declared.settings.BuddySettings.{BuddySettings}
@@ -48,6 +48,16 @@ module _ (s : BuddySettings) (t : Tables) (c : ℕ) (tree loans index : List ℕ
 
   abbrev linked : List ℕ
   linked = set tree after (getD tree (chunksFrom s) 0)
+
+  -- the marks of the chunks and of the tree stay
+  pub chunks-mark-by : (f : Bool) → getD (tablesBy f .chunks) markAt 0 ≡ getD (t .chunks) markAt 0
+  chunks-mark-by true = getD-set-other (t .chunks) (cellOf chunkSizeAt chunkWords c) markAt 0 0 (λ e. omega arith)
+  chunks-mark-by false = refl
+
+  pub tree-mark-by : (f : Bool) → getD (tablesBy f .room) markAt 0 ≡ getD tree markAt 0
+  unfolding vacatedTree
+  tree-mark-by true = getD-set-other linked (chunksFrom s) markAt c 0 (λ e. omega arith) ∙ getD-set-other tree after markAt (getD tree (chunksFrom s) 0) 0 (λ e. omega arith)
+  tree-mark-by false = refl
 
   module _ (lengths : Lengths s t) (p : Past s t c tree) where
     -- ---- the tree

@@ -2,7 +2,8 @@
 use mathlib.Core.Bool.{Bool, _&&_}
 use mathlib.Core.List.{List, [], _∷_}
 use Prim.Native.Nat.{ℕ, _*_, _+_}
-use lib.ListN.{set, replicate}
+use lib.ListN.{set}
+use Rattle.words.specs.Words.{blank}
 use Rattle.counter.specs.Gate.{Verdict, pass, refuse, first}
 use Rattle.counter.specs.Paper as Paper
 use Rattle.counter.specs.Table.{buddyOk}
@@ -11,23 +12,23 @@ use Rattle.slab.specs.Slab.{nowhere}
 use Rattle.store_rules.specs.Loans.{loanWords}
 use Rattle.book_rules.specs.Book.{freshIndex}
 pub use Rattle.store_rules.specs.Tables.{Begun, begun}
-use Rattle.buddy_rules.specs.Tables.{Tables, tables, mark, lengthsOk, chunkWords, chunksFrom, treeWords, initialLevels}
+use Rattle.buddy_rules.specs.Tables.{Tables, tables, marks, lengthsOk, chunkWords, chunksFrom, treeWords, initialLevels}
 use Rattle.buddy_outcomes.specs.Ask.{freshLevels}
 
 -- the mark; nothing given, and "Initial levels"; no place used
 abbrev pub freshHead : BuddySettings → List ℕ
-freshHead s = mark ∷ 0 ∷ initialLevels s ∷ 0 ∷ 0 ∷ []
+freshHead s = marks .head ∷ 0 ∷ initialLevels s ∷ 0 ∷ 0 ∷ []
 
--- every word of every table is written, whatever was lent: no loan, no chunk, no link; the initial levels are there and empty, and
+-- every word of every table is written, whatever was lent: the marks; no loan, no chunk, no link; the initial levels are there and empty, and
 -- no chunk place is vacated
 unfoldable pub freshTables : BuddySettings → Tables
 freshTables s =
     tables
     (freshHead s)
-    (replicate (loanWords + loanWords * s .store .loans) 0)
-    (replicate (chunkWords + chunkWords * s .store .chunks) 0)
-    (freshIndex (s .store .loans))
-    (set (freshLevels s 0 (initialLevels s) (replicate (treeWords s) 0)) (chunksFrom s) nowhere)
+    (blank (loanWords + loanWords * s .store .loans) (marks .loans) 0)
+    (blank (chunkWords + chunkWords * s .store .chunks) (marks .chunks) 0)
+    (freshIndex (marks .index) (s .store .loans))
+    (set (freshLevels s 0 (initialLevels s) (blank (treeWords s) (marks .room) 0)) (chunksFrom s) nowhere)
 
 -- 1, but for the account, which set-up does not take
 unfoldable pub fitOk : BuddySettings → Tables → Bool

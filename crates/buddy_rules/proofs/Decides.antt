@@ -15,12 +15,13 @@ use Rattle.slab.specs.Slab.{nowhere}
 use Rattle.slab.specs.Test.{partedOk}
 use Rattle.slab.proofs.Decides.{decides-yes, decides-all}
 use Rattle.store_rules.specs.Loans.{sizeAt}
+use Rattle.store_rules.proofs.Signed.{signed-yes, signed-all}
 use Rattle.book_rules.specs.Book.{serialOf}
 use Rattle.book_rules.proofs.Decides.{chains-yes, chains-all}
 use Rattle.buddy_rules.specs.Level.{usedAt, Good}
 use Rattle.buddy_rules.specs.LevelTest.{goodOk}
 use Rattle.buddy_rules.proofs.LevelDecides.{good-yes, good-all}
-use Rattle.buddy_rules.specs.Tables.{Tables, mark, markAt, givenIn, levelsIn, placesIn, chunkPlacesIn, memoryIn, levelFrom, pairsIn, loanCell, loanIn, liveIn, heldIn, vacantChunk, chunkAfter, chunkSlab, vacantLoan, loanAfter, loanSlab, chainStart, chainNext, initialLevels}
+use Rattle.buddy_rules.specs.Tables.{Tables, givenIn, levelsIn, placesIn, chunkPlacesIn, memoryIn, levelFrom, pairsIn, loanCell, loanIn, liveIn, heldIn, vacantChunk, chunkAfter, chunkSlab, vacantLoan, loanAfter, loanSlab, chainStart, chainNext, initialLevels, marks}
 use Rattle.buddy_rules.specs.Sound.{Sound}
 use Rattle.buddy_rules.specs.Test.{every, memoriesOk, unitsOk, soundRow, soundOk}
 use Rattle.buddy_rules.proofs.Tests.{every-yes, every-all}
@@ -126,7 +127,7 @@ module _ (s : BuddySettings) (t : Tables) where
         let good : (l : ℕ) → l < levelsIn t → Good (levelFrom s l) (s .pairs) (t .room) =
         λ l h. good-yes (levelFrom s l) (s .pairs) (t .room) pairs-few (every-yes (λ (i : ℕ). goodOk (levelFrom s i) (s .pairs) (t .room)) (levelsIn t) l (rest .1 .0) h) in
         record {
-          marked = eqb-true (getD (t .head) markAt 0) mark (at .0);
+          signed = signed-yes marks t (at .0);
           levels-least = leb-true (initialLevels s) (levelsIn t) (at .1 .0);
           levels-most = levels;
           loans-parted = decides-yes (vacantLoan t) (loanAfter t) (loanSlab t) (s .store .loans) (omega arith) (at .1 .1 .1 .0);
@@ -143,7 +144,7 @@ module _ (s : BuddySettings) (t : Tables) where
     tables-all S =
         let low : placesIn t < nowhere = omega (arith, S .loans-parted .limit, fit .store .loans-most) in
         each-all (soundRow s t) (
-          eq-eqb (getD (t .head) markAt 0) mark (S .marked),
+          signed-all marks t (S .signed),
           (
             le-leb (initialLevels s) (levelsIn t) (S .levels-least),
             (

@@ -44,3 +44,5 @@ pub mod Viewed
 pub mod Walks
 pub mod Within
 pub mod Worded
+pub mod Owns
+pub mod Truth

@@ -10,7 +10,6 @@ use Rattle.buddy_rules.specs.Nodes.{freeWord, loanWord, splitWord, L, no
 pub use Rattle.buddy_rules.specs.Levels.{sideIn}
 use Rattle.buddy_rules.specs.Levels.{sideOf}
 use Rattle.buddy_rules.specs.Level.{sideAt, pairCell, entOf, ringHead, pairTaken, dropped, backed, added, levelStart}
-use Rattle.buddy_rules.specs.Tables.{}
 
 -- whether the climb came out above the chunk's top, and the tree
 pub record Climbed : Type 0 where

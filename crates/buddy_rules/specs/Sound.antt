@@ -2,7 +2,6 @@
 use mathlib.Core.Path.{_≡_}
 use mathlib.Core.Bool.{true}
 use Prim.Native.Nat.{ℕ, _+_, _%_, _≤_, _<_}
-use lib.ListN.{getD}
 use Rattle.counter.specs.Limits.{levelsMost}
 use Rattle.counter.specs.declared.settings.BuddySettings.{BuddySettings}
 use Rattle.slab.specs.Slab.{nowhere, Parted}
@@ -12,7 +11,7 @@ use Rattle.buddy_trees.specs.Trees.{Tree, Taken, Piece, Wf, Has, bytes}
 use Rattle.buddy_rules.specs.Nodes.{vacant, Rep}
 use Rattle.buddy_rules.specs.Stores.{piece}
 use Rattle.buddy_rules.specs.Level.{Good}
-use Rattle.buddy_rules.specs.Tables.{Tables, mark, markAt, givenIn, levelsIn, placesIn, memoryIn, chunkSizeIn, levelFrom, pairsIn, loanCell, loanIn, liveIn, heldIn, highIn, topIn, vacantChunk, chunkAfter, chunkSlab, vacantLoan, loanAfter, loanSlab, chainStart, chainNext, initialLevels}
+use Rattle.buddy_rules.specs.Tables.{Tables, Signed, marks, givenIn, levelsIn, placesIn, memoryIn, chunkSizeIn, levelFrom, pairsIn, loanCell, loanIn, liveIn, heldIn, highIn, topIn, vacantChunk, chunkAfter, chunkSlab, vacantLoan, loanAfter, loanSlab, chainStart, chainNext, initialLevels}
 use Rattle.store_rules.specs.Loans.{sizeAt}
 
 -- demand 3's filling: each held chunk is a tree whose pieces fill it, no pair of them both free, and never wholly free; its
@@ -35,7 +34,7 @@ pub record Trees (s : BuddySettings) (t : Tables) : Type 0 where
   pub is-live : (c k : ℕ) (y : Piece) → heldIn t c ≡ true → Has (s .minimal) (highIn s t c) 0 (trees c) y → y .who ≡ k + 1 → liveIn t k ≡ true
 
 pub record Sound (s : BuddySettings) (t : Tables) : Type 0 where
-  pub marked : getD (t .head) markAt 0 ≡ mark
+  pub signed : Signed marks t
   -- "L from the greater of 1 and the initial levels to the levels now, never below the initial"; "buddy levels: at most 32"
   pub levels-least : initialLevels s ≤ levelsIn t
   pub levels-most : levelsIn t ≤ levelsMost

@@ -14,19 +14,23 @@ use Rattle.counter.specs.declared.settings.BuddySettings.{BuddySettings}
 use Rattle.slab.specs.Slab.{vacantAt, linkAt}
 use Rattle.slab.specs.declared.Slab.{Slab}
 use Rattle.store_rules.specs.Loans.{loanWords, chunkAt, offsetAt, sizeAt}
-pub use Rattle.store_rules.specs.Tables.{Tables, tables}
+pub use Rattle.store_rules.specs.Tables.{Tables, tables, Marks, Signed, signedOk}
 use Rattle.book_rules.specs.Book.{indexWords, entryWords, vacantAfterAt, nextOf, slabOf, firstIn}
 use Rattle.buddy_rules.specs.Nodes.{Ent, Loan}
 use Rattle.buddy_rules.specs.Level.{levelStart, pairIn}
 
 -- ---- head: a mark; serials given, levels now; loan places and chunk places ever used
 
--- "buddytre" in ASCII: tables of another engine do not have it
-abbrev pub mark : ℕ
-mark = 0x6275_6464_7974_7265
-
-abbrev pub markAt : ℕ
-markAt = 0
+-- "budd" and what the table is, in ASCII: head, loan, chnk, indx, room
+abbrev pub marks : Marks
+marks =
+    record {
+      head = 0x6275_6464_6865_6164;
+      loans = 0x6275_6464_6c6f_616e;
+      chunks = 0x6275_6464_6368_6e6b;
+      index = 0x6275_6464_696e_6478;
+      room = 0x6275_6464_726f_6f6d;
+    }
 
 abbrev pub givenAt : ℕ
 givenAt = 1

@@ -11,7 +11,7 @@ use Rattle.buddy_trees.specs.Trees.{bytes}
 use Rattle.buddy_rules.specs.Nodes.{freeWord, loanWord, splitWord, saysLoan, loanSaid, pairSaid, vacant, Ent, L, R, nodeOf, pairOf, word, tagOf}
 use Rattle.buddy_rules.specs.Levels.{sideIn}
 use Rattle.buddy_rules.specs.Level.{usedAt}
-use Rattle.buddy_rules.specs.Tables.{Tables, mark, markAt, givenIn, memoryIn, vacantLoan, loanAfter, loanSlab, chainStart, chainNext, vacantChunk, chunkAfter, chunkSlab, levelsIn, placesIn, chunkPlacesIn, chunkSizeIn, levelFrom, pairsIn, loanCell, loanIn, liveIn, heldIn, highIn, topIn, initialLevels}
+use Rattle.buddy_rules.specs.Tables.{Tables, signedOk, marks, givenIn, memoryIn, vacantLoan, loanAfter, loanSlab, chainStart, chainNext, vacantChunk, chunkAfter, chunkSlab, levelsIn, placesIn, chunkPlacesIn, chunkSizeIn, levelFrom, pairsIn, loanCell, loanIn, liveIn, heldIn, highIn, topIn, initialLevels}
 use lib.ListN.{getD}
 use Rattle.lists.specs.Tests.{all}
 use Rattle.counter.specs.Limits.{levelsMost}
@@ -95,7 +95,7 @@ module _ (s : BuddySettings) (t : Tables) where
 
   abbrev pub soundRow : List Bool
   soundRow =
-      eqb (getD (t .head) markAt 0) mark
+      signedOk marks t
       ∷ leb (initialLevels s) (levelsIn t)
       ∷ leb (levelsIn t) levelsMost
       ∷ partedOk (vacantLoan t) (loanAfter t) (loanSlab t) (s .store .loans)

@@ -1,7 +1,14 @@
-// What a buddy store's head begins with, "buddytre" in ASCII, and where its words stand; specs/Tables has the same names.
-pub const MARK: u64 = 0x6275_6464_7974_7265;
+// What each of a buddy store's tables begins with, "budd" and what it is in ASCII, and where the words of the head stand; specs/Tables
+// has the same names.
+pub const HEAD_MARK: u64 = 0x6275_6464_6865_6164;
 
-pub const MARK_AT: usize = 0;
+pub const LOANS_MARK: u64 = 0x6275_6464_6c6f_616e;
+
+pub const CHUNKS_MARK: u64 = 0x6275_6464_6368_6e6b;
+
+pub const INDEX_MARK: u64 = 0x6275_6464_696e_6478;
+
+pub const ROOM_MARK: u64 = 0x6275_6464_726f_6f6d;
 
 pub const GIVEN_AT: usize = 1;
 

@@ -2,7 +2,7 @@
 use mathlib.Core.Path.{_≡_, refl, sym, ap, _∙_}
 use mathlib.Core.Bool.{Bool, true, false, _&&_, _||_, not}
 use mathlib.Core.List.{List, []}
-use Prim.Native.Nat.{ℕ, _+_, _*_, _%_, _<_}
+use Prim.Native.Nat.{ℕ, _+_, _%_, _<_}
 use lib.Bits.{bitAnd}
 use lib.Dec.{eqb, leb}
 use lib.ListN.{getD}
@@ -18,16 +18,16 @@ use Rattle.slab.specs.Slab.{vacantAt, linkAt}
 use Rattle.slab.specs.Test.{partedOk}
 use Rattle.store_rules.specs.Loans.{loanWords, sizeAt, loanRow, offsetAt}
 use Rattle.store_rules.specs.declared.Loan.{Loan}
-use Rattle.buddy_rules.specs.Level.{levelWords, levelStart}
+use Rattle.buddy_rules.specs.Level.{levelStart}
 use Rattle.buddy_rules.specs.LevelTest.{goodOk}
 use Rattle.buddy_levels.specs.Seen.{partTables, levelPart}
-use Rattle.buddy_rules.specs.Tables.{mark, markAt, levelsAt, initialLevels, chunkWords, chunkSizeAt, placeWords, afterAt, vacantChunk, chunkAfter, chunkSlab}
+use Rattle.buddy_rules.specs.Tables.{levelsAt, initialLevels, chunkWords, chunkSizeAt, placeWords, afterAt, vacantChunk, chunkAfter, chunkSlab, marks, Tables, signedOk}
 use Rattle.buddy_rules.specs.Test.{unitsOk}
 
 module _ (s : BuddySettings) where
-  pub head-told : (head : List ℕ) (m l f : ℕ) → m ≡ getD head markAt 0 → l ≡ getD head levelsAt 0 → f ≡ initialLevels s
-      → (eqb m mark && (leb f l && leb l levelsMost)) ≡ (eqb (getD head markAt 0) mark && (leb (initialLevels s) (getD head levelsAt 0) && leb (getD head levelsAt 0) levelsMost))
-  head-told head m l f e g h = λ j. eqb (e j) mark && (leb (h j) (g j) && leb (g j) levelsMost)
+  pub head-told : (t : Tables) (m : Bool) (l f : ℕ) → m ≡ signedOk marks t → l ≡ getD (t .head) levelsAt 0 → f ≡ initialLevels s
+      → (m && (leb f l && leb l levelsMost)) ≡ (signedOk marks t && (leb (initialLevels s) (getD (t .head) levelsAt 0) && leb (getD (t .head) levelsAt 0) levelsMost))
+  head-told t m l f e g h = λ j. e j && (leb (h j) (g j) && leb (g j) levelsMost)
 
   pub places-told : (n at v : ℕ) (chunks tree : List ℕ) (r : Bool) → at ≡ levelStart (s .pairs) levelsMost → v ≡ getD tree at 0
       → r ≡ partedOk (vacantAt chunks chunkSizeAt chunkWords) (linkAt tree (at + (placeWords + afterAt)) placeWords) (record { places = n; vacant = v }) (s .store .chunks)

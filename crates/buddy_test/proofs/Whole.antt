@@ -5,7 +5,7 @@ use mathlib.Core.Bool.{Bool, true, false, _&&_, not, and-assoc}
 use mathlib.Core.List.{List, [], _∷_}
 use Prim.Native.Nat.{ℕ, _+_, _≤_, _<_}
 use native.Mathlib.Omega.{arith}
-use lib.Dec.{eqb, leb}
+use lib.Dec.{leb}
 use lib.ListN.{getD}
 use borrow.Author.Tests.{leb-true}
 use Rattle.lists.specs.Tests.{all}
@@ -21,7 +21,7 @@ use Rattle.book_rules.proofs.Keeping.{kept-most}
 use Rattle.buddy_rules.specs.Level.{usedAt, levelStart}
 use Rattle.buddy_rules.specs.LevelTest.{goodOk}
 use Rattle.buddy_levels.specs.Seen.{partSettings, partTables, levelPart}
-use Rattle.buddy_rules.specs.Tables.{Tables, tables, mark, markAt, givenIn, levelsIn, placesIn, chunkPlacesIn, vacantLoan, loanAfter, loanSlab, chainStart, chainNext, vacantChunk, chunkAfter, chunkSlab, initialLevels}
+use Rattle.buddy_rules.specs.Tables.{Tables, tables, givenIn, levelsIn, placesIn, chunkPlacesIn, vacantLoan, loanAfter, loanSlab, chainStart, chainNext, vacantChunk, chunkAfter, chunkSlab, initialLevels, marks, signedOk}
 use Rattle.buddy_rules.specs.Test.{every, memoriesOk, treesOk, unitsOk, soundOk}
 use Rattle.buddy_rules.proofs.Tests.{every-yes}
 use Rattle.buddy_test.proofs.Trees.{trees-shown}
@@ -47,7 +47,7 @@ module _ (s : BuddySettings) (head loans chunks index tree : List ℕ) where
 
   -- the parts, by the numbers that the code reads
   abbrev headPart : Bool
-  headPart = eqb (getD head markAt 0) mark && (leb (initialLevels s) (levelsIn t) && leb (levelsIn t) levelsMost)
+  headPart = signedOk marks t && (leb (initialLevels s) (levelsIn t) && leb (levelsIn t) levelsMost)
 
   abbrev keptPart : ℕ → ℕ → Bool
   keptPart places given = keptOk loans index (s .store .loans) places given
@@ -73,7 +73,7 @@ module _ (s : BuddySettings) (head loans chunks index tree : List ℕ) where
   unfolding soundOk keptOk
   parts =
       regroup
-      (eqb (getD head markAt 0) mark)
+      (signedOk marks t)
       (leb (initialLevels s) (levelsIn t))
       (leb (levelsIn t) levelsMost)
       (partedOk (vacantLoan t) (loanAfter t) (loanSlab t) (s .store .loans))
@@ -102,7 +102,7 @@ module _ (s : BuddySettings) (head loans chunks index tree : List ℕ) where
       pub levels-few : levels ≤ levelsMost
       levels-few =
           let e = sym hs ∙ not-no hd ht in
-          rw ls (leb-true (levelsIn t) levelsMost (and-right (leb (initialLevels s) (levelsIn t)) _ (and-right (eqb (getD head markAt 0) mark) _ e)))
+          rw ls (leb-true (levelsIn t) levelsMost (and-right (leb (initialLevels s) (levelsIn t)) _ (and-right (signedOk marks t) _ e)))
 
       module _ (kp : Bool) (ks : kp ≡ keptPart places given) where
         pub kept-fails : not kp ≡ true → false ≡ whole

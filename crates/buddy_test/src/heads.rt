@@ -10,29 +10,51 @@ ghost use Rattle.counter.specs.Limits.{levelsMost, pairsMost, loansMost};
 ghost use Rattle.slab.specs.Test.{partedOk};
 ghost use Rattle.buddy_rules.specs.LevelTest.{goodOk};
 ghost use Rattle.buddy_rules.specs.Level.{levelStart};
-ghost use Rattle.buddy_rules.specs.Tables.{mark, markAt, levelsAt, initialLevels, vacantChunk, chunkAfter, chunkSlab};
+ghost use Rattle.buddy_rules.specs.Tables.{tables, marks, signedOk, levelsAt, initialLevels, vacantChunk, chunkAfter, chunkSlab};
 ghost use Rattle.buddy_rules.specs.Test.{every, unitsOk};
 ghost use Rattle.buddy_levels.specs.Seen.{partTables, levelPart};
 use buddy_rules::AFTER_AT;
 use buddy_rules::CHUNK_SIZE_AT;
 use buddy_rules::CHUNK_WORDS;
+use buddy_rules::CHUNKS_MARK;
+use buddy_rules::HEAD_MARK;
+use buddy_rules::INDEX_MARK;
 use buddy_rules::LEVELS_AT;
-use buddy_rules::MARK;
-use buddy_rules::MARK_AT;
+use buddy_rules::LOANS_MARK;
 use buddy_rules::PLACE_WORDS;
+use buddy_rules::ROOM_MARK;
 use counter::BuddySettings;
 use counter::LEVELS_MOST;
 use slab::Slab;
 use store_rules::Loan;
+use words::MARK_AT;
 
-// Whether the head has the mark, and the levels are as many as at first or more, and not too many.
-pub fn is_head(s: BuddySettings, head: &[u64]) -> bool
-    ensures { λ r. ⌜ r ≡ (eqb (getD (now (head .entry)) markAt 0) mark && (leb (initialLevels s) (getD (now (head .entry)) levelsAt 0) && leb (getD (now (head .entry)) levelsAt 0) levelsMost)) ⌝ }
+// Whether each table begins with its mark.
+fn is_signed(head: &[u64], loans: &[u64], chunks: &[u64], index: &[u64], tree: &[u64]) -> bool
+    ensures { λ r. ⌜ r ≡ signedOk marks (tables (now (head .entry)) (now (loans .entry)) (now (chunks .entry)) (now (index .entry)) (now (tree .entry))) ⌝ }
+{
+    (words::word(head, MARK_AT) == HEAD_MARK)
+        & (words::word(loans, MARK_AT) == LOANS_MARK)
+        & (words::word(chunks, MARK_AT) == CHUNKS_MARK)
+        & (words::word(index, MARK_AT) == INDEX_MARK)
+        & (words::word(tree, MARK_AT) == ROOM_MARK)
+}
+
+// Whether the tables have their marks, and the levels are as many as at first or more, and not too many.
+pub fn is_head(
+    s: BuddySettings,
+    head: &[u64],
+    loans: &[u64],
+    chunks: &[u64],
+    index: &[u64],
+    tree: &[u64],
+) -> bool
+    ensures { λ r. ⌜ r ≡ (signedOk marks (tables (now (head .entry)) (now (loans .entry)) (now (chunks .entry)) (now (index .entry)) (now (tree .entry))) && (leb (initialLevels s) (getD (now (head .entry)) levelsAt 0) && leb (getD (now (head .entry)) levelsAt 0) levelsMost)) ⌝ }
 {
     let levels = words::word(head, LEVELS_AT);
     let first = rounding::level(s.initial, s.minimal) as u64;
     let most = LEVELS_MOST as u64;
-    (words::word(head, MARK_AT) == MARK) & ((first <= levels) & (levels <= most))
+    is_signed(head, loans, chunks, index, tree) & ((first <= levels) & (levels <= most))
 }
 
 // Whether the first n chunk places are parted into used and vacant ones.

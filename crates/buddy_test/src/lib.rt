@@ -62,7 +62,7 @@ pub fn is_sound(
     requires { ⌜ BuddyIn s ⌝ }
     ensures { λ r. ⌜ r ≡ soundOk s (tables (now (head .entry)) (now (loans .entry)) (now (chunks .entry)) (now (index .entry)) (now (tree .entry))) ⌝ }
 {
-    if !heads::is_head(s, head) {
+    if !heads::is_head(s, head, loans, chunks, index, tree) {
         return false;
     }
     let own = s.store;

@@ -12,19 +12,21 @@ use Rattle.counter.specs.Table.{alignmentOk, storeOk, freeListOk, heapsUpto}
 use Rattle.counter.specs.declared.account.OpenOrder.the-variants.{Nothing}
 use Rattle.counter.specs.declared.settings.FreeListSettings.{FreeListSettings}
 use Rattle.heap.specs.Heap.{plusOf, chargedOf, releasedOf, bearsOk, agreesOk}
+use Rattle.words.specs.Words.{blank}
 use Rattle.slab.specs.Slab.{nowhere, inserted}
+use Rattle.store_rules.specs.Tables.{signedOk}
 use Rattle.slab.specs.Test.{vacancies, leads, partedOk}
 use Rattle.store_rules.specs.Delivery.{deliveryOk}
 use Rattle.store_rules.specs.Loans.{loansOf}
 use Rattle.store_rules.specs.Outcomes.{out, listed, chargedAccount, releasedAccount}
 use Rattle.store_rules.specs.Tests.{coversOk}
-use Rattle.book_rules.specs.Book.{freshIndex, entered, enteredIndex, seekIn, wordTo, struck, struckIndex}
+use Rattle.book_rules.specs.Book.{entered, enteredIndex, seekIn, wordTo, struck, struckIndex}
 use Rattle.book_rules.specs.Chains.{linkOk, leftAfter, leftOf, chainsOk}
 use Rattle.freelist_rules.specs.Walk.{fillsOk, sizedOk, chunkOk, loanOk}
 use Rattle.freelist_rules.specs.Place.{fitsIn, findFrom, cutOff}
 use Rattle.freelist_rules.specs.Join.{insert}
 use Rattle.freelist_rules.specs.Release.{staying, leaving, remaining}
-use Rattle.freelist_rules.specs.Tables.{Tables, tables, mark, lengthsOk, ordered, storeOf, soundOk, laidRegions}
+use Rattle.freelist_rules.specs.Tables.{Tables, tables, lengthsOk, ordered, storeOf, soundOk, laidRegions, marks}
 use Rattle.freelist_outcomes.specs.Gate.{inTableOk, accountOk, gateOf}
 use Rattle.freelist_outcomes.specs.Ask.{sizeOk, roomOk, countOk, objectsOk, decideAsk, takenTables, orderedTables, carryAsk, planAsk, askOf}
 use Rattle.freelist_outcomes.specs.Deliver.{deliverGateOf, deliveredTables, carryFate, planDeliver, carryDeliver, deliverOf}
@@ -72,61 +74,61 @@ list = record { store = record { number = 7; memtype = 0; properties = 1; heap =
 abbrev pub opening : Tables
 opening =
     tables
-    (mark ∷ 0 ∷ 0 ∷ 4096 ∷ 0 ∷ 0 ∷ [])
-    (0 ∷ 0 ∷ 0 ∷ 0 ∷ 0 ∷ 0 ∷ 0 ∷ 0 ∷ 0 ∷ 0 ∷ 0 ∷ 0 ∷ 0 ∷ 0 ∷ 0 ∷ 0 ∷ [])
-    (0 ∷ 0 ∷ 0 ∷ 0 ∷ 0 ∷ 0 ∷ 0 ∷ 0 ∷ 0 ∷ [])
-    (nowhere ∷ nowhere ∷ nowhere ∷ nowhere ∷ nowhere ∷ nowhere ∷ nowhere ∷ nowhere ∷ nowhere ∷ nowhere ∷ nowhere ∷ nowhere ∷ [])
-    (0 ∷ 0 ∷ 0 ∷ 0 ∷ 0 ∷ 0 ∷ 0 ∷ 0 ∷ 0 ∷ 0 ∷ 0 ∷ 0 ∷ 0 ∷ 0 ∷ 0 ∷ 0 ∷ 0 ∷ 0 ∷ [])
+    (marks .head ∷ 0 ∷ 0 ∷ 4096 ∷ 0 ∷ 0 ∷ [])
+    (marks .loans ∷ 0 ∷ 0 ∷ 0 ∷ 0 ∷ 0 ∷ 0 ∷ 0 ∷ 0 ∷ 0 ∷ 0 ∷ 0 ∷ 0 ∷ 0 ∷ 0 ∷ 0 ∷ [])
+    (marks .chunks ∷ 0 ∷ 0 ∷ 0 ∷ 0 ∷ 0 ∷ 0 ∷ 0 ∷ 0 ∷ [])
+    (marks .index ∷ nowhere ∷ nowhere ∷ nowhere ∷ nowhere ∷ nowhere ∷ nowhere ∷ nowhere ∷ nowhere ∷ nowhere ∷ nowhere ∷ nowhere ∷ [])
+    (marks .room ∷ 0 ∷ 0 ∷ 0 ∷ 0 ∷ 0 ∷ 0 ∷ 0 ∷ 0 ∷ 0 ∷ 0 ∷ 0 ∷ 0 ∷ 0 ∷ 0 ∷ 0 ∷ 0 ∷ 0 ∷ [])
 
 -- the 128 is on loan
 abbrev pub withOne : Tables
 withOne =
     tables
-    (mark ∷ 1 ∷ 1 ∷ 8192 ∷ 1 ∷ 1 ∷ [])
-    (0 ∷ 0 ∷ 0 ∷ 0 ∷ 1 ∷ 1 ∷ 3968 ∷ 128 ∷ 0 ∷ 0 ∷ 0 ∷ 0 ∷ 0 ∷ 0 ∷ 0 ∷ 0 ∷ [])
-    (0 ∷ 0 ∷ 0 ∷ 1 ∷ 50 ∷ 4096 ∷ 0 ∷ 0 ∷ 0 ∷ [])
-    (nowhere ∷ nowhere ∷ nowhere ∷ nowhere ∷ nowhere ∷ nowhere ∷ 0 ∷ nowhere ∷ nowhere ∷ nowhere ∷ nowhere ∷ nowhere ∷ [])
-    (0 ∷ 1 ∷ 0 ∷ 1 ∷ 0 ∷ 3968 ∷ 0 ∷ 0 ∷ 0 ∷ 0 ∷ 0 ∷ 0 ∷ 0 ∷ 0 ∷ 0 ∷ 0 ∷ 0 ∷ 0 ∷ [])
+    (marks .head ∷ 1 ∷ 1 ∷ 8192 ∷ 1 ∷ 1 ∷ [])
+    (marks .loans ∷ 0 ∷ 0 ∷ 0 ∷ 1 ∷ 1 ∷ 3968 ∷ 128 ∷ 0 ∷ 0 ∷ 0 ∷ 0 ∷ 0 ∷ 0 ∷ 0 ∷ 0 ∷ [])
+    (marks .chunks ∷ 0 ∷ 0 ∷ 1 ∷ 50 ∷ 4096 ∷ 0 ∷ 0 ∷ 0 ∷ [])
+    (marks .index ∷ nowhere ∷ nowhere ∷ nowhere ∷ nowhere ∷ nowhere ∷ 0 ∷ nowhere ∷ nowhere ∷ nowhere ∷ nowhere ∷ nowhere ∷ [])
+    (marks .room ∷ 1 ∷ 0 ∷ 1 ∷ 0 ∷ 3968 ∷ 0 ∷ 0 ∷ 0 ∷ 0 ∷ 0 ∷ 0 ∷ 0 ∷ 0 ∷ 0 ∷ 0 ∷ 0 ∷ 0 ∷ [])
 
 -- and the 896; the next order raises nothing: 8,192 it is already
 abbrev pub withTwo : Tables
 withTwo =
     tables
-    (mark ∷ 2 ∷ 1 ∷ 8192 ∷ 2 ∷ 1 ∷ [])
-    (0 ∷ 0 ∷ 0 ∷ 0 ∷ 1 ∷ 1 ∷ 3968 ∷ 128 ∷ 2 ∷ 1 ∷ 3072 ∷ 896 ∷ 0 ∷ 0 ∷ 0 ∷ 0 ∷ [])
-    (0 ∷ 0 ∷ 0 ∷ 1 ∷ 50 ∷ 4096 ∷ 0 ∷ 0 ∷ 0 ∷ [])
-    (nowhere ∷ nowhere ∷ nowhere ∷ nowhere ∷ nowhere ∷ nowhere ∷ 0 ∷ nowhere ∷ nowhere ∷ 1 ∷ nowhere ∷ nowhere ∷ [])
-    (0 ∷ 1 ∷ 0 ∷ 1 ∷ 0 ∷ 3072 ∷ 0 ∷ 0 ∷ 0 ∷ 0 ∷ 0 ∷ 0 ∷ 0 ∷ 0 ∷ 0 ∷ 0 ∷ 0 ∷ 0 ∷ [])
+    (marks .head ∷ 2 ∷ 1 ∷ 8192 ∷ 2 ∷ 1 ∷ [])
+    (marks .loans ∷ 0 ∷ 0 ∷ 0 ∷ 1 ∷ 1 ∷ 3968 ∷ 128 ∷ 2 ∷ 1 ∷ 3072 ∷ 896 ∷ 0 ∷ 0 ∷ 0 ∷ 0 ∷ [])
+    (marks .chunks ∷ 0 ∷ 0 ∷ 1 ∷ 50 ∷ 4096 ∷ 0 ∷ 0 ∷ 0 ∷ [])
+    (marks .index ∷ nowhere ∷ nowhere ∷ nowhere ∷ nowhere ∷ nowhere ∷ 0 ∷ nowhere ∷ nowhere ∷ 1 ∷ nowhere ∷ nowhere ∷ [])
+    (marks .room ∷ 1 ∷ 0 ∷ 1 ∷ 0 ∷ 3072 ∷ 0 ∷ 0 ∷ 0 ∷ 0 ∷ 0 ∷ 0 ∷ 0 ∷ 0 ∷ 0 ∷ 0 ∷ 0 ∷ 0 ∷ [])
 
 -- and the 5,056, of chunk 2
 abbrev pub withThree : Tables
 withThree =
     tables
-    (mark ∷ 3 ∷ 2 ∷ 16384 ∷ 3 ∷ 2 ∷ [])
-    (0 ∷ 0 ∷ 0 ∷ 0 ∷ 1 ∷ 1 ∷ 3968 ∷ 128 ∷ 2 ∷ 1 ∷ 3072 ∷ 896 ∷ 3 ∷ 2 ∷ 3136 ∷ 5056 ∷ [])
-    (0 ∷ 0 ∷ 0 ∷ 1 ∷ 50 ∷ 4096 ∷ 2 ∷ 51 ∷ 8192 ∷ [])
-    (nowhere ∷ nowhere ∷ nowhere ∷ 2 ∷ nowhere ∷ nowhere ∷ 0 ∷ nowhere ∷ nowhere ∷ 1 ∷ nowhere ∷ nowhere ∷ [])
-    (0 ∷ 2 ∷ 0 ∷ 1 ∷ 0 ∷ 3072 ∷ 2 ∷ 0 ∷ 3136 ∷ 0 ∷ 0 ∷ 0 ∷ 0 ∷ 0 ∷ 0 ∷ 0 ∷ 0 ∷ 0 ∷ [])
+    (marks .head ∷ 3 ∷ 2 ∷ 16384 ∷ 3 ∷ 2 ∷ [])
+    (marks .loans ∷ 0 ∷ 0 ∷ 0 ∷ 1 ∷ 1 ∷ 3968 ∷ 128 ∷ 2 ∷ 1 ∷ 3072 ∷ 896 ∷ 3 ∷ 2 ∷ 3136 ∷ 5056 ∷ [])
+    (marks .chunks ∷ 0 ∷ 0 ∷ 1 ∷ 50 ∷ 4096 ∷ 2 ∷ 51 ∷ 8192 ∷ [])
+    (marks .index ∷ nowhere ∷ nowhere ∷ 2 ∷ nowhere ∷ nowhere ∷ 0 ∷ nowhere ∷ nowhere ∷ 1 ∷ nowhere ∷ nowhere ∷ [])
+    (marks .room ∷ 2 ∷ 0 ∷ 1 ∷ 0 ∷ 3072 ∷ 2 ∷ 0 ∷ 3136 ∷ 0 ∷ 0 ∷ 0 ∷ 0 ∷ 0 ∷ 0 ∷ 0 ∷ 0 ∷ 0 ∷ [])
 
 -- the 128 is back
 abbrev pub lessOne : Tables
 lessOne =
     tables
-    (mark ∷ 3 ∷ 2 ∷ 16384 ∷ 3 ∷ 2 ∷ [])
-    (0 ∷ 0 ∷ 0 ∷ 0 ∷ 1 ∷ 1 ∷ 3968 ∷ 0 ∷ 2 ∷ 1 ∷ 3072 ∷ 896 ∷ 3 ∷ 2 ∷ 3136 ∷ 5056 ∷ [])
-    (0 ∷ 0 ∷ 0 ∷ 1 ∷ 50 ∷ 4096 ∷ 2 ∷ 51 ∷ 8192 ∷ [])
-    (nowhere ∷ nowhere ∷ 0 ∷ 2 ∷ nowhere ∷ nowhere ∷ nowhere ∷ nowhere ∷ nowhere ∷ 1 ∷ nowhere ∷ nowhere ∷ [])
-    (0 ∷ 3 ∷ 0 ∷ 1 ∷ 0 ∷ 3072 ∷ 1 ∷ 3968 ∷ 4096 ∷ 2 ∷ 0 ∷ 3136 ∷ 0 ∷ 0 ∷ 0 ∷ 0 ∷ 0 ∷ 0 ∷ [])
+    (marks .head ∷ 3 ∷ 2 ∷ 16384 ∷ 3 ∷ 2 ∷ [])
+    (marks .loans ∷ 0 ∷ 0 ∷ 0 ∷ 1 ∷ 1 ∷ 3968 ∷ 0 ∷ 2 ∷ 1 ∷ 3072 ∷ 896 ∷ 3 ∷ 2 ∷ 3136 ∷ 5056 ∷ [])
+    (marks .chunks ∷ 0 ∷ 0 ∷ 1 ∷ 50 ∷ 4096 ∷ 2 ∷ 51 ∷ 8192 ∷ [])
+    (marks .index ∷ nowhere ∷ 0 ∷ 2 ∷ nowhere ∷ nowhere ∷ nowhere ∷ nowhere ∷ nowhere ∷ 1 ∷ nowhere ∷ nowhere ∷ [])
+    (marks .room ∷ 3 ∷ 0 ∷ 1 ∷ 0 ∷ 3072 ∷ 1 ∷ 3968 ∷ 4096 ∷ 2 ∷ 0 ∷ 3136 ∷ 0 ∷ 0 ∷ 0 ∷ 0 ∷ 0 ∷ 0 ∷ [])
 
 -- and the 896: chunk 1 is gone
 abbrev pub lessTwo : Tables
 lessTwo =
     tables
-    (mark ∷ 3 ∷ 2 ∷ 16384 ∷ 3 ∷ 1 ∷ [])
-    (0 ∷ 0 ∷ 0 ∷ 0 ∷ 1 ∷ 1 ∷ 3968 ∷ 0 ∷ 2 ∷ 1 ∷ 3072 ∷ 0 ∷ 3 ∷ 2 ∷ 3136 ∷ 5056 ∷ [])
-    (0 ∷ 0 ∷ 0 ∷ 2 ∷ 51 ∷ 8192 ∷ 2 ∷ 51 ∷ 8192 ∷ [])
-    (nowhere ∷ nowhere ∷ 1 ∷ 2 ∷ nowhere ∷ nowhere ∷ nowhere ∷ nowhere ∷ 0 ∷ nowhere ∷ nowhere ∷ nowhere ∷ [])
-    (0 ∷ 1 ∷ 0 ∷ 2 ∷ 0 ∷ 3136 ∷ 2 ∷ 0 ∷ 3136 ∷ 2 ∷ 0 ∷ 3136 ∷ 0 ∷ 0 ∷ 0 ∷ 0 ∷ 0 ∷ 0 ∷ [])
+    (marks .head ∷ 3 ∷ 2 ∷ 16384 ∷ 3 ∷ 1 ∷ [])
+    (marks .loans ∷ 0 ∷ 0 ∷ 0 ∷ 1 ∷ 1 ∷ 3968 ∷ 0 ∷ 2 ∷ 1 ∷ 3072 ∷ 0 ∷ 3 ∷ 2 ∷ 3136 ∷ 5056 ∷ [])
+    (marks .chunks ∷ 0 ∷ 0 ∷ 2 ∷ 51 ∷ 8192 ∷ 2 ∷ 51 ∷ 8192 ∷ [])
+    (marks .index ∷ nowhere ∷ 1 ∷ 2 ∷ nowhere ∷ nowhere ∷ nowhere ∷ nowhere ∷ 0 ∷ nowhere ∷ nowhere ∷ nowhere ∷ [])
+    (marks .room ∷ 1 ∷ 0 ∷ 2 ∷ 0 ∷ 3136 ∷ 2 ∷ 0 ∷ 3136 ∷ 2 ∷ 0 ∷ 3136 ∷ 0 ∷ 0 ∷ 0 ∷ 0 ∷ 0 ∷ 0 ∷ [])
 
 -- ---- the day
 
@@ -164,7 +166,7 @@ first-worked : map (λ (d : Day). d .gives) (ranking ++ lending) ≡ map (λ (d 
 unfolding ranking lending servesOk patternOf wantedOf keyOf before placed order rowAs alignmentOk storeOk freeListOk
     heapsUpto onesOk powerOk upTo downTo bits powerUp ceilDiv grown doubled plusOf chargedOf releasedOf bearsOk
     agreesOk inserted vacancies leads partedOk deliveryOk loansOf chargedAccount releasedAccount coversOk
-    freshIndex entered enteredIndex seekIn wordTo struck struckIndex linkOk leftAfter leftOf chainsOk
+    blank signedOk entered enteredIndex seekIn wordTo struck struckIndex linkOk leftAfter leftOf chainsOk
     fillsOk sizedOk chunkOk loanOk fitsIn findFrom cutOff insert staying leaving remaining lengthsOk ordered storeOf
     soundOk laidRegions inTableOk accountOk gateOf sizeOk roomOk countOk objectsOk decideAsk takenTables orderedTables
     carryAsk planAsk askOf deliverGateOf deliveredTables carryFate planDeliver carryDeliver deliverOf onLoanOk

@@ -13,14 +13,16 @@ use Rattle.counter.specs.declared.account.Account.{Account}
 use Rattle.counter.specs.declared.account.OpenOrder.the-variants.{Nothing}
 use Rattle.counter.specs.declared.settings.BuddySettings.{BuddySettings}
 use Rattle.heap.specs.Heap.{plusOf, chargedOf, releasedOf, bearsOk, agreesOk}
+use Rattle.words.specs.Words.{blank}
 use Rattle.slab.specs.Slab.{inserted}
+use Rattle.store_rules.specs.Tables.{signedOk}
 use Rattle.slab.specs.Test.{partedOk, leads, vacancies}
 use Rattle.ring_rules.specs.Ring.{unlinked, linked}
 use Rattle.ring_rules.specs.Test.{metAfter, ringLength}
 use Rattle.store_rules.specs.Delivery.{deliveryOk}
 use Rattle.store_rules.specs.Outcomes.{Out, Listed, chargedAccount, releasedAccount}
 use Rattle.store_rules.specs.Tests.{coversOk}
-use Rattle.book_rules.specs.Book.{freshIndex, entered, enteredIndex, seekIn, wordTo, struck, struckIndex}
+use Rattle.book_rules.specs.Book.{entered, enteredIndex, seekIn, wordTo, struck, struckIndex}
 use Rattle.book_rules.specs.Chains.{chainsOk, leftOf, leftAfter, linkOk}
 use Rattle.buddy_trees.specs.Trees.{bytes}
 use Rattle.buddy_rules.specs.Level.{dropped, backed, acquired, added, freshLevel}
@@ -93,7 +95,7 @@ splitting =
 pub split-worked : map (λ (d : Day). d .gives) splitting ≡ map (λ (d : Day). d .says) splitting
 unfolding splitting trailingZeros onesOk powerOk upTo bits powerUp levelOf alignmentOk storeOk buddyOk heapsUpto
     plusOf chargedOf releasedOf bearsOk agreesOk inserted partedOk leads vacancies unlinked linked metAfter ringLength
-    deliveryOk chargedAccount releasedAccount coversOk freshIndex entered enteredIndex seekIn
+    deliveryOk chargedAccount releasedAccount coversOk blank signedOk entered enteredIndex seekIn
     wordTo struck struckIndex chainsOk leftOf leftAfter linkOk bytes dropped backed acquired Level.entered added
     freshLevel along goodOk lengthsOk leafOk entryOk nodeOk chunkOk leadsOk pairOk loanOk treesOk memoriesOk unitsOk
     soundOk climbed worded splitDown splitChunk inTableOk heldCount heldBytes accountOk gateOf sizeFor levelFor searchFrom

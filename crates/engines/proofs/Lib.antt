@@ -16,3 +16,4 @@ pub mod Delivering
 pub mod Unique
 pub mod HandedBack
 pub mod AnyOrder
+pub mod Signs

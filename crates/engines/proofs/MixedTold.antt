@@ -33,15 +33,15 @@ module _ (K : Type 0) (E : K → Engine) where
   module _ (Z : (k : K) → Sealed (E k .shape)) where
     -- if this table's first word says that it is a loans table of any engine, then of e, and its loans are bs
     pub record HoldsIn (e : K) (bs : List Block) (t : List ℕ) : Type 0 where
-      pub whose : (g : K) → seal t ≡ Z g .sign ofLoans → g ≡ e
-      pub loans : seal t ≡ Z e .sign ofLoans → Exactly (Z e .loansIn t) bs
+      pub whose : (g : K) → seal t ≡ Z g .marking .sign ofLoans → g ≡ e
+      pub loans : seal t ≡ Z e .marking .sign ofLoans → Exactly (Z e .loansIn t) bs
 
     pub record Turned (e : K) (bs : List Block) (t : List ℕ) (ns : List Note) : Type 0 where
       pub holds : HoldsIn e (ledger bs ns) t
       pub fine : Fine bs → Fine (ledger bs ns)
 
 -- no two tables of the engines are signed alike
-module _ (K : Type 0) (E : K → Engine) (Z : (k : K) → Sealed (E k .shape)) (differ : (i j : K) (y z : Slot) → Z i .sign y ≡ Z j .sign z → (i ≡ j) × (y ≡ z)) where
+module _ (K : Type 0) (E : K → Engine) (Z : (k : K) → Sealed (E k .shape)) (differ : (i j : K) (y z : Slot) → Z i .marking .sign y ≡ Z j .marking .sign z → (i ≡ j) × (y ≡ z)) where
   still : (e : K) (bs : List Block) (t u : List ℕ) (ns : List Note) → HoldsIn K E Z e bs t → u ≡ t → ns ≡ [] → Turned K E Z e bs u ns
   still e bs t u ns g q n =
       record {
@@ -84,8 +84,8 @@ module _ (K : Type 0) (E : K → Engine) (Z : (k : K) → Sealed (E k .shape)) (
       accepted : v .call ≡ setsUp → E f .shape .setUp (v .settings) t .said ≡ Paper.ready → Turned K E Z e bs (tableOf u z) note
       accepted c r =
           let d = as-set-up c in
-          let s : seal (tableOf u z) ≡ Z f .sign z = ap (λ (x : Listed Tables). seal (tableOf (x .tables) z)) d ∙ Z f .signs (v .settings) t r z in
-          let none : (x : K) → seal (tableOf u z) ≡ Z x .sign ofLoans → ⊥ =
+          let s : seal (tableOf u z) ≡ Z f .marking .sign z = ap (λ (x : Listed Tables). seal (tableOf (x .tables) z)) d ∙ Z f .marking .signs (v .settings) t r z in
+          let none : (x : K) → seal (tableOf u z) ≡ Z x .marking .sign ofLoans → ⊥ =
           λ x w. old (subst (λ (y : Slot). v .places y ≡ i) (differ f x z ofLoans (sym s ∙ w) .1) q) c (ap (λ (x : Listed Tables). x .said) d ∙ r) in
           let bare : HoldsIn K E Z e bs (tableOf u z) = record { whose = λ x w. absurd (none x w); loans = λ w. absurd (none e w) } in
           still e bs (tableOf u z) (tableOf u z) note bare refl (quiet c)
@@ -98,9 +98,9 @@ module _ (K : Type 0) (E : K → Engine) (Z : (k : K) → Sealed (E k .shape)) (
 
       module _ (c : v .call ≡ setsUp → ⊥) (s : Signed (E f .shape) (Z f) t) where
         stays : seal (tableOf u z) ≡ seal (tableOf t z)
-        stays = Z f .seals-stay (v .settings) (v .account) t (v .call) c z
+        stays = Z f .marking .seals-stay (v .settings) (v .account) t (v .call) c z
 
-        whose : (x : K) → seal (tableOf u z) ≡ Z x .sign ofLoans → x ≡ e
+        whose : (x : K) → seal (tableOf u z) ≡ Z x .marking .sign ofLoans → x ≡ e
         whose x w = g .whose x (ap seal (sym before) ∙ sym stays ∙ w)
 
         -- in the slot of the loans
@@ -108,11 +108,11 @@ module _ (K : Type 0) (E : K → Engine) (Z : (k : K) → Sealed (E k .shape)) (
         here l =
             let zl : z ≡ ofLoans = v .different z ofLoans (q ∙ sym l) in
             let b : t .loans ≡ getD p i [] = ap (λ (j : ℕ). getD p j []) l in
-            let m : seal (getD p i []) ≡ Z f .sign ofLoans = ap seal (sym b) ∙ s ofLoans in
+            let m : seal (getD p i []) ≡ Z f .marking .sign ofLoans = ap seal (sym b) ∙ s ofLoans in
             let fe : f ≡ e = g .whose f m in
             let gf : HoldsIn K E Z f bs (getD p i []) = subst (λ (x : K). HoldsIn K E Z x bs (getD p i [])) (sym fe) g in
             let S : Exactly (E f .shape .loans t) bs = subst (λ (ks : List Loan). Exactly ks bs) (sym (Z f .loans-there t ∙ ap (Z f .loansIn) b)) (gf .loans m) in
-            let A = call-after (E f) (v .settings) (v .account) t (s ofHead ∙ sym (Z f .head-sign)) bs S (v .call) (λ x y. c x) in
+            let A = call-after (E f) (v .settings) (v .account) t (s ofHead ∙ sym (Z f .marking .head-sign)) bs S (v .call) (λ x y. c x) in
             let n : note ≡ noteOf (v .call) (did K E p v .said) = rw (eq-eqb (v .places ofLoans) i l) in
             let ns : List Note = noteOf (v .call) (did K E p v .said) in
             let L : Exactly (Z f .loansIn (u .loans)) (ledger bs ns) = subst (λ (ks : List Loan). Exactly ks (ledger bs ns)) (Z f .loans-there u) (A .loans) in
@@ -137,7 +137,7 @@ module _ (K : Type 0) (E : K → Engine) (Z : (k : K) → Sealed (E k .shape)) (
       later : (v .call ≡ setsUp → ⊥) → Turned K E Z e bs (tableOf u z) note
       later c =
           ⊎-elim (signed c)
-          (λ n. let w = Z f .unsigned (v .settings) (v .account) t (v .call) c n in
+          (λ n. let w = Z f .marking .unsigned (v .settings) (v .account) t (v .call) c n in
           unchanged (ap (λ (d : Listed Tables). d .tables) (w .1)) (unheard (ap (λ (d : Listed Tables). noteOf (v .call) (d .said)) (w .1) ∙ refused-unheard (v .call) (w .0))))
           (signed? (E f .shape) (Z f) t)
 
@@ -178,7 +178,7 @@ module _ (K : Type 0) (E : K → Engine) (Z : (k : K) → Sealed (E k .shape)) (
 
     empty : HoldsIn K E Z e [] (getD begun (at ofLoans) [])
     empty =
-        let m : seal (fresh .loans) ≡ Z e .sign ofLoans = Z e .signs s (lentFrom p at) ready ofLoans in
+        let m : seal (fresh .loans) ≡ Z e .marking .sign ofLoans = Z e .marking .signs s (lentFrom p at) ready ofLoans in
         let n : Z e .loansIn (fresh .loans) ≡ [] = sym (Z e .loans-there fresh) ∙ E e .tells .fresh s (lentFrom p at) ready in
         subst (HoldsIn K E Z e []) (sym (written-here at fresh d ofLoans p slots (each-slot ofLoans) here))
         (record {
@@ -192,7 +192,7 @@ module _ (K : Type 0) (E : K → Engine) (Z : (k : K) → Sealed (E k .shape)) (
     -- table i was lent for the loans at a set-up by engine e that was accepted, and at none since; then any calls of any of the
     -- engines were made, each lent any five different tables in any slots. While its first word still says that it is a loans
     -- table, its loans are exactly the blocks told with it for the loans and not since taken back
-    pub mixed-told : seal (getD (course K E (turned K E p (settingUp K E e s a at d)) vs) (at ofLoans) []) ≡ Z e .sign ofLoans
+    pub mixed-told : seal (getD (course K E (turned K E p (settingUp K E e s a at d)) vs) (at ofLoans) []) ≡ Z e .marking .sign ofLoans
         → Exactly (Z e .loansIn (getD (course K E (turned K E p (settingUp K E e s a at d)) vs) (at ofLoans) []))
         (ledger [] (heardWith K E (at ofLoans) (turned K E p (settingUp K E e s a at d)) vs))
     mixed-told = all .holds .loans

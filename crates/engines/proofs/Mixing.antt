@@ -124,16 +124,16 @@ written-same p at (z ∷ zs) =
 
 module _ (E : Shape) (Z : Sealed E) where
   abbrev pub Signed : Tables → Type 0
-  Signed t = (z : Slot) → seal (tableOf t z) ≡ Z .sign z
+  Signed t = (z : Slot) → seal (tableOf t z) ≡ Z .marking .sign z
 
   pub signed? : (t : Tables) → Signed t ⊎ (Signed t → ⊥)
-  signed? t = each? (λ z. seal (tableOf t z) ≡ Z .sign z) (λ z. same? (seal (tableOf t z)) (Z .sign z))
+  signed? t = each? (λ z. seal (tableOf t z) ≡ Z .marking .sign z) (λ z. same? (seal (tableOf t z)) (Z .marking .sign z))
 
   -- serial k is gone, in the loans table alone
   gone-of : (k : ℕ) (t : Tables) → Signed t → k ≤ Z .givenIn (t .loans) → All (λ (l : Loan). l .serial ≡ k → ⊥) (Z .loansIn (t .loans)) → Gone E k t
   gone-of k t g old away =
       record {
-        marked = g ofHead ∙ sym (Z .head-sign);
+        marked = g ofHead ∙ sym (Z .marking .head-sign);
         old = subst (λ (n : ℕ). k ≤ n) (sym (Z .given-there t)) old;
         away = subst (All (λ (l : Loan). l .serial ≡ k → ⊥)) (sym (Z .loans-there t)) away;
       }
@@ -153,7 +153,7 @@ early E s a t list n =
     (λ y. ⊎-elim (λ z. let e = z .1 in (omega arith, omega arith)) (λ z. absurd (z .1)) (y .1)) (x .1)) (w .1))
 
 -- no two tables of the engines are signed alike
-module _ (K : Type 0) (E : K → Engine) (Z : (k : K) → Sealed (E k .shape)) (differ : (i j : K) (y z : Slot) → Z i .sign y ≡ Z j .sign z → (i ≡ j) × (y ≡ z)) where
+module _ (K : Type 0) (E : K → Engine) (Z : (k : K) → Sealed (E k .shape)) (differ : (i j : K) (y z : Slot) → Z i .marking .sign y ≡ Z j .marking .sign z → (i ≡ j) × (y ≡ z)) where
   -- ---- over one call
 
   module _ (e : K) (k i : ℕ) (p : Pool) (v : Turn K E) (old : v .places ofLoans ≡ i → v .call ≡ setsUp → did K E p v .said ≡ Paper.ready → ⊥) (h : i < length p) (g : GoneFrom K E Z e k (getD p i [])) where
@@ -178,8 +178,8 @@ module _ (K : Type 0) (E : K → Engine) (Z : (k : K) → Sealed (E k .shape)) (
       accepted : v .call ≡ setsUp → E f .shape .setUp (v .settings) t .said ≡ Paper.ready → GoneFrom K E Z e k (tableOf u z)
       accepted c r =
           let d = ap (does (E f .shape) (v .settings) (v .account) t) c in
-          let s : seal (tableOf u z) ≡ Z f .sign z = ap (λ (x : Listed Tables). seal (tableOf (x .tables) z)) d ∙ Z f .signs (v .settings) t r z in
-          let none : (x : K) → seal (tableOf u z) ≡ Z x .sign ofLoans → ⊥ =
+          let s : seal (tableOf u z) ≡ Z f .marking .sign z = ap (λ (x : Listed Tables). seal (tableOf (x .tables) z)) d ∙ Z f .marking .signs (v .settings) t r z in
+          let none : (x : K) → seal (tableOf u z) ≡ Z x .marking .sign ofLoans → ⊥ =
           λ x w. old (subst (λ (y : Slot). v .places y ≡ i) (differ f x z ofLoans (sym s ∙ w) .1) q) c (ap (λ (x : Listed Tables). x .said) d ∙ r) in
           record { whose = λ x w. absurd (none x w); old = λ w. absurd (none e w); away = λ w. absurd (none e w) }
 
@@ -192,16 +192,16 @@ module _ (K : Type 0) (E : K → Engine) (Z : (k : K) → Sealed (E k .shape)) (
       -- any other call, where all five are signed
       module _ (c : v .call ≡ setsUp → ⊥) (s : Signed (E f .shape) (Z f) t) where
         stays : seal (tableOf u z) ≡ seal (tableOf t z)
-        stays = Z f .seals-stay (v .settings) (v .account) t (v .call) c z
+        stays = Z f .marking .seals-stay (v .settings) (v .account) t (v .call) c z
 
-        which : seal (tableOf u z) ≡ Z e .sign ofLoans → (f ≡ e) × (z ≡ ofLoans)
+        which : seal (tableOf u z) ≡ Z e .marking .sign ofLoans → (f ≡ e) × (z ≡ ofLoans)
         which w = differ f e z ofLoans (sym (s z) ∙ sym stays ∙ w)
 
         gone-before : (f ≡ e) × (z ≡ ofLoans) → Gone (E f .shape) k t
         gone-before w =
             let gf : GoneFrom K E Z f k (getD p i []) = subst (λ (x : K). GoneFrom K E Z x k (getD p i [])) (sym (w .0)) g in
             let b : t .loans ≡ getD p i [] = ap (λ (j : ℕ). getD p j []) (subst (λ (y : Slot). v .places y ≡ i) (w .1) q) in
-            let m : seal (getD p i []) ≡ Z f .sign ofLoans = ap seal (sym b) ∙ s ofLoans in
+            let m : seal (getD p i []) ≡ Z f .marking .sign ofLoans = ap seal (sym b) ∙ s ofLoans in
             gone-of (E f .shape) (Z f) k t s (subst (λ (x : List ℕ). k ≤ Z f .givenIn x) (sym b) (gf .old m))
             (subst (λ (x : List ℕ). All (λ (l : Loan). l .serial ≡ k → ⊥) (Z f .loansIn x)) (sym b) (gf .away m))
 
@@ -221,7 +221,7 @@ module _ (K : Type 0) (E : K → Engine) (Z : (k : K) → Sealed (E k .shape)) (
 
       later : (v .call ≡ setsUp → ⊥) → GoneFrom K E Z e k (tableOf u z)
       later c =
-          ⊎-elim (signed c) (λ n. unchanged (ap (λ (d : Listed Tables). d .tables) (Z f .unsigned (v .settings) (v .account) t (v .call) c n .1)))
+          ⊎-elim (signed c) (λ n. unchanged (ap (λ (d : Listed Tables). d .tables) (Z f .marking .unsigned (v .settings) (v .account) t (v .call) c n .1)))
           (signed? (E f .shape) (Z f) t)
 
       in-slot : GoneFrom K E Z e k (tableOf u z)
@@ -248,11 +248,11 @@ module _ (K : Type 0) (E : K → Engine) (Z : (k : K) → Sealed (E k .shape)) (
   gone-refused e b t gone g s a u list same = ⊎-elim yes not (signed? (E g .shape) (Z g) u)
     where
       not : (Signed (E g .shape) (Z g) u → ⊥) → (m : ℕ) × (E g .shape .return s a b u list ≡ listed (Paper.refusal m []) a u list) × ((m ≡ 7) ⊎ ((0 < m) × (m ≤ 4)))
-      not n = let w = Z g .unsigned s a u (returns b list) (no-set-up b list) n in (w .0, w .1, inr (w .2, omega (arith, w .3)))
+      not n = let w = Z g .marking .unsigned s a u (returns b list) (no-set-up b list) n in (w .0, w .1, inr (w .2, omega (arith, w .3)))
 
       yes : Signed (E g .shape) (Z g) u → (m : ℕ) × (E g .shape .return s a b u list ≡ listed (Paper.refusal m []) a u list) × ((m ≡ 7) ⊎ ((0 < m) × (m ≤ 4)))
       yes signs =
-          let m : seal t ≡ Z g .sign ofLoans = ap seal (sym same) ∙ signs ofLoans in
+          let m : seal t ≡ Z g .marking .sign ofLoans = ap seal (sym same) ∙ signs ofLoans in
           let gg : GoneFrom K E Z g (b .serial) t = subst (λ (x : K). GoneFrom K E Z x (b .serial) t) (sym (gone .whose g m)) gone in
           let G = gone-of (E g .shape) (Z g) (b .serial) u signs (subst (λ (x : List ℕ). b .serial ≤ Z g .givenIn x) (sym same) (gg .old m))
           (subst (λ (x : List ℕ). All (λ (l : Loan). l .serial ≡ b .serial → ⊥) (Z g .loansIn x)) (sym same) (gg .away m)) in
@@ -266,7 +266,7 @@ module _ (K : Type 0) (E : K → Engine) (Z : (k : K) → Sealed (E k .shape)) (
     all-signed : Signed (E e .shape) (Z e) (lentFrom p at)
     all-signed =
         ⊎-elim (λ x. x)
-        (λ x. let w = Z e .unsigned s a (lentFrom p at) (returns b list) (no-set-up b list) x in
+        (λ x. let w = Z e .marking .unsigned s a (lentFrom p at) (returns b list) (no-set-up b list) x in
         not-refused (E e .shape .return s a b (lentFrom p at) list .said) (w .0) [] (ap refuses taken) (ap (λ (r : Listed Tables). r .said) (w .1)))
         (signed? (E e .shape) (Z e) (lentFrom p at))
 
@@ -274,7 +274,7 @@ module _ (K : Type 0) (E : K → Engine) (Z : (k : K) → Sealed (E k .shape)) (
     gone-now =
         let u = E e .shape .return s a b (lentFrom p at) list .tables in
         let G = E e .counts .released-gone s a b (lentFrom p at) list n taken in
-        let m : seal (u .loans) ≡ Z e .sign ofLoans = Z e .seals-stay s a (lentFrom p at) (returns b list) (no-set-up b list) ofLoans ∙ all-signed ofLoans in
+        let m : seal (u .loans) ≡ Z e .marking .sign ofLoans = Z e .marking .seals-stay s a (lentFrom p at) (returns b list) (no-set-up b list) ofLoans ∙ all-signed ofLoans in
         subst (GoneFrom K E Z e (b .serial)) (sym (written-here at u d ofLoans p slots (each-slot ofLoans) here))
         (record {
           whose = λ x w. sym (differ e x ofLoans ofLoans (sym m ∙ w) .0);

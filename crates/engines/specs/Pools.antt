@@ -10,6 +10,7 @@ use Rattle.counter.specs.Paper as Paper
 use Rattle.counter.specs.declared.account.Account.{Account}
 use Rattle.counter.specs.declared.answers.Block.{Block}
 use Rattle.store_rules.specs.Outcomes.{Listed, listed}
+use Rattle.store_rules.specs.Tables.{Marks}
 use Rattle.store_rules.specs.Views.{All}
 use Rattle.store_rules.specs.declared.Loan.{Loan}
 use Rattle.engines.specs.Engines.{Engine}
@@ -38,22 +39,33 @@ tableOf t ofRoom = t .room
 abbrev pub seal : List ℕ → ℕ
 seal t = getD t 0 0
 
+-- an engine's mark for each
+abbrev pub signOf : Marks → Slot → ℕ
+signOf m ofHead = m .head
+signOf m ofLoans = m .loans
+signOf m ofChunks = m .chunks
+signOf m ofIndex = m .index
+signOf m ofRoom = m .room
+
 -- ---- the laws
 
-pub record Sealed (E : Shape) : Type 0 where
+pub record Marking (E : Shape) : Type 0 where
   pub sign : Slot → ℕ
   pub head-sign : E .mark ≡ sign ofHead
-  -- the loans table alone says how many serials were given and which blocks are on loan
-  pub givenIn : List ℕ → ℕ
-  pub loansIn : List ℕ → List Loan
-  pub given-there : (t : Tables) → E .given t ≡ givenIn (t .loans)
-  pub loans-there : (t : Tables) → E .loans t ≡ loansIn (t .loans)
   -- a set-up that is accepted signs all five, and any other call leaves the five first words
   pub signs : (s : E .Settings) (t : Tables) → E .setUp s t .said ≡ Paper.ready → (z : Slot) → seal (tableOf (E .setUp s t .tables) z) ≡ sign z
   pub seals-stay : (s : E .Settings) (a : Account) (t : Tables) (c : Call (E .Own)) → (c ≡ setsUp → ⊥) → (z : Slot) → seal (tableOf (does E s a t c .tables) z) ≡ seal (tableOf t z)
   -- unless each of the five is this engine's for its slot, each call but set-up is refused, by 1, 2 or 3, and leaves everything
   pub unsigned : (s : E .Settings) (a : Account) (t : Tables) (c : Call (E .Own)) → (c ≡ setsUp → ⊥) → (((z : Slot) → seal (tableOf t z) ≡ sign z) → ⊥)
       → (n : ℕ) × (does E s a t c ≡ listed (Paper.refusal n []) a t (lentList c)) × (0 < n) × (n ≤ 3)
+
+pub record Sealed (E : Shape) : Type 0 where
+  pub marking : Marking E
+  -- the loans table alone says how many serials were given and which blocks are on loan
+  pub givenIn : List ℕ → ℕ
+  pub loansIn : List ℕ → List Loan
+  pub given-there : (t : Tables) → E .given t ≡ givenIn (t .loans)
+  pub loans-there : (t : Tables) → E .loans t ≡ loansIn (t .loans)
 
 -- ---- a pool
 
@@ -114,6 +126,6 @@ module _ (K : Type 0) (E : K → Engine) where
     -- serial k was given by engine e from this table, and no loan in it has it: if its first word says that it is a loans
     -- table of any engine, then of e, and so
     pub record GoneFrom (e : K) (k : ℕ) (t : List ℕ) : Type 0 where
-      pub whose : (g : K) → seal t ≡ Z g .sign ofLoans → g ≡ e
-      pub old : seal t ≡ Z e .sign ofLoans → k ≤ Z e .givenIn t
-      pub away : seal t ≡ Z e .sign ofLoans → All (λ (l : Loan). l .serial ≡ k → ⊥) (Z e .loansIn t)
+      pub whose : (g : K) → seal t ≡ Z g .marking .sign ofLoans → g ≡ e
+      pub old : seal t ≡ Z e .marking .sign ofLoans → k ≤ Z e .givenIn t
+      pub away : seal t ≡ Z e .marking .sign ofLoans → All (λ (l : Loan). l .serial ≡ k → ⊥) (Z e .loansIn t)

@@ -38,7 +38,7 @@ use Rattle.freelist_outcomes.proofs.Passing.{Passed}
 use Rattle.freelist_outcomes.proofs.Refused.{return-leaves, return-refused}
 use Rattle.freelist_outcomes.proofs.Sounds.{set-up-sound}
 use Rattle.freelist_engine.specs.Shape.{OwnCall, listShape}
-use Rattle.freelist_engine.proofs.Stepping.{Marked, givenOf, Stepped, call-steps, back-store, back-marked}
+use Rattle.freelist_engine.proofs.Stepping.{Marked, givenOf, Stepped, call-steps, back-store, back-signed}
 
 -- ---- serials that are gone, in the store that the tables hold, whatever the settings
 
@@ -55,7 +55,7 @@ module _ (s : FreeListSettings) (k : ℕ) (t : Tables) where
 gone-steps : (k : ℕ) (s : FreeListSettings) (t : Tables) (d : Listed Tables) → Stepped s t (d .tables) (d .said) → Gone listShape k t → Gone listShape k (d .tables)
 gone-steps k s t d S g =
     ⊎-elim (λ e. subst (λ (u : Tables). Gone listShape k u) (sym e) g)
-    (λ cs. gone-here s k (d .tables) (S .marks (g .marked)) (Rules.gone-calls s k (gone-there s k t g) cs))
+    (λ cs. gone-here s k (d .tables) (S .mark-stays (g .marked)) (Rules.gone-calls s k (gone-there s k t g) cs))
     (S .steps)
 
 -- ---- from a return on
@@ -74,7 +74,7 @@ module _ (s : FreeListSettings) (a : Account) (b : Block) (t : Tables) (list : L
         old = subst (λ (k : ℕ). k ≤ v .given) serial (p .sound .store .serials-given (m .0) (m .1) .1);
         away = λ l k q. let w = m .0 .serial in true-false (eqb (l .serial) w) (eq-eqb (l .serial) w (q ∙ sym serial)) (not-yes (eqb (l .serial) w) (those-yes _ l (v .loans) k));
       } in
-      gone-here s (b .serial) (releasedTables s true (givenTables s b (wordFor s b t) t)) (back-marked s a b t (listOk (s .store) list) p on) (subst (Rules.Gone (b .serial)) (sym e) g)
+      gone-here s (b .serial) (releasedTables s true (givenTables s b (wordFor s b t) t)) (back-signed s a b t (listOk (s .store) list) p on .head) (subst (Rules.Gone (b .serial)) (sym e) g)
 
   return-gone : (r : Listed Tables) → ReturnComes s a b t list r → kindOf (r .said) ≡ 3 → Gone listShape (b .serial) (r .tables)
   unfolding releaseOf
@@ -98,7 +98,7 @@ module _ (s : FreeListSettings) (a : Account) (b : Block) (t : Tables) (list : L
 -- ---- over one call
 
 counted : (s : FreeListSettings) (a : Account) (t : Tables) (c : Call OwnCall) → (c ≡ setsUp → ⊥) → Marked t → Counted listShape t (does listShape s a t c .tables) (does listShape s a t c .said)
-counted s a t c f m = let S = call-steps s a t c f in record { gives = S .gives; nexts = S .nexts; marks = S .marks m }
+counted s a t c f m = let S = call-steps s a t c f in record { gives = S .gives; nexts = S .nexts; marks = S .mark-stays m }
 
 -- set-up gave none
 fresh-given : (s : FreeListSettings) (t : Tables) (r : Begun) → SetUpComes s t r → kindOf (r .said) ≡ 0 → givenOf (r .tables) ≡ 0
@@ -110,7 +110,7 @@ fresh-given s t _ (readies fit lengths) e = ap (λ (v : Store). v .given) (fresh
 pub list-counts : Counts listShape
 list-counts =
     record {
-      begins = λ s t e. (set-up-sound s t e .marked, fresh-given s t (setUpOf s t) (set-up-comes s t) (ap kindOf e));
+      begins = λ s t e. (set-up-sound s t e .signed .head, fresh-given s t (setUpOf s t) (set-up-comes s t) (ap kindOf e));
       counted = counted;
       gone-stays = λ k s a t c f g. gone-steps k s t (does listShape s a t c) (call-steps s a t c f) g;
       released-gone = λ s a b t list n e. return-gone s a b t list (returnOf s a b t list) (return-comes s a b t list) (ap kindOf e);

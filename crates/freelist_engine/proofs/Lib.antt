@@ -1,6 +1,7 @@
 -- The free list is an engine.
 pub mod Refusing
 pub mod Stepping
+pub mod Signing
 pub mod Counting
 pub mod Booking
 pub mod Keeping

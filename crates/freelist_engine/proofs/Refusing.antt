@@ -5,8 +5,6 @@ use mathlib.Core.Bool.{Bool, true, _&&_}
 use mathlib.Core.Logic.{_↔_}
 use mathlib.Core.List.{List, []}
 use Prim.Native.Nat.{ℕ, _≤_, _<_}
-use lib.ListN.{getD}
-use borrow.Author.Tests.{eqb-true}
 use Rattle.lists.proofs.Bools.{and-left, all-each}
 use Rattle.counter.specs.Gate.{pass, refuse}
 use Rattle.counter.specs.Paper as Paper
@@ -20,9 +18,10 @@ use Rattle.store_rules.specs.Outcomes.{Out, out, listed, listOk}
 use Rattle.store_rules.specs.Tests.{noOrder, openFor, gateRow}
 use Rattle.engines.specs.Refuses.{Refuses}
 use Rattle.store_rules.specs.Rows.{gateRows, keptRows}
+use Rattle.store_rules.proofs.Signed.{signed-yes}
 use Rattle.engines.specs.Shapes.{Call, setsUp, asks, delivers, returns, others, does, Marked, lentList, wordsOf}
 use Rattle.engines.proofs.Shutting.{shut}
-use Rattle.freelist_rules.specs.Tables.{Tables, mark, markAt, soundRow, soundOk, storeOf}
+use Rattle.freelist_rules.specs.Tables.{Tables, soundRow, soundOk, storeOf, marks, Signed}
 use Rattle.freelist_outcomes.specs.Gate.{inTableOk, accountOk, gateOf}
 use Rattle.freelist_outcomes.specs.Ask.{carryAsk, planAsk, askOf}
 use Rattle.freelist_outcomes.specs.Deliver.{stillOk, deliverGateOf, planDeliver, carryDeliver, deliverOf}
@@ -32,12 +31,12 @@ use Rattle.freelist_outcomes.proofs.Gated.{gate-decided}
 use Rattle.freelist_outcomes.proofs.Refused.{kept-decided, set-up-refused, ask-refused, deliver-refused, return-refused, clean-up-refused, set-up-leaves, ask-leaves, deliver-leaves, return-leaves, clean-up-leaves-all, deliver-lost}
 use Rattle.freelist_engine.specs.Shape.{OwnCall, cleansUp, ownOf, ownRows, listShape}
 
--- ---- tables without the mark
+-- ---- tables without the marks
 
-module _ (s : FreeListSettings) (a : Account) (t : Tables) (other : getD (t .head) markAt 0 ≡ mark → ⊥) where
+module _ (s : FreeListSettings) (a : Account) (t : Tables) (other : Signed marks t → ⊥) where
   not-sound : soundOk s t ≡ true → ⊥
   unfolding soundOk
-  not-sound e = other (eqb-true (getD (t .head) markAt 0) mark (all-each (soundRow s t) e .0))
+  not-sound e = other (signed-yes marks t (all-each (soundRow s t) e .0))
 
   gate-shut : (list : Bool) → (n : ℕ) × (gateOf s a t list ≡ refuse n) × (0 < n) × (n ≤ 3)
   unfolding gateOf
@@ -66,15 +65,20 @@ module _ (s : FreeListSettings) (a : Account) (t : Tables) (other : getD (t .hea
   clean-up-shut list = let g = gate-shut (listOk (s .store) list) in let e = g .1 in (g .0, rw e, g .2, g .3)
 
 -- each call but set-up is refused there, by 1, 2 or 3, and leaves everything
+pub unsigned-refused : (s : FreeListSettings) (a : Account) (t : Tables) (c : Call OwnCall) → (c ≡ setsUp → ⊥) → (Signed marks t → ⊥)
+    → (n : ℕ) × (does listShape s a t c ≡ listed (Paper.refusal n []) a t (lentList c)) × (0 < n) × (n ≤ 3)
+unsigned-refused s a t setsUp f m = absurd (f refl)
+unsigned-refused s a t (asks size mask) f m =
+    let r = ask-shut s a t m size mask in (r .0, ap (λ (o : Out Tables). listed (o .said) (o .account) (o .tables) []) (r .1), r .2, r .3)
+unsigned-refused s a t (delivers x) f m =
+    let r = deliver-shut s a t m x in (r .0, ap (λ (o : Out Tables). listed (o .said) (o .account) (o .tables) []) (r .1), r .2, r .3)
+unsigned-refused s a t (returns b list) f m = let r = return-shut s a t m b list in (r .0, (r .1), r .2, r .3)
+unsigned-refused s a t (others cleansUp list) f m = let r = clean-up-shut s a t m list in (r .0, (r .1), r .2, r .3)
+
+-- and so where the head's mark is not there
 foreign : (s : FreeListSettings) (a : Account) (t : Tables) (c : Call OwnCall) → (c ≡ setsUp → ⊥) → (Marked listShape t → ⊥)
     → (n : ℕ) × (does listShape s a t c ≡ listed (Paper.refusal n []) a t (lentList c)) × (0 < n) × (n ≤ 3)
-foreign s a t setsUp f m = absurd (f refl)
-foreign s a t (asks size mask) f m =
-    let r = ask-shut s a t m size mask in (r .0, ap (λ (o : Out Tables). listed (o .said) (o .account) (o .tables) []) (r .1), r .2, r .3)
-foreign s a t (delivers x) f m =
-    let r = deliver-shut s a t m x in (r .0, ap (λ (o : Out Tables). listed (o .said) (o .account) (o .tables) []) (r .1), r .2, r .3)
-foreign s a t (returns b list) f m = let r = return-shut s a t m b list in (r .0, (r .1), r .2, r .3)
-foreign s a t (others cleansUp list) f m = let r = clean-up-shut s a t m list in (r .0, (r .1), r .2, r .3)
+foreign s a t c f m = unsigned-refused s a t c f (λ S. m (S .head))
 
 -- ---- a call that only a free list has
 

@@ -18,7 +18,7 @@ use Rattle.freelist_rules.specs.Place.{sizeFor, maskFor, Found, nowhere, at}
 use Rattle.freelist_rules.specs.Records.{Store}
 use Rattle.freelist_rules.specs.Steps.{lent, raised, delivered, released, takenBack, returned}
 use Rattle.freelist_rules.specs.Seek.{seek}
-use Rattle.freelist_rules.specs.Tables.{mark, markAt, givenAt, storeOf}
+use Rattle.freelist_rules.specs.Tables.{givenAt, storeOf, marks, Signed}
 use Rattle.freelist_rules.proofs.Blocks.{returned-is}
 use Rattle.freelist_rules.proofs.Fits.{lengths-are}
 use Rattle.freelist_rules.proofs.NeverAgain as Rules
@@ -35,10 +35,11 @@ use Rattle.freelist_outcomes.proofs.Comes.{AskComes, lends, orders, ask-comes, 
 use Rattle.engines.specs.Serials.{serialSaid, upFrom}
 use Rattle.engines.specs.Shapes.{Tables, Call, setsUp, asks, delivers, returns, others, does}
 use Rattle.freelist_engine.specs.Shape.{OwnCall, cleansUp, listShape}
+use Rattle.words.specs.Words.{markAt}
 
 -- tables with the free list's mark, and how many serials they say were given
 abbrev pub Marked : Tables → Type 0
-Marked t = getD (t .head) markAt 0 ≡ mark
+Marked t = getD (t .head) markAt 0 ≡ marks .head
 
 abbrev pub givenOf : Tables → ℕ
 givenOf t = getD (t .head) givenAt 0
@@ -52,13 +53,13 @@ back-store s a b t listed p on =
     ∙ ap (released true) (given-store s t fit lengths (p .sound) b on)
     ∙ sym (returned-is s fit b (storeOf s t) (p .sound .store) (on-loan-is s t fit (p .sound) b on))
 
--- and its tables have the mark
-pub back-marked : (s : FreeListSettings) (a : Account) (b : Block) (t : Tables) (listed : Bool) → Passed s a t listed → onLoanOk s b t ≡ true → Marked (releasedTables s true (givenTables s b (wordFor s b t) t))
-back-marked s a b t listed p on =
+-- and its tables have the marks
+pub back-signed : (s : FreeListSettings) (a : Account) (b : Block) (t : Tables) (listed : Bool) → Passed s a t listed → onLoanOk s b t ≡ true → Signed marks (releasedTables s true (givenTables s b (wordFor s b t) t))
+back-signed s a b t listed p on =
     let fit = p .settings in
     let lengths = lengths-are s t (p .lengths) in
     released-tables-sound s (givenTables s b (wordFor s b t) t) fit (given-lengths s t fit lengths (p .sound) b on) (given-sound s t fit lengths (p .sound) b on) true
-    .marked
+    .signed
 
 -- a return gives no serial
 taken-back-given : (t : Store) (f : Found) → takenBack t f .given ≡ t .given
@@ -74,11 +75,12 @@ pub record Stepped (s : FreeListSettings) (t t′ : Tables) (said : Said) : Type
   pub steps : (t′ ≡ t) ⊎ Calls s (storeOf s t) (storeOf s t′)
   pub gives : givenOf t′ ≡ givenOf t + length (serialSaid said)
   pub nexts : serialSaid said ≡ upFrom (givenOf t) (length (serialSaid said))
-  pub marks : Marked t → Marked t′
+  pub mark-stays : Marked t → Marked t′
+  pub signs : Signed marks t → Signed marks t′
 
 module _ (s : FreeListSettings) (t : Tables) where
   stayed : (n : ℕ) (back : List ℕ) → Stepped s t t (Paper.refusal n back)
-  stayed n back = record { steps = inl refl; gives = omega arith; nexts = refl; marks = λ m. m }
+  stayed n back = record { steps = inl refl; gives = omega arith; nexts = refl; mark-stays = λ m. m; signs = λ S. S }
 
   -- one step that gives no serial
   module _ (t′ : Tables) (v : Store) (e : storeOf s t′ ≡ v) where
@@ -98,7 +100,8 @@ module _ (s : FreeListSettings) (t : Tables) where
         steps = inr (stepped (takenTables s size mask t i) (lent (maskFor s mask) (sizeFor s size) i (storeOf s t)) e (Rules.asks (maskFor s mask) (sizeFor s size) i));
         gives = ap (λ (x : Store). x .given) e;
         nexts = refl;
-        marks = λ _. taken-sound s t (p .settings) (lengths-are s t (p .lengths)) (p .sound) size mask i (v .aligned) (v .some) (v .place) (v .found) .marked;
+        mark-stays = λ _. taken-sound s t (p .settings) (lengths-are s t (p .lengths)) (p .sound) size mask i (v .aligned) (v .some) (v .place) (v .found) .signed .head;
+        signs = λ _. taken-sound s t (p .settings) (lengths-are s t (p .lengths)) (p .sound) size mask i (v .aligned) (v .some) (v .place) (v .found) .signed;
       }
   ask-stepped a size mask _ (orders p v) =
       let e = ordered-store s t (p .settings) (lengths-are s t (p .lengths)) (p .sound) (raisedFor s size t) in
@@ -107,7 +110,8 @@ module _ (s : FreeListSettings) (t : Tables) where
         steps = inr (stepped (orderedTables (raisedFor s size t) t) (raised (raisedFor s size t) (storeOf s t)) e (Rules.orders (raisedFor s size t)));
         gives = omega (arith, f);
         nexts = refl;
-        marks = λ _. ordered-sound s t (p .settings) (lengths-are s t (p .lengths)) (p .sound) size .marked;
+        mark-stays = λ _. ordered-sound s t (p .settings) (lengths-are s t (p .lengths)) (p .sound) size .signed .head;
+        signs = λ _. ordered-sound s t (p .settings) (lengths-are s t (p .lengths)) (p .sound) size .signed;
       }
 
   deliver-stepped : (a : Account) (o : Outcome) (r : Out Tables) → DeliverComes s a o t r → Stepped s t (r .tables) (r .said)
@@ -123,7 +127,8 @@ module _ (s : FreeListSettings) (t : Tables) where
         steps = inr (subst (Calls s (storeOf s t)) (sym f) (then d (then c stop)));
         gives = ap (λ (x : Store). x .given) f;
         nexts = ap (λ (x : Store). (x .given + 1) ∷ []) g;
-        marks = λ _. lent-tables-sound s a t k w (m .number) new .marked;
+        mark-stays = λ _. lent-tables-sound s a t k w (m .number) new .signed .head;
+        signs = λ _. lent-tables-sound s a t k w (m .number) new .signed;
       }
 
   return-stepped : (a : Account) (b : Block) (list : List ℕ) (r : Listed Tables) → ReturnComes s a b t list r → Stepped s t (r .tables) (r .said)
@@ -135,7 +140,8 @@ module _ (s : FreeListSettings) (t : Tables) where
         steps = inr (stepped _ _ e (Rules.returns b));
         gives = omega (arith, same-given _ _ e (returned-given b (storeOf s t)));
         nexts = refl;
-        marks = λ _. back-marked s a b t (listOk (s .store) list) p on;
+        mark-stays = λ _. back-signed s a b t (listOk (s .store) list) p on .head;
+        signs = λ _. back-signed s a b t (listOk (s .store) list) p on;
       }
 
   clean-up-stepped : (a : Account) (list : List ℕ) (r : Listed Tables) → CleanUpComes s a t list r → Stepped s t (r .tables) (r .said)
@@ -147,7 +153,8 @@ module _ (s : FreeListSettings) (t : Tables) where
         steps = inr (stepped _ _ e Rules.cleansUp);
         gives = omega (arith, same-given _ _ e refl);
         nexts = refl;
-        marks = λ _. released-tables-sound s t (p .settings) (lengths-are s t (p .lengths)) (p .sound) false .marked;
+        mark-stays = λ _. released-tables-sound s t (p .settings) (lengths-are s t (p .lengths)) (p .sound) false .signed .head;
+        signs = λ _. released-tables-sound s t (p .settings) (lengths-are s t (p .lengths)) (p .sound) false .signed;
       }
 
 -- every call but set-up is such a step

@@ -10,12 +10,12 @@ use Rattle.counter.specs.declared.account.Account.{Account}
 use Rattle.counter.specs.declared.settings.FreeListSettings.{FreeListSettings}
 use Rattle.store_rules.specs.Delivery.{freeList}
 use Rattle.store_rules.specs.Loans.{loansOf}
-use Rattle.store_rules.specs.Outcomes.{Out, out, Listed, listed}
+use Rattle.store_rules.specs.Outcomes.{Listed}
 use Rattle.store_rules.specs.Rows.{listRows}
 use Rattle.engines.specs.Shapes.{Shape}
 use Rattle.freelist_rules.specs.AtOnce.{atOnce}
 use Rattle.freelist_rules.specs.Records.{Store}
-use Rattle.freelist_rules.specs.Tables.{Tables, tables, Lengths, mark, givenAt, placesIn, storeOf, SoundTables}
+use Rattle.freelist_rules.specs.Tables.{Tables, Lengths, givenAt, placesIn, storeOf, SoundTables, marks}
 use Rattle.freelist_outcomes.specs.Gate.{gateOf}
 use Rattle.freelist_outcomes.specs.Ask.{raisedFor, askOf}
 use Rattle.freelist_outcomes.specs.Deliver.{deliverGateOf, deliverOf}
@@ -56,7 +56,7 @@ listShape =
       return = returnOf;
       other = ownOf;
       engine = freeList;
-      mark = mark;
+      mark = marks .head;
       given = λ t. getD (t .head) givenAt 0;
       loans = λ t. loansOf (placesIn t) (t .loans);
       view = λ s t. seen (storeOf s t);

@@ -5,12 +5,14 @@ use mathlib.Core.Bool.{Bool}
 use mathlib.Core.List.{List, [], _∷_}
 use Prim.Native.Nat.{ℕ, _+_, _≤_, _<_}
 use native.Mathlib.Omega.{arith}
-use lib.ListN.{length, getD, set, replicate, length-append, getD-replicate}
+use lib.ListN.{length, getD, set, length-append}
 use Rattle.words.specs.Rows.{rows, laid}
-use Rattle.words.proofs.Records.{length-laid, rows-laid}
+use Rattle.words.proofs.Records.{length-laid, rows-laid, own-laid}
+use Rattle.words.specs.Words.{markAt, blank}
+use Rattle.words.proofs.Filled.{blank-mark, blank-other}
 use Rattle.counter.specs.InTable.{FreeListIn}
 use Rattle.counter.specs.declared.settings.FreeListSettings.{FreeListSettings}
-use Rattle.slab.specs.Slab.{Parted}
+use Rattle.slab.specs.Slab.{Parted, nowhere}
 use Rattle.slab.proofs.Places.{parted-fresh}
 use Rattle.store_rules.specs.Loans.{loansOf}
 use Rattle.book_rules.proofs.Firsts.{fresh-vacated, fresh-first}
@@ -21,11 +23,11 @@ use Rattle.freelist_rules.specs.Place.{sizeFor}
 use Rattle.freelist_rules.specs.Release.{staying, remaining}
 use Rattle.freelist_rules.specs.Sound.{Sound}
 use Rattle.freelist_rules.specs.Steps.{fresh, raised, delivered, released}
-use Rattle.freelist_rules.specs.Tables.{Tables, tables, markAt, givenAt, madeAt, chunkSizeAt, placesAt, chunksAt, headWords, regionsMost, regionCountAt, Lengths, placesIn, chunksIn, regionsIn, ordered, storeOf, vacantIn, vacantAfterIn, SoundTables, laidRegions, RegionsFit, roomWords}
+use Rattle.freelist_rules.specs.Tables.{Tables, tables, givenAt, madeAt, chunkSizeAt, placesAt, chunksAt, headWords, regionsMost, regionCountAt, Lengths, placesIn, chunksIn, regionsIn, ordered, storeOf, vacantIn, vacantAfterIn, SoundTables, laidRegions, RegionsFit, roomWords, marks}
 use Rattle.store_rules.specs.declared.Chunk.{Chunk}
 use Rattle.store_rules.specs.declared.Region.{Region}
 use Rattle.freelist_rules.proofs.Delivers.{fresh-sound, raised-sound, delivered-sound}
-use Rattle.freelist_rules.proofs.Fits.{chunks-length, loans-few, laid-long, laid-count, laid-regions}
+use Rattle.freelist_rules.proofs.Fits.{chunks-length, loans-few, laid-long, laid-count, laid-regions, laid-mark}
 use Rattle.freelist_rules.proofs.GivesBack.{gone-count}
 use Rattle.freelist_rules.proofs.Meaning.{room-enough}
 use Rattle.freelist_rules.proofs.Releases.{released-sound}
@@ -51,22 +53,29 @@ module _ (s : FreeListSettings) (t : Tables) (fit : FreeListIn s) (lengths : Len
   -- no region is counted
   fresh-count : regionsIn (freshTables s) ≡ 0
   unfolding freshTables
-  fresh-count = getD-replicate (roomWords s) regionCountAt 0 0 (omega arith)
+  fresh-count = blank-other (roomWords s) (marks .room) 0 regionCountAt (omega arith) (omega arith)
 
   pub fresh-store : storeOf s (freshTables s) ≡ fresh s
   unfolding freshTables storeOf loansOf ordered
-  fresh-store = ap (λ (n : ℕ). record { given = 0; made = 0; size = s .start; loans = []; chunks = []; regions = rows regionRow n (replicate (roomWords s) 0) }) fresh-count
+  fresh-store = ap (λ (n : ℕ). record { given = 0; made = 0; size = s .start; loans = []; chunks = []; regions = rows regionRow n (blank (roomWords s) (marks .room) 0) }) fresh-count
 
   pub fresh-tables-sound : SoundTables s (freshTables s)
   unfolding freshTables
   fresh-tables-sound =
       let u = freshTables s in
       record {
-        marked = refl;
+        signed =
+            record {
+              head = refl;
+              loans = blank-mark _ (marks .loans) 0 (omega arith);
+              chunks = blank-mark _ (marks .chunks) 0 (omega arith);
+              index = blank-mark _ (marks .index) nowhere (omega arith);
+              room = blank-mark _ (marks .room) 0 (omega arith);
+            };
         chunks-fit = omega arith;
         regions-fit = omega (arith, fresh-count);
-        parted = subst (λ (v : ℕ). Parted (vacantIn u) (vacantAfterIn u) (record { places = 0; vacant = v }) (s .store .loans)) (sym (fresh-vacated (s .store .loans))) (parted-fresh (vacantIn u) (vacantAfterIn u) (s .store .loans));
-        chained = fresh-chained (u .loans) (u .index) (s .store .loans) 0 (fresh-first (s .store .loans));
+        parted = subst (λ (v : ℕ). Parted (vacantIn u) (vacantAfterIn u) (record { places = 0; vacant = v }) (s .store .loans)) (sym (fresh-vacated (marks .index) (s .store .loans))) (parted-fresh (vacantIn u) (vacantAfterIn u) (s .store .loans));
+        chained = fresh-chained (u .loans) (u .index) (s .store .loans) 0 (fresh-first (marks .index) (s .store .loans));
         store = subst (Sound s) (sym fresh-store) (fresh-sound s fit);
       }
 
@@ -82,10 +91,10 @@ module _ (s : FreeListSettings) (t : Tables) (fit : FreeListIn s) (lengths : Len
     changed-lengths made size held chunks regions c r =
         record { head = refl; loans = lengths .loans; chunks = c ∙ lengths .chunks; room = r ∙ lengths .room; index = lengths .index }
 
-    changed-sound : (made size held : ℕ) (chunks regions : List ℕ) → held ≤ s .store .chunks → getD regions regionCountAt 0 ≤ regionsMost s → Sound s (storeOf s (changed made size held chunks regions))
+    changed-sound : (made size held : ℕ) (chunks regions : List ℕ) → getD chunks markAt 0 ≡ getD (t .chunks) markAt 0 → getD regions markAt 0 ≡ getD (t .room) markAt 0 → held ≤ s .store .chunks → getD regions regionCountAt 0 ≤ regionsMost s → Sound s (storeOf s (changed made size held chunks regions))
         → SoundTables s (changed made size held chunks regions)
-    changed-sound made size held chunks regions c r w =
-        record { marked = sound .marked; chunks-fit = c; regions-fit = r; parted = sound .parted; chained = sound .chained; store = w }
+    changed-sound made size held chunks regions p q c r w =
+        record { signed = record { head = sound .signed .head; loans = sound .signed .loans; chunks = p ∙ sound .signed .chunks; index = sound .signed .index; room = q ∙ sound .signed .room }; chunks-fit = c; regions-fit = r; parted = sound .parted; chained = sound .chained; store = w }
 
     -- ---- an order for this size raises the chunk size and nothing else
 
@@ -102,7 +111,7 @@ module _ (s : FreeListSettings) (t : Tables) (fit : FreeListIn s) (lengths : Len
     ordered-sound size =
         let z = raisedFor s size t in
         subst (SoundTables s) (sym (ordered-is z)) (
-        changed-sound (getD (t .head) madeAt 0) z (chunksIn t) (t .chunks) (t .room) (sound .chunks-fit) (sound .regions-fit)
+        changed-sound (getD (t .head) madeAt 0) z (chunksIn t) (t .chunks) (t .room) refl refl (sound .chunks-fit) (sound .regions-fit)
         (raised-sound s (storeOf s t) (sound .store) (sizeFor s size))
         )
 
@@ -134,7 +143,9 @@ module _ (s : FreeListSettings) (t : Tables) (fit : FreeListIn s) (lengths : Len
 
       laid-sound : SoundTables s (laidTables made size cs rs)
       laid-sound =
-          changed-sound made size (length cs) (laid chunkRow cs (t .chunks)) (laidRegions rs (t .room)) few
+          changed-sound made size (length cs) (laid chunkRow cs (t .chunks)) (laidRegions rs (t .room))
+          (own-laid chunkRow cs (t .chunks) markAt 0 (omega (arith, lengths .chunks)) (omega arith))
+          (laid-mark s rs (t .room) before) few
           (omega (arith, laid-count s rs (t .room) before room, room))
           (subst (Sound s) (sym laid-store) w)
 

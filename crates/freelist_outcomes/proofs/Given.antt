@@ -25,6 +25,7 @@ use Rattle.book_rules.specs.Book.{indexWords, serialOf, firstIn, wordTo, struck
 use Rattle.book_rules.proofs.Changed.{serial-kept, vacant-now}
 use Rattle.book_rules.proofs.Decides.{serial-once}
 use Rattle.book_rules.proofs.Keeps.{BookChained, BookParted, freeIn, nextIn, found, struck-long, struck-wide, struck-chained, struck-parted}
+use Rattle.book_rules.proofs.Owns.{struck-mark, struck-index-mark, word-past-mark}
 use Rattle.freelist_rules.specs.Join.{insert}
 use Rattle.freelist_rules.specs.Pieces.{All, piece}
 use Rattle.freelist_rules.specs.Records.{region}
@@ -35,7 +36,7 @@ use Rattle.freelist_rules.specs.Tables.{Tables, Lengths, SoundTables, RegionsFi
 use Rattle.store_rules.specs.declared.Region.{Region}
 use Rattle.freelist_rules.proofs.Search.{same-loan}
 use Rattle.freelist_rules.proofs.Base.{at-in}
-use Rattle.freelist_rules.proofs.Fits.{are-lengths, regions-fit, laid-long, laid-count, laid-regions}
+use Rattle.freelist_rules.proofs.Fits.{are-lengths, regions-fit, laid-long, laid-count, laid-regions, laid-mark}
 use Rattle.freelist_rules.proofs.Gaps.{LoansRise}
 use Rattle.freelist_rules.proofs.Giving.{without, give, give-sound}
 use Rattle.freelist_rules.proofs.Ordered.{ordered-out, loan-place}
@@ -196,7 +197,14 @@ module _ (s : FreeListSettings) (t : Tables) (fit : FreeListIn s) (lengths : Len
   unfolding givenTables
   given-sound =
       record {
-        marked = sound .marked;
+        signed =
+            record {
+              head = sound .signed .head;
+              loans = struck-mark word (t .index) (t .loans) ∙ sound .signed .loans;
+              chunks = sound .signed .chunks;
+              index = struck-index-mark word (t .index) (word-past-mark (t .loans) (t .index) n (placesIn t) (b .serial)) ∙ sound .signed .index;
+              room = laid-mark s joined (t .room) regions-whole ∙ sound .signed .room;
+            };
         chunks-fit = sound .chunks-fit;
         regions-fit = omega (arith, laid-count s joined (t .room) regions-whole room, room);
         parted = given-parted;

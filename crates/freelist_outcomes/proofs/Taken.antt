@@ -12,6 +12,7 @@ use borrow.Author.Tests.{ne-eqb}
 use Rattle.lists.proofs.Bools.{told}
 use Rattle.words.specs.Rows.{rows}
 use Rattle.words.proofs.Records.{length-removeAt}
+use Rattle.words.specs.Words.{markAt}
 use Rattle.counter.specs.InTable.{FreeListIn}
 use Rattle.counter.specs.Table.{alignmentOk}
 use Rattle.counter.specs.declared.settings.FreeListSettings.{FreeListSettings}
@@ -21,16 +22,17 @@ use Rattle.store_rules.specs.declared.Loan.{Loan}
 use Rattle.book_rules.specs.Book.{takenOf, entered, enteredIndex}
 use Rattle.book_rules.proofs.Entering.{entered-amid}
 use Rattle.book_rules.proofs.Keeps.{BookChained, BookParted, entered-long, entered-wide, entered-chained, entered-parted}
+use Rattle.book_rules.proofs.Owns.{entered-mark, entered-index-mark}
 use Rattle.freelist_rules.specs.Records.{Store, chunkRow}
 use Rattle.freelist_rules.specs.Pieces.{All}
 use Rattle.freelist_rules.specs.Place.{sizeFor, maskFor, at, cutOff, putLoan}
 use Rattle.freelist_rules.specs.Sound.{Sound}
 use Rattle.freelist_rules.specs.Steps.{noRegion, lent}
-use Rattle.freelist_rules.specs.Tables.{Tables, markAt, givenAt, madeAt, chunkSizeAt, placesAt, chunksAt, headWords, regionsMost, Lengths, placesIn, ordered, storeOf, SoundTables, RegionsFit}
+use Rattle.freelist_rules.specs.Tables.{Tables, givenAt, madeAt, chunkSizeAt, placesAt, chunksAt, headWords, regionsMost, Lengths, placesIn, ordered, storeOf, SoundTables, RegionsFit}
 use Rattle.store_rules.specs.declared.Region.{Region}
 use Rattle.freelist_rules.proofs.Base.{rising-low, rising-apart}
 use Rattle.freelist_rules.proofs.Enters.{put-amid}
-use Rattle.freelist_rules.proofs.Fits.{regions-length, laid-long, laid-count, laid-regions}
+use Rattle.freelist_rules.proofs.Fits.{regions-length, laid-long, laid-count, laid-regions, laid-mark}
 use Rattle.freelist_rules.proofs.Gaps.{begins, stops}
 use Rattle.freelist_rules.proofs.Lends.{lent-block, lent-sound}
 use Rattle.freelist_rules.proofs.Ordered.{put-in, ordered-in}
@@ -165,7 +167,14 @@ module _ (s : FreeListSettings) (t : Tables) (fit : FreeListIn s) (lengths : Len
       let loans′ : List ℕ = entered (placesIn t) (t .index) new (t .loans) in
       let index′ : List ℕ = enteredIndex n (placesIn t) g (t .index) in
       record {
-        marked = other markAt (λ e. omega arith) (λ e. omega arith) ∙ sound .marked;
+        signed =
+            record {
+              head = other markAt (λ e. omega arith) (λ e. omega arith) ∙ sound .signed .head;
+              loans = entered-mark (placesIn t) (t .index) new (t .loans) ∙ sound .signed .loans;
+              chunks = sound .signed .chunks;
+              index = entered-index-mark n (placesIn t) g (t .index) ∙ sound .signed .index;
+              room = laid-mark s left (t .room) table-fit ∙ sound .signed .room;
+            };
         chunks-fit = omega (arith, other chunksAt (λ e. omega arith) (λ e. omega arith), sound .chunks-fit);
         regions-fit = omega (arith, laid-count s left (t .room) table-fit left-room, left-room);
         parted =

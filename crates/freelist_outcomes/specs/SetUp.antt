@@ -2,7 +2,7 @@
 use mathlib.Core.Bool.{Bool, _&&_}
 use mathlib.Core.List.{List, [], _∷_}
 use Prim.Native.Nat.{ℕ, _+_, _*_}
-use lib.ListN.{replicate}
+use Rattle.words.specs.Words.{blank}
 use Rattle.counter.specs.Gate.{Verdict, pass, refuse, first}
 use Rattle.counter.specs.Paper as Paper
 use Rattle.counter.specs.Table.{freeListOk}
@@ -11,21 +11,21 @@ use Rattle.store_rules.specs.Loans.{loanWords}
 use Rattle.book_rules.specs.Book.{freshIndex}
 pub use Rattle.store_rules.specs.Tables.{Begun, begun}
 use Rattle.freelist_rules.specs.Records.{chunkWords}
-use Rattle.freelist_rules.specs.Tables.{Tables, tables, mark, regionCountAt, lengthsOk, roomWords}
+use Rattle.freelist_rules.specs.Tables.{Tables, tables, marks, lengthsOk, roomWords}
 
 -- the mark; nothing given or held, and the chunk size of the settings
 abbrev pub freshHead : FreeListSettings → List ℕ
-freshHead s = mark ∷ 0 ∷ 0 ∷ s .start ∷ 0 ∷ 0 ∷ []
+freshHead s = marks .head ∷ 0 ∷ 0 ∷ s .start ∷ 0 ∷ 0 ∷ []
 
--- every word of every table is written, whatever was lent: no loan, no chunk, no link, no region
+-- every word of every table is written, whatever was lent: the marks; no loan, no chunk, no link, no region
 unfoldable pub freshTables : FreeListSettings → Tables
 freshTables s =
     tables
     (freshHead s)
-    (replicate (loanWords + loanWords * s .store .loans) 0)
-    (replicate (chunkWords + chunkWords * s .store .chunks) 0)
-    (freshIndex (s .store .loans))
-    (replicate (roomWords s) 0)
+    (blank (loanWords + loanWords * s .store .loans) (marks .loans) 0)
+    (blank (chunkWords + chunkWords * s .store .chunks) (marks .chunks) 0)
+    (freshIndex (marks .index) (s .store .loans))
+    (blank (roomWords s) (marks .room) 0)
 
 -- 1, but for the account, which set-up does not take
 unfoldable pub fitOk : FreeListSettings → Tables → Bool

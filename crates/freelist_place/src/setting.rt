@@ -1,23 +1,28 @@
 // The words of a store with nothing in it.
 ghost use mathlib.Core.Path.{_≡_};
-ghost use lib.ListN.{length, set, replicate};
+ghost use lib.ListN.{length, set};
+ghost use Rattle.words.specs.Words.{markAt, blank};
 ghost use Rattle.counter.specs.InTable.{FreeListIn};
-ghost use Rattle.freelist_rules.specs.Tables.{tables, mark, markAt, givenAt, madeAt, chunkSizeAt, placesAt, chunksAt, headWords, Lengths};
+ghost use Rattle.freelist_rules.specs.Tables.{tables, marks, givenAt, madeAt, chunkSizeAt, placesAt, chunksAt, headWords, Lengths};
 ghost use Rattle.freelist_outcomes.specs.SetUp.{freshHead, freshTables};
 use counter::FreeListSettings;
 use freelist_rules::CHUNK_SIZE_AT;
 use freelist_rules::CHUNKS_AT;
+use freelist_rules::CHUNKS_MARK;
 use freelist_rules::GIVEN_AT;
+use freelist_rules::HEAD_MARK;
+use freelist_rules::INDEX_MARK;
+use freelist_rules::LOANS_MARK;
 use freelist_rules::MADE_AT;
-use freelist_rules::MARK;
-use freelist_rules::MARK_AT;
 use freelist_rules::PLACES_AT;
+use freelist_rules::ROOM_MARK;
+use words::MARK_AT;
 
 // The mark, and nothing given.
 fn put_mark(head: &mut [u64])
-    ensures { λ _. ⌜ now (head .exit) ≡ set (set (set (now (head .entry)) markAt mark) givenAt 0) madeAt 0 ⌝ }
+    ensures { λ _. ⌜ now (head .exit) ≡ set (set (set (now (head .entry)) markAt (marks .head)) givenAt 0) madeAt 0 ⌝ }
 {
-    words::put(head, MARK_AT, MARK);
+    words::put(head, MARK_AT, HEAD_MARK);
     words::put(head, GIVEN_AT, 0);
     words::put(head, MADE_AT, 0);
 }
@@ -39,15 +44,15 @@ fn fresh_head(s: FreeListSettings, head: &mut [u64])
     put_none(head, s.start);
 }
 
-// No loan, no chunk and no region, nor what an older store left of one.
+// Behind the marks no loan, no chunk and no region, nor what an older store left of one.
 fn clear(loans: &mut [u64], chunks: &mut [u64], regions: &mut [u64])
-    ensures { λ _. ⌜ now (loans .exit) ≡ replicate (length (now (loans .entry))) 0 ⌝ }
-    ensures { λ _. ⌜ now (chunks .exit) ≡ replicate (length (now (chunks .entry))) 0 ⌝ }
-    ensures { λ _. ⌜ now (regions .exit) ≡ replicate (length (now (regions .entry))) 0 ⌝ }
+    ensures { λ _. ⌜ now (loans .exit) ≡ blank (length (now (loans .entry))) (marks .loans) 0 ⌝ }
+    ensures { λ _. ⌜ now (chunks .exit) ≡ blank (length (now (chunks .entry))) (marks .chunks) 0 ⌝ }
+    ensures { λ _. ⌜ now (regions .exit) ≡ blank (length (now (regions .entry))) (marks .room) 0 ⌝ }
 {
-    words::fill(loans, 0);
-    words::fill(chunks, 0);
-    words::fill(regions, 0);
+    words::put_blank(loans, LOANS_MARK, 0);
+    words::put_blank(chunks, CHUNKS_MARK, 0);
+    words::put_blank(regions, ROOM_MARK, 0);
 }
 
 // Every word of every table is written, whatever was lent.
@@ -65,5 +70,5 @@ pub fn fresh(
     let own = s.store;
     fresh_head(s, head);
     clear(loans, chunks, regions);
-    book::fresh_index(own.loans, index);
+    book::fresh_index(INDEX_MARK, own.loans, index);
 }

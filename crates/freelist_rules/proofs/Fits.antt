@@ -1,17 +1,18 @@
 -- What the lengths of a store's tables and its soundness say of the counts in them, and its regions written back.
-use mathlib.Core.Path.{_≡_, sym, ap, _∙_}
+use mathlib.Core.Path.{_≡_, ap, _∙_}
 use mathlib.Core.Bool.{true}
 use mathlib.Core.Logic.{⊎-elim}
-use mathlib.Core.List.{List, [], _∷_, _++_}
-use Prim.Native.Nat.{ℕ, _+_, _-_, _*_, _≤_}
+use mathlib.Core.List.{List, [], _∷_}
+use Prim.Native.Nat.{ℕ, _-_, _≤_}
 use native.Mathlib.Omega.{arith}
 use lib.Dec.{eqb}
-use lib.ListN.{length, getD, set, take, drop, length-set, take-append-drop}
-use lib.Seq.{getD-set-same, take-set-le, drop-set-add, take-at}
+use lib.ListN.{length, getD, length-set}
+use lib.Seq.{getD-set-same, getD-set-other}
 use borrow.Author.Tests.{eqb-true, eq-eqb}
 use Rattle.lists.proofs.Bools.{told, all-each, each-all}
-use Rattle.words.specs.Rows.{rows, flat, laid}
-use Rattle.words.proofs.Records.{length-rows, length-laid, rows-own, rows-laid}
+use Rattle.words.specs.Rows.{rows, laid}
+use Rattle.words.proofs.Records.{length-rows, length-laid, rows-own, rows-laid, own-laid}
+use Rattle.words.specs.Words.{markAt}
 use Rattle.counter.specs.InTable.{FreeListIn}
 use Rattle.counter.specs.declared.settings.FreeListSettings.{FreeListSettings}
 use Rattle.store_rules.specs.Loans.{loanRow, onLoan, loansOf}
@@ -97,3 +98,9 @@ module _ (s : FreeListSettings) (rs : List Region) (t : List ℕ) (fit : Regions
       ap (λ (k : ℕ). rows regionRow k (laidRegions rs t)) laid-count
       ∙ rows-own regionRow (length rs) regionCountAt (length rs) (laid regionRow rs t) (omega arith) (omega (arith, laid-length))
       ∙ rows-laid regionRow rs t (omega (arith, fit .long))
+
+-- their table's mark stays
+pub laid-mark : (s : FreeListSettings) (rs : List Region) (t : List ℕ) → RegionsFit s t → getD (laidRegions rs t) markAt 0 ≡ getD t markAt 0
+unfolding laidRegions
+laid-mark s rs t fit =
+    getD-set-other (laid regionRow rs t) regionCountAt markAt (length rs) 0 (λ e. omega arith) ∙ own-laid regionRow rs t markAt 0 (omega (arith, fit .long)) (omega arith)

@@ -29,3 +29,4 @@ pub mod NeverAgain
 pub mod Fits
 pub mod Summing
 pub mod Struck
+pub mod Truth

@@ -6,7 +6,7 @@ use Prim.Native.Nat.{ℕ, _≤_, _<_}
 use native.Mathlib.Omega.{arith}
 use lib.Dec.{eqb, leb}
 use lib.ListN.{getD}
-use borrow.Author.Tests.{eqb-true, eq-eqb, leb-true, le-leb}
+use borrow.Author.Tests.{leb-true, le-leb}
 use Rattle.lists.proofs.Bools.{and-left, and-right, all-each, each-all}
 use Rattle.words.specs.Rows.{row}
 use Rattle.words.proofs.Records.{cell-row}
@@ -17,13 +17,14 @@ use Rattle.slab.specs.Test.{partedOk}
 use Rattle.slab.proofs.Decides.{decides-yes, decides-all}
 use Rattle.store_rules.specs.Loans.{loanWords, serialAt, sizeAt, loanRow, loansOf}
 use Rattle.store_rules.specs.declared.Loan.{Loan}
+use Rattle.store_rules.proofs.Signed.{signed-yes, signed-all}
 use Rattle.book_rules.specs.Book.{serialOf, slabOf}
 use Rattle.book_rules.specs.Chains.{Chained}
 use Rattle.book_rules.proofs.Decides.{chains-yes, chains-all, serial-once}
 use Rattle.freelist_rules.specs.Pieces.{Differ}
 use Rattle.freelist_rules.specs.Walk.{allOk, sizedOk, chunkOk, loanOk, serials}
 use Rattle.freelist_rules.specs.Walk as Walk
-use Rattle.freelist_rules.specs.Tables.{Tables, markAt, mark, givenAt, placesIn, chunksIn, regionsIn, regionsMost, ordered, storeOf, vacantIn, vacantAfterIn, chainStart, chainNext, SoundTables, soundRow, soundOk}
+use Rattle.freelist_rules.specs.Tables.{Tables, marks, givenAt, placesIn, chunksIn, regionsIn, regionsMost, ordered, storeOf, vacantIn, vacantAfterIn, chainStart, chainNext, SoundTables, soundRow, soundOk}
 use Rattle.freelist_rules.proofs.Decides.{all-yes, all-all, apart-all, differ-distinct, sized-yes, numbers-yes, fills-yes, sound-yes, sound-all}
 use Rattle.freelist_rules.proofs.Facts.{Small, sized-low}
 use Rattle.freelist_rules.proofs.Gaps.{begins, stops, inside-rise}
@@ -83,7 +84,7 @@ module _ (s : FreeListSettings) (t : Tables) (fit : FreeListIn s) where
       let rise = inside-rise 0 1 (storeOf s t .chunks) (ordered loans) (fills-yes (storeOf s t .chunks) (ordered loans) (storeOf s t .regions) fills .0) (numbers-yes 1 (storeOf s t .chunks) (numbers .0)) (small (chunks .0)) (omega arith) in
       let once = apart-all (serials (ordered loans)) (differ-distinct (λ (l : Loan). l .serial) begins stops 0 0 (ordered loans) rise (serials-differ chained)) in
       record {
-        marked = eqb-true (getD (t .head) markAt 0) mark (at .0);
+        signed = signed-yes marks t (at .0);
         chunks-fit = leb-true (chunksIn t) (s .store .chunks) (at .1 .0);
         regions-fit = leb-true (regionsIn t) (regionsMost s) (at .1 .1 .0);
         parted = decides-yes (vacantIn t) (vacantAfterIn t) (slabOf (placesIn t) (t .index)) (s .store .loans) (omega arith) (at .1 .1 .1 .0);
@@ -98,7 +99,7 @@ module _ (s : FreeListSettings) (t : Tables) (fit : FreeListIn s) where
       let each = all-all (loanOk s (storeOf s t)) loans (λ l m. all-yes (loanOk s (storeOf s t)) (ordered loans) (at .1 .1 .1 .0) l (ordered-in l loans m)) in
       let low : placesIn t < nowhere = omega (arith, S .parted .limit, fit .store .loans-most) in
       each-all (soundRow s t) (
-        eq-eqb (getD (t .head) markAt 0) mark (S .marked),
+        signed-all marks t (S .signed),
         (
           le-leb (chunksIn t) (s .store .chunks) (S .chunks-fit),
           (

@@ -13,7 +13,7 @@ use Rattle.counter.specs.declared.settings.FreeListSettings.{FreeListSettings}
 use Rattle.slab.specs.Slab.{vacantAt, linkAt, Parted}
 use Rattle.slab.specs.Test.{partedOk}
 use Rattle.store_rules.specs.Loans.{loanWords, sizeAt, loansOf}
-pub use Rattle.store_rules.specs.Tables.{Tables, tables}
+pub use Rattle.store_rules.specs.Tables.{Tables, tables, Marks, Signed, signedOk}
 use Rattle.store_rules.specs.declared.Loan.{Loan}
 use Rattle.book_rules.specs.Book.{entryWords, indexWords, vacantAfterAt, nextOf, serialOf, slabOf, firstIn}
 use Rattle.book_rules.specs.Chains.{Chained, chainsOk}
@@ -25,12 +25,16 @@ use Rattle.store_rules.specs.declared.Region.{Region}
 
 -- ---- head: a mark; serials given, chunk numbers given, chunk size now; loan places ever used, chunks held
 
--- "freelist" in ASCII: tables of another engine do not have it
-abbrev pub mark : ℕ
-mark = 0x6672_6565_6c69_7374
-
-abbrev pub markAt : ℕ
-markAt = 0
+-- "list" and what the table is, in ASCII: head, loan, chnk, indx, room
+abbrev pub marks : Marks
+marks =
+    record {
+      head = 0x6c69_7374_6865_6164;
+      loans = 0x6c69_7374_6c6f_616e;
+      chunks = 0x6c69_7374_6368_6e6b;
+      index = 0x6c69_7374_696e_6478;
+      room = 0x6c69_7374_726f_6f6d;
+    }
 
 abbrev pub givenAt : ℕ
 givenAt = 1
@@ -125,10 +129,10 @@ chainStart t = firstIn (t .index)
 abbrev pub chainNext : Tables → ℕ → ℕ
 chainNext t p = getD (t .index) (nextOf p) 0
 
--- the mark; the counts within the limits; "vacant chains agree": the loans' places are parted into used and vacant ones,
+-- the marks; the counts within the limits; "vacant chains agree": the loans' places are parted into used and vacant ones,
 -- and the index leads to each loan by its serial; and the store is sound
 pub record SoundTables (s : FreeListSettings) (t : Tables) : Type 0 where
-  pub marked : getD (t .head) markAt 0 ≡ mark
+  pub signed : Signed marks t
   pub chunks-fit : chunksIn t ≤ s .store .chunks
   pub regions-fit : regionsIn t ≤ regionsMost s
   pub parted : Parted (vacantIn t) (vacantAfterIn t) (slabOf (placesIn t) (t .index)) (s .store .loans)
@@ -145,7 +149,7 @@ chainedIn s t =
 
 abbrev pub soundRow : FreeListSettings → Tables → List Bool
 soundRow s t =
-    eqb (getD (t .head) markAt 0) mark
+    signedOk marks t
     ∷ leb (chunksIn t) (s .store .chunks)
     ∷ leb (regionsIn t) (regionsMost s)
     ∷ partedIn s t

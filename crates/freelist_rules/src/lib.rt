@@ -18,10 +18,17 @@ pub const REGION_START_AT: usize = 4;
 pub const REGION_END_AT: usize = 5;
 // How many regions there are, in their table's own record.
 pub const REGION_COUNT_AT: usize = 1;
-// What a free-list store's head begins with, "freelist" in ASCII, and where its words stand; specs/Tables has the same names.
-pub const MARK: u64 = 0x6672_6565_6c69_7374;
+// What each of a free-list store's tables begins with, "list" and what it is in ASCII, and where the words of the head stand;
+// specs/Tables has the same names.
+pub const HEAD_MARK: u64 = 0x6c69_7374_6865_6164;
 
-pub const MARK_AT: usize = 0;
+pub const LOANS_MARK: u64 = 0x6c69_7374_6c6f_616e;
+
+pub const CHUNKS_MARK: u64 = 0x6c69_7374_6368_6e6b;
+
+pub const INDEX_MARK: u64 = 0x6c69_7374_696e_6478;
+
+pub const ROOM_MARK: u64 = 0x6c69_7374_726f_6f6d;
 
 pub const GIVEN_AT: usize = 1;
 

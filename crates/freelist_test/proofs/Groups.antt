@@ -26,7 +26,7 @@ use Rattle.book_rules.specs.Book.{entryWords, vacatedAt, vacantAfterAt, nextOf,
 use Rattle.book_rules.specs.Chains.{chainsOk}
 use Rattle.freelist_rules.specs.Records.{chunkRow, chunkMemoryAt, chunkWords}
 use Rattle.freelist_rules.specs.Pieces.{All}
-use Rattle.freelist_rules.specs.Tables.{tables, mark, markAt, givenAt, placesAt, chunksAt, regionsMost, partedIn}
+use Rattle.freelist_rules.specs.Tables.{tables, givenAt, placesAt, chunksAt, regionsMost, partedIn, marks, Tables, signedOk}
 use Rattle.freelist_rules.specs.Walk.{sizedOk, numbersRise, chunkOk, loanOk, apart, memories}
 use Rattle.store_rules.specs.declared.Chunk.{Chunk}
 use Rattle.freelist_rules.proofs.Decides.{all-yes, apart-yes, apart-all, sized-yes}
@@ -100,14 +100,14 @@ loan-told s fit given l = rw (masked (l .offset) (fit .store .atom), masked (l .
 
 -- ---- the head
 
-pub head-told : (s : FreeListSettings) (head : List ℕ) (n m k : ℕ) → m ≡ getD head markAt 0 → k ≡ getD head chunksAt 0
-    → ((eqb m mark && leb k (s .store .chunks)) && leb n (regionsMost s)) ≡ headOk s head n
+pub head-told : (s : FreeListSettings) (t : Tables) (n : ℕ) (m : Bool) (k : ℕ) → m ≡ signedOk marks t → k ≡ getD (t .head) chunksAt 0
+    → ((m && leb k (s .store .chunks)) && leb n (regionsMost s)) ≡ headOk s t n
 unfolding headOk
-head-told s head n m k e f = rw (e, f)
+head-told s t n m k e f = rw (e, f)
 
-pub head-chunks : (s : FreeListSettings) (head : List ℕ) (n : ℕ) → headOk s head n ≡ true → getD head chunksAt 0 ≤ s .store .chunks
+pub head-chunks : (s : FreeListSettings) (t : Tables) (n : ℕ) → headOk s t n ≡ true → getD (t .head) chunksAt 0 ≤ s .store .chunks
 unfolding headOk
-head-chunks s head n e = leb-true _ _ (and-right (eqb (getD head markAt 0) mark) _ (and-left _ (leb n (regionsMost s)) e))
+head-chunks s t n e = leb-true _ _ (and-right (signedOk marks t) _ (and-left _ (leb n (regionsMost s)) e))
 
 -- ---- the book, as the code reads it
 

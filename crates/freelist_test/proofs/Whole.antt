@@ -3,14 +3,14 @@ use mathlib.Core.Path.{_≡_, refl, sym, ap, _∙_}
 use mathlib.Core.Bool.{Bool, true, false, _&&_, and-assoc}
 use mathlib.Core.List.{List, [], _∷_}
 use Prim.Native.Nat.{ℕ}
-use lib.Dec.{eqb, leb}
+use lib.Dec.{leb}
 use lib.ListN.{getD}
 use Rattle.lists.specs.Tests.{all}
 use Rattle.words.specs.Rows.{rows}
 use Rattle.counter.specs.declared.settings.FreeListSettings.{FreeListSettings}
 use Rattle.store_rules.specs.Loans.{loansOf}
 use Rattle.freelist_rules.specs.Records.{chunkRow, regionRow}
-use Rattle.freelist_rules.specs.Tables.{tables, mark, markAt, givenAt, madeAt, chunkSizeAt, placesAt, chunksAt, regionCountAt, regionsMost, ordered, storeOf, partedIn, chainedIn, soundOk}
+use Rattle.freelist_rules.specs.Tables.{tables, givenAt, madeAt, chunkSizeAt, placesAt, chunksAt, regionCountAt, regionsMost, ordered, storeOf, partedIn, chainedIn, soundOk, marks, signedOk}
 use Rattle.freelist_rules.specs.Walk.{allOk, sizedOk, numbersRise, chunkOk, loanOk, fillsOk, apart, memories}
 use Rattle.freelist_test.specs.Parts.{counted, headOk, bookOk, eachOk, chunksOk}
 
@@ -33,12 +33,12 @@ module _ (s : FreeListSettings) (head loans chunks regions index : List ℕ) whe
   fillsPart k p n = fillsOk (rows chunkRow k chunks) (ordered (loansOf p loans)) (rows regionRow n regions)
 
   -- the row is its groups
-  parts : whole ≡ (headOk s head (getD regions regionCountAt 0) && (bookOk s head loans index && (chunksPart (getD head madeAt 0) (getD head chunkSizeAt 0) (getD head chunksAt 0)
+  parts : whole ≡ (headOk s (tables head loans chunks index regions) (getD regions regionCountAt 0) && (bookOk s head loans index && (chunksPart (getD head madeAt 0) (getD head chunkSizeAt 0) (getD head chunksAt 0)
       && (loansPart (getD head givenAt 0) (getD head placesAt 0) && fillsPart (getD head chunksAt 0) (getD head placesAt 0) (getD regions regionCountAt 0)))))
   unfolding soundOk storeOf headOk bookOk chunksOk eachOk chunkOk loanOk
   parts =
       regroup
-      (eqb (getD head markAt 0) mark)
+      (signedOk marks (tables head loans chunks index regions))
       (leb (getD head chunksAt 0) (s .store .chunks))
       (leb (getD regions regionCountAt 0) (regionsMost s))
       (partedIn s (tables head loans [] index []))
@@ -51,9 +51,9 @@ module _ (s : FreeListSettings) (head loans chunks regions index : List ℕ) whe
       (fillsPart (getD head chunksAt 0) (getD head placesAt 0) (getD regions regionCountAt 0))
 
   -- one group after the other, with what the code has read and was told
-  module _ (n : ℕ) (hd : Bool) (ns : n ≡ getD regions regionCountAt 0) (hs : hd ≡ headOk s head n) where
-    head-is : headOk s head (getD regions regionCountAt 0) ≡ hd
-    head-is = sym (hs ∙ ap (headOk s head) ns)
+  module _ (n : ℕ) (hd : Bool) (ns : n ≡ getD regions regionCountAt 0) (hs : hd ≡ headOk s (tables head loans chunks index regions) n) where
+    head-is : headOk s (tables head loans chunks index regions) (getD regions regionCountAt 0) ≡ hd
+    head-is = sym (hs ∙ ap (headOk s (tables head loans chunks index regions)) ns)
 
     pub head-fails : hd ≡ false → false ≡ whole
     head-fails f = sym (parts ∙ rw (head-is ∙ f) refl)

@@ -2,12 +2,12 @@
 use mathlib.Core.Bool.{Bool, _&&_}
 use mathlib.Core.List.{List, [], _∷_}
 use Prim.Native.Nat.{ℕ}
-use lib.Dec.{eqb, leb}
+use lib.Dec.{leb}
 use lib.ListN.{getD}
 use Rattle.lists.specs.Tests.{all}
 use Rattle.counter.specs.declared.settings.FreeListSettings.{FreeListSettings}
 use Rattle.freelist_rules.specs.Records.{Store}
-use Rattle.freelist_rules.specs.Tables.{tables, mark, markAt, chunksAt, regionsMost, partedIn, chainedIn}
+use Rattle.freelist_rules.specs.Tables.{tables, chunksAt, regionsMost, partedIn, chainedIn, marks, Tables, signedOk}
 use Rattle.freelist_rules.specs.Walk.{allOk, sizedOk, numbersRise, chunkOk, apart, memories}
 use Rattle.store_rules.specs.declared.Chunk.{Chunk}
 
@@ -15,10 +15,9 @@ use Rattle.store_rules.specs.declared.Chunk.{Chunk}
 abbrev pub counted : ℕ → ℕ → ℕ → Store
 counted given made size = record { given = given; made = made; size = size; loans = []; chunks = []; regions = [] }
 
--- the mark, and the counts of chunks and of n regions within their limits
-unfoldable pub headOk : FreeListSettings → List ℕ → ℕ → Bool
-headOk s head n =
-    all (eqb (getD head markAt 0) mark ∷ leb (getD head chunksAt 0) (s .store .chunks) ∷ leb n (regionsMost s) ∷ [])
+-- the marks, and the counts of chunks and of n regions within their limits
+unfoldable pub headOk : FreeListSettings → Tables → ℕ → Bool
+headOk s t n = all (signedOk marks t ∷ leb (getD (t .head) chunksAt 0) (s .store .chunks) ∷ leb n (regionsMost s) ∷ [])
 
 -- the loans' places are parted into used and vacant ones, and the chains lead to each loan
 unfoldable pub bookOk : FreeListSettings → List ℕ → List ℕ → List ℕ → Bool

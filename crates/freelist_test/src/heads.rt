@@ -1,30 +1,54 @@
 // The head, the counts, and the book of loans.
 ghost use mathlib.Core.Path.{_≡_};
 ghost use Rattle.counter.specs.InTable.{FreeListIn};
+ghost use Rattle.freelist_rules.specs.Tables.{tables, marks, signedOk};
 ghost use Rattle.freelist_test.specs.Parts.{headOk, bookOk};
 use book::ENTRY_WORDS;
 use book::VACANT_AFTER_AT;
 use book::VACATED_AT;
 use counter::FreeListSettings;
 use freelist_rules::CHUNKS_AT;
+use freelist_rules::CHUNKS_MARK;
 use freelist_rules::GIVEN_AT;
-use freelist_rules::MARK;
-use freelist_rules::MARK_AT;
+use freelist_rules::HEAD_MARK;
+use freelist_rules::INDEX_MARK;
+use freelist_rules::LOANS_MARK;
 use freelist_rules::PLACES_AT;
+use freelist_rules::ROOM_MARK;
 use slab::Slab;
 use store_rules::LOAN_WORDS;
 use store_rules::SIZE_AT;
+use words::MARK_AT;
 
-// Whether the head has the mark, and chunks and n regions are within their limits.
-pub fn is_head(s: FreeListSettings, head: &[u64], n: u64) -> bool
+// Whether each table begins with its mark.
+fn is_signed(head: &[u64], loans: &[u64], chunks: &[u64], index: &[u64], regions: &[u64]) -> bool
+    ensures { λ r. ⌜ r ≡ signedOk marks (tables (now (head .entry)) (now (loans .entry)) (now (chunks .entry)) (now (index .entry)) (now (regions .entry))) ⌝ }
+{
+    (words::word(head, MARK_AT) == HEAD_MARK)
+        & (words::word(loans, MARK_AT) == LOANS_MARK)
+        & (words::word(chunks, MARK_AT) == CHUNKS_MARK)
+        & (words::word(index, MARK_AT) == INDEX_MARK)
+        & (words::word(regions, MARK_AT) == ROOM_MARK)
+}
+
+// Whether the tables have their marks, and chunks and n regions are within their limits.
+pub fn is_head(
+    s: FreeListSettings,
+    head: &[u64],
+    loans: &[u64],
+    chunks: &[u64],
+    index: &[u64],
+    regions: &[u64],
+    n: u64,
+) -> bool
     requires { ⌜ FreeListIn s ⌝ }
-    ensures { λ r. ⌜ r ≡ headOk s (now (head .entry)) n ⌝ }
+    ensures { λ r. ⌜ r ≡ headOk s (tables (now (head .entry)) (now (loans .entry)) (now (chunks .entry)) (now (index .entry)) (now (regions .entry))) n ⌝ }
 {
     let store = s.store;
     let most = store.loans + store.chunks;
-    let marked = words::word(head, MARK_AT) == MARK;
+    let signed = is_signed(head, loans, chunks, index, regions);
     let k = words::word(head, CHUNKS_AT);
-    marked & (k <= store.chunks as u64) & (n <= most as u64)
+    signed & (k <= store.chunks as u64) & (n <= most as u64)
 }
 
 // Whether the places of the loans are parted into used and vacant ones, and the chains lead to each loan.

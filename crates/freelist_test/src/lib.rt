@@ -28,7 +28,7 @@ pub fn is_sound(
     ensures { λ r. ⌜ r ≡ soundOk s (tables (now (head .entry)) (now (loans .entry)) (now (chunks .entry)) (now (index .entry)) (now (regions .entry))) ⌝ }
 {
     let n = freelist_regions::region_count(regions);
-    if !heads::is_head(s, head, n as u64) {
+    if !heads::is_head(s, head, loans, chunks, index, regions, n as u64) {
         return false;
     }
     if !heads::is_book(s, head, loans, index) {

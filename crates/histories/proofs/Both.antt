@@ -21,5 +21,5 @@ Call = Visit Which both
 pub differ : (i j : Which) → both i .shape .mark ≡ both j .shape .mark → i ≡ j
 differ aList aList e = refl
 differ aBuddy aBuddy e = refl
-differ aList aBuddy e = let z : FreeList.mark ≡ Buddy.mark = e in absurd (omega arith)
-differ aBuddy aList e = let z : Buddy.mark ≡ FreeList.mark = e in absurd (omega arith)
+differ aList aBuddy e = let z : FreeList.marks .head ≡ Buddy.marks .head = e in absurd (omega arith)
+differ aBuddy aList e = let z : Buddy.marks .head ≡ FreeList.marks .head = e in absurd (omega arith)

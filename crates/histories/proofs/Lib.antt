@@ -5,3 +5,4 @@ pub mod Serials
 pub mod Told
 pub mod HeapAndObjects
 pub mod AnyOrder
+pub mod Marks

@@ -1,4 +1,5 @@
 -- What follows from the definitions that both engines share.
+pub mod Signed
 pub mod Tested
 pub mod Said
 pub mod Refused

@@ -1,11 +1,12 @@
 -- What a loop has filled of a table, one store a turn: the words that it has put are the front of what is to stand there.
-use mathlib.Core.Path.{_≡_, sym, _∙_}
+use mathlib.Core.Path.{_≡_, sym, ap, _∙_}
 use mathlib.Core.List.{List, [], _∷_, _++_, append-assoc, append-nil}
-use Prim.Native.Nat.{ℕ, suc, _+_, _-_, _≤_, _<_}
+use Prim.Native.Nat.{ℕ, suc, _+_, _-_, _<_}
 use native.Mathlib.Omega.{arith}
 use native.Mathlib.Numerals.{add-one}
-use lib.ListN.{length, take, set, replicate}
-use lib.Seq.{take-suc-set, take-all}
+use lib.ListN.{length, take, getD, set, replicate, length-set, length-replicate, getD-replicate}
+use lib.Seq.{take-suc-set, take-all, getD-set-same, getD-set-other}
+use Rattle.words.specs.Words.{markAt, blank}
 
 -- the next word of what is to stand there, put after those that do
 pub put-next : (whole t : List ℕ) (k v : ℕ) (rest : List ℕ) → k < length t → whole ≡ take k t ++ (v ∷ rest) → whole ≡ take (k + 1) (set t k v) ++ rest
@@ -26,3 +27,22 @@ module _ (n v : ℕ) where
   fill-done t i h l e =
       let z : n - i ≡ 0 = omega arith in
       sym (e ∙ rw z (append-nil (take i t)) ∙ take-all i t (omega arith))
+
+-- ---- a table with its mark, and every other word the same
+
+pub blank-put : (n m v : ℕ) (x y : List ℕ) → x ≡ replicate n v → y ≡ set x markAt m → y ≡ blank n m v
+unfolding blank
+blank-put n m v x y e f = f ∙ ap (λ (t : List ℕ). set t markAt m) e
+
+module _ (n m v : ℕ) where
+  pub blank-long : length (blank n m v) ≡ n
+  unfolding blank
+  blank-long = length-set (replicate n v) markAt m ∙ length-replicate n v
+
+  pub blank-mark : 0 < n → getD (blank n m v) markAt 0 ≡ m
+  unfolding blank
+  blank-mark h = getD-set-same (replicate n v) markAt m 0 (omega (arith, length-replicate n v))
+
+  pub blank-other : (i : ℕ) → 0 < i → i < n → getD (blank n m v) i 0 ≡ v
+  unfolding blank
+  blank-other i h k = getD-set-other (replicate n v) markAt i m 0 (λ e. omega arith) ∙ getD-replicate n i v 0 k

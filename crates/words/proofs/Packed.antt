@@ -5,8 +5,8 @@ use Prim.Native.Nat.{ℕ, zero, suc, _+_, _-_, _*_, _≤_, _<_}
 use native.Mathlib.Nat.{add-comm, zero-add, suc-add, mul-zero, mul-suc, mul-add, mul-le-mul-left, le-of-suc-le-suc, not-suc-le-zero}
 use native.Mathlib.Numerals.{add-one}
 use native.Mathlib.Omega.{arith}
-use lib.ListN.{length, take, drop, getD, set, length-append, length-take, length-drop, length-set, take-append-drop}
-use lib.Seq.{sets, sets-eq, length-sets, drop-at, take-add, take-take, drop-drop, take-append-le, drop-append-le, length-take-le, set-split, getD-drop, take-set-le, drop-set-add, drop-set-lt}
+use lib.ListN.{length, take, drop, getD, set, length-append, length-drop, length-set, take-append-drop}
+use lib.Seq.{sets, sets-eq, length-sets, drop-at, take-add, take-take, drop-drop, take-append-le, drop-append-le, length-take-le, set-split, take-set-le, drop-set-add, drop-set-lt}
 use Rattle.words.specs.Words.{cellOf}
 use Rattle.words.specs.Rows.{removeAt, insertAt}
 use Rattle.words.proofs.Moved.{run, length-run, record-and-next}

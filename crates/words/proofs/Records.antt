@@ -2,14 +2,19 @@
 use mathlib.Core.Path.{_≡_, refl, sym, ap, subst, _∙_}
 use mathlib.Core.List.{List, [], _∷_, _++_, append-assoc}
 use Prim.Native.Nat.{ℕ, zero, suc, _+_, _-_, _*_, _≤_, _<_}
-use native.Mathlib.Nat.{add-comm, zero-add, suc-add, mul-zero, mul-suc, mul-add, le-of-suc-le-suc, not-suc-le-zero}
+use native.Mathlib.Nat.{add-comm, suc-add, mul-zero, mul-suc, mul-add, le-of-suc-le-suc, not-suc-le-zero}
 use native.Mathlib.Omega.{arith}
 use lib.ListN.{length, take, drop, getD, set, replicate, length-append, length-take, length-drop, length-set, length-replicate, take-append-drop}
-use lib.Seq.{sets-eq, length-sets, drop-at, take-at, take-add, drop-drop, length-take-le, getD-drop, drop-set-add, take-set-le, drop-set-lt}
+use lib.Seq.{sets, getD-take, getD-set-other, sets-eq, length-sets, drop-at, take-at, take-add, drop-drop, length-take-le, getD-drop, drop-set-add, take-set-le, drop-set-lt}
 use Rattle.words.specs.Words.{cellOf, closed, opened}
 use Rattle.words.specs.Rows.{Layout, row, rows, flat, laid, written, removeAt, insertAt}
 use Rattle.words.proofs.Moved.{run, length-run, moved-in, record-and-next, before-and-from, to-and-past}
 use Rattle.words.proofs.Packed as Packed
+
+-- words stored from i on leave those before
+getD-sets-before : (vs t : List ℕ) (i j d : ℕ) → j < i → getD (sets t i vs) j d ≡ getD t j d
+getD-sets-before [] t i j d h = refl
+getD-sets-before (v ∷ vs) t i j d h = getD-sets-before vs (set t i v) (suc i) j d (omega arith) ∙ getD-set-other t i j v d (λ e. omega arith)
 
 module _ {R : Type 0} (L : Layout R) where
   pub length-rows : (n : ℕ) (t : List ℕ) → length (rows L n t) ≡ n
@@ -110,6 +115,11 @@ module _ {R : Type 0} (L : Layout R) where
   pub take-laid : (rs : List R) (t : List ℕ) → L .width ≤ length t → take (L .width) (laid L rs t) ≡ take (L .width) t
   take-laid rs t h = own-stays t (flat L rs ++ drop (L .width + L .width * length rs) t) h
 
+  -- a word of the table's own stays
+  pub own-laid : (rs : List R) (t : List ℕ) (j d : ℕ) → L .width ≤ length t → j < L .width → getD (laid L rs t) j d ≡ getD t j d
+  own-laid rs t j d h k =
+      sym (getD-take (L .width) (laid L rs t) j d k) ∙ ap (λ (x : List ℕ). getD x j d) (take-laid rs t h) ∙ getD-take (L .width) t j d k
+
   -- behind the table's own words the records are those that were laid
   pub rows-laid : (rs : List R) (t : List ℕ) → L .width + L .width * length rs ≤ length t → rows L (length rs) (laid L rs t) ≡ rs
   rows-laid rs t h =
@@ -174,6 +184,9 @@ module _ {R : Type 0} (L : Layout R) where
 
   pub length-written : (i : ℕ) (r : R) (t : List ℕ) → length (written L i r t) ≡ length t
   length-written i r t = length-sets t (L .width + L .width * i) (L .enc r)
+
+  pub own-written : (i : ℕ) (r : R) (t : List ℕ) (j d : ℕ) → j < L .width → getD (written L i r t) j d ≡ getD t j d
+  own-written i r t j d h = getD-sets-before (L .enc r) t (L .width + L .width * i) j d (omega arith)
 
   -- a record written where its words lie in the table
   pub written-in : (i : ℕ) (r : R) (t : List ℕ) → L .width + L .width * i + L .width ≤ length t

@@ -3,7 +3,7 @@ use mathlib.Core.Bool.{cond, _&&_}
 use mathlib.Core.List.{List}
 use Prim.Native.Nat.{ℕ, _+_, _*_, _-_, _^_}
 use lib.Dec.{leb}
-use lib.ListN.{length, drop}
+use lib.ListN.{length, set, drop, replicate}
 use lib.Seq.{paste}
 
 -- the widest record, in words
@@ -17,6 +17,14 @@ atMost = 2 ^ 61
 -- where a record's word stands: `at` words into the record at i, records being w words wide
 abbrev pub cellOf : ℕ → ℕ → ℕ → ℕ
 cellOf at w i = at + w * i
+
+-- the first word of a table's own record is its mark
+abbrev pub markAt : ℕ
+markAt = 0
+
+-- n words, the mark m and then v in each
+unfoldable pub blank : ℕ → ℕ → ℕ → List ℕ
+blank n m v = set (replicate n v) markAt m
 
 -- t, with the m words from dst on replaced by the m from src on, as they were;
 -- t itself where either run of words leaves it

@@ -5,6 +5,7 @@ mod moves;
 mod rows;
 
 pub use filling::fill;
+pub use filling::put_blank;
 pub use moves::shift;
 pub use rows::close_row;
 pub use rows::open_row;
@@ -12,6 +13,9 @@ ghost use mathlib.Core.Path.{_≡_};
 ghost use Prim.Native.Nat.{_≤_, _<_};
 ghost use lib.ListN.{getD, set};
 ghost use Rattle.words.specs.Words.{widest, atMost, cellOf};
+
+// Where a table's mark stands; specs/Words has the same name.
+pub const MARK_AT: usize = 0;
 
 // The word at a place, 0 past the end.
 pub fn word(t: &[u64], i: usize) -> u64

@@ -4,6 +4,7 @@ use native.Mathlib.Omega.{arith}
 use Rattle.lists.proofs.Bools.{not-yes, not-no}
 use Rattle.words.specs.Rows.{rows}
 use Rattle.freelist_rules.specs.Records.{chunkRow}
+use Rattle.freelist_rules.specs.Tables.{tables}
 use Rattle.freelist_test.proofs.Groups.{head-chunks, book-most, chunks-rise, chunks-small}
 use Rattle.freelist_test.proofs.Whole.{head-fails, book-fails, chunks-fail, loans-fail, fills-left}
 use Rattle.freelist_test.proofs.is_sound.Statement.{statement}
@@ -53,7 +54,7 @@ are-chunks-requires c κs =
     let h = i .before in
     let n = h .before in
     let o = n .before .before .before .before .before .before in
-    (o .pre .0, omega (arith, head-chunks (o .args .s) (o .args .head .now) (n .region-count .result) (sym (h .is-head .ensures) ∙ not-no _ (i .if1 .left)), k .word .ensures, o .pre .0 .store .chunks-most))
+    (o .pre .0, omega (arith, head-chunks (o .args .s) (tables (o .args .head .now) (o .args .loans .now) (o .args .chunks .now) (o .args .index .now) (o .args .regions .now)) (n .region-count .result) (sym (h .is-head .ensures) ∙ not-no _ (i .if1 .left)), k .word .ensures, o .pre .0 .store .chunks-most))
 
 returns-3 : tie.Need-returns-3
 returns-3 c =
@@ -114,7 +115,7 @@ fills-requires c κs =
     let o = n .before .before .before .before .before .before in
     let right = sym (d .are-chunks .ensures) ∙ not-no _ (e .if3 .left) in (
       (
-        omega (arith, head-chunks (o .args .s) (o .args .head .now) (n .region-count .result) (sym (h .is-head .ensures) ∙ not-no _ (i .if1 .left)), k .word .ensures, o .pre .0 .store .chunks-most),
+        omega (arith, head-chunks (o .args .s) (tables (o .args .head .now) (o .args .loans .now) (o .args .chunks .now) (o .args .index .now) (o .args .regions .now)) (n .region-count .result) (sym (h .is-head .ensures) ∙ not-no _ (i .if1 .left)), k .word .ensures, o .pre .0 .store .chunks-most),
         omega (arith, book-most (o .args .s) (o .args .head .now) (o .args .loans .now) (o .args .index .now) (sym (b .is-book .ensures) ∙ not-no _ (j .if2 .left)), p .word5 .ensures, o .pre .0 .store .loans-most),
       ),
       (

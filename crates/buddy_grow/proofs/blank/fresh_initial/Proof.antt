@@ -3,13 +3,14 @@ use mathlib.Core.Path.{ap, _∙_}
 use mathlib.Core.List.{[], _∷_}
 use Prim.Native.Nat.{ℕ}
 use native.Mathlib.Omega.{arith}
-use lib.ListN.{set, replicate}
+use lib.ListN.{set}
 use Rattle.slab.specs.Slab.{nowhere}
-use Rattle.buddy_rules.specs.Tables.{mark, chunksFrom, treeWords}
+use Rattle.buddy_rules.specs.Tables.{chunksFrom, treeWords, marks}
 use Rattle.buddy_outcomes.specs.Ask.{freshLevels}
 use Rattle.buddy_outcomes.proofs.Rounds.{initial-few}
 use Rattle.buddy_grow.proofs.blank.fresh_initial.Statement.{statement}
 use Rattle.buddy_grow.proofs.blank.fresh_initial.Tie as tie
+use Rattle.words.specs.Words.{blank}
 
 level-requires : tie.Need-level-requires
 level-requires c κs = search needs
@@ -41,8 +42,8 @@ returns c =
     let h = f .before .before .before .before in
     let l = h .before .before in
     let o = l .before .before .before in (
-      h .fresh-head .ensures ∙ ap (λ (n : ℕ). mark ∷ 0 ∷ n ∷ 0 ∷ 0 ∷ []) (l .level .ensures),
-      f .fresh-tree .ensures ∙ ap (λ (n : ℕ). set (freshLevels (o .args .s) 0 n (replicate (treeWords (o .args .s)) 0)) (chunksFrom (o .args .s)) nowhere) (l .level .ensures),
+      h .fresh-head .ensures ∙ ap (λ (n : ℕ). marks .head ∷ 0 ∷ n ∷ 0 ∷ 0 ∷ []) (l .level .ensures),
+      f .fresh-tree .ensures ∙ ap (λ (n : ℕ). set (freshLevels (o .args .s) 0 n (blank (treeWords (o .args .s)) (marks .room) 0)) (chunksFrom (o .args .s)) nowhere) (l .level .ensures),
     )
 
 pub fresh-initial-spec : {M : Type 1} → statement M

@@ -1,15 +1,16 @@
 use borrow.Author.Needs.{needs}
 use mathlib.Core.Path.{ap, _∙_}
 use Prim.Native.Nat.{ℕ}
-use lib.ListN.{replicate}
+use Rattle.words.specs.Words.{blank}
+use Rattle.buddy_rules.specs.Tables.{marks}
 use Rattle.buddy_grow.proofs.blank.fresh_rows.Statement.{statement}
 use Rattle.buddy_grow.proofs.blank.fresh_rows.Tie as tie
 
-fill-requires : tie.Need-fill-requires
-fill-requires c κs = search needs
+put-blank-requires : tie.Need-put-blank-requires
+put-blank-requires c κs = search needs
 
-fill-requires-2 : tie.Need-fill-requires-2
-fill-requires-2 c κs = search needs
+put-blank-requires-2 : tie.Need-put-blank-requires-2
+put-blank-requires-2 c κs = search needs
 
 fresh-index-requires : tie.Need-fresh-index-requires
 fresh-index-requires c κs = search needs
@@ -29,16 +30,16 @@ returns c =
     let k = i .before .before .before .before in
     let l = k .before .before .before .before in
     let o = l .before .before .before .before .before .before in (
-      l .fill .ensures ∙ ap (λ (n : ℕ). replicate n 0) (o .pre .0),
-      (k .fill2 .ensures ∙ ap (λ (n : ℕ). replicate n 0) (o .pre .1), i .fresh-index .ensures),
+      l .put-blank .ensures ∙ ap (λ (n : ℕ). blank n (marks .loans) 0) (o .pre .0),
+      (k .put-blank2 .ensures ∙ ap (λ (n : ℕ). blank n (marks .chunks) 0) (o .pre .1), i .fresh-index .ensures),
     )
 
 pub fresh-rows-spec : {M : Type 1} → statement M
 fresh-rows-spec =
     tie.close
     (tie.spec
-    fill-requires
-    fill-requires-2
+    put-blank-requires
+    put-blank-requires-2
     fresh-index-requires
     same-length
     same-length-2

@@ -6,7 +6,6 @@ use borrow.Author.Needs.{needs}
 use Rattle.lists.proofs.Bools.{not-yes, not-no}
 use Rattle.buddy_rules.specs.LevelTest.{goodOk}
 use Rattle.buddy_rules.specs.Level.{levelStart}
-use Rattle.buddy_rules.specs.Tables.{}
 use Rattle.buddy_rules.specs.Test.{every}
 use Rattle.buddy_rules.proofs.Tests.{every-stop, every-next}
 use Rattle.buddy_test.proofs.Parts.{good-told}

@@ -1,4 +1,5 @@
 use borrow.Author.Needs.{needs}
+use Rattle.buddy_rules.specs.Tables.{tables}
 use Rattle.buddy_test.proofs.Parts.{head-told}
 use Rattle.buddy_test.proofs.heads.is_head.Statement.{statement}
 use Rattle.buddy_test.proofs.heads.is_head.Tie as tie
@@ -15,16 +16,16 @@ cast-first c = search needs
 cast-most : tie.Need-cast-most
 cast-most c = search needs
 
-word-requires-2 : tie.Need-word-requires-2
-word-requires-2 c κs = search needs
+is-signed-requires : tie.Need-is-signed-requires
+is-signed-requires c κs = search needs
 
 returns : tie.Need-returns
 returns c =
     let f = c .before in
     let l = f .before in
-    let a = l .before .before .args in
-    head-told (a .s) (a .head .now) (c .word2 .result) (l .word .result) (f .level .result) (c .word2 .ensures) (l .word .ensures) (f .level .ensures)
+    let a = l .before .before .before .before .before .before .args in
+    head-told (a .s) (tables (a .head .now) (a .loans .now) (a .chunks .now) (a .index .now) (a .tree .now)) (c .is-signed .result) (l .word .result) (f .level .result) (c .is-signed .ensures) (l .word .ensures) (f .level .ensures)
 
 pub is-head-spec : {M : Type 1} → statement M
 is-head-spec =
-    tie.close (tie.spec word-requires level-requires cast-first cast-most word-requires-2 returns)
+    tie.close (tie.spec word-requires level-requires cast-first cast-most is-signed-requires returns)

@@ -2,14 +2,14 @@ use borrow.Author.Needs.{needs}
 use Rattle.freelist_place.proofs.setting.clear.Statement.{statement}
 use Rattle.freelist_place.proofs.setting.clear.Tie as tie
 
-fill-requires : tie.Need-fill-requires
-fill-requires c κs = search needs
+put-blank-requires : tie.Need-put-blank-requires
+put-blank-requires c κs = search needs
 
-fill-requires-2 : tie.Need-fill-requires-2
-fill-requires-2 c κs = search needs
+put-blank-requires-2 : tie.Need-put-blank-requires-2
+put-blank-requires-2 c κs = search needs
 
-fill-requires-3 : tie.Need-fill-requires-3
-fill-requires-3 c κs = search needs
+put-blank-requires-3 : tie.Need-put-blank-requires-3
+put-blank-requires-3 c κs = search needs
 
 same-length : tie.Need-same-length
 same-length c = search needs
@@ -27,9 +27,9 @@ pub clear-spec : {M : Type 1} → statement M
 clear-spec =
     tie.close
     (tie.spec
-    fill-requires
-    fill-requires-2
-    fill-requires-3
+    put-blank-requires
+    put-blank-requires-2
+    put-blank-requires-3
     same-length
     same-length-2
     same-length-3

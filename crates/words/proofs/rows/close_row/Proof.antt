@@ -3,7 +3,7 @@ use mathlib.Core.Path.{sym}
 use Prim.Native.Nat.{_-_}
 use denote.Ref.{now}
 use Rattle.words.proofs.Cells.{scaled, past}
-use Rattle.words.proofs.Moved.{record-and-next, closed-none, closed-out}
+use Rattle.words.proofs.Moved.{closed-none, closed-out}
 use borrow.Author.Needs.{needs}
 use Rattle.words.proofs.rows.close_row.Statement.{statement}
 use Rattle.words.proofs.rows.close_row.Tie as tie
