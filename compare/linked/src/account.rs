@@ -18,6 +18,7 @@ const TOTALS: usize = 2;
 const OBJECTS: usize = 96;
 
 /// The words, and the number of the one heap that the stores use.
+#[derive(Clone)]
 pub struct Account {
     pub words: [u64; WORDS],
     heap: usize,

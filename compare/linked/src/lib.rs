@@ -2,6 +2,7 @@
 
 pub mod account;
 pub mod ffi;
+pub mod mixed;
 pub mod ranking;
 pub mod shelf;
 pub mod store;

@@ -25,14 +25,15 @@ const COMMON: [usize; 7] = [
 const LIST_OWN: [usize; 2] = [word::LEAST, word::GREATEST];
 const BUDDY_OWN: [usize; 3] = [word::LEAST, word::GREATEST, word::PAIRS];
 
-/// Of both engines' tables the loans', and the word of its first loan that is the serial.
+/// Of both engines' tables the loans', and the word that every table begins with.
 const LOANS: usize = 1;
-const SERIAL: usize = 0;
+const MARK: usize = 0;
 
 /// What an answer's words are before the call, so that one left unwritten shows.
 const UNWRITTEN: ffi::Answer = [u64::MAX; 6];
 
 /// A store, and the words of the last answer and release.
+#[derive(Clone)]
 pub struct Store {
     engine: &'static Engine,
     settings: Vec<u64>,
@@ -129,9 +130,21 @@ impl Store {
         &self.answer
     }
 
-    /// Writes over the first loan's serial, with which no store is sound.
+    /// Writes over the loans' mark, without which no store is sound.
     pub fn tear(&mut self) {
-        self.tables[LOANS][SERIAL] = u64::MAX;
+        self.tables[LOANS][MARK] = u64::MAX;
+    }
+
+    /// The same store with tables of another: each of those but the loans by a bit of the mixture.
+    pub fn mixed(&self, other: &Store, mixture: u64) -> Store {
+        let mut mixed = self.clone();
+        let slots = (0..mixed.tables.len()).filter(|&slot| slot != LOANS);
+        for (bit, slot) in slots.enumerate() {
+            if mixture >> bit & 1 == 1 {
+                mixed.tables[slot].clone_from(&other.tables[slot]);
+            }
+        }
+        mixed
     }
 
     /// The last answer as the oracle writes it. Refusals are written by number, for ours may
@@ -169,11 +182,11 @@ fn outcome_words(outcome: Outcome, memory: u64) -> OutcomeWords {
 
 /// Words of head, loans, chunks, index and regions: each table's own record, then the others.
 fn list_lengths(loans: usize, chunks: usize) -> [usize; 5] {
-    [6, 4 * (1 + loans), 3 * (1 + chunks), 3 * (1 + loans), 3 * (1 + loans + chunks)]
+    [2, 4 * (1 + loans), 3 * (1 + chunks), 3 * (1 + loans), 3 * (1 + loans + chunks)]
 }
 
 /// Words of head, loans, chunks, index and tree: its own record, levels of pairs, chunk places, loans' nodes.
 fn buddy_lengths(loans: usize, chunks: usize, pairs: usize) -> [usize; 5] {
     let tree = 8 + (8 + 8 * pairs) * LEVEL_LIMIT + 8 * (1 + chunks) + loans;
-    [5, 4 * (1 + loans), 2 * (1 + chunks), 3 * (1 + loans), tree]
+    [2, 4 * (1 + loans), 2 * (1 + chunks), 3 * (1 + loans), tree]
 }

@@ -8,18 +8,15 @@ use Rattle.slab.specs.Slab.{inserted}
 use Rattle.slab.specs.declared.Taken.{Taken}
 use Rattle.store_rules.specs.Loans.{loanRow}
 use Rattle.store_rules.specs.declared.Loan.{Loan}
-use Rattle.book_rules.specs.Book.{entryWords, vacatedAt, vacantAfterAt, firstOf, nextOf, takenOf, entered, firstIn, enteredIndex}
+use Rattle.book_rules.specs.Book.{entryWords, vacatedAt, vacantAfterAt, firstOf, nextOf, takenOf, counted, entered, firstIn, enteredIndex}
 
 module _ (places : ℕ) (index : List ℕ) (t : Taken) where
   pub slab-read : (v : ℕ) → v ≡ getD index vacatedAt 0 → t ≡ inserted (record { places = places; vacant = v }) index vacantAfterAt entryWords → t ≡ takenOf places index
   slab-read v e f = f ∙ ap (λ (w : ℕ). inserted (record { places = places; vacant = w }) index vacantAfterAt entryWords) e
 
-  pub entered-places : t ≡ takenOf places index → t .slab .places ≡ takenOf places index .slab .places
-  entered-places e = ap (λ (u : Taken). u .slab .places) e
-
-  pub entered-loans : (l : Loan) (loans x : List ℕ) → t ≡ takenOf places index → x ≡ written loanRow (t .place) l loans → x ≡ entered places index l loans
+  pub entered-loans : (l : Loan) (loans x : List ℕ) → t ≡ takenOf places index → x ≡ written loanRow (t .place) l (counted (l .serial) (t .slab .places) loans) → x ≡ entered places index l loans
   unfolding entered
-  entered-loans l loans x e f = f ∙ ap (λ (u : Taken). written loanRow (u .place) l loans) e
+  entered-loans l loans x e f = f ∙ ap (λ (u : Taken). written loanRow (u .place) l (counted (l .serial) (u .slab .places) loans)) e
 
   pub entered-index : (n serial first : ℕ) (x : List ℕ) → t ≡ takenOf places index → first ≡ firstIn index (serial % n)
       → x ≡ set (set (set index vacatedAt (t .slab .vacant)) (nextOf (t .place)) first) (firstOf (serial % n)) (t .place) → x ≡ enteredIndex n places serial index

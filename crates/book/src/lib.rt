@@ -10,16 +10,18 @@ ghost use lib.ListN.{length, set};
 ghost use Rattle.counter.specs.Limits.{loansMost};
 ghost use Rattle.words.specs.Words.{cellOf};
 ghost use Rattle.words.specs.Rows.{row, written};
-ghost use Rattle.store_rules.specs.Loans.{loanWords, sizeAt, loanRow};
+ghost use Rattle.store_rules.specs.Loans.{placesAt, loanWords, sizeAt, loanRow};
 ghost use Rattle.book_rules.specs.Ready.{Opens, Strikes};
-ghost use Rattle.book_rules.specs.Book.{entryWords, vacatedAt, vacantAfterAt, indexWords, firstOf, nextOf, freshIndex, takenOf, entered, firstIn, enteredIndex, wordTo, struck, struckIndex};
+ghost use Rattle.book_rules.specs.Book.{entryWords, vacatedAt, vacantAfterAt, indexWords, firstOf, nextOf, freshIndex, takenOf, counted, firstIn, enteredIndex, wordTo, struck, struckIndex};
 use slab::NOWHERE;
 use slab::Slab;
 use slab::Taken;
 use store_rules::CHUNK_AT;
+use store_rules::GIVEN_AT;
 use store_rules::LOAN_WORDS;
 use store_rules::Loan;
 use store_rules::OFFSET_AT;
+use store_rules::PLACES_AT;
 use store_rules::SERIAL_AT;
 use store_rules::SIZE_AT;
 
@@ -95,28 +97,25 @@ fn write_loan(loans: &mut [u64], p: usize, l: Loan)
     loans[at + SIZE_AT] = l.size;
 }
 
-// The loan takes the next place, and becomes the first of its chain. Tells how many places were ever used.
-pub fn enter(loans: &mut [u64], index: &mut [u64], n: usize, places: u64, l: Loan) -> u64
-    requires { ⌜ Opens n (takenOf places (now index) .place) (now loans) (now index) ⌝ }
-    ensures { λ r. ⌜ r ≡ takenOf places (now (index .entry)) .slab .places ⌝ }
-    ensures { λ _. ⌜ now (loans .exit) ≡ entered places (now (index .entry)) l (now (loans .entry)) ⌝ }
-    ensures { λ _. ⌜ now (index .exit) ≡ enteredIndex n places (l .serial) (now (index .entry)) ⌝ }
+// So many serials are given, and so many places used.
+fn count(loans: &mut [u64], given: u64, places: u64)
+    requires { ⌜ placesAt < length (now loans) ⌝ }
+    ensures { λ _. ⌜ now (loans .exit) ≡ counted given places (now (loans .entry)) ⌝ }
 {
-    let t = next_place(places, index);
-    let s = t.slab;
-    enter_at(loans, index, n, t, l);
-    s.places
+    loans[GIVEN_AT] = given;
+    loans[PLACES_AT] = places;
 }
 
-// The same at the place that is told.
+// The loan takes the place that is told, its serial is the last one given, and it becomes the first of its chain.
 pub fn enter_at(loans: &mut [u64], index: &mut [u64], n: usize, t: Taken, l: Loan)
     requires { ⌜ Opens n (t .place) (now loans) (now index) ⌝ }
-    ensures { λ _. ⌜ now (loans .exit) ≡ written loanRow (t .place) l (now (loans .entry)) ⌝ }
+    ensures { λ _. ⌜ now (loans .exit) ≡ written loanRow (t .place) l (counted (l .serial) (t .slab .places) (now (loans .entry))) ⌝ }
     ensures { λ _. ⌜ now (index .exit) ≡ set (set (set (now (index .entry)) vacatedAt (t .slab .vacant)) (nextOf (t .place)) (firstIn (now (index .entry)) (l .serial % n))) (firstOf (l .serial % n)) (t .place) ⌝ }
 {
     let s = t.slab;
     let i = l.serial % n as u64;
     let first = first_before(index, n, l.serial);
+    count(loans, l.serial, s.places);
     write_loan(loans, t.place as usize, l);
     put_first(index, i as usize, t.place, first, s.vacant);
 }

@@ -3,7 +3,7 @@ use mathlib.Core.Path.{_≡_, refl, sym, ap, subst, _∙_}
 use mathlib.Core.Bool.{Bool, true, false}
 use mathlib.Core.Logic.{_⊎_, inl, inr, ⊎-elim}
 use mathlib.Core.List.{List, [], _∷_, _++_}
-use Prim.Native.Nat.{ℕ, _+_, _-_, _*_, _^_, _%_, _≤_, _<_}
+use Prim.Native.Nat.{ℕ, _+_, _*_, _^_, _%_, _≤_, _<_, _-_}
 use native.Mathlib.Nat.{mod-lt, mod-eq-of-lt}
 use native.Mathlib.Omega.{arith}
 use lib.ListN.{length, length-append, length-set, getD, set}
@@ -19,10 +19,11 @@ use Rattle.slab.proofs.Places.{insert-first, insert-next, insert-last, inserted
 use Rattle.words.proofs.Records.{length-written}
 use Rattle.store_rules.specs.Loans.{loanWords, sizeAt, loanRow}
 use Rattle.store_rules.specs.declared.Loan.{Loan}
-use Rattle.book_rules.specs.Book.{entryWords, vacatedAt, vacantAfterAt, indexWords, firstOf, nextOf, serialOf, slabOf, firstIn, takenOf, entered, enteredIndex, wordTo, struck, struckIndex}
+use Rattle.book_rules.specs.Book.{entryWords, vacatedAt, vacantAfterAt, indexWords, firstOf, nextOf, serialOf, slabOf, firstIn, takenOf, entered, enteredIndex, wordTo, counted, struck, struckIndex}
 use Rattle.book_rules.specs.Chains.{Falling, InChain, Chained}
 use Rattle.book_rules.proofs.Seeking.{word-is}
 use Rattle.book_rules.proofs.Used.{used-most}
+use Rattle.book_rules.proofs.Counted.{counted-long, counted-serial, counted-vacant}
 use Rattle.book_rules.proofs.Falling.{falling-same, falling-cut}
 use Rattle.book_rules.proofs.Decides.{serial-once}
 use Rattle.book_rules.proofs.Cutting.{wordPast, After, word-past, word-leads, seek-found, chain-cut}
@@ -60,7 +61,8 @@ fresh-chained loans index n given e i h = record {
 -- no table grows or shrinks
 pub entered-long : (places : ℕ) (index : List ℕ) (l : Loan) (loans : List ℕ) → length (entered places index l loans) ≡ length loans
 unfolding entered
-entered-long places index l loans = length-written loanRow (takenOf places index .place) l loans
+entered-long places index l loans =
+    length-written loanRow (takenOf places index .place) l (counted (l .serial) (takenOf places index .slab .places) loans) ∙ counted-long (l .serial) (takenOf places index .slab .places) loans
 
 pub entered-wide : (n places serial : ℕ) (index : List ℕ) → length (enteredIndex n places serial index) ≡ length index
 unfolding enteredIndex
@@ -139,6 +141,29 @@ module _ (loans index : List ℕ) (n places : ℕ) (few : n < nowhere) (P : Book
     abbrev taken : ℕ
     taken = takenOf places index .place
 
+    -- the table whose counts are written, in which the record is then
+    abbrev kept : List ℕ
+    kept = counted (l .serial) (takenOf places index .slab .places) loans
+
+    kept-long : length kept ≡ loanWords + loanWords * n
+    kept-long = counted-long (l .serial) (takenOf places index .slab .places) loans ∙ long
+
+    here-used : freeIn (entered places index l loans) taken ≡ false
+    unfolding entered
+    here-used = used-here kept n taken l kept-long room whole
+
+    others-used : (x : ℕ) → (x ≡ taken → ⊥) → freeIn (entered places index l loans) x ≡ freeIn loans x
+    unfolding entered
+    others-used x o = used-other kept n taken l kept-long room x o ∙ counted-vacant (l .serial) (takenOf places index .slab .places) loans x
+
+    here-serial : serialOf (entered places index l loans) taken ≡ l .serial
+    unfolding entered
+    here-serial = serial-here kept n taken l kept-long room
+
+    others-serial : (x : ℕ) → (x ≡ taken → ⊥) → serialOf (entered places index l loans) x ≡ serialOf loans x
+    unfolding entered
+    others-serial x o = serial-other kept n taken l kept-long room x o ∙ counted-serial (l .serial) (takenOf places index .slab .places) loans x
+
     own : (given + 1) % n < n
     own = mod-lt (given + 1) (omega arith)
 
@@ -151,21 +176,18 @@ module _ (loans index : List ℕ) (n places : ℕ) (few : n < nowhere) (P : Book
 
     pub entered-chained : BookChained loans index n places given
         → BookChained (entered places index l loans) (enteredIndex n places (l .serial) index) n (takenOf places index .slab .places) (given + 1)
-    unfolding entered
     entered-chained C =
         let t = place-taken in
         let f = firstIn index ((given + 1) % n) in
         let v = takenOf places index .slab .vacant in
         subst (λ (i : List ℕ). BookChained (entered places index l loans) i n (takenOf places index .slab .places) (given + 1)) (sym index-as)
         (put-chained _ _ _ _ _ _ _ _ n places _ given taken (t .vacant) (t .below) (t .kept) (t .grown)
-        (used-here loans n taken l long room whole) (used-other loans n taken l long room)
-        (serial-here loans n taken l long room ∙ next) (serial-other loans n taken l long room)
+        here-used others-used (here-serial ∙ next) others-serial
         (next-here index n ((given + 1) % n) taken f v wide own room) (next-other index n ((given + 1) % n) taken f v wide own room)
         (first-here index n ((given + 1) % n) taken f v wide own room)
         (λ i h o. first-other index n ((given + 1) % n) taken f v wide own room i o) C)
 
     pub entered-parted : BookParted (entered places index l loans) (enteredIndex n places (l .serial) index) n (takenOf places index .slab .places)
-    unfolding entered
     entered-parted =
         let c = (given + 1) % n in
         let f = firstIn index ((given + 1) % n) in
@@ -174,8 +196,8 @@ module _ (loans index : List ℕ) (n places : ℕ) (few : n < nowhere) (P : Book
         let h : headOr places (P .chained) < n = omega (arith, insert-last free index vacantAfterAt entryWords (slabOf places index) n P few, room) in
         let Q = inserted-parted free index vacantAfterAt entryWords (slabOf places index) n P few h in
         let same : (x : ℕ) → freeIn (entered places index l loans) x ≡ changed free taken false x =
-        λ x. ⊎-elim (λ e. ap (freeIn (entered places index l loans)) e ∙ used-here loans n taken l long room whole ∙ sym (changed-here free taken false x e))
-        (λ o. used-other loans n taken l long room x o ∙ sym (changed-other free taken false x o)) (same? x taken) in
+        λ x. ⊎-elim (λ e. ap (freeIn (entered places index l loans)) e ∙ here-used ∙ sym (changed-here free taken false x e))
+        (λ o. others-used x o ∙ sym (changed-other free taken false x o)) (same? x taken) in
         let R = parted-same (changed free taken false) (freeIn (entered places index l loans)) (vacantIn index) (vacantIn index′) (takenOf places index .slab) n
         (λ x g. same x) (λ x g. link-put index n c taken f v wide own room x) Q in
         let s : slabOf (takenOf places index .slab .places) index′ ≡ takenOf places index .slab =

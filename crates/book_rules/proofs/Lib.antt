@@ -8,6 +8,7 @@ pub mod Falling
 pub mod Decides
 pub mod Putting
 pub mod Changed
+pub mod Counted
 pub mod Cutting
 pub mod Keeps
 pub mod Uses

@@ -12,11 +12,13 @@ use Rattle.words.proofs.Records.{own-written}
 use Rattle.slab.specs.Slab.{nowhere}
 use Rattle.store_rules.specs.Loans.{loanWords, sizeAt, loanRow}
 use Rattle.store_rules.specs.declared.Loan.{Loan}
-use Rattle.book_rules.specs.Book.{entryWords, vacatedAt, vacantAfterAt, firstOf, nextOf, firstIn, serialOf, takenOf, entered, enteredIndex, seekIn, wordTo, struck, struckIndex}
+use Rattle.book_rules.specs.Book.{entryWords, vacatedAt, vacantAfterAt, firstOf, nextOf, firstIn, serialOf, takenOf, counted, entered, enteredIndex, seekIn, wordTo, struck, struckIndex}
+use Rattle.book_rules.proofs.Counted.{counted-mark}
 
 pub entered-mark : (places : ℕ) (index : List ℕ) (l : Loan) (loans : List ℕ) → getD (entered places index l loans) markAt 0 ≡ getD loans markAt 0
 unfolding entered
-entered-mark places index l loans = own-written loanRow (takenOf places index .place) l loans markAt 0 (omega arith)
+entered-mark places index l loans =
+    own-written loanRow (takenOf places index .place) l (counted (l .serial) (takenOf places index .slab .places) loans) markAt 0 (omega arith) ∙ counted-mark (l .serial) (takenOf places index .slab .places) loans
 
 pub entered-index-mark : (n places serial : ℕ) (index : List ℕ) → getD (enteredIndex n places serial index) markAt 0 ≡ getD index markAt 0
 unfolding enteredIndex
@@ -27,9 +29,13 @@ entered-index-mark n places serial index =
     ∙ getD-set-other (set index vacatedAt (takenOf places index .slab .vacant)) (nextOf (takenOf places index .place)) markAt (firstIn index (serial % n)) 0 (λ e. omega arith)
     ∙ getD-set-other index vacatedAt markAt (takenOf places index .slab .vacant) 0 (λ e. omega arith)
 
-pub struck-mark : (at : ℕ) (index loans : List ℕ) → getD (struck at index loans) markAt 0 ≡ getD loans markAt 0
+-- the loans' own record stays: its mark, and its counts
+pub struck-own : (at k : ℕ) (index loans : List ℕ) → k < loanWords → getD (struck at index loans) k 0 ≡ getD loans k 0
 unfolding struck
-struck-mark at index loans = getD-set-other loans (cellOf sizeAt loanWords (getD index at 0)) markAt 0 0 (λ e. omega arith)
+struck-own at k index loans h = getD-set-other loans (cellOf sizeAt loanWords (getD index at 0)) k 0 0 (λ e. omega arith)
+
+pub struck-mark : (at : ℕ) (index loans : List ℕ) → getD (struck at index loans) markAt 0 ≡ getD loans markAt 0
+struck-mark at index loans = struck-own at markAt index loans (omega arith)
 
 pub struck-index-mark : (at : ℕ) (index : List ℕ) → 0 < at → getD (struckIndex at index) markAt 0 ≡ getD index markAt 0
 unfolding struckIndex

@@ -11,7 +11,7 @@ use Rattle.words.specs.Rows.{written}
 use Rattle.slab.specs.Slab.{nowhere, inserted}
 use Rattle.slab.specs.declared.Slab.{Slab}
 use Rattle.slab.specs.declared.Taken.{Taken}
-use Rattle.store_rules.specs.Loans.{loanWords, serialAt, sizeAt, loanRow}
+use Rattle.store_rules.specs.Loans.{givenAt, placesAt, loanWords, serialAt, sizeAt, loanRow}
 use Rattle.store_rules.specs.declared.Loan.{Loan}
 
 -- ---- where the words of the index stand
@@ -67,9 +67,14 @@ freshIndex mark n = blank (indexWords n) mark nowhere
 abbrev pub takenOf : ℕ → List ℕ → Taken
 takenOf places index = inserted (slabOf places index) index vacantAfterAt entryWords
 
--- its record is written there
+-- so many serials are given and so many places used, by the loans' own record
+unfoldable pub counted : ℕ → ℕ → List ℕ → List ℕ
+counted given places loans = set (set loans givenAt given) placesAt places
+
+-- its serial is the last one given, and its record is written at its place
 unfoldable pub entered : ℕ → List ℕ → Loan → List ℕ → List ℕ
-entered places index l loans = written loanRow (takenOf places index .place) l loans
+entered places index l loans =
+    written loanRow (takenOf places index .place) l (counted (l .serial) (takenOf places index .slab .places) loans)
 
 -- and it becomes the first of its chain
 unfoldable pub enteredIndex : ℕ → ℕ → ℕ → List ℕ → List ℕ

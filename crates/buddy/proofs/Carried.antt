@@ -17,7 +17,7 @@ use Rattle.counter.specs.declared.answers.Block.{Block}
 use Rattle.counter.specs.declared.answers.Outcome.{Outcome}
 use Rattle.counter.specs.declared.settings.BuddySettings.{BuddySettings}
 use Rattle.store_rules.specs.Delivery.{kept, lost}
-use Rattle.store_rules.specs.Loans.{loan}
+use Rattle.store_rules.specs.Loans.{givenAt, loan}
 use Rattle.store_rules.specs.Orders.{Plan, deny, take, buy, orderFrom}
 use Rattle.store_rules.specs.Outcomes.{Out, out, listed, listOk, chargedAccount, releasedAccount, blockSaid}
 use Rattle.store_rules.specs.Shares.{askLeft, chargedShare, lostShare, releasedShare}
@@ -25,7 +25,7 @@ use Rattle.store_rules.proofs.Holders.{holding, orderBy, holder}
 use Rattle.store_rules.specs.declared.Loan.{Loan}
 use Rattle.store_rules.specs.declared.Share.{Share}
 use Rattle.store_rules.proofs.Shares.{held-charged, held-lost, held-released}
-use Rattle.buddy_rules.specs.Tables.{Tables, tables, givenAt, levelsAt}
+use Rattle.buddy_rules.specs.Tables.{Tables, tables, levelsAt}
 use Rattle.buddy_outcomes.specs.Ask.{sizeFor, levelFor, grownTo, grownTables, bookedTables, chunkTaken, loanFrom, takenTables, deniedTables, carryAsk, planAsk, askOf}
 use Rattle.buddy_outcomes.specs.Deliver as Deliver
 use Rattle.buddy_outcomes.specs.Deliver.{servedTables, carryFate, planDeliver, carryDeliver, deliverOf}
@@ -62,12 +62,12 @@ module _ (s : BuddySettings) (head loans chunks index tree : List ℕ) where
         let r = grown-rest n h₁ r₁ e in
         (λ j. out (f j) (askLeft a size mask (f j)) (r j)) ∙ (λ j. out (Paper.refusal 9 []) a (grownTables s (d j) start))
 
-    pub ask-taken : (i z lev : ℕ) (l : Loan) (w : Said) (h′ l′ i′ r′ : List ℕ) → z ≡ sizeFor s size mask → lev ≡ levelFor s size mask
-        → l ≡ loanFrom s z (tables head [] [] [] tree) i → tables h′ l′ [] i′ r′ ≡ takenTables s z lev (tables head loans [] index tree) i
-        → w ≡ blockSaid l → out w (askLeft a size mask w) (tables h′ l′ chunks i′ r′) ≡ carryAsk s a size mask start (take i)
+    pub ask-taken : (i z lev : ℕ) (l : Loan) (w : Said) (l′ i′ r′ : List ℕ) → z ≡ sizeFor s size mask → lev ≡ levelFor s size mask
+        → l ≡ loanFrom s z (tables [] loans [] [] tree) i → tables [] l′ [] i′ r′ ≡ takenTables s z lev (tables [] loans [] index tree) i
+        → w ≡ blockSaid l → out w (askLeft a size mask w) (tables head l′ chunks i′ r′) ≡ carryAsk s a size mask start (take i)
     unfolding carryAsk takenTables bookedTables
-    ask-taken i z lev l w h′ l′ i′ r′ p q f t k =
-        (λ j. out (k j) (askLeft a size mask (k j)) (tables (t j .head) (t j .loans) chunks (t j .index) (t j .room)))
+    ask-taken i z lev l w l′ i′ r′ p q f t k =
+        (λ j. out (k j) (askLeft a size mask (k j)) (tables head (t j .loans) chunks (t j .index) (t j .room)))
         ∙ (λ j. out (blockSaid (f j)) a (takenTables s z lev start i))
         ∙ (λ j. out (blockSaid (loanFrom s (p j) start i)) a (takenTables s (p j) (q j) start i))
 
@@ -88,7 +88,7 @@ module _ (s : BuddySettings) (head loans chunks index tree : List ℕ) where
       pub kept-done : (memory z lev : ℕ) (t′ : Tables) (share′ paid : Share) (order : OpenOrder) (l : Loan) (said : Said)
           → z ≡ sizeFor s (k .ask .size) (k .ask .mask) → lev ≡ levelFor s (k .ask .size) (k .ask .mask)
           → paid ≡ chargedShare share (k .order .size)
-          → l ≡ loan (getD h₁ givenAt 0 + 1) (chunkTaken s (tables h₁ [] [] [] r₁) .place) 0 z
+          → l ≡ loan (getD loans givenAt 0 + 1) (chunkTaken s (tables h₁ [] chunks [] r₁) .place) 0 z
           → t′ ≡ servedTables s z lev memory (k .order .size) (tables h₁ loans chunks index r₁)
           → share′ ≡ paid → order ≡ Nothing → said ≡ blockSaid l → out said (holding (s .store) share′ order) t′ ≡ carryFate s (holding (s .store) share o) k start (kept memory)
       unfolding carryFate servedTables
@@ -99,7 +99,7 @@ module _ (s : BuddySettings) (head loans chunks index tree : List ℕ) where
           let settled = (λ j. holding (s .store) (left j) (v j)) ∙ sym (held-charged (s .store) share o (k .order .size)) in
           (λ j. out (w j) (settled j) (g j))
           ∙ (λ j. out (blockSaid (m j)) (chargedAccount (s .store) a (k .order .size)) (servedTables s z lev memory (k .order .size) (mid j)))
-          ∙ (λ j. out (blockSaid (loan (getD (mid j .head) givenAt 0 + 1) (chunkTaken s (mid j) .place) 0 (p j))) (chargedAccount (s .store) a (k .order .size)) (servedTables s (p j) (q j) memory (k .order .size) (grownTables s (grownTo (levelFor s (k .ask .size) (k .ask .mask)) start) start)))
+          ∙ (λ j. out (blockSaid (loan (getD (mid j .loans) givenAt 0 + 1) (chunkTaken s (mid j) .place) 0 (p j))) (chargedAccount (s .store) a (k .order .size)) (servedTables s (p j) (q j) memory (k .order .size) (grownTables s (grownTo (levelFor s (k .ask .size) (k .ask .mask)) start) start)))
 
       pub lost-done : (c : ℕ) (charged : Bool) (back : List ℕ) (share′ : Share) (order : OpenOrder) (said : Said)
           → share′ ≡ lostShare share (k .order .size) charged back → order ≡ Nothing → said ≡ Paper.refusal c back
@@ -125,7 +125,7 @@ module _ (s : BuddySettings) (head loans chunks index tree : List ℕ) where
     pub loan-now : b .loan ≡ nextLoan (tables h₁ loans chunks index r₁)
     loan-now = has .loan ∙ sym (grown-next s start (b .levels)) ∙ ap nextLoan (sym (grown-rest (b .levels) h₁ r₁ e))
 
-    pub chunk-now : b .chunk ≡ chunkTaken s (tables h₁ [] [] [] r₁)
+    pub chunk-now : b .chunk ≡ chunkTaken s (tables h₁ [] chunks [] r₁)
     chunk-now = has .chunk ∙ sym (grown-taken s start (b .levels) more most) ∙ ap (chunkTaken s) (sym (grown-rest (b .levels) h₁ r₁ e))
 
 -- ---- the call

@@ -1,19 +1,18 @@
 -- Which places a loan and a chunk take next does not hang on the levels: found before these grow, they are the same after.
-use mathlib.Core.Path.{_≡_, ap, _∙_}
+use mathlib.Core.Path.{_≡_, refl, ap, _∙_}
 use mathlib.Core.Bool.{cond}
 use mathlib.Core.List.{List}
 use Prim.Native.Nat.{ℕ, _+_, _-_, _%_, _^_, _≤_}
 use native.Mathlib.Omega.{arith}
 use lib.Dec.{ltb}
-use lib.ListN.{getD, set}
-use lib.Seq.{getD-set-other}
+use lib.ListN.{getD}
 use Rattle.words.specs.Words.{cellOf}
 use Rattle.counter.specs.Limits.{levelsMost}
 use Rattle.counter.specs.declared.settings.BuddySettings.{BuddySettings}
 use Rattle.slab.specs.Slab.{inserted, linkAt}
 use Rattle.slab.specs.declared.Slab.{Slab}
 use Rattle.book_rules.specs.Book.{takenOf}
-use Rattle.buddy_rules.specs.Tables.{Tables, levelsAt, placesAt, chunkPlacesAt, levelsIn, placesIn, chunksFrom, placeAt, afterAt, placeWords, chunkSlab}
+use Rattle.buddy_rules.specs.Tables.{Tables, levelsIn, placesIn, chunkPlacesIn, chunksFrom, placeAt, afterAt, placeWords, chunkSlab}
 use Rattle.buddy_outcomes.specs.Ask.{chunkTaken, freshLevels, grownTables}
 use Rattle.buddy_outcomes.proofs.Same.{freshened}
 
@@ -26,14 +25,13 @@ inserted-same z x y f w e =
 module _ (s : BuddySettings) (t : Tables) (n : ℕ) where
   pub grown-next : takenOf (placesIn (grownTables s n t)) (grownTables s n t .index) ≡ takenOf (placesIn t) (t .index)
   unfolding grownTables
-  grown-next = ap (λ (p : ℕ). takenOf p (t .index)) (getD-set-other (t .head) levelsAt placesAt n 0 (λ e. omega arith))
+  grown-next = refl
 
   pub grown-taken : levelsIn t ≤ n → n ≤ levelsMost → chunkTaken s (grownTables s n t) ≡ chunkTaken s t
   unfolding grownTables
   grown-taken more most =
       let made = freshened s (levelsIn t) (n - levelsIn t) (t .room) (omega arith) in
       let u : List ℕ = freshLevels s (levelsIn t) (n - levelsIn t) (t .room) in
-      let a : getD (set (t .head) levelsAt n) chunkPlacesAt 0 ≡ getD (t .head) chunkPlacesAt 0 = getD-set-other (t .head) levelsAt chunkPlacesAt n 0 (λ e. omega arith) in
       let b : getD u (chunksFrom s) 0 ≡ getD (t .room) (chunksFrom s) 0 = made .past (chunksFrom s) (omega arith) in
-      (λ j. inserted (record { places = a j; vacant = b j }) u (placeAt s afterAt) placeWords)
+      (λ j. inserted (record { places = chunkPlacesIn t; vacant = b j }) u (placeAt s afterAt) placeWords)
       ∙ inserted-same (chunkSlab s t) u (t .room) (placeAt s afterAt) placeWords (made .past (cellOf (placeAt s afterAt) placeWords (chunkSlab s t .vacant)) (omega arith))

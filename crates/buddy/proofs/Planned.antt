@@ -34,8 +34,7 @@ use Rattle.buddy_outcomes.specs.Return.{onLoanOk, decideReturn, planReturn}
 use Rattle.buddy_outcomes.proofs.Passing.{gate-passed}
 use Rattle.buddy_outcomes.proofs.Sounds.{gate-number}
 use Rattle.buddy_decide.specs.declared.plans.Buying.{Buying}
-use Rattle.buddy_decide.proofs.Fewer.{ask-few}
-use Rattle.buddy_decide.proofs.Known.{memories-same}
+use Rattle.buddy_decide.proofs.Known.{seen, memories-same}
 use Rattle.buddy_gate.specs.Gates.{KeptBuys}
 use Rattle.buddy.specs.Ready.{ComingBuys}
 
@@ -49,15 +48,12 @@ module _ (s : BuddySettings) (a : Account) (t : Tables) where
   unfolding gateOf
   shut-number list n g = gate-number (inTableOk s a t && list) (noOrder (a .order)) (soundOk s t) (accountOk s a t) n g
 
-pub ask-go : (s : BuddySettings) (share : Share) (size mask : ℕ) (head loans chunks index tree : List ℕ) (p : Plan ℕ)
-    → pass ≡ gateOf s (holder (s .store) share) (tables head loans chunks index tree) true
-    → p ≡ decideAsk s (share .heap) (share .objects) size mask (tables head [] [] index tree) → p ≡ planAsk s (holder (s .store) share) size mask (tables head loans chunks index tree)
+pub ask-go : (s : BuddySettings) (share : Share) (size mask : ℕ) (t : Tables) (p : Plan ℕ) → pass ≡ gateOf s (holder (s .store) share) t true
+    → p ≡ decideAsk s (share .heap) (share .objects) size mask t → p ≡ planAsk s (holder (s .store) share) size mask t
 unfolding planAsk holding
-ask-go s share size mask head loans chunks index tree p g e =
-    let t = tables head loans chunks index tree in
+ask-go s share size mask t p g e =
     let below = gate-passed s (holder (s .store) share) t true g .lent .settings .store .heap in
     e
-    ∙ ask-few s t (share .heap) (share .objects) size mask
     ∙ ap (λ (x : Heap). decideAsk s x (share .objects) size mask t) (sym (held-heap (s .store) share (orderBy (share .idle)) below))
     ∙ rw (sym g) refl
 
@@ -73,13 +69,13 @@ module _ (s : BuddySettings) (share : Share) (order : OpenOrder) (o : Outcome) (
 
   -- the memories, as the code reads them
   abbrev few : Tables
-  few = tables (t .head) [] (t .chunks) [] []
+  few = seen (t .chunks)
 
   pub deliver-go : (v : Verdict) (p : Arrivals.Arrival) → v ≡ pass → v ≡ deliverGateOf s whole t → p ≡ decideDeliver o (memories few (chunkPlacesIn t)) order → p ≡ planDeliver s whole o t
   unfolding planDeliver holding
   deliver-go v p e f g =
       g
-      ∙ ap (λ (m : List ℕ). decideDeliver o m order) (memories-same few t refl refl (chunkPlacesIn t))
+      ∙ ap (λ (m : List ℕ). decideDeliver o m order) (memories-same few t refl (chunkPlacesIn t))
       ∙ rw (sym f ∙ e) refl
 
 deny-go : {A : Type 0} (n : ℕ) (k : KeptOrder) (f : Fate) → Arrivals.deny n ≡ Arrivals.go k f → A
@@ -114,6 +110,6 @@ module _ (s : BuddySettings) (a : Account) (b : Block) (t : Tables) (list : Bool
   unfolding planReturn
   return-shut n e = rw (sym e) refl
 
-  pub return-go : (p : Returns.Plan) → pass ≡ gateOf s a t list → p ≡ decideReturn s b (tables (t .head) (t .loans) [] (t .index) []) → p ≡ planReturn s a b t list
+  pub return-go : (p : Returns.Plan) → pass ≡ gateOf s a t list → p ≡ decideReturn s b (tables [] (t .loans) [] (t .index) []) → p ≡ planReturn s a b t list
   unfolding planReturn decideReturn onLoanOk
   return-go p e d = d ∙ rw (sym e) refl

@@ -98,17 +98,17 @@ module _ (s : BuddySettings) (a : Account) (size mask : ℕ) (t : Tables) where
       let r = grows-ready s (heapAt a (s .store .heap)) (a .objects) size mask t (P .lent .settings) (P .sound) p late (w .1) in
       record { fit = P .lent .settings; low = omega (arith, is, r .1); more = omega (arith, is, r .0) }
 
-  ask-lends : (i : ℕ) → planAsk s a size mask t ≡ take i → Lends s (sizeFor s size mask) (levelFor s size mask) i (tables (t .head) (t .loans) [] (t .index) (t .room))
+  ask-lends : (i : ℕ) → planAsk s a size mask t ≡ take i → Lends s (sizeFor s size mask) (levelFor s size mask) i (tables [] (t .loans) [] (t .index) (t .room))
   ask-lends i e =
       let w = went (take i) tt e in
       let P = gate-passed s a t true (sym (w .0)) in
-      lends-rest s (sizeFor s size mask) (levelFor s size mask) i t [] (lends-ready s (heapAt a (s .store .heap)) (a .objects) size mask t (P .lent .settings) (P .lent .lengths) (P .sound) i (w .1))
+      lends-rest s (sizeFor s size mask) (levelFor s size mask) i t [] [] (lends-ready s (heapAt a (s .store .heap)) (a .objects) size mask t (P .lent .settings) (P .lent .lengths) (P .sound) i (w .1))
 
   -- of the size and level that the plan tells
-  ask-serves : (i z lev : ℕ) → planAsk s a size mask t ≡ take i → z ≡ sizeFor s size mask → lev ≡ levelFor s size mask → Lends s z lev i (tables (t .head) (t .loans) [] (t .index) (t .room))
+  ask-serves : (i z lev : ℕ) → planAsk s a size mask t ≡ take i → z ≡ sizeFor s size mask → lev ≡ levelFor s size mask → Lends s z lev i (tables [] (t .loans) [] (t .index) (t .room))
   ask-serves i z lev e p q =
-      subst (λ (x : ℕ). Lends s x lev i (tables (t .head) (t .loans) [] (t .index) (t .room))) (sym p)
-      (subst (λ (x : ℕ). Lends s (sizeFor s size mask) x i (tables (t .head) (t .loans) [] (t .index) (t .room))) (sym q) (ask-lends i e))
+      subst (λ (x : ℕ). Lends s x lev i (tables [] (t .loans) [] (t .index) (t .room))) (sym p)
+      (subst (λ (x : ℕ). Lends s (sizeFor s size mask) x i (tables [] (t .loans) [] (t .index) (t .room))) (sym q) (ask-lends i e))
 
   pub ask-ready : (p : Decided.Plan) → planOf p ≡ planAsk s a size mask t → Planned s size mask t p → AskReady s (tables (t .head) (t .loans) [] (t .index) (t .room)) p
   ask-ready (Decides.Refuse r) e k = tt

@@ -41,7 +41,7 @@ abbrev pub AskReady : BuddySettings → Tables → Plan → Type 0
 AskReady s t (Refuse r) = Unit {0}
 AskReady s t (Lack n) = Grows s n (t .head)
 AskReady s t (Take k) =
-    Lends s (k .size) (k .level) (k .from) (tables (t .head) (t .loans) [] (t .index) (t .room))
+    Lends s (k .size) (k .level) (k .from) (tables [] (t .loans) [] (t .index) (t .room))
     × (k .pair ≡ ringHead (levelFrom s (k .from)) (t .room))
     × (k .loan ≡ nextLoan t)
 AskReady s t (Buy b) = Grows s (b .levels) (t .head)

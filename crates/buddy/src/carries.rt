@@ -91,7 +91,6 @@ pub fn carry_ask(
                 t.from as usize,
                 t.pair,
                 loan,
-                head,
                 loans,
                 index,
                 tree,

@@ -66,7 +66,18 @@ pub fn plan_ask(
         Gate::Shut(refusal) => Plan::Refuse(refusal),
         Gate::Go => {
             let heap = share.heap;
-            buddy_decide::decide(s, heap, share.objects, size, mask, head, index, tree)
+            buddy_decide::decide(
+                s,
+                heap,
+                share.objects,
+                size,
+                mask,
+                head,
+                loans,
+                chunks,
+                index,
+                tree,
+            )
         }
     }
 }
@@ -89,7 +100,7 @@ pub fn plan_deliver(
     match g {
         Passing::Shut(refusal) => Delivery::Shut(refusal),
         Passing::Go(b) => {
-            let coming = buddy_decide::decide_delivery(order, o, head, chunks);
+            let coming = buddy_decide::decide_delivery(order, o, chunks);
             Delivery::Come(coming, b)
         }
     }
@@ -114,6 +125,6 @@ pub fn plan_return(
     let g = buddy_gate::gate(s, share, long, head, loans, chunks, index, tree);
     match g {
         Gate::Shut(refusal) => Back::Refuse(refusal),
-        Gate::Go => buddy_decide::decide_return(s, b, head, loans, index),
+        Gate::Go => buddy_decide::decide_return(s, b, loans, index),
     }
 }

@@ -17,14 +17,14 @@ use Rattle.store_rules.specs.Delivery.{buddy, holds}
 use Rattle.store.specs.Comings.{knownIn, comes}
 use Rattle.store.proofs.Coming.{comes-is}
 use Rattle.buddy_levels.specs.Seen.{levelPart}
-use Rattle.buddy_rules.specs.Tables.{Tables, tables, chunkPlacesAt, chunkPlacesIn, chunkWords, memoryAt, chunkSizeAt, memoryIn, heldIn, memories}
+use Rattle.buddy_rules.specs.Tables.{Tables, chunkPlacesAt, chunkWords, memoryAt, chunkSizeAt, memoryIn, heldIn, memories}
 use Rattle.buddy_outcomes.specs.Deliver.{decideDeliver}
 
--- ---- they are read off the number of chunk places and the chunks alone
+-- ---- they are read off the chunks alone
 
-module _ (t u : Tables) (n : chunkPlacesIn t ≡ chunkPlacesIn u) (e : t .chunks ≡ u .chunks) where
+module _ (t u : Tables) (e : t .chunks ≡ u .chunks) where
   pub held-same : (c : ℕ) → heldIn t c ≡ heldIn u c
-  held-same c j = ltb c (n j) && not (eqb (getD (e j) (cellOf chunkSizeAt chunkWords c) 0) 0)
+  held-same c j = ltb c (getD (e j) chunkPlacesAt 0) && not (eqb (getD (e j) (cellOf chunkSizeAt chunkWords c) 0) 0)
 
   pub memories-same : (c : ℕ) → memories t c ≡ memories u c
   unfolding memories
@@ -41,13 +41,13 @@ holds-append m (x ∷ xs) ys = next (eqb x m) (holds m xs) (holds m ys) (holds-a
     next true b d e = refl
     next false b d e = e
 
-module _ (n : ℕ) (chunks : List ℕ) where
+module _ (chunks : List ℕ) where
   abbrev pub seen : Tables
-  seen = levelPart 0 n chunks []
+  seen = levelPart 0 chunks []
 
-  module _ (c v : ℕ) (below : c < n) (read : v ≡ getD chunks (cellOf chunkSizeAt chunkWords c) 0) where
+  module _ (c v : ℕ) (below : c < getD chunks chunkPlacesAt 0) (read : v ≡ getD chunks (cellOf chunkSizeAt chunkWords c) 0) where
     pub held-is : heldIn seen c ≡ not (eqb v 0)
-    held-is = rw (lt-ltb c n below, read) refl
+    held-is = rw (lt-ltb c (getD chunks chunkPlacesAt 0) below, read) refl
 
     pub held-next : (m w : ℕ) (b : Bool) → b ≡ holds m (memories seen c) → w ≡ getD chunks (cellOf memoryAt chunkWords c) 0
         → (b || (not (eqb v 0) && eqb w m)) ≡ holds m (memories seen (c + 1))
@@ -68,16 +68,12 @@ module _ (n : ℕ) (chunks : List ℕ) where
 
 -- ---- of the whole store
 
-module _ (n : ℕ) (head chunks : List ℕ) (is : n ≡ getD head chunkPlacesAt 0) where
-  abbrev all : Tables
-  all = tables head [] chunks [] []
-
-  pub known-made : (r : Bool) (o : Outcome) (d : Memory) → o ≡ O.Made d → r ≡ holds (d .number) (memories (seen n chunks) n)
-      → r ≡ knownIn (memories all (getD head chunkPlacesAt 0)) o
-  known-made r o d e g =
-      g
-      ∙ ap (holds (d .number)) (memories-same (seen n chunks) all is refl n ∙ ap (memories all) is)
-      ∙ ap (knownIn (memories all (getD head chunkPlacesAt 0))) (sym e)
+pub known-made : (n : ℕ) (chunks : List ℕ) → n ≡ getD chunks chunkPlacesAt 0 → (r : Bool) (o : Outcome) (d : Memory) → o ≡ O.Made d → r ≡ holds (d .number) (memories (seen chunks) n)
+    → r ≡ knownIn (memories (seen chunks) (getD chunks chunkPlacesAt 0)) o
+known-made n chunks is r o d e g =
+    g
+    ∙ ap (λ (m : ℕ). holds (d .number) (memories (seen chunks) m)) is
+    ∙ ap (knownIn (memories (seen chunks) (getD chunks chunkPlacesAt 0))) (sym e)
 
 pub delivery-is : (o : Outcome) (order : OpenOrder) (ms : List ℕ) (known : Bool) (p : Arrival) → known ≡ knownIn ms o → p ≡ comes buddy o known order → p ≡ decideDeliver o ms order
 delivery-is o order ms known p k g = g ∙ ap (λ (b : Bool). comes buddy o b order) k ∙ comes-is buddy o ms order

@@ -1,6 +1,5 @@
 -- What the code that decides a call shows of it.
 pub mod Asking
-pub mod Fewer
 pub mod Known
 pub mod Reading
 pub mod Shows

@@ -17,7 +17,7 @@ use Rattle.buddy_decide.specs.Sought.{yielded, sought}
 use Rattle.buddy_decide.specs.declared.seeking.Found.{Found}
 use Rattle.buddy_decide.specs.declared.seeking.Found.the-variants.{At, Order}
 
-pub pairs-read : (s : BuddySettings) (t : Tables) (l n : ℕ) → pairsRoom (partSettings 0 (s .pairs) 0) (levelPart (levelsIn t) 0 [] (t .room)) l n ≡ pairsRoom s t l n
+pub pairs-read : (s : BuddySettings) (t : Tables) (l n : ℕ) → pairsRoom (partSettings 0 (s .pairs) 0) (levelPart (levelsIn t) [] (t .room)) l n ≡ pairsRoom s t l n
 unfolding pairsRoom
 pairs-read s t l zero = refl
 pairs-read s t l (suc n) = ap (λ (b : Bool). pairRoom s t l && b) (pairs-read s t (suc l) n)
@@ -50,7 +50,7 @@ module _ (minimal pairs level levels : ℕ) (tree : List ℕ) where
       (ap at same, ap one e ∙ ap (λ (x : ℕ). ringHead (levelFrom (partSettings minimal pairs 0) x) tree) same)
 
   order-is : (f : Ask.Found) (z n : ℕ) → Order z n ≡ yielded minimal pairs level levels tree f
-      → (f ≡ Ask.nowhere) × (z ≡ orderBytes (partSettings minimal pairs 0) level (levelPart levels 0 [] tree)) × (n ≡ grownTo level (levelPart levels 0 [] tree))
+      → (f ≡ Ask.nowhere) × (z ≡ orderBytes (partSettings minimal pairs 0) level (levelPart levels [] tree)) × (n ≡ grownTo level (levelPart levels [] tree))
   order-is Ask.nowhere z n e = (refl, ap one e, ap two e)
   order-is (at j) z n e = absurd (true-false true refl (sym (ap isAt e)))
 
@@ -72,4 +72,4 @@ module _ (s : BuddySettings) (level : ℕ) (head tree : List ℕ) (levels : ℕ)
   unfolding sought
   sought-order z n f =
       let o = order-is (s .minimal) (s .pairs) level levels tree found z n (sym f ∙ e) in
-      (sym same ∙ o .0, o .1 ∙ ap (λ (n : ℕ). orderBytes (partSettings (s .minimal) (s .pairs) 0) level (levelPart n 0 [] tree)) d, o .2 ∙ ap (λ (n : ℕ). grownTo level (levelPart n 0 [] tree)) d)
+      (sym same ∙ o .0, o .1 ∙ ap (λ (n : ℕ). orderBytes (partSettings (s .minimal) (s .pairs) 0) level (levelPart n [] tree)) d, o .2 ∙ ap (λ (n : ℕ). grownTo level (levelPart n [] tree)) d)

@@ -13,11 +13,12 @@ use Rattle.counter.specs.declared.settings.BuddySettings.{BuddySettings}
 use Rattle.slab.specs.Slab.{inserted}
 use Rattle.slab.specs.Slab as Slab
 use Rattle.slab.specs.declared.Taken.{Taken}
+use Rattle.store_rules.specs.Loans.{placesAt}
 use Rattle.book_rules.specs.Returns as Returns
 use Rattle.buddy_trees.specs.Trees.{bytes}
 use Rattle.buddy_rules.specs.Level.{ringAt, pairTaken, levelStart}
 use Rattle.buddy_levels.specs.Seen.{partSettings, levelPart}
-use Rattle.buddy_rules.specs.Tables.{Tables, tables, placesAt, afterAt, placeWords}
+use Rattle.buddy_rules.specs.Tables.{Tables, tables, chunkPlacesAt, afterAt, placeWords}
 use Rattle.buddy_outcomes.specs.Ask.{at, pairRoom, pairsRoom, chunkTaken, searchFrom}
 use Rattle.buddy_outcomes.specs.Ask as Ask
 use Rattle.buddy_outcomes.specs.Return.{onLoanOk, decideReturn}
@@ -27,11 +28,11 @@ use Rattle.buddy_decide.specs.declared.seeking.Found.the-variants.{At, O
 
 -- ---- the chunk place that is taken next
 
-pub taken-is : (pairs places : ℕ) (tree : List ℕ) (b v : ℕ) (r : Taken) → b ≡ levelStart pairs levelsMost → v ≡ getD tree b 0
-    → r ≡ inserted (record { places = places; vacant = v }) tree (b + (placeWords + afterAt)) placeWords → r ≡ chunkTaken (partSettings 0 pairs 0) (levelPart 0 places [] tree)
-taken-is pairs places tree b v r d e f =
+pub taken-is : (pairs : ℕ) (chunks tree : List ℕ) (places b v : ℕ) (r : Taken) → places ≡ getD chunks chunkPlacesAt 0 → b ≡ levelStart pairs levelsMost → v ≡ getD tree b 0
+    → r ≡ inserted (record { places = places; vacant = v }) tree (b + (placeWords + afterAt)) placeWords → r ≡ chunkTaken (partSettings 0 pairs 0) (levelPart 0 chunks tree)
+taken-is pairs chunks tree places b v r c d e f =
     let g : v ≡ getD tree (levelStart pairs levelsMost) 0 = e ∙ ap (λ (x : ℕ). getD tree x 0) d in
-    f ∙ (λ j. inserted (record { places = places; vacant = g j }) tree (d j + (placeWords + afterAt)) placeWords)
+    f ∙ (λ j. inserted (record { places = c j; vacant = g j }) tree (d j + (placeWords + afterAt)) placeWords)
 
 -- ---- places for the pairs of n levels from this one on, i of which are passed
 
@@ -52,7 +53,7 @@ module _ (pairs level n levels : ℕ) (tree : List ℕ) (i : ℕ) (more : i < n)
   s = partSettings 0 pairs 0
 
   abbrev t : Tables
-  t = levelPart levels 0 [] tree
+  t = levelPart levels [] tree
 
   abbrev Here : Type 0
   Here = pairsRoom s t (level + i) (n - i) ≡ pairsRoom s t (level + (i + 1)) (n - (i + 1))
@@ -114,7 +115,7 @@ module _ (minimal pairs level levels : ℕ) (tree : List ℕ) (l : ℕ) where
 
 -- ---- a return
 
-pub return-is : (s : BuddySettings) (b : Block) (head loans index : List ℕ) (places : ℕ) (p : Returns.Plan) → places ≡ getD head placesAt 0
-    → p ≡ Returns.decideReturn loans index (s .store .loans) places b → p ≡ decideReturn s b (tables head loans [] index [])
+pub return-is : (s : BuddySettings) (b : Block) (loans index : List ℕ) (places : ℕ) (p : Returns.Plan) → places ≡ getD loans placesAt 0
+    → p ≡ Returns.decideReturn loans index (s .store .loans) places b → p ≡ decideReturn s b (tables [] loans [] index [])
 unfolding decideReturn onLoanOk
-return-is s b head loans index places p f d = d ∙ (λ j. Returns.decideReturn loans index (s .store .loans) (f j) b)
+return-is s b loans index places p f d = d ∙ (λ j. Returns.decideReturn loans index (s .store .loans) (f j) b)

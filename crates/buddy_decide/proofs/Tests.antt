@@ -22,11 +22,12 @@ use Rattle.counter.specs.declared.settings.BuddySettings.{BuddySettings}
 use Rattle.heap.specs.Heap.{bearsOk}
 use Rattle.slab.specs.declared.Taken.{Taken}
 use Rattle.store_rules.specs.Orders.{Plan, deny, take, buy}
+use Rattle.store_rules.specs.Loans.{givenAt, placesAt}
 use Rattle.book_rules.specs.Book.{takenOf}
 use Rattle.buddy_trees.specs.Trees.{bytes}
 use Rattle.buddy_levels.specs.Seen.{partSettings, levelPart}
 use Rattle.buddy_levels.proofs.Bounds.{node-bytes-most}
-use Rattle.buddy_rules.specs.Tables.{Tables, tables, givenAt, levelsAt, placesAt, chunkPlacesAt}
+use Rattle.buddy_rules.specs.Tables.{Tables, tables, levelsAt}
 use Rattle.buddy_outcomes.specs.Ask.{Found, at, nowhere, sizeFor, levelFor, grownTo, searchFrom, foundFrom, fitsAt, sizeOk, pairsRoom, chunkTaken, roomOk, countOk, objectsOk, orderBytes, lateRow, planned, decideAsk}
 use Rattle.buddy_outcomes.proofs.Rounds.{level-low}
 use Rattle.buddy_outcomes.proofs.Searches.{search-at}
@@ -51,32 +52,32 @@ module _ (s : BuddySettings) (size b : ℕ) (e : b ≡ bytes (s .minimal) levels
   fits-no : b ≤ size → fitsAt levelsMost s size ≡ false
   fits-no l = le-ltb size (bytes (s .minimal) levelsMost) (omega (arith, e, l))
 
-module _ (s : BuddySettings) (level : ℕ) (head index tree : List ℕ) where
+module _ (s : BuddySettings) (level : ℕ) (head loans chunks index tree : List ℕ) where
   abbrev now : Tables
-  now = tables head [] [] index tree
+  now = tables head loans chunks index tree
 
   -- a loan place is left
   abbrev pub left : Bool
-  left = ltb (takenOf (getD head placesAt 0) index .place) (s .store .loans)
+  left = ltb (takenOf (getD loans placesAt 0) index .place) (s .store .loans)
 
-  module _ (k : Taken) (next : k ≡ takenOf (getD head placesAt 0) index) where
-    place-is : k .place ≡ takenOf (getD head placesAt 0) index .place
+  module _ (k : Taken) (next : k ≡ takenOf (getD loans placesAt 0) index) where
+    place-is : k .place ≡ takenOf (getD loans placesAt 0) index .place
     place-is = ap (λ (x : Taken). x .place) next
 
     pub left-no : s .store .loans ≤ k .place → left ≡ false
-    left-no h = le-ltb (takenOf (getD head placesAt 0) index .place) (s .store .loans) (omega (arith, place-is, h))
+    left-no h = le-ltb (takenOf (getD loans placesAt 0) index .place) (s .store .loans) (omega (arith, place-is, h))
 
     pub left-yes : k .place < s .store .loans → left ≡ true
-    left-yes h = lt-ltb (takenOf (getD head placesAt 0) index .place) (s .store .loans) (omega (arith, place-is, h))
+    left-yes h = lt-ltb (takenOf (getD loans placesAt 0) index .place) (s .store .loans) (omega (arith, place-is, h))
 
-  pub pairs-are : (n levels : ℕ) (r : Bool) → levels ≡ getD head levelsAt 0 → r ≡ pairsRoom (partSettings 0 (s .pairs) 0) (levelPart levels 0 [] tree) level n → r ≡ pairsRoom s now level n
-  pairs-are n levels r d e = e ∙ ap (λ (x : ℕ). pairsRoom (partSettings 0 (s .pairs) 0) (levelPart x 0 [] tree) level n) d ∙ pairs-read s now level n
+  pub pairs-are : (n levels : ℕ) (r : Bool) → levels ≡ getD head levelsAt 0 → r ≡ pairsRoom (partSettings 0 (s .pairs) 0) (levelPart levels [] tree) level n → r ≡ pairsRoom s now level n
+  pairs-are n levels r d e = e ∙ ap (λ (x : ℕ). pairsRoom (partSettings 0 (s .pairs) 0) (levelPart x [] tree) level n) d ∙ pairs-read s now level n
 
   -- ---- the head pair of level i serves
 
   module _ (i : ℕ) where
     abbrev pub Taking : Plan ℕ
-    Taking = planned s level now (at i) (first ((roomOk s level now (at i), 8) ∷ (ltb (getD head givenAt 0) spent, 10) ∷ []))
+    Taking = planned s level now (at i) (first ((roomOk s level now (at i), 8) ∷ (ltb (getD loans givenAt 0) spent, 10) ∷ []))
 
     pub take-full : left ≡ false → deny 8 ≡ Taking
     unfolding roomOk
@@ -86,27 +87,22 @@ module _ (s : BuddySettings) (level : ℕ) (head index tree : List ℕ) where
     unfolding roomOk
     take-none e p = rw (e, p) refl
 
-    pub take-spent : (w : ℕ) → left ≡ true → pairsRoom s now level (i - level) ≡ true → w ≡ getD head givenAt 0 → w ≡ spent → deny 10 ≡ Taking
+    pub take-spent : (w : ℕ) → left ≡ true → pairsRoom s now level (i - level) ≡ true → w ≡ getD loans givenAt 0 → w ≡ spent → deny 10 ≡ Taking
     unfolding roomOk
-    take-spent w e p g h = rw (e, p, le-ltb (getD head givenAt 0) spent (omega (arith, g, h))) refl
+    take-spent w e p g h = rw (e, p, le-ltb (getD loans givenAt 0) spent (omega (arith, g, h))) refl
 
-    pub take-go : (w : ℕ) → left ≡ true → pairsRoom s now level (i - level) ≡ true → w ≡ getD head givenAt 0 → w < spent → take i ≡ Taking
+    pub take-go : (w : ℕ) → left ≡ true → pairsRoom s now level (i - level) ≡ true → w ≡ getD loans givenAt 0 → w < spent → take i ≡ Taking
     unfolding roomOk
-    take-go w e p g h = rw (e, p, lt-ltb (getD head givenAt 0) spent (omega (arith, g, h))) refl
+    take-go w e p g h = rw (e, p, lt-ltb (getD loans givenAt 0) spent (omega (arith, g, h))) refl
 
   -- ---- a chunk is needed
 
-  pub chunk-is : (places : ℕ) (chunk : Taken) → places ≡ getD head chunkPlacesAt 0 → chunk ≡ chunkTaken (partSettings 0 (s .pairs) 0) (levelPart 0 places [] tree) → chunk ≡ chunkTaken s now
-  chunk-is places chunk b d = d ∙ ap (λ (x : ℕ). chunkTaken (partSettings 0 (s .pairs) 0) (levelPart 0 x [] tree)) b
-
   -- the places that the code found, and its number of levels
-  pub room-is : (top places : ℕ) (loan chunk : Taken) (has : Bool)
-      → top ≡ grownTo level (tables head [] [] [] []) → places ≡ getD head chunkPlacesAt 0
-      → loan ≡ takenOf (getD head placesAt 0) index → chunk ≡ chunkTaken (partSettings 0 (s .pairs) 0) (levelPart 0 places [] tree)
+  pub room-is : (top : ℕ) (loan chunk : Taken) (has : Bool)
+      → top ≡ grownTo level (tables head [] [] [] []) → loan ≡ takenOf (getD loans placesAt 0) index → chunk ≡ chunkTaken s now
       → has ≡ placesRoom s level top (loan .place) (chunk .place) (tables head [] [] [] tree) → has ≡ roomOk s level now nowhere
   unfolding roomOk
-  room-is top places loan chunk has a b c d e =
-      let g = chunk-is places chunk b d in
+  room-is top loan chunk has a c g e =
       let p : pairsRoom s (tables head [] [] [] tree) level (top - level) ≡ pairsRoom s now level (grownTo level now - level) = sym (pairs-read s (tables head [] [] [] tree) level (top - level)) ∙ pairs-read s now level (top - level) ∙ ap (λ (x : ℕ). pairsRoom s now level (x - level)) a in
       e ∙ (λ j. ltb (c j .place) (s .store .loans) && (ltb (g j .place) (s .store .chunks) && p j))
 
@@ -115,7 +111,7 @@ module _ (s : BuddySettings) (level : ℕ) (head index tree : List ℕ) where
     Buying = planned s level now nowhere (first (lateRow s h objects level now nowhere))
 
     -- what the code read says the same
-    pub counts-are : (order w : ℕ) (bears v : Bool) → order ≡ orderBytes s level (tables head [] [] [] []) → w ≡ getD head givenAt 0 → bears ≡ bearsOk h order
+    pub counts-are : (order w : ℕ) (bears v : Bool) → order ≡ orderBytes s level (tables head [] [] [] []) → w ≡ getD loans givenAt 0 → bears ≡ bearsOk h order
         → (ltb w spent && bears) ≡ v → countOk s h level now nowhere ≡ v
     unfolding countOk
     counts-are order w bears v o g e r =
@@ -154,7 +150,7 @@ module _ (s : BuddySettings) (level : ℕ) (head index tree : List ℕ) where
 
       sized-at : (i : ℕ) (f : Found) → fitsAt levelsMost s size ≡ true → f ≡ at i → Taking i ≡ Sizing f
       unfolding objectsOk countOk
-      sized-at i f e g = fewer i (roomOk s level now (at i)) (ltb (getD head givenAt 0) spent) ∙ rw (e, g) refl
+      sized-at i f e g = fewer i (roomOk s level now (at i)) (ltb (getD loans givenAt 0) spent) ∙ rw (e, g) refl
 
       sized-nowhere : (f : Found) → fitsAt levelsMost s size ≡ true → f ≡ nowhere → Buying ≡ Sizing f
       sized-nowhere f e g = rw (e, g) refl
@@ -204,39 +200,35 @@ module _ (s : BuddySettings) (size mask : ℕ) where
         let k = level-low s fit size mask (and-both (ltb 0 size) (fitsAt levelsMost s (sizeFor s size mask)) (lt-ltb 0 size some) g) in
         subst (λ (x : ℕ). levelOf x (s .minimal) < levelsMost) (sym d) k
 
-module _ (s : BuddySettings) (h : Heap) (objects size mask : ℕ) (head index tree : List ℕ) where
-  abbrev all : Tables
-  all = tables head [] [] index tree
-
-  pub decide-mask : alignmentOk mask ≡ false → deny 5 ≡ decideAsk s h objects size mask all
+module _ (s : BuddySettings) (h : Heap) (objects size mask : ℕ) (t : Tables) where
+  pub decide-mask : alignmentOk mask ≡ false → deny 5 ≡ decideAsk s h objects size mask t
   unfolding decideAsk
   decide-mask e = rw e refl
 
-  unsized : alignmentOk mask ≡ true → sizeOk s size mask ≡ false → deny 6 ≡ decideAsk s h objects size mask all
+  unsized : alignmentOk mask ≡ true → sizeOk s size mask ≡ false → deny 6 ≡ decideAsk s h objects size mask t
   unfolding decideAsk
   unsized e f = rw (e, f) refl
 
-  pub decide-zero : alignmentOk mask ≡ true → size ≡ 0 → deny 6 ≡ decideAsk s h objects size mask all
+  pub decide-zero : alignmentOk mask ≡ true → size ≡ 0 → deny 6 ≡ decideAsk s h objects size mask t
   decide-zero e z = unsized e (zero-size s size mask z)
 
-  pub decide-over : (r : Raised) → r ≡ raised (sizeFor s size mask) → BuddyIn s → alignmentOk mask ≡ true → 0 < size → r ≡ Overflow → deny 6 ≡ decideAsk s h objects size mask all
+  pub decide-over : (r : Raised) → r ≡ raised (sizeFor s size mask) → BuddyIn s → alignmentOk mask ≡ true → 0 < size → r ≡ Overflow → deny 6 ≡ decideAsk s h objects size mask t
   decide-over r d fit e some f = unsized e (over-size s size mask fit some (raised-not (sym d ∙ f)))
 
   abbrev Then : ℕ → Plan ℕ
-  Then z = Sizing s (levelOf z (s .minimal)) head index tree h objects z (foundFrom s (levelOf z (s .minimal)) all)
+  Then z = Sizing s (levelOf z (s .minimal)) (t .head) (t .loans) (t .chunks) (t .index) (t .room) h objects z (foundFrom s (levelOf z (s .minimal)) t)
 
-  sized : alignmentOk mask ≡ true → 0 < size → Then (sizeFor s size mask) ≡ decideAsk s h objects size mask all
+  sized : alignmentOk mask ≡ true → 0 < size → Then (sizeFor s size mask) ≡ decideAsk s h objects size mask t
   unfolding decideAsk sizeOk roomOk countOk levelFor foundFrom
   sized e some = rw (e, lt-ltb 0 size some) refl
 
 -- z is the size looked for
-pub look-sized : (s : BuddySettings) (size mask : ℕ) (head index tree : List ℕ) (z : ℕ) (r : Tried) → z ≡ sizeFor s size mask → alignmentOk mask ≡ true → 0 < size
-    → TrySized s z (levelOf z (s .minimal)) (tables head [] [] index tree) r → TryOf s size mask (tables head [] [] index tree) r
+pub look-sized : (s : BuddySettings) (size mask : ℕ) (t : Tables) (z : ℕ) (r : Tried) → z ≡ sizeFor s size mask → alignmentOk mask ≡ true → 0 < size
+    → TrySized s z (levelOf z (s .minimal)) t r → TryOf s size mask t r
 unfolding levelFor
-look-sized s size mask head index tree z r d e some f =
-    let t = tables head [] [] index tree in
-    tells-same s (sizeFor s size mask) (levelFor s size mask) t (λ h objects. Then s h objects size mask head index tree (sizeFor s size mask)) (λ h objects. decideAsk s h objects size mask t) r
-    (λ h objects. sized s h objects size mask head index tree e some)
+look-sized s size mask t z r d e some f =
+    tells-same s (sizeFor s size mask) (levelFor s size mask) t (λ h objects. Then s h objects size mask t (sizeFor s size mask)) (λ h objects. decideAsk s h objects size mask t) r
+    (λ h objects. sized s h objects size mask t e some)
     (subst (λ (x : ℕ). TrySized s x (levelOf x (s .minimal)) t r) d f)
 
 -- where a chunk is needed, what its tests come to is the plan

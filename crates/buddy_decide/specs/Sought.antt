@@ -12,7 +12,7 @@ use Rattle.buddy_decide.specs.declared.seeking.Found.the-variants.{At, O
 
 module _ (minimal pairs level levels : ℕ) (tree : List ℕ) where
   abbrev pub yielded : Ask.Found → Found
-  yielded Ask.nowhere = Order (orderBytes (partSettings minimal pairs 0) level (levelPart levels 0 [] tree)) (grownTo level (levelPart levels 0 [] tree))
+  yielded Ask.nowhere = Order (orderBytes (partSettings minimal pairs 0) level (levelPart levels [] tree)) (grownTo level (levelPart levels [] tree))
   yielded (Ask.at i) = At (ringHead (levelFrom (partSettings minimal pairs 0) i) tree) i
 
   unfoldable pub sought : Found

@@ -5,7 +5,7 @@ ghost use lib.ListN.{getD};
 ghost use Rattle.store_rules.specs.Delivery.{holds};
 ghost use Rattle.store.specs.Comings.{comingOf, knownIn};
 ghost use Rattle.buddy_levels.specs.Seen.{levelPart};
-ghost use Rattle.buddy_rules.specs.Tables.{tables, chunkPlacesAt, memories};
+ghost use Rattle.buddy_rules.specs.Tables.{chunkPlacesAt, memories};
 ghost use Rattle.buddy_outcomes.specs.Deliver.{decideDeliver};
 use buddy_rules::CHUNK_PLACES_AT;
 use buddy_rules::CHUNK_SIZE_AT;
@@ -18,7 +18,8 @@ use store::Engine;
 
 // Whether one of the chunks at the first n places has this memory.
 fn is_held(chunks: &[u64], n: u64, memory: u64) -> bool
-    ensures { λ r. ⌜ r ≡ holds memory (memories (levelPart 0 n (now (chunks .entry)) []) n) ⌝ }
+    requires { ⌜ n ≡ getD (now chunks) chunkPlacesAt 0 ⌝ }
+    ensures { λ r. ⌜ r ≡ holds memory (memories (levelPart 0 (now (chunks .entry)) []) n) ⌝ }
 {
     let mut held = false;
     let mut c = 0;
@@ -32,18 +33,18 @@ fn is_held(chunks: &[u64], n: u64, memory: u64) -> bool
 }
 
 // Whether an outcome's memory is held already.
-fn is_known(o: Outcome, head: &[u64], chunks: &[u64]) -> bool
-    ensures { λ r. ⌜ r ≡ knownIn (memories (tables (now (head .entry)) [] (now (chunks .entry)) [] []) (getD (now (head .entry)) chunkPlacesAt 0)) o ⌝ }
+fn is_known(o: Outcome, chunks: &[u64]) -> bool
+    ensures { λ r. ⌜ r ≡ knownIn (memories (levelPart 0 (now (chunks .entry)) []) (getD (now (chunks .entry)) chunkPlacesAt 0)) o ⌝ }
 {
     match o {
-        Outcome::Made(m) => is_held(chunks, words::word(head, CHUNK_PLACES_AT), m.number),
+        Outcome::Made(m) => is_held(chunks, words::word(chunks, CHUNK_PLACES_AT), m.number),
         Outcome::OutOfDevice => false,
         Outcome::OutOfHost => false,
     }
 }
 
-pub fn decide_delivery(order: OpenOrder, o: Outcome, head: &[u64], chunks: &[u64]) -> Coming
-    ensures { λ r. ⌜ comingOf r ≡ decideDeliver o (memories (tables (now (head .entry)) [] (now (chunks .entry)) [] []) (getD (now (head .entry)) chunkPlacesAt 0)) order ⌝ }
+pub fn decide_delivery(order: OpenOrder, o: Outcome, chunks: &[u64]) -> Coming
+    ensures { λ r. ⌜ comingOf r ≡ decideDeliver o (memories (levelPart 0 (now (chunks .entry)) []) (getD (now (chunks .entry)) chunkPlacesAt 0)) order ⌝ }
 {
-    store::come(Engine::Buddy, order, o, is_known(o, head, chunks))
+    store::come(Engine::Buddy, order, o, is_known(o, chunks))
 }

@@ -6,18 +6,19 @@ ghost use lib.ListN.{getD};
 ghost use Rattle.counter.specs.InTable.{BuddyIn};
 ghost use Rattle.counter.specs.Limits.{loansMost};
 ghost use Rattle.returning.specs.Backs.{backOf};
-ghost use Rattle.buddy_rules.specs.Tables.{tables, placesAt};
+ghost use Rattle.store_rules.specs.Loans.{placesAt};
+ghost use Rattle.buddy_rules.specs.Tables.{tables};
 ghost use Rattle.buddy_outcomes.specs.Return.{decideReturn};
-use buddy_rules::PLACES_AT;
 use counter::Block;
 use counter::BuddySettings;
 use returning::Back;
+use store_rules::PLACES_AT;
 
-pub fn decide_return(s: BuddySettings, b: Block, head: &[u64], loans: &[u64], index: &[u64]) -> Back
-    requires { ⌜ BuddyIn s × (getD (now head) placesAt 0 ≤ loansMost) ⌝ }
-    ensures { λ r. ⌜ backOf r ≡ decideReturn s b (tables (now (head .entry)) (now (loans .entry)) [] (now (index .entry)) []) ⌝ }
+pub fn decide_return(s: BuddySettings, b: Block, loans: &[u64], index: &[u64]) -> Back
+    requires { ⌜ BuddyIn s × (getD (now loans) placesAt 0 ≤ loansMost) ⌝ }
+    ensures { λ r. ⌜ backOf r ≡ decideReturn s b (tables [] (now (loans .entry)) [] (now (index .entry)) []) ⌝ }
 {
     let own = s.store;
-    let places = words::word(head, PLACES_AT);
+    let places = words::word(loans, PLACES_AT);
     returning::decide(b, own.loans, places, loans, index)
 }

@@ -9,6 +9,7 @@ ghost use Rattle.buddy_decide.specs.Sought.{sought};
 use buddy_levels::RING_AT;
 use buddy_levels::level_from;
 use buddy_rules::AFTER_AT;
+use buddy_rules::CHUNK_PLACES_AT;
 use buddy_rules::PLACE_WORDS;
 use slab::NOWHERE;
 use slab::Slab;
@@ -55,7 +56,7 @@ pub fn seek(minimal: u64, pairs: usize, level: u64, levels: u64, tree: &[u64]) -
 // Whether each of n levels from this one on has a place for a new pair; one that is not there yet has.
 pub fn has_pairs(pairs: usize, level: u64, n: u64, levels: u64, tree: &[u64]) -> bool
     requires { ⌜ (pairs ≤ pairsMost) × (levels ≤ levelsMost) × (level + n ≤ levelsMost) ⌝ }
-    ensures { λ r. ⌜ r ≡ pairsRoom (partSettings 0 pairs 0) (levelPart levels 0 [] (now (tree .entry))) level n ⌝ }
+    ensures { λ r. ⌜ r ≡ pairsRoom (partSettings 0 pairs 0) (levelPart levels [] (now (tree .entry))) level n ⌝ }
 {
     let mut i = 0;
     while i < n {
@@ -72,13 +73,13 @@ pub fn has_pairs(pairs: usize, level: u64, n: u64, levels: u64, tree: &[u64]) ->
 }
 
 // The chunk place that is taken next, and the slab from then on.
-pub fn chunk_taken(pairs: usize, places: u64, tree: &[u64]) -> Taken
+pub fn chunk_taken(pairs: usize, chunks: &[u64], tree: &[u64]) -> Taken
     requires { ⌜ pairs ≤ pairsMost ⌝ }
-    ensures { λ r. ⌜ r ≡ chunkTaken (partSettings 0 pairs 0) (levelPart 0 places [] (now (tree .entry))) ⌝ }
+    ensures { λ r. ⌜ r ≡ chunkTaken (partSettings 0 pairs 0) (levelPart 0 (now (chunks .entry)) (now (tree .entry))) ⌝ }
 {
     let at = buddy_levels::chunks_from(pairs);
     let s = Slab {
-        places: places,
+        places: words::word(chunks, CHUNK_PLACES_AT),
         vacant: words::word(tree, at),
     };
     s.insert(tree, at + (PLACE_WORDS + AFTER_AT), PLACE_WORDS)

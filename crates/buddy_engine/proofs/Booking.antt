@@ -48,6 +48,7 @@ use Rattle.buddy_outcomes.specs.Deliver.{asOrdered, stillOk, deliverGateOf, car
 use Rattle.buddy_outcomes.specs.Return.{wordFor, onLoanOk, climbFor, givenTables, releasedBy, returnOf}
 use Rattle.buddy_outcomes.specs.SetUp.{planSetUp, carrySetUp, setUpOf}
 use Rattle.buddy_outcomes.proofs.Counting.{bytes-is}
+use Rattle.buddy_outcomes.proofs.Heads.{back-chunk-places}
 use Rattle.buddy_outcomes.proofs.Passing.{Passed, lent-in}
 use Rattle.buddy_outcomes.proofs.Plans.{buy-bears}
 use Rattle.buddy_outcomes.proofs.Returned as Returned
@@ -154,8 +155,9 @@ module _ (s : BuddySettings) (a : Account) (t : Tables) where
 
     -- what is seen has the bytes that are counted; no chunk place is added
     less-seen : (y : ℕ) → heldBytes u (chunkPlacesIn t) + y ≡ heldBytes t (chunkPlacesIn t) → sizes (chunksIn t) - sizes (chunksIn u) ≡ y
-    unfolding givenTables
-    less-seen y e = omega (arith, e, bytes-is t, bytes-is u)
+    less-seen y e =
+        let p : heldBytes u (chunkPlacesIn u) ≡ heldBytes u (chunkPlacesIn t) = ap (heldBytes u) (back-chunk-places s b (wordFor s b t) t) in
+        omega (arith, e, p, bytes-is t, bytes-is u)
 
     releases : (n y : ℕ) (list′ : List ℕ) → heldBytes u (chunkPlacesIn t) + y ≡ heldBytes t (chunkPlacesIn t)
         → BuddyBooked (returns b list) (listed (Paper.released n) (releasedAccount (s .store) a n y) u list′)

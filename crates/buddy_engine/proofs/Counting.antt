@@ -24,6 +24,7 @@ use Rattle.engines.specs.Shapes.{Call, setsUp, asks, delivers, returns, others,
 use Rattle.buddy_rules.specs.Tables.{Tables, givenIn, marks}
 use Rattle.buddy_rules.proofs.Viewed.{loanAt, live-loan, loan-live}
 use Rattle.buddy_outcomes.specs.SetUp.{freshTables, planSetUp, carrySetUp, setUpOf}
+use Rattle.buddy_outcomes.proofs.Heads.{fresh-given}
 use Rattle.buddy_outcomes.proofs.Gone as Buddy
 use Rattle.buddy_outcomes.proofs.Gone.{ask-gone, deliver-gone, return-gone-stays}
 use Rattle.buddy_engine.specs.Shape.{buddyShape}
@@ -36,7 +37,7 @@ unfolding setUpOf carrySetUp freshTables
 begins s t e = by (planSetUp s t) e
   where
     by : (v : Verdict) → carrySetUp s t v .said ≡ Paper.ready → (getD (carrySetUp s t v .tables .head) markAt 0 ≡ marks .head) × (givenIn (carrySetUp s t v .tables) ≡ 0)
-    by pass q = (refl, refl)
+    by pass q = (refl, fresh-given s)
     by (refuse n) q = let z : kindOf (Paper.refusal n []) ≡ kindOf Paper.ready = ap kindOf q in absurd (omega arith)
 
 -- ---- the other calls

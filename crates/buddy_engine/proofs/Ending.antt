@@ -17,12 +17,13 @@ use Rattle.store_rules.proofs.Lessening.{less-one}
 use Rattle.engines.specs.Ends.{Ends}
 use Rattle.buddy_trees.specs.Chunks.{atOnce}
 use Rattle.buddy_trees.proofs.Ending.{at-once-none, at-once-next, at-once-same}
-use Rattle.buddy_rules.specs.Tables.{Tables, chunkPlacesIn}
+use Rattle.buddy_rules.specs.Tables.{Tables, levelsIn, chunkPlacesIn}
 use Rattle.buddy_rules.specs.Views.{loansIn, viewOf}
 use Rattle.buddy_rules.proofs.Named.{has-loan}
 use Rattle.buddy_outcomes.specs.Gate.{heldCount, heldBytes, accountOk, gateOf}
-use Rattle.buddy_outcomes.specs.Return.{returnOf, givenTables}
+use Rattle.buddy_outcomes.specs.Return.{wordFor, returnOf, givenTables}
 use Rattle.buddy_outcomes.proofs.Ended.{return-told, return-view}
+use Rattle.buddy_outcomes.proofs.Heads.{back-given}
 use Rattle.buddy_outcomes.proofs.Passing.{gate-passed}
 use Rattle.buddy_engine.specs.Shape.{buddyShape, countsOf}
 
@@ -49,7 +50,9 @@ ends =
             account = h .account;
             goes = h .goes;
           };
-      rest-stays = λ s a b t list passes lent long. ap countsOf (return-told s a b t list passes lent long .tables);
+      rest-stays = λ s a b t list passes lent long.
+          let g = back-given s b (wordFor s b t) t in
+          ap countsOf (return-told s a b t list passes lent long .tables) ∙ (λ j. record { given = g j; levels = levelsIn t });
       none = λ s a t passes.
           let p = gate-passed s a t true (sym passes) in
           at-once-none (s .minimal) (viewOf s t) (has-loan s t (p .lent .settings) (p .sound)) refl;

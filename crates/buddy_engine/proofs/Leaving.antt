@@ -18,6 +18,7 @@ use Rattle.buddy_rules.specs.Tables.{Tables, Lengths, chunkWords, chunkSizeAt, 
 use Rattle.buddy_outcomes.specs.Gate.{heldBytes}
 use Rattle.buddy_outcomes.specs.Return.{wordFor, onLoanOk, climbFor, givenTables}
 use Rattle.buddy_outcomes.proofs.Given.{held, place}
+use Rattle.buddy_outcomes.proofs.Heads.{back-chunk-places}
 
 abbrev bytesAt : Tables → ℕ → ℕ
 bytesAt t c = cond (heldIn t c) (chunkSizeIn t c) 0
@@ -86,7 +87,10 @@ module _ (s : BuddySettings) (t : Tables) (fit : BuddyIn s) (lengths : Lengths s
   freed-bytes f =
       let h : bytesAt t c ≡ chunkSizeIn t c = rw (held s t fit lengths sound b on) in
       less-bytes t u c (chunkSizeIn t c) (omega (arith, at-none u c (size-gone f), h))
-      (λ x o. ap (λ (z : ℕ). cond (ltb x (chunkPlacesIn t) && not (eqb z 0)) z 0) (size-other f x o))
+      (λ x o.
+      let z = size-other f x o in
+      let p = back-chunk-places s b (wordFor s b t) t in
+      (λ j. cond (ltb x (p j) && not (eqb (z j) 0)) (z j) 0))
       (chunkPlacesIn t) low
 
   -- and where it stays

@@ -16,25 +16,25 @@ use Rattle.counter.specs.declared.account.KeptOrder.{KeptOrder}
 use Rattle.counter.specs.declared.answers.Block.{Block}
 use Rattle.counter.specs.declared.settings.BuddySettings.{BuddySettings}
 use Rattle.store_rules.specs.Delivery.{Fate, kept, lost}
-use Rattle.store_rules.specs.Loans.{loan}
+use Rattle.store_rules.specs.Loans.{givenAt, placesAt, loan, loansOf}
 use Rattle.store_rules.specs.Outcomes.{Listed, listed}
 use Rattle.store_rules.specs.Orders.{Plan, deny, take, buy}
 use Rattle.store_rules.specs.Arrivals as Arrivals
 use Rattle.store_rules.specs.Arrivals.{Arrival}
 use Rattle.book_rules.specs.Book.{takenOf}
 use Rattle.book_rules.proofs.Owns.{entered-mark, entered-index-mark, struck-mark, struck-index-mark, word-past-mark}
-use Rattle.engines.specs.Pools.{Slot, ofHead, ofLoans, ofChunks, ofIndex, ofRoom, tableOf, seal, signOf, Marking}
+use Rattle.engines.specs.Pools.{Slot, ofHead, ofLoans, ofChunks, ofIndex, ofRoom, tableOf, seal, signOf, Marking, Sealed}
 use Rattle.engines.proofs.Signs.{in-slot}
 use Rattle.engines.specs.Shapes.{Call, setsUp, asks, delivers, returns, others, does, lentList}
 use Rattle.buddy_rules.specs.Moves.{Cut}
-use Rattle.buddy_rules.specs.Tables.{Tables, marks, chunkWords, memoryAt, chunkSizeAt, givenIn, levelsIn, placesIn, levelFrom, chunksFrom, nodesFrom}
+use Rattle.buddy_rules.specs.Tables.{Tables, marks, chunkWords, chunkSizeAt, givenIn, levelsIn, placesIn, levelFrom, chunksFrom, nodesFrom}
 use Rattle.buddy_rules.proofs.Owns.{acquired-own, climbed-own, split-down-own, split-chunk-own}
 use Rattle.buddy_outcomes.specs.Ask.{grownTo, levelFor, sizeFor, chunkTaken, grownTables, bookedTables, takenTables, deniedTables, carryAsk, planAsk, askOf}
 use Rattle.buddy_outcomes.specs.Deliver.{asOrdered, chunkTables, servedTables, carryFate, planDeliver, carryDeliver, deliverOf}
 use Rattle.buddy_outcomes.specs.Return.{wordFor, climbFor, vacatedTree, givenTables, returnOf}
 use Rattle.buddy_outcomes.specs.SetUp.{setUpOf}
 use Rattle.buddy_outcomes.proofs.Changed.{fresh-levels-own}
-use Rattle.buddy_outcomes.proofs.Heads.{grown-word, chunk-word, booked-mark}
+use Rattle.buddy_outcomes.proofs.Heads.{grown-word, chunk-mark}
 use Rattle.buddy_outcomes.proofs.Returned.{ReturnComes, denied, takes, return-comes, given-tables}
 use Rattle.buddy_outcomes.proofs.Sounds.{is-begun, set-up-sound}
 use Rattle.buddy_engine.specs.Shape.{buddyShape}
@@ -65,7 +65,7 @@ module _ (s : BuddySettings) where
 
   booked-stays : (c o size : ℕ) (cut : Cut) (t : Tables) → getD (cut .room) markAt 0 ≡ getD (t .room) markAt 0 → Stays t (bookedTables s c o size cut t)
   unfolding bookedTables
-  booked-stays c o size cut t own ofHead = booked-mark s t c o size cut
+  booked-stays c o size cut t own ofHead = refl
   booked-stays c o size cut t own ofLoans = entered-mark (placesIn t) (t .index) (loan (givenIn t + 1) c o size) (t .loans)
   booked-stays c o size cut t own ofChunks = refl
   booked-stays c o size cut t own ofIndex = entered-index-mark (s .store .loans) (placesIn t) (givenIn t + 1) (t .index)
@@ -78,11 +78,9 @@ module _ (s : BuddySettings) where
 
   chunk-stays : (memory z : ℕ) (t : Tables) → Stays t (chunkTables s memory z t)
   unfolding chunkTables
-  chunk-stays memory z t ofHead = chunk-word s memory z t markAt (λ e. omega arith)
+  chunk-stays memory z t ofHead = refl
   chunk-stays memory z t ofLoans = refl
-  chunk-stays memory z t ofChunks =
-      getD-set-other (set (t .chunks) (cellOf memoryAt chunkWords (chunkTaken s t .place)) memory) (cellOf chunkSizeAt chunkWords (chunkTaken s t .place)) markAt z 0 (λ e. omega arith)
-      ∙ getD-set-other (t .chunks) (cellOf memoryAt chunkWords (chunkTaken s t .place)) markAt memory 0 (λ e. omega arith)
+  chunk-stays memory z t ofChunks = chunk-mark s memory z t
   chunk-stays memory z t ofIndex = refl
   chunk-stays memory z t ofRoom =
       getD-set-other (set (t .room) (chunksFrom s) (chunkTaken s t .slab .vacant)) _ markAt _ 0 (λ e. omega arith)
@@ -151,3 +149,14 @@ buddy-seals-stay s a t (others c list) f z = absurd c
 
 abbrev pub buddy-marking : Marking buddyShape
 buddy-marking = record { sign = signOf marks; head-sign = refl; signs = buddy-signs; seals-stay = buddy-seals-stay; unsigned = buddy-unsigned }
+
+-- the loans table alone says how many serials were given and which blocks are on loan
+abbrev pub buddy-sealed : Sealed buddyShape
+buddy-sealed =
+    record {
+      marking = buddy-marking;
+      givenIn = λ loans. getD loans givenAt 0;
+      loansIn = λ loans. loansOf (getD loans placesAt 0) loans;
+      given-there = λ t. refl;
+      loans-there = λ t. refl;
+    }

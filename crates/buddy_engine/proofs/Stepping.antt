@@ -3,7 +3,7 @@ use mathlib.Core.Path.{_≡_, refl, sym, ap, _∙_}
 use mathlib.Core.Bool.{true, _&&_}
 use mathlib.Core.Logic.{⊎-elim}
 use mathlib.Core.List.{List, [], _∷_}
-use Prim.Native.Nat.{ℕ, _+_}
+use Prim.Native.Nat.{ℕ, _+_, _≤_}
 use native.Mathlib.Omega.{arith}
 use lib.Dec.{eqb}
 use lib.ListN.{length, getD}
@@ -25,15 +25,16 @@ use Rattle.store_rules.specs.Orders.{Plan, deny, take, buy}
 use Rattle.store_rules.specs.Outcomes.{Listed}
 use Rattle.store_rules.specs.Tests.{openFor, gateRow}
 use Rattle.engines.specs.Serials.{serialSaid, upFrom}
-use Rattle.buddy_rules.specs.Tables.{Tables, givenAt, headWords, givenIn, chunkPlacesIn, memories, marks}
+use Rattle.store_rules.specs.Loans.{loanWords}
+use Rattle.buddy_rules.specs.Tables.{Tables, givenIn, chunkPlacesIn, memories, marks}
 use Rattle.buddy_rules.specs.Test.{soundOk}
 use Rattle.buddy_outcomes.specs.Gate.{inTableOk, accountOk, gateOf}
 use Rattle.buddy_outcomes.specs.Ask as Ask
-use Rattle.buddy_outcomes.specs.Ask.{grownTo, decideAsk, grownTables, takenTables, deniedTables, carryAsk, planAsk, askOf, sizeFor, levelFor}
+use Rattle.buddy_outcomes.specs.Ask.{grownTo, decideAsk, grownTables, bookedTables, takenTables, deniedTables, carryAsk, planAsk, askOf, sizeFor, levelFor}
 use Rattle.buddy_outcomes.specs.Deliver as Deliver
 use Rattle.buddy_outcomes.specs.Deliver.{stillOk, deliverGateOf, chunkTables, asOrdered, servedTables, carryFate, decideDeliver, planDeliver, carryDeliver, deliverOf}
 use Rattle.buddy_outcomes.specs.Return.{wordFor, climbFor, givenTables, releasedBy, returnOf}
-use Rattle.buddy_outcomes.proofs.Heads.{grown-word, grown-head-words, chunk-word, chunk-head, booked-mark, booked-given}
+use Rattle.buddy_outcomes.proofs.Heads.{grown-word, grown-given, booked-given, back-given}
 use Rattle.buddy_outcomes.proofs.Passing.{gate-passed, lent-in}
 use Rattle.buddy_outcomes.proofs.Returned.{ReturnComes, denied, takes, return-comes}
 use Rattle.words.specs.Words.{markAt}
@@ -57,7 +58,7 @@ quiet t t′ said e w =
     }
 
 grown-silent : (s : BuddySettings) (n : ℕ) (t : Tables) → Silent t (grownTables s n t)
-grown-silent s n t = (grown-word s n t givenAt (λ e. omega arith), grown-word s n t markAt (λ e. omega arith))
+grown-silent s n t = (grown-given s n t, grown-word s n t markAt (λ e. omega arith))
 
 -- ---- an ask
 
@@ -66,24 +67,24 @@ module _ (s : BuddySettings) (a : Account) (size mask : ℕ) (t : Tables) where
   unfolding deniedTables
   denied-silent n = ⊎-elim (λ e. rw e (grown-silent s (grownTo (levelFor s size mask) t) t)) (λ e. rw e (refl, refl)) (told (eqb n 9))
 
-  taken-given : length (t .head) ≡ headWords → (i : ℕ) → givenIn (takenTables s (sizeFor s size mask) (levelFor s size mask) t i) ≡ givenIn t + 1
+  taken-given : loanWords ≤ length (t .loans) → (i : ℕ) → givenIn (takenTables s (sizeFor s size mask) (levelFor s size mask) t i) ≡ givenIn t + 1
   unfolding takenTables
-  taken-given head i = booked-given s t _ _ _ _ head
+  taken-given some i = booked-given s t _ _ _ _ some
 
   taken-mark : (i : ℕ) → getD (takenTables s (sizeFor s size mask) (levelFor s size mask) t i .head) markAt 0 ≡ getD (t .head) markAt 0
-  unfolding takenTables
-  taken-mark i = booked-mark s t _ _ _ _
+  unfolding takenTables bookedTables
+  taken-mark i = refl
 
-  carried : length (t .head) ≡ headWords → (p : Plan ℕ) → Stepped t (carryAsk s a size mask t p .tables) (carryAsk s a size mask t p .said)
+  carried : loanWords ≤ length (t .loans) → (p : Plan ℕ) → Stepped t (carryAsk s a size mask t p .tables) (carryAsk s a size mask t p .said)
   unfolding carryAsk
-  carried head (deny n) = quiet t (deniedTables s (levelFor s size mask) n t) (Paper.refusal n []) refl (denied-silent n)
-  carried head (take i) = record { gives = taken-given head i; nexts = refl; mark-stays = λ m. taken-mark i ∙ m }
-  carried head (buy z) = quiet t (grownTables s (grownTo (levelFor s size mask) t) t) _ refl (grown-silent s (grownTo (levelFor s size mask) t) t)
+  carried some (deny n) = quiet t (deniedTables s (levelFor s size mask) n t) (Paper.refusal n []) refl (denied-silent n)
+  carried some (take i) = record { gives = taken-given some i; nexts = refl; mark-stays = λ m. taken-mark i ∙ m }
+  carried some (buy z) = quiet t (grownTables s (grownTo (levelFor s size mask) t) t) _ refl (grown-silent s (grownTo (levelFor s size mask) t) t)
 
   after-ask : (v : Verdict) → gateOf s a t true ≡ v → (p : Plan ℕ) → Stepped t (carryAsk s a size mask t (gated Ask.deny v p) .tables) (carryAsk s a size mask t (gated Ask.deny v p) .said)
   unfolding carryAsk
   after-ask (refuse n) e p = quiet t (deniedTables s (levelFor s size mask) n t) (Paper.refusal n []) refl (denied-silent n)
-  after-ask pass e p = carried (gate-passed s a t true (sym e) .lent .lengths .head) p
+  after-ask pass e p = carried (omega (arith, gate-passed s a t true (sym e) .lent .lengths .loans)) p
 
   -- an ask
   pub ask-stepped : Stepped t (askOf s a size mask t .tables) (askOf s a size mask t .said)
@@ -94,33 +95,31 @@ module _ (s : BuddySettings) (a : Account) (size mask : ℕ) (t : Tables) where
 
 module _ (s : BuddySettings) (a : Account) (t : Tables) where
   module _ (size mask memory z : ℕ) (u : Tables) where
-    served-given : length (u .head) ≡ headWords → givenIn (servedTables s (sizeFor s size mask) (levelFor s size mask) memory z u) ≡ givenIn u + 1
-    unfolding servedTables
-    served-given head =
-        booked-given s (chunkTables s memory z u) _ _ _ _ (chunk-head s memory z u ∙ head)
-        ∙ ap (λ (g : ℕ). g + 1) (chunk-word s memory z u givenAt (λ e. omega arith))
+    served-given : loanWords ≤ length (u .loans) → givenIn (servedTables s (sizeFor s size mask) (levelFor s size mask) memory z u) ≡ givenIn u + 1
+    unfolding servedTables chunkTables
+    served-given some = booked-given s (chunkTables s memory z u) _ _ _ _ some
 
     served-mark : getD (servedTables s (sizeFor s size mask) (levelFor s size mask) memory z u .head) markAt 0 ≡ getD (u .head) markAt 0
-    unfolding servedTables
-    served-mark = booked-mark s (chunkTables s memory z u) _ _ _ _ ∙ chunk-word s memory z u markAt (λ e. omega arith)
+    unfolding servedTables bookedTables chunkTables
+    served-mark = refl
 
-  fated : length (t .head) ≡ headWords → (k : KeptOrder) (f : Fate) → Stepped t (carryFate s a k t f .tables) (carryFate s a k t f .said)
-  unfolding carryFate
-  fated head k (kept m) =
+  fated : loanWords ≤ length (t .loans) → (k : KeptOrder) (f : Fate) → Stepped t (carryFate s a k t f .tables) (carryFate s a k t f .said)
+  unfolding carryFate grownTables
+  fated some k (kept m) =
       let u : Tables = asOrdered s k t in
       let w = grown-silent s (grownTo (levelFor s (k .ask .size) (k .ask .mask)) t) t in
-      let h = grown-head-words s (grownTo (levelFor s (k .ask .size) (k .ask .mask)) t) t ∙ head in
       record {
-        gives = served-given (k .ask .size) (k .ask .mask) m (k .order .size) u h ∙ ap (λ (g : ℕ). g + 1) (w .0);
+        gives = served-given (k .ask .size) (k .ask .mask) m (k .order .size) u some ∙ ap (λ (g : ℕ). g + 1) (w .0);
         nexts = ap (λ (g : ℕ). (g + 1) ∷ []) (w .0);
         mark-stays = λ e. served-mark (k .ask .size) (k .ask .mask) m (k .order .size) u ∙ w .1 ∙ e;
       }
-  fated head k (lost n c back) = quiet t (asOrdered s k t) (Paper.refusal n back) refl (grown-silent s (grownTo (levelFor s (k .ask .size) (k .ask .mask)) t) t)
+  fated some k (lost n c back) = quiet t (asOrdered s k t) (Paper.refusal n back) refl (grown-silent s (grownTo (levelFor s (k .ask .size) (k .ask .mask)) t) t)
 
-  gate-head : deliverGateOf s a t ≡ pass → length (t .head) ≡ headWords
+  gate-some : deliverGateOf s a t ≡ pass → loanWords ≤ length (t .loans)
   unfolding deliverGateOf
-  gate-head e =
-      lent-in s a t (passed (gateRow (inTableOk s a t) (openFor (s .store .number) (a .order)) (soundOk s t && stillOk s a t (a .order)) (accountOk s a t)) e .0) .lengths .head
+  gate-some e =
+      let p = passed (gateRow (inTableOk s a t) (openFor (s .store .number) (a .order)) (soundOk s t && stillOk s a t (a .order)) (accountOk s a t)) e .0 in
+      omega (arith, lent-in s a t p .lengths .loans)
 
   stayed : (n : ℕ) → Stepped t t (Paper.refusal n [])
   stayed n = quiet t t (Paper.refusal n []) refl (refl, refl)
@@ -134,7 +133,7 @@ module _ (s : BuddySettings) (a : Account) (t : Tables) where
     unfolding carryDeliver
     after-delivery (refuse n) e x = stayed n
     after-delivery pass e Nothing = stayed 2
-    after-delivery pass e (Kept k) = ⊎-elim (λ d. rw d (fated (gate-head e) k (fateOf buddy o))) (λ d. rw d (stayed 13)) (told (deliveryOk (k .order .map) held o))
+    after-delivery pass e (Kept k) = ⊎-elim (λ d. rw d (fated (gate-some e) k (fateOf buddy o))) (λ d. rw d (stayed 13)) (told (deliveryOk (k .order .map) held o))
 
     -- a delivery
     pub deliver-stepped : Stepped t (deliverOf s a o t .tables) (deliverOf s a o t .said)
@@ -146,7 +145,7 @@ module _ (s : BuddySettings) (a : Account) (t : Tables) where
   module _ (b : Block) (list : List ℕ) where
     given-silent : (w : ℕ) → Silent t (givenTables s b w t)
     unfolding givenTables
-    given-silent w = (refl, refl)
+    given-silent w = (back-given s b w t, refl)
 
     released-stepped : (w : ℕ) → Stepped t (releasedBy s a b w t list .tables) (releasedBy s a b w t list .said)
     unfolding releasedBy

@@ -31,6 +31,7 @@ use Rattle.buddy_outcomes.specs.Deliver.{loanIn, asOrdered, carryFate, deliverO
 use Rattle.buddy_outcomes.specs.Return.{wordFor, climbFor, releasedBy, returnOf}
 use Rattle.buddy_outcomes.specs.SetUp.{freshTables, planSetUp, carrySetUp, setUpOf}
 use Rattle.buddy_outcomes.proofs.Comes.{AskComes, denied, lends, orders, ask-comes, DeliverComes, early, loses, keeps, deliver-comes, grown-loans, grown-chunks, denied-tables, taken-amid, served-amid, served-chunks}
+use Rattle.buddy_outcomes.proofs.Heads.{fresh-places}
 use Rattle.buddy_outcomes.proofs.Lendings.{taken-chunks}
 use Rattle.buddy_outcomes.proofs.Returned as Returned
 use Rattle.buddy_outcomes.proofs.Returned.{ReturnComes, return-comes}
@@ -89,7 +90,7 @@ unfolding setUpOf carrySetUp freshTables loansOf
 fresh-none s t = by (planSetUp s t)
   where
     by : (v : Verdict) → carrySetUp s t v .said ≡ Paper.ready → loansIn (carrySetUp s t v .tables) ≡ []
-    by pass e = refl
+    by pass e = ap (λ (n : ℕ). loansOf n (freshTables s .loans)) (fresh-places s)
     by (refuse n) e = not-refused Paper.ready n [] refl (sym e)
 
 -- ---- chunks

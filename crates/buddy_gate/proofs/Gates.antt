@@ -25,8 +25,9 @@ use Rattle.store_rules.specs.Tests.{coversOk}
 use Rattle.store_rules.specs.declared.Share.{Share}
 use Rattle.store_rules.proofs.Shares.{held-heap, held-table, held-free}
 use Rattle.book_rules.specs.Book.{indexWords}
+use Rattle.buddy_levels.specs.Seen.{levelPart}
 use Rattle.buddy_levels.proofs.Bounds.{node-bytes-most}
-use Rattle.buddy_rules.specs.Tables.{Tables, tables, headWords, chunkWords, chunkPlacesIn, chunkSizeIn, heldIn, highIn, nodesFrom, lengthsOk}
+use Rattle.buddy_rules.specs.Tables.{Tables, headWords, chunkWords, chunkPlacesIn, chunkSizeIn, heldIn, highIn, nodesFrom, lengthsOk}
 use Rattle.buddy_rules.specs.Sound.{Sound}
 use Rattle.buddy_rules.specs.Test.{soundOk}
 use Rattle.buddy_outcomes.specs.Gate.{inTableOk, heldCount, heldBytes, accountOk, gateOf}
@@ -103,15 +104,15 @@ module _ (s : BuddySettings) (t : Tables) (fit : BuddyIn s) (sound : Sound s t) 
 -- ---- the gate
 
 module _ (s : BuddySettings) (h : Heap) (objects : ℕ) (t : Tables) where
-  -- as the code counts, by head and chunks alone
+  -- as the code counts, by the chunks alone
   abbrev few : Tables
-  few = tables (t .head) [] (t .chunks) [] []
+  few = levelPart 0 (t .chunks) []
 
   abbrev pub covered : Bool
   covered = coversOk h objects (heldCount few (chunkPlacesIn t)) (heldBytes few (chunkPlacesIn t))
 
   pub covered-same : covered ≡ coversOk h objects (heldCount t (chunkPlacesIn t)) (heldBytes t (chunkPlacesIn t))
-  covered-same j = coversOk h objects (count-same few t refl refl (chunkPlacesIn t) j) (bytes-same few t refl refl (chunkPlacesIn t) j)
+  covered-same j = coversOk h objects (count-same few t refl (chunkPlacesIn t) j) (bytes-same few t refl (chunkPlacesIn t) j)
 
   pub store-torn : soundOk s t ≡ false → refuse 3 ≡ storeGate s h objects t
   unfolding storeGate

@@ -1,7 +1,7 @@
 -- The chunks held, counted place by place: how many, how many bytes.
 use mathlib.Core.Path.{_≡_, refl, sym, ap, _∙_}
 use mathlib.Core.Bool.{Bool, true, false, cond, not}
-use mathlib.Core.List.{List, []}
+use mathlib.Core.List.{List}
 use Prim.Native.Nat.{ℕ, zero, suc, _+_, _*_, _^_, _≤_, _<_}
 use native.Mathlib.Omega.{arith}
 use native.Mathlib.Numerals.{add-one}
@@ -10,22 +10,22 @@ use lib.ListN.{getD}
 use borrow.Author.Tests.{eqb-true, eq-eqb, ne-eqb}
 use Rattle.words.specs.Words.{cellOf}
 use Rattle.counter.specs.Limits.{minimalBits, levelsMost}
-use Rattle.buddy_rules.specs.Tables.{Tables, tables, chunkPlacesAt, chunkPlacesIn, chunkWords, chunkSizeAt, chunkSizeIn, heldIn}
+use Rattle.buddy_rules.specs.Tables.{Tables, chunkPlacesAt, chunkWords, chunkSizeAt, chunkSizeIn, heldIn}
 use Rattle.buddy_outcomes.specs.Gate.{heldCount, heldBytes}
 use Rattle.buddy_decide.proofs.Known.{held-same, seen, held-is}
 
--- ---- they are read off the number of chunk places and the chunks alone
+-- ---- they are read off the chunks alone
 
-module _ (t u : Tables) (n : chunkPlacesIn t ≡ chunkPlacesIn u) (e : t .chunks ≡ u .chunks) where
+module _ (t u : Tables) (e : t .chunks ≡ u .chunks) where
   pub count-same : (c : ℕ) → heldCount t c ≡ heldCount u c
   unfolding heldCount
   count-same zero = refl
-  count-same (suc c) = λ j. count-same c j + cond (held-same t u n e c j) 1 0
+  count-same (suc c) = λ j. count-same c j + cond (held-same t u e c j) 1 0
 
   pub bytes-same : (c : ℕ) → heldBytes t c ≡ heldBytes u c
   unfolding heldBytes
   bytes-same zero = refl
-  bytes-same (suc c) = λ j. bytes-same c j + cond (held-same t u n e c j) (getD (e j) (cellOf chunkSizeAt chunkWords c) 0) 0
+  bytes-same (suc c) = λ j. bytes-same c j + cond (held-same t u e c j) (getD (e j) (cellOf chunkSizeAt chunkWords c) 0) 0
 
 -- ---- how large they can be
 
@@ -53,23 +53,23 @@ bytes-low t n f (suc c) h = omega (arith, bytes-low t n f c (omega arith), one (
 
 -- ---- the next place
 
-module _ (n : ℕ) (chunks : List ℕ) where
+module _ (chunks : List ℕ) where
   abbrev part : Tables
-  part = seen n chunks
+  part = seen chunks
 
-  module _ (c v : ℕ) (below : c < n) (read : v ≡ getD chunks (cellOf chunkSizeAt chunkWords c) 0) where
+  module _ (c v : ℕ) (below : c < getD chunks chunkPlacesAt 0) (read : v ≡ getD chunks (cellOf chunkSizeAt chunkWords c) 0) where
     count-next : heldCount part (c + 1) ≡ heldCount part c + cond (heldIn part c) 1 0
     unfolding heldCount
     count-next = rw (add-one c) refl
 
     pub count-more : (count : ℕ) → count ≡ heldCount part c → (v ≡ 0 → ⊥) → count + 1 ≡ heldCount part (c + 1)
     count-more count e f =
-        let k : heldIn part c ≡ true = held-is n chunks c v below read ∙ ap not (ne-eqb v 0 f) in
+        let k : heldIn part c ≡ true = held-is chunks c v below read ∙ ap not (ne-eqb v 0 f) in
         (λ j. e j + cond (sym k j) 1 0) ∙ sym count-next
 
     pub count-none : (count : ℕ) → count ≡ heldCount part c → v ≡ 0 → count ≡ heldCount part (c + 1)
     count-none count e f =
-        let k : heldIn part c ≡ false = held-is n chunks c v below read ∙ ap not (eq-eqb v 0 f) in
+        let k : heldIn part c ≡ false = held-is chunks c v below read ∙ ap not (eq-eqb v 0 f) in
         let z : count ≡ count + 0 = omega arith in
         z ∙ (λ j. e j + cond (sym k j) 1 0) ∙ sym count-next
 
@@ -77,20 +77,8 @@ module _ (n : ℕ) (chunks : List ℕ) where
     pub bytes-next : (sum : ℕ) → sum ≡ heldBytes part c → sum + v ≡ heldBytes part (c + 1)
     unfolding heldBytes
     bytes-next sum e =
-        rw (add-one c) ((λ j. e j + own (eqb v 0) refl j) ∙ (λ j. heldBytes part c + cond (sym (held-is n chunks c v below read) j) (read j) 0))
+        rw (add-one c) ((λ j. e j + own (eqb v 0) refl j) ∙ (λ j. heldBytes part c + cond (sym (held-is chunks c v below read) j) (read j) 0))
       where
         own : (b : Bool) → eqb v 0 ≡ b → v ≡ cond (not b) v 0
         own true d = eqb-true v 0 d
         own false d = refl
-
--- ---- of the whole store
-
-module _ (n : ℕ) (head chunks : List ℕ) (is : n ≡ getD head chunkPlacesAt 0) where
-  abbrev all : Tables
-  all = tables head [] chunks [] []
-
-  pub count-is : (r : ℕ) → r ≡ heldCount (seen n chunks) n → r ≡ heldCount all (getD head chunkPlacesAt 0)
-  count-is r e = e ∙ count-same (seen n chunks) all is refl n ∙ ap (heldCount all) is
-
-  pub bytes-is : (r : ℕ) → r ≡ heldBytes (seen n chunks) n → r ≡ heldBytes all (getD head chunkPlacesAt 0)
-  bytes-is r e = e ∙ bytes-same (seen n chunks) all is refl n ∙ ap (heldBytes all) is

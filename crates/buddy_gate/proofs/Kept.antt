@@ -1,7 +1,6 @@
 -- The tests of a delivery's gate in the code's order come to the gate that is defined.
 use mathlib.Core.Path.{_≡_, refl, sym, ap, subst, _∙_}
 use mathlib.Core.Bool.{Bool, true, false}
-use mathlib.Core.List.{[]}
 use Prim.Native.Nat.{ℕ}
 use Rattle.counter.specs.Gate.{Verdict, pass, refuse}
 use Rattle.counter.specs.declared.account.Account.{Account}
@@ -16,13 +15,12 @@ use Rattle.store_rules.proofs.Holders.{holding, orderBy, holder}
 use Rattle.store_rules.specs.Tests.{openFor}
 use Rattle.store_rules.specs.declared.Share.{Share}
 use Rattle.store_rules.proofs.Shares.{held-heap}
-use Rattle.buddy_rules.specs.Tables.{Tables, tables}
+use Rattle.buddy_rules.specs.Tables.{Tables}
 use Rattle.buddy_rules.specs.Test.{soundOk}
 use Rattle.buddy_outcomes.specs.Ask.{decideAsk}
 use Rattle.buddy_outcomes.specs.Deliver.{stillOk, deliverGateOf}
 use Rattle.buddy_outcomes.specs.Gate.{inTableOk, accountOk}
 use Rattle.buddy_outcomes.proofs.Passing.{lent-in}
-use Rattle.buddy_decide.proofs.Fewer.{ask-few}
 use Rattle.buddy_gate.specs.Gates.{keptGate, PassingBuys, OpenBuys}
 use Rattle.buddy_gate.specs.declared.deliveries.Passing.{Passing}
 use Rattle.buddy_gate.proofs.Gates.{covered, covered-same, lent-held}
@@ -43,10 +41,7 @@ module _ (s : BuddySettings) (k : KeptOrder) where
 
 module _ (s : BuddySettings) (h : Heap) (objects : ℕ) (k : KeptOrder) (t : Tables) where
   abbrev pub still : Bool
-  still = leadsTo (s .store) (k .order) (decideAsk s h objects (k .ask .size) (k .ask .mask) (tables (t .head) [] [] (t .index) (t .room)))
-
-  still-is : still ≡ leadsTo (s .store) (k .order) (decideAsk s h objects (k .ask .size) (k .ask .mask) t)
-  still-is = ap (leadsTo (s .store) (k .order)) (ask-few s t h objects (k .ask .size) (k .ask .mask))
+  still = leadsTo (s .store) (k .order) (decideAsk s h objects (k .ask .size) (k .ask .mask) t)
 
   pub kept-torn : soundOk s t ≡ false → refuse 3 ≡ keptGate s h objects k t
   unfolding keptGate
@@ -54,15 +49,15 @@ module _ (s : BuddySettings) (h : Heap) (objects : ℕ) (k : KeptOrder) (t : Tab
 
   pub kept-other : soundOk s t ≡ true → still ≡ false → refuse 3 ≡ keptGate s h objects k t
   unfolding keptGate
-  kept-other e f = rw (e, sym still-is ∙ f) refl
+  kept-other e f = rw (e, f) refl
 
   pub kept-short : soundOk s t ≡ true → still ≡ true → covered s h objects t ≡ false → refuse 4 ≡ keptGate s h objects k t
   unfolding keptGate
-  kept-short e f g = rw (e, sym still-is ∙ f, sym (covered-same s h objects t) ∙ g) refl
+  kept-short e f g = rw (e, f, sym (covered-same s h objects t) ∙ g) refl
 
   pub kept-go : soundOk s t ≡ true → still ≡ true → covered s h objects t ≡ true → pass ≡ keptGate s h objects k t
   unfolding keptGate
-  kept-go e f g = rw (e, sym still-is ∙ f, sym (covered-same s h objects t) ∙ g) refl
+  kept-go e f g = rw (e, f, sym (covered-same s h objects t) ∙ g) refl
 
 -- told of the share, whatever order is open
 module _ (s : BuddySettings) (share : Share) (o : OpenOrder) (t : Tables) where

@@ -1,6 +1,5 @@
 // The gate of a delivery: the tests 1 to 4, of which 3 tests the kept ask again. What that ask needs goes on to what carries it out.
 ghost use mathlib.Core.Path.{_≡_};
-ghost use mathlib.Core.List.{[]};
 ghost use Prim.Native.Nat.{_≤_};
 ghost use lib.ListN.{getD};
 ghost use Rattle.counter.specs.InTable.{BuddyIn};
@@ -38,16 +37,29 @@ fn is_still(
     objects: u32,
     k: KeptOrder,
     head: &[u64],
+    loans: &[u64],
+    chunks: &[u64],
     index: &[u64],
     tree: &[u64],
 ) -> Still
     requires { ⌜ BuddyIn s × (getD (now head) levelsAt 0 ≤ levelsMost) ⌝ }
-    ensures { λ r. ⌜ stillOf r ≡ leadsTo (s .store) (k .order) (decideAsk s h objects (k .ask .size) (k .ask .mask) (tables (now (head .entry)) [] [] (now (index .entry)) (now (tree .entry)))) ⌝ }
-    ensures { λ r. ⌜ StillBuys s k (tables (now (head .entry)) [] [] (now (index .entry)) (now (tree .entry))) r ⌝ }
+    ensures { λ r. ⌜ stillOf r ≡ leadsTo (s .store) (k .order) (decideAsk s h objects (k .ask .size) (k .ask .mask) (tables (now (head .entry)) (now (loans .entry)) (now (chunks .entry)) (now (index .entry)) (now (tree .entry)))) ⌝ }
+    ensures { λ r. ⌜ StillBuys s k (tables (now (head .entry)) (now (loans .entry)) (now (chunks .entry)) (now (index .entry)) (now (tree .entry))) r ⌝ }
 {
     let ask = k.ask;
     let order = k.order;
-    let plan = buddy_decide::decide(s, h, objects, ask.size, ask.mask, head, index, tree);
+    let plan = buddy_decide::decide(
+        s,
+        h,
+        objects,
+        ask.size,
+        ask.mask,
+        head,
+        loans,
+        chunks,
+        index,
+        tree,
+    );
     match plan {
         Plan::Refuse(_) => Still::No,
         Plan::Lack(_) => Still::No,
@@ -80,11 +92,11 @@ fn gate_kept(
     if !buddy_test::is_sound(s, head, loans, chunks, index, tree) {
         return Passing::Shut(Refusal::Torn);
     }
-    let still = is_still(s, h, objects, k, head, index, tree);
+    let still = is_still(s, h, objects, k, head, loans, chunks, index, tree);
     match still {
         Still::No => Passing::Shut(Refusal::Torn),
         Still::Yes(b) => {
-            if crate::gating::is_covered(h, objects, head, chunks) {
+            if crate::gating::is_covered(h, objects, chunks) {
                 return Passing::Go(b);
             }
             Passing::Shut(Refusal::Account)

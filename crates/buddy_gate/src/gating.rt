@@ -87,7 +87,8 @@ pub fn is_in_table(
 
 // How many chunks stand at the first n places.
 fn held_count(chunks: &[u64], n: u64) -> u64
-    ensures { λ r. ⌜ r ≡ heldCount (levelPart 0 n (now (chunks .entry)) []) n ⌝ }
+    requires { ⌜ n ≡ getD (now chunks) chunkPlacesAt 0 ⌝ }
+    ensures { λ r. ⌜ r ≡ heldCount (levelPart 0 (now (chunks .entry)) []) n ⌝ }
 {
     let mut count = 0;
     let mut c = 0;
@@ -102,8 +103,8 @@ fn held_count(chunks: &[u64], n: u64) -> u64
 
 // And how many bytes they have.
 fn held_bytes(chunks: &[u64], n: u64) -> u64
-    requires { ⌜ (n ≤ chunksMost) × ((c : _) → c < n → getD (now chunks) (cellOf chunkSizeAt chunkWords c) 0 ≤ 2 ^ (minimalBits + levelsMost)) ⌝ }
-    ensures { λ r. ⌜ r ≡ heldBytes (levelPart 0 n (now (chunks .entry)) []) n ⌝ }
+    requires { ⌜ (n ≤ chunksMost) × ((c : _) → c < n → getD (now chunks) (cellOf chunkSizeAt chunkWords c) 0 ≤ 2 ^ (minimalBits + levelsMost)) × (n ≡ getD (now chunks) chunkPlacesAt 0) ⌝ }
+    ensures { λ r. ⌜ r ≡ heldBytes (levelPart 0 (now (chunks .entry)) []) n ⌝ }
 {
     let mut sum = 0;
     let mut c = 0;
@@ -115,11 +116,11 @@ fn held_bytes(chunks: &[u64], n: u64) -> u64
 }
 
 // Test 4, of the store's own heap.
-pub fn is_covered(h: Heap, objects: u32, head: &[u64], chunks: &[u64]) -> bool
-    requires { ⌜ (getD (now head) chunkPlacesAt 0 ≤ chunksMost) × ((c : _) → c < getD (now head) chunkPlacesAt 0 → getD (now chunks) (cellOf chunkSizeAt chunkWords c) 0 ≤ 2 ^ (minimalBits + levelsMost)) ⌝ }
-    ensures { λ r. ⌜ r ≡ coversOk h objects (heldCount (tables (now (head .entry)) [] (now (chunks .entry)) [] []) (getD (now (head .entry)) chunkPlacesAt 0)) (heldBytes (tables (now (head .entry)) [] (now (chunks .entry)) [] []) (getD (now (head .entry)) chunkPlacesAt 0)) ⌝ }
+pub fn is_covered(h: Heap, objects: u32, chunks: &[u64]) -> bool
+    requires { ⌜ (getD (now chunks) chunkPlacesAt 0 ≤ chunksMost) × ((c : _) → c < getD (now chunks) chunkPlacesAt 0 → getD (now chunks) (cellOf chunkSizeAt chunkWords c) 0 ≤ 2 ^ (minimalBits + levelsMost)) ⌝ }
+    ensures { λ r. ⌜ r ≡ coversOk h objects (heldCount (levelPart 0 (now (chunks .entry)) []) (getD (now (chunks .entry)) chunkPlacesAt 0)) (heldBytes (levelPart 0 (now (chunks .entry)) []) (getD (now (chunks .entry)) chunkPlacesAt 0)) ⌝ }
 {
-    let n = words::word(head, CHUNK_PLACES_AT);
+    let n = words::word(chunks, CHUNK_PLACES_AT);
     store_accounts::covers(h, objects, held_count(chunks, n), held_bytes(chunks, n))
 }
 
@@ -140,7 +141,7 @@ fn gate_store(
     if !buddy_test::is_sound(s, head, loans, chunks, index, tree) {
         return Gate::Shut(Refusal::Torn);
     }
-    if !is_covered(h, objects, head, chunks) {
+    if !is_covered(h, objects, chunks) {
         return Gate::Shut(Refusal::Account);
     }
     Gate::Go

@@ -9,7 +9,7 @@ use Rattle.slab.specs.Slab.{nowhere}
 use Rattle.store_rules.specs.Loans.{loanWords}
 use Rattle.book_rules.specs.Book.{freshIndex}
 use Rattle.buddy_rules.specs.Level.{freshLevel, levelStart}
-use Rattle.buddy_rules.specs.Tables.{tables, givenAt, levelsAt, placesAt, chunkPlacesAt, headWords, chunkWords, chunksFrom, treeWords, levelFrom, initialLevels, marks}
+use Rattle.buddy_rules.specs.Tables.{tables, levelsAt, headWords, chunkWords, chunksFrom, treeWords, levelFrom, initialLevels, marks}
 use Rattle.buddy_outcomes.specs.Ask.{freshLevels, grownTables}
 use Rattle.buddy_outcomes.specs.SetUp.{freshHead, freshTables}
 use Rattle.words.specs.Words.{markAt, blank}
@@ -50,14 +50,11 @@ module _ (s : BuddySettings) where
 
 -- ---- at set-up
 
-pub head-fresh : (t : List ℕ) (n : ℕ) → length t ≡ headWords → set (set (set (set (set t markAt (marks .head)) givenAt 0) levelsAt n) placesAt 0) chunkPlacesAt 0 ≡ marks .head ∷ 0 ∷ n ∷ 0 ∷ 0 ∷ []
+pub head-fresh : (t : List ℕ) (n : ℕ) → length t ≡ headWords → set (set t markAt (marks .head)) levelsAt n ≡ marks .head ∷ n ∷ []
 head-fresh [] n l = absurd (omega arith)
 head-fresh (a ∷ []) n l = absurd (omega arith)
-head-fresh (a ∷ b ∷ []) n l = absurd (omega arith)
-head-fresh (a ∷ b ∷ c ∷ []) n l = absurd (omega arith)
-head-fresh (a ∷ b ∷ c ∷ d ∷ []) n l = absurd (omega arith)
-head-fresh (a ∷ b ∷ c ∷ d ∷ f ∷ []) n l = refl
-head-fresh (a ∷ b ∷ c ∷ d ∷ f ∷ g ∷ t) n l = absurd (omega arith)
+head-fresh (a ∷ b ∷ []) n l = refl
+head-fresh (a ∷ b ∷ c ∷ t) n l = absurd (omega arith)
 
 pub fresh-done : (s : BuddySettings) (h l c i r : List ℕ) → h ≡ freshHead s → l ≡ blank (loanWords + loanWords * s .store .loans) (marks .loans) 0 → c ≡ blank (chunkWords + chunkWords * s .store .chunks) (marks .chunks) 0
     → i ≡ freshIndex (marks .index) (s .store .loans) → r ≡ set (freshLevels s 0 (initialLevels s) (blank (treeWords s) (marks .room) 0)) (chunksFrom s) nowhere

@@ -12,29 +12,23 @@ ghost use Rattle.book_rules.specs.Book.{indexWords, freshIndex};
 ghost use Rattle.buddy_rules.specs.Tables.{tables, Lengths, marks, headWords, chunkWords, chunksFrom, treeWords, initialLevels};
 ghost use Rattle.buddy_outcomes.specs.Ask.{freshLevels};
 ghost use Rattle.buddy_outcomes.specs.SetUp.{freshHead, freshTables};
-use buddy_rules::CHUNK_PLACES_AT;
 use buddy_rules::CHUNKS_MARK;
-use buddy_rules::GIVEN_AT;
 use buddy_rules::HEAD_MARK;
 use buddy_rules::INDEX_MARK;
 use buddy_rules::LEVELS_AT;
 use buddy_rules::LOANS_MARK;
-use buddy_rules::PLACES_AT;
 use buddy_rules::ROOM_MARK;
 use counter::BuddySettings;
 use slab::NOWHERE;
 use words::MARK_AT;
 
-// The mark; nothing given, so many levels, no place used.
+// The mark, and so many levels.
 fn fresh_head(levels: u64, head: &mut [u64])
     requires { ⌜ length (now head) ≡ headWords ⌝ }
-    ensures { λ _. ⌜ now (head .exit) ≡ marks .head ∷ 0 ∷ levels ∷ 0 ∷ 0 ∷ [] ⌝ }
+    ensures { λ _. ⌜ now (head .exit) ≡ marks .head ∷ levels ∷ [] ⌝ }
 {
     words::put(head, MARK_AT, HEAD_MARK);
-    words::put(head, GIVEN_AT, 0);
     words::put(head, LEVELS_AT, levels);
-    words::put(head, PLACES_AT, 0);
-    words::put(head, CHUNK_PLACES_AT, 0);
 }
 
 // So many levels are there and empty, and no chunk place is vacated; every other word behind the mark is 0.

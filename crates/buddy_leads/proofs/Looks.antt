@@ -14,11 +14,11 @@ use Rattle.words.proofs.Records.{cell-row}
 use Rattle.rounding_rules.specs.Raising.{levelOf}
 use Rattle.counter.specs.Limits.{levelsMost}
 use Rattle.slab.specs.Slab.{nowhere}
-use Rattle.store_rules.specs.Loans.{loanWords, chunkAt, sizeAt, loanRow}
+use Rattle.store_rules.specs.Loans.{placesAt, loanWords, chunkAt, sizeAt, loanRow}
 use Rattle.store_rules.specs.declared.Loan.{Loan}
 use Rattle.buddy_rules.specs.Nodes.{loanWord, splitWord, vacant, Ent, pairOf, isLeft}
 use Rattle.buddy_rules.specs.Level.{usedAt, pairIn, levelStart}
-use Rattle.buddy_rules.specs.Tables.{chunkWords, chunkSizeAt, placeWords, topAt}
+use Rattle.buddy_rules.specs.Tables.{chunkPlacesAt, chunkWords, chunkSizeAt, placeWords, topAt}
 use Rattle.buddy_rules.specs.Test.{every, leadsOk, pairOk, loanOk}
 use Rattle.buddy_rules.proofs.Tests.{every-stop, every-next}
 use Rattle.buddy_levels.specs.Seen.{partSettings, partTables, levelPart}
@@ -34,31 +34,31 @@ module _ (f : ℕ → Bool) (i : ℕ) (r : Bool) (is : r ≡ f i) where
 
 -- ---- a chunk's top node
 
-module _ (minimal pairs held level chunk w : ℕ) (chunks tree : List ℕ) where
+module _ (minimal pairs held level chunk w : ℕ) (chunks tree : List ℕ) (count : held ≡ getD chunks chunkPlacesAt 0) where
   abbrev topOk : Bool
-  topOk = leadsOk (partSettings minimal pairs 0) (levelPart 0 held chunks tree) level chunk nowhere w
+  topOk = leadsOk (partSettings minimal pairs 0) (levelPart 0 chunks tree) level chunk nowhere w
 
   pub top-none : held ≤ chunk → topOk ≡ false
   unfolding leadsOk
-  top-none h = rw (le-ltb chunk held h) refl
+  top-none h = rw (sym count, le-ltb chunk held h) refl
 
   pub top-vacant : (size : ℕ) → size ≡ getD chunks (cellOf chunkSizeAt chunkWords chunk) 0 → chunk < held → size ≡ 0 → topOk ≡ false
   unfolding leadsOk
-  top-vacant size e h z = rw (lt-ltb chunk held h, sym e, z) refl
+  top-vacant size e h z = rw (sym count, lt-ltb chunk held h, sym e, z) refl
 
   pub top-is : (size at top high : ℕ) → size ≡ getD chunks (cellOf chunkSizeAt chunkWords chunk) 0 → chunk < held → (size ≡ 0 → ⊥) → at ≡ levelStart pairs levelsMost
       → top ≡ getD tree (cellOf (at + (placeWords + topAt)) placeWords chunk) 0 → high ≡ levelOf size minimal
       → (eqb high level && eqb top w) ≡ topOk
   unfolding leadsOk
-  top-is size at top high e h z a t l = rw (lt-ltb chunk held h, sym e, ne-eqb size 0 z, sym l, sym a, sym t) refl
+  top-is size at top high e h z a t l = rw (sym count, lt-ltb chunk held h, sym e, ne-eqb size 0 z, sym l, sym a, sym t) refl
 
 -- ---- a node
 
-module _ (minimal pairs levels held level chunk node w : ℕ) (chunks tree : List ℕ) where
+module _ (minimal pairs levels level chunk node w : ℕ) (chunks tree : List ℕ) where
   abbrev leadOk : Bool
-  leadOk = leadsOk (partSettings minimal pairs 0) (levelPart levels held chunks tree) level chunk node w
+  leadOk = leadsOk (partSettings minimal pairs 0) (levelPart levels chunks tree) level chunk node w
 
-  pub lead-top : (r : Bool) → r ≡ leadsOk (partSettings minimal pairs 0) (levelPart 0 held chunks tree) level chunk nowhere w → node ≡ nowhere → r ≡ leadOk
+  pub lead-top : (r : Bool) → r ≡ leadsOk (partSettings minimal pairs 0) (levelPart 0 chunks tree) level chunk nowhere w → node ≡ nowhere → r ≡ leadOk
   unfolding leadsOk
   lead-top r e z = e ∙ rw (eq-eqb node nowhere z) refl
 
@@ -89,13 +89,13 @@ module _ (minimal pairs levels held level chunk node w : ℕ) (chunks tree : Lis
 
 -- ---- a pair
 
-module _ (minimal pairs levels held level p : ℕ) (chunks tree : List ℕ) (e : Ent) (base : ℕ) (at : base ≡ levelStart pairs level) (is : e ≡ pairIn base tree p) where
+module _ (minimal pairs levels level p : ℕ) (chunks tree : List ℕ) (e : Ent) (base : ℕ) (at : base ≡ levelStart pairs level) (is : e ≡ pairIn base tree p) where
   abbrev ledOk : Bool
-  ledOk = pairOk (partSettings minimal pairs 0) (levelPart levels held chunks tree) level p
+  ledOk = pairOk (partSettings minimal pairs 0) (levelPart levels chunks tree) level p
 
   -- the same, of the entry x
   abbrev ledBy : Ent → Bool
-  ledBy x = eqb (x .tag) vacant || leadsOk (partSettings minimal pairs 0) (levelPart levels held chunks tree) (suc level) (x .chunk) (x .up) (splitWord p)
+  ledBy x = eqb (x .tag) vacant || leadsOk (partSettings minimal pairs 0) (levelPart levels chunks tree) (suc level) (x .chunk) (x .up) (splitWord p)
 
   led-by : ledBy e ≡ ledOk
   unfolding pairOk
@@ -104,40 +104,35 @@ module _ (minimal pairs levels held level p : ℕ) (chunks tree : List ℕ) (e :
   pub led-none : e .tag ≡ vacant → true ≡ ledOk
   led-none z = sym (or-left (eqb (e .tag) vacant) _ (eq-eqb (e .tag) vacant z)) ∙ led-by
 
-  pub led-is : (w : ℕ) (r : Bool) → (e .tag ≡ vacant → ⊥) → w ≡ splitWord p → r ≡ leadsOk (partSettings minimal pairs 0) (levelPart levels held chunks tree) (level + 1) (e .chunk) (e .up) w → r ≡ ledOk
+  pub led-is : (w : ℕ) (r : Bool) → (e .tag ≡ vacant → ⊥) → w ≡ splitWord p → r ≡ leadsOk (partSettings minimal pairs 0) (levelPart levels chunks tree) (level + 1) (e .chunk) (e .up) w → r ≡ ledOk
   led-is w r z g f =
       let up : level + 1 ≡ suc level = omega arith in
-      let by : leadsOk (partSettings minimal pairs 0) (levelPart levels held chunks tree) (level + 1) (e .chunk) (e .up) w ≡ ledBy e = rw (up, g, ne-eqb (e .tag) vacant z) refl in
+      let by : leadsOk (partSettings minimal pairs 0) (levelPart levels chunks tree) (level + 1) (e .chunk) (e .up) w ≡ ledBy e = rw (up, g, ne-eqb (e .tag) vacant z) refl in
       f ∙ by ∙ led-by
 
 -- ---- the pairs of a level
 
-module _ (minimal pairs levels held : ℕ) (chunks tree : List ℕ) where
+module _ (minimal pairs levels : ℕ) (chunks tree : List ℕ) where
   abbrev pub levelLed : ℕ → Bool
-  levelLed l = every (pairOk (partSettings minimal pairs 0) (levelPart levels held chunks tree) l) (getD tree (levelStart pairs l + usedAt) 0)
+  levelLed l = every (pairOk (partSettings minimal pairs 0) (levelPart levels chunks tree) l) (getD tree (levelStart pairs l + usedAt) 0)
 
   module _ (l base n : ℕ) (at : base ≡ levelStart pairs l) (is : n ≡ getD tree (base + usedAt) 0) where
     pub used-is : n ≡ getD tree (levelStart pairs l + usedAt) 0
     used-is = is ∙ ap (λ (x : ℕ). getD tree (x + usedAt) 0) at
 
-    pub level-led : (r : Bool) → r ≡ every (pairOk (partSettings minimal pairs 0) (levelPart levels held chunks tree) l) n → r ≡ levelLed l
-    level-led r e = e ∙ ap (every (pairOk (partSettings minimal pairs 0) (levelPart levels held chunks tree) l)) used-is
+    pub level-led : (r : Bool) → r ≡ every (pairOk (partSettings minimal pairs 0) (levelPart levels chunks tree) l) n → r ≡ levelLed l
+    level-led r e = e ∙ ap (every (pairOk (partSettings minimal pairs 0) (levelPart levels chunks tree) l)) used-is
 
 -- ---- a loan
 
-module _ (minimal pairs most levels held place : ℕ) (loans chunks tree : List ℕ) where
-  abbrev lentOk : ℕ → Bool
-  lentOk places = loanOk (partSettings minimal pairs most) (partTables levels places held loans chunks tree) place
+module _ (minimal pairs most levels place : ℕ) (loans chunks tree : List ℕ) (used : place < getD loans placesAt 0) where
+  abbrev lentOk : Bool
+  lentOk = loanOk (partSettings minimal pairs most) (partTables levels loans chunks tree) place
 
-  in-place : ltb place (place + 1) ≡ true
-  in-place = lt-ltb place (place + 1) (omega arith)
+  in-place : ltb place (getD loans placesAt 0) ≡ true
+  in-place = lt-ltb place (getD loans placesAt 0) used
 
-  -- any number of places past this one will do
-  pub lent-same : (n : ℕ) (r : Bool) → place < n → r ≡ lentOk (place + 1) → r ≡ lentOk n
-  unfolding loanOk leadsOk
-  lent-same n r h e = e ∙ rw (lt-ltb place n h, in-place) refl
-
-  lead-same : (l c n w : ℕ) → leadsOk (partSettings minimal pairs 0) (levelPart levels held chunks tree) l c n w ≡ leadsOk (partSettings minimal pairs most) (partTables levels (place + 1) held loans chunks tree) l c n w
+  lead-same : (l c n w : ℕ) → leadsOk (partSettings minimal pairs 0) (levelPart levels chunks tree) l c n w ≡ leadsOk (partSettings minimal pairs most) (partTables levels loans chunks tree) l c n w
   unfolding leadsOk
   lead-same l c n w = refl
 
@@ -148,12 +143,12 @@ module _ (minimal pairs most levels held place : ℕ) (loans chunks tree : List 
     chunk-is : l .chunk ≡ getD loans (cellOf chunkAt loanWords place) 0
     chunk-is = ap (λ (x : Loan). x .chunk) is ∙ sym (cell-row loans chunkAt loanWords place)
 
-    pub lent-none : l .size ≡ 0 → true ≡ lentOk (place + 1)
+    pub lent-none : l .size ≡ 0 → true ≡ lentOk
     unfolding loanOk
     lent-none z = rw (in-place, sym size-is, eq-eqb (l .size) 0 z) refl
 
     pub lent-is : (r : Bool) (level from node w : ℕ) → (l .size ≡ 0 → ⊥) → level ≡ levelOf (l .size) minimal → from ≡ levelStart pairs levelsMost + (placeWords + placeWords * most)
-        → node ≡ getD tree (from + place) 0 → w ≡ loanWord place → r ≡ leadsOk (partSettings minimal pairs 0) (levelPart levels held chunks tree) level (l .chunk) node w → r ≡ lentOk (place + 1)
+        → node ≡ getD tree (from + place) 0 → w ≡ loanWord place → r ≡ leadsOk (partSettings minimal pairs 0) (levelPart levels chunks tree) level (l .chunk) node w → r ≡ lentOk
     unfolding loanOk
     lent-is r level from node w z e f g k h =
         rw (in-place, sym size-is, ne-eqb (l .size) 0 z, sym e, sym chunk-is, sym f, sym g, sym k) (h ∙ lead-same level (l .chunk) node w)

@@ -4,7 +4,9 @@ ghost use Prim.Native.Nat.{_+_, _≤_, _<_};
 ghost use lib.ListN.{getD};
 ghost use Rattle.counter.specs.Limits.{levelsMost, pairsMost, loansMost, chunksMost};
 ghost use Rattle.slab.specs.Slab.{nowhere};
+ghost use Rattle.store_rules.specs.Loans.{placesAt};
 ghost use Rattle.buddy_rules.specs.Level.{usedAt, levelStart};
+ghost use Rattle.buddy_rules.specs.Tables.{chunkPlacesAt};
 ghost use Rattle.buddy_rules.specs.Test.{every, leadsOk, pairOk, loanOk};
 ghost use Rattle.buddy_levels.specs.Seen.{partSettings, partTables, levelPart};
 use buddy_levels::USED_AT;
@@ -26,8 +28,8 @@ fn is_top(
     chunks: &[u64],
     tree: &[u64],
 ) -> bool
-    requires { ⌜ pairs ≤ pairsMost ⌝ }
-    ensures { λ r. ⌜ r ≡ leadsOk (partSettings minimal pairs 0) (levelPart 0 held (now (chunks .entry)) (now (tree .entry))) level chunk nowhere word ⌝ }
+    requires { ⌜ (pairs ≤ pairsMost) × (held ≡ getD (now chunks) chunkPlacesAt 0) ⌝ }
+    ensures { λ r. ⌜ r ≡ leadsOk (partSettings minimal pairs 0) (levelPart 0 (now (chunks .entry)) (now (tree .entry))) level chunk nowhere word ⌝ }
 {
     if held <= chunk {
         return false;
@@ -54,8 +56,8 @@ fn leads_to(
     chunks: &[u64],
     tree: &[u64],
 ) -> bool
-    requires { ⌜ (pairs ≤ pairsMost) × (levels ≤ levelsMost) ⌝ }
-    ensures { λ r. ⌜ r ≡ leadsOk (partSettings minimal pairs 0) (levelPart levels held (now (chunks .entry)) (now (tree .entry))) level chunk node word ⌝ }
+    requires { ⌜ (pairs ≤ pairsMost) × (levels ≤ levelsMost) × (held ≡ getD (now chunks) chunkPlacesAt 0) ⌝ }
+    ensures { λ r. ⌜ r ≡ leadsOk (partSettings minimal pairs 0) (levelPart levels (now (chunks .entry)) (now (tree .entry))) level chunk node word ⌝ }
 {
     if node == NOWHERE {
         return is_top(minimal, pairs, held, level, chunk, word, chunks, tree);
@@ -81,8 +83,8 @@ fn is_led(
     chunks: &[u64],
     tree: &[u64],
 ) -> bool
-    requires { ⌜ (pairs ≤ pairsMost) × (levels ≤ levelsMost) × (level < levelsMost) × (p < pairsMost) ⌝ }
-    ensures { λ r. ⌜ r ≡ pairOk (partSettings minimal pairs 0) (levelPart levels held (now (chunks .entry)) (now (tree .entry))) level p ⌝ }
+    requires { ⌜ (pairs ≤ pairsMost) × (levels ≤ levelsMost) × (level < levelsMost) × (p < pairsMost) × (held ≡ getD (now chunks) chunkPlacesAt 0) ⌝ }
+    ensures { λ r. ⌜ r ≡ pairOk (partSettings minimal pairs 0) (levelPart levels (now (chunks .entry)) (now (tree .entry))) level p ⌝ }
 {
     let e = buddy_levels::pair_in(tree, buddy_levels::level_from(pairs, level as usize), p);
     if e.tag == VACANT {
@@ -113,8 +115,8 @@ fn are_led(
     chunks: &[u64],
     tree: &[u64],
 ) -> bool
-    requires { ⌜ (pairs ≤ pairsMost) × (levels ≤ levelsMost) × (level < levelsMost) × (n ≤ pairsMost) ⌝ }
-    ensures { λ r. ⌜ r ≡ every (pairOk (partSettings minimal pairs 0) (levelPart levels held (now (chunks .entry)) (now (tree .entry))) level) n ⌝ }
+    requires { ⌜ (pairs ≤ pairsMost) × (levels ≤ levelsMost) × (level < levelsMost) × (n ≤ pairsMost) × (held ≡ getD (now chunks) chunkPlacesAt 0) ⌝ }
+    ensures { λ r. ⌜ r ≡ every (pairOk (partSettings minimal pairs 0) (levelPart levels (now (chunks .entry)) (now (tree .entry))) level) n ⌝ }
 {
     let mut p = 0;
     while p < n {
@@ -135,8 +137,8 @@ pub fn are_pairs(
     chunks: &[u64],
     tree: &[u64],
 ) -> bool
-    requires { ⌜ (pairs ≤ pairsMost) × (levels ≤ levelsMost) × ((l : _) → l < levels → getD (now tree) (levelStart pairs l + usedAt) 0 ≤ pairsMost) ⌝ }
-    ensures { λ r. ⌜ r ≡ every (λ l. every (pairOk (partSettings minimal pairs 0) (levelPart levels held (now (chunks .entry)) (now (tree .entry))) l) (getD (now (tree .entry)) (levelStart pairs l + usedAt) 0)) levels ⌝ }
+    requires { ⌜ (pairs ≤ pairsMost) × (levels ≤ levelsMost) × ((l : _) → l < levels → getD (now tree) (levelStart pairs l + usedAt) 0 ≤ pairsMost) × (held ≡ getD (now chunks) chunkPlacesAt 0) ⌝ }
+    ensures { λ r. ⌜ r ≡ every (λ l. every (pairOk (partSettings minimal pairs 0) (levelPart levels (now (chunks .entry)) (now (tree .entry))) l) (getD (now (tree .entry)) (levelStart pairs l + usedAt) 0)) levels ⌝ }
 {
     let mut l = 0;
     while l < levels {
@@ -161,8 +163,8 @@ fn is_loan_led(
     chunks: &[u64],
     tree: &[u64],
 ) -> bool
-    requires { ⌜ (pairs ≤ pairsMost) × (most ≤ chunksMost) × (levels ≤ levelsMost) × (place < loansMost) ⌝ }
-    ensures { λ r. ⌜ r ≡ loanOk (partSettings minimal pairs most) (partTables levels (place + 1) held (now (loans .entry)) (now (chunks .entry)) (now (tree .entry))) place ⌝ }
+    requires { ⌜ (pairs ≤ pairsMost) × (most ≤ chunksMost) × (levels ≤ levelsMost) × (place < loansMost) × (held ≡ getD (now chunks) chunkPlacesAt 0) × (place < getD (now loans) placesAt 0) ⌝ }
+    ensures { λ r. ⌜ r ≡ loanOk (partSettings minimal pairs most) (partTables levels (now (loans .entry)) (now (chunks .entry)) (now (tree .entry))) place ⌝ }
 {
     let l = book::loan_at(loans, place as usize);
     if l.size == 0 {
@@ -196,8 +198,8 @@ pub fn are_lent(
     chunks: &[u64],
     tree: &[u64],
 ) -> bool
-    requires { ⌜ (pairs ≤ pairsMost) × (most ≤ chunksMost) × (levels ≤ levelsMost) × (n ≤ loansMost) ⌝ }
-    ensures { λ r. ⌜ r ≡ every (loanOk (partSettings minimal pairs most) (partTables levels n held (now (loans .entry)) (now (chunks .entry)) (now (tree .entry)))) n ⌝ }
+    requires { ⌜ (pairs ≤ pairsMost) × (most ≤ chunksMost) × (levels ≤ levelsMost) × (n ≤ loansMost) × (held ≡ getD (now chunks) chunkPlacesAt 0) × (n ≡ getD (now loans) placesAt 0) ⌝ }
+    ensures { λ r. ⌜ r ≡ every (loanOk (partSettings minimal pairs most) (partTables levels (now (loans .entry)) (now (chunks .entry)) (now (tree .entry)))) n ⌝ }
 {
     let mut k = 0;
     while k < n {

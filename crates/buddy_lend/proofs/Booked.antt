@@ -7,42 +7,42 @@ use Rattle.words.specs.Rows.{written}
 use Rattle.counter.specs.Limits.{levelsMost}
 use Rattle.counter.specs.declared.settings.BuddySettings.{BuddySettings}
 use Rattle.slab.specs.declared.Taken.{Taken}
-use Rattle.store_rules.specs.Loans.{loan, loanRow}
+use Rattle.store_rules.specs.Loans.{givenAt, placesAt, loan, loanRow}
 use Rattle.store_rules.specs.declared.Loan.{Loan}
-use Rattle.book_rules.specs.Book.{vacatedAt, firstOf, nextOf, takenOf, entered, firstIn, enteredIndex}
+use Rattle.book_rules.specs.Book.{vacatedAt, firstOf, nextOf, takenOf, counted, entered, firstIn, enteredIndex}
 use Rattle.book.proofs.Entering.{entered-loans, entered-index}
 use Rattle.buddy_rules.specs.Level.{levelStart}
-use Rattle.buddy_rules.specs.Tables.{Tables, tables, givenAt, placesAt, placeWords, nodesFrom}
+use Rattle.buddy_rules.specs.Tables.{Tables, tables, placeWords, nodesFrom}
 use Rattle.buddy_outcomes.specs.Ask.{bookedTables}
 
-module _ (s : BuddySettings) (head index : List ℕ) (taken : Taken) (next : taken ≡ takenOf (getD head placesAt 0) index) where
+module _ (s : BuddySettings) (loans index : List ℕ) (taken : Taken) (next : taken ≡ takenOf (getD loans placesAt 0) index) where
   -- the place that the loan takes is one of the store's
-  pub place-in : takenOf (getD head placesAt 0) index .place < s .store .loans → taken .place < s .store .loans
-  place-in h = let e : taken .place ≡ takenOf (getD head placesAt 0) index .place = ap (λ (x : Taken). x .place) next in rw e h
+  pub place-in : takenOf (getD loans placesAt 0) index .place < s .store .loans → taken .place < s .store .loans
+  place-in h = let e : taken .place ≡ takenOf (getD loans placesAt 0) index .place = ap (λ (x : Taken). x .place) next in rw e h
 
-  module _ (l : Loan) (serial : l .serial ≡ getD head givenAt 0 + 1) (node : ℕ) (loans tree : List ℕ) where
+  module _ (l : Loan) (serial : l .serial ≡ getD loans givenAt 0 + 1) (node : ℕ) (head tree : List ℕ) where
     abbrev Places : ℕ
-    Places = getD head placesAt 0
+    Places = getD loans placesAt 0
 
     -- the tables as the loan leaves them
     abbrev after : Taken → ℕ → Tables
     after t g =
         tables
-        (set (set head givenAt g) placesAt (t .slab .places))
+        head
         (entered Places index (loan g (l .chunk) (l .offset) (l .size)) loans)
         []
         (enteredIndex (s .store .loans) Places g index)
         (set tree (nodesFrom s + t .place) node)
 
-    pub booked-done : (h′ l′ i′ t′ : List ℕ) → t′ ≡ set tree (nodesFrom s + taken .place) node → h′ ≡ set (set head givenAt (l .serial)) placesAt (taken .slab .places)
-        → l′ ≡ written loanRow (taken .place) l loans
+    pub booked-done : (l′ i′ t′ : List ℕ) → t′ ≡ set tree (nodesFrom s + taken .place) node
+        → l′ ≡ written loanRow (taken .place) l (counted (l .serial) (taken .slab .places) loans)
         → i′ ≡ set (set (set index vacatedAt (taken .slab .vacant)) (nextOf (taken .place)) (firstIn index (l .serial % s .store .loans))) (firstOf (l .serial % s .store .loans)) (taken .place)
-        → tables h′ l′ [] i′ t′ ≡ bookedTables s (l .chunk) (l .offset) (l .size) (record { node = node; room = tree }) (tables head loans [] index [])
+        → tables head l′ [] i′ t′ ≡ bookedTables s (l .chunk) (l .offset) (l .size) (record { node = node; room = tree }) (tables head loans [] index [])
     unfolding bookedTables
-    booked-done h′ l′ i′ t′ t h ls is =
+    booked-done l′ i′ t′ t ls is =
         let x : l′ ≡ entered Places index l loans = entered-loans Places index taken l loans l′ next ls in
         let y : i′ ≡ enteredIndex (s .store .loans) Places (l .serial) index = entered-index Places index taken (s .store .loans) (l .serial) _ i′ next refl is in
-        (λ j. tables (h j) (x j) [] (y j) (t j)) ∙ (λ j. after (next j) (serial j))
+        (λ j. tables head (x j) [] (y j) (t j)) ∙ (λ j. after (next j) (serial j))
 
 -- a loan's node, beside the tree
 pub node-put : (s : BuddySettings) (at place node : ℕ) (tree t′ : List ℕ) → at ≡ levelStart (s .pairs) levelsMost + (placeWords + placeWords * s .store .chunks)

@@ -7,7 +7,7 @@ use borrow.Author.Tests.{eq-eqb, ne-eqb}
 use Rattle.counter.specs.Limits.{pairsMost}
 use Rattle.counter.specs.declared.settings.BuddySettings.{BuddySettings}
 use Rattle.slab.specs.declared.Taken.{Taken}
-use Rattle.store_rules.specs.Loans.{loan}
+use Rattle.store_rules.specs.Loans.{givenAt, placesAt, loan}
 use Rattle.store_rules.specs.declared.Loan.{Loan}
 use Rattle.book_rules.specs.Book.{takenOf}
 use Rattle.buddy_trees.specs.Trees.{bytes}
@@ -16,7 +16,7 @@ use Rattle.buddy_rules.specs.Levels.{sideOf, baseOf}
 use Rattle.buddy_rules.specs.Level.{tagAt, pairCell, entOf, ringHead, acquired, levelStart}
 use Rattle.buddy_levels.specs.Pairs.{entFrom}
 use Rattle.buddy_levels.specs.declared.pairs.Pair.{Pair}
-use Rattle.buddy_rules.specs.Tables.{Tables, tables, givenAt, placesAt, levelFrom}
+use Rattle.buddy_rules.specs.Tables.{Tables, tables, levelFrom}
 use Rattle.buddy_rules.specs.Moves.{Cut, splitDown, readyNode}
 use Rattle.buddy_moves.specs.Roomy.{Roomy}
 use Rattle.buddy_outcomes.specs.Ask.{loanFrom, takenTables, bookedTables}
@@ -44,13 +44,13 @@ module _ (s : BuddySettings) (i : ℕ) (tree : List ℕ) (base : ℕ) (at : base
   pub side-is : sideOf (e .tag) ≡ sideOf (getD tree (pairCell (levelFrom s i) tagAt h) 0)
   side-is = ap (λ (x : Ent). sideOf (x .tag)) reads ∙ ap (λ (b : ℕ). sideOf (getD tree (pairCell b tagAt h) 0)) at
 
-  module _ (size : ℕ) (head : List ℕ) (o : ℕ) (from : o ≡ baseOf (s .minimal) (entFrom e) i) (g : ℕ) (given : g ≡ getD head givenAt 0) where
+  module _ (size : ℕ) (loans : List ℕ) (o : ℕ) (from : o ≡ baseOf (s .minimal) (entFrom e) i) (g : ℕ) (given : g ≡ getD loans givenAt 0) where
     abbrev Served : Loan
-    Served = loanFrom s size (tables head [] [] [] tree) i
+    Served = loanFrom s size (tables [] loans [] [] tree) i
 
     -- the loan that it gives
     pub loan-is : loan (g + 1) (e .chunk) o size ≡ Served
-    loan-is = (λ j. loan (given j + 1) (e .chunk) (from j) size) ∙ (λ j. loan (getD head givenAt 0 + 1) (ent-is j .chunk) (baseOf (s .minimal) (ent-is j) i) size)
+    loan-is = (λ j. loan (given j + 1) (e .chunk) (from j) size) ∙ (λ j. loan (getD loans givenAt 0 + 1) (ent-is j .chunk) (baseOf (s .minimal) (ent-is j) i) size)
 
     module _ (level : ℕ) where
       abbrev RoomyAt : Loan → Type 0
@@ -59,19 +59,19 @@ module _ (s : BuddySettings) (i : ℕ) (tree : List ℕ) (base : ℕ) (at : base
       pub lends-roomy : RoomyAt Served → RoomyAt (loan (g + 1) (e .chunk) o size)
       lends-roomy r = subst RoomyAt (sym loan-is) r
 
-      module _ (loans index : List ℕ) (k : Taken) (next : k ≡ takenOf (getD head placesAt 0) index) where
+      module _ (index : List ℕ) (k : Taken) (next : k ≡ takenOf (getD loans placesAt 0) index) where
         -- the split from the ready side
         abbrev cutBy : Loan → ℕ → Cut
         cutBy l p = splitDown (s .pairs) level (l .chunk) (l .offset) p (readyNode (s .pairs) i tree) (i - level) (acquired (levelFrom s i) freeWord tree)
 
         abbrev bookedBy : Loan → Cut → Tables
-        bookedBy l c = bookedTables s (l .chunk) (l .offset) size c (tables head loans [] index [])
+        bookedBy l c = bookedTables s (l .chunk) (l .offset) size c (tables [] loans [] index [])
 
-        pub lent-done : (n : ℕ) (t₂ h′ l′ i′ t′ : List ℕ) → n ≡ cutBy (loan (g + 1) (e .chunk) o size) (k .place) .node → t₂ ≡ cutBy (loan (g + 1) (e .chunk) o size) (k .place) .room
-            → tables h′ l′ [] i′ t′ ≡ bookedTables s (e .chunk) o size (record { node = n; room = t₂ }) (tables head loans [] index [])
-            → tables h′ l′ [] i′ t′ ≡ takenTables s size level (tables head loans [] index tree) i
+        pub lent-done : (n : ℕ) (t₂ l′ i′ t′ : List ℕ) → n ≡ cutBy (loan (g + 1) (e .chunk) o size) (k .place) .node → t₂ ≡ cutBy (loan (g + 1) (e .chunk) o size) (k .place) .room
+            → tables [] l′ [] i′ t′ ≡ bookedTables s (e .chunk) o size (record { node = n; room = t₂ }) (tables [] loans [] index [])
+            → tables [] l′ [] i′ t′ ≡ takenTables s size level (tables [] loans [] index tree) i
         unfolding bookedTables takenTables
-        lent-done n t₂ h′ l′ i′ t′ a b d =
+        lent-done n t₂ l′ i′ t′ a b d =
             let l = loan (g + 1) (e .chunk) o size in
             d
             ∙ (λ j. bookedBy l (record { node = a j; room = b j }))

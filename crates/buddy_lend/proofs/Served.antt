@@ -2,18 +2,16 @@
 use mathlib.Core.Path.{_≡_, sym, ap, subst, _∙_}
 use mathlib.Core.List.{List, []}
 use Prim.Native.Nat.{ℕ, _+_, _-_, _<_}
-use native.Mathlib.Omega.{arith}
 use lib.ListN.{getD, set}
-use lib.Seq.{getD-set-other}
 use Rattle.words.specs.Words.{cellOf}
 use Rattle.counter.specs.Limits.{levelsMost, pairsMost}
 use Rattle.counter.specs.declared.settings.BuddySettings.{BuddySettings}
 use Rattle.slab.specs.declared.Taken.{Taken}
-use Rattle.store_rules.specs.Loans.{loan}
+use Rattle.store_rules.specs.Loans.{givenAt, placesAt, loan}
 use Rattle.book_rules.specs.Book.{takenOf}
 use Rattle.buddy_rules.specs.Nodes.{splitWord}
 use Rattle.buddy_rules.specs.Level.{pairTaken, levelStart}
-use Rattle.buddy_rules.specs.Tables.{Tables, tables, givenAt, levelsAt, placesAt, chunkPlacesAt, chunkWords, memoryAt, chunkSizeAt, levelFrom, chunksFrom, placeAt, topAt, placeWords}
+use Rattle.buddy_rules.specs.Tables.{Tables, tables, levelsAt, chunkPlacesAt, chunkWords, memoryAt, chunkSizeAt, levelFrom, chunksFrom, placeAt, topAt, placeWords}
 use Rattle.buddy_rules.specs.Moves.{Cut, splitChunk}
 use Rattle.buddy_levels.specs.Seen.{partSettings}
 use Rattle.buddy_outcomes.specs.Ask.{chunkTaken, bookedTables}
@@ -34,50 +32,34 @@ module _ (s : BuddySettings) (head tree : List ℕ) where
     pub top-low : pairTaken (levelFrom s (getD head levelsAt 0 - 1)) tree .place < pairsMost → p .place < pairsMost
     top-low h = let q : p .place ≡ pairTaken (levelFrom s (getD head levelsAt 0 - 1)) tree .place = ap (λ (x : Taken). x .place) top-is in rw q h
 
-    module _ (c : Taken) (taken : c ≡ chunkTaken s (tables head [] [] [] tree)) where
-      abbrev after : ℕ → ℕ → List ℕ → Taken → Taken → Tables
-      after memory bytes chunks c p =
+    module _ (c : Taken) (chunks : List ℕ) (taken : c ≡ chunkTaken s (tables head [] chunks [] tree)) where
+      abbrev after : ℕ → ℕ → Taken → Taken → Tables
+      after memory bytes c p =
           tables
-          (set head chunkPlacesAt (c .slab .places))
+          head
           []
-          (set (set chunks (cellOf memoryAt chunkWords (c .place)) memory) (cellOf chunkSizeAt chunkWords (c .place)) bytes)
+          (set (set (set chunks chunkPlacesAt (c .slab .places)) (cellOf memoryAt chunkWords (c .place)) memory) (cellOf chunkSizeAt chunkWords (c .place)) bytes)
           []
           (set (set tree (chunksFrom s) (c .slab .vacant)) (cellOf (placeAt s topAt) placeWords (c .place)) (splitWord (p .place)))
 
-      pub chunk-done : (memory bytes : ℕ) (chunks h′ c′ t′ : List ℕ)
-          → c′ ≡ set (set chunks (cellOf memoryAt chunkWords (c .place)) memory) (cellOf chunkSizeAt chunkWords (c .place)) bytes
+      pub chunk-done : (memory bytes : ℕ) (c′ t′ : List ℕ)
+          → c′ ≡ set (set (set chunks chunkPlacesAt (c .slab .places)) (cellOf memoryAt chunkWords (c .place)) memory) (cellOf chunkSizeAt chunkWords (c .place)) bytes
           → t′ ≡ set (set tree (chunksFrom (partSettings 0 (s .pairs) 0)) (c .slab .vacant)) (cellOf (placeAt (partSettings 0 (s .pairs) 0) topAt) placeWords (c .place)) (splitWord (p .place))
-          → h′ ≡ set head chunkPlacesAt (c .slab .places)
-          → tables h′ [] c′ [] t′ ≡ chunkTables s memory bytes (tables head [] chunks [] tree)
+          → tables head [] c′ [] t′ ≡ chunkTables s memory bytes (tables head [] chunks [] tree)
       unfolding chunkTables
-      chunk-done memory bytes chunks h′ c′ t′ f g h =
-          (λ j. tables (h j) [] (f j) [] (g j)) ∙ (λ j. after memory bytes chunks (taken j) (top-is j))
+      chunk-done memory bytes c′ t′ f g = (λ j. tables head [] (f j) [] (g j)) ∙ (λ j. after memory bytes (taken j) (top-is j))
 
 -- ---- when the chunk is there
 
-module _ (s : BuddySettings) (memory bytes : ℕ) (head loans chunks index tree h₁ c₁ t₁ : List ℕ) (more : tables h₁ [] c₁ [] t₁ ≡ chunkTables s memory bytes (tables head [] chunks [] tree)) where
+module _ (s : BuddySettings) (memory bytes : ℕ) (head loans chunks index tree c₁ t₁ : List ℕ) (more : tables head [] c₁ [] t₁ ≡ chunkTables s memory bytes (tables head [] chunks [] tree)) where
   abbrev pub Before : Tables
   Before = tables head loans chunks index tree
 
-  head-is : h₁ ≡ set head chunkPlacesAt (chunkTaken s Before .slab .places)
+  now-is : tables head loans c₁ index t₁ ≡ chunkTables s memory bytes Before
   unfolding chunkTables
-  head-is = ap (λ (t : Tables). t .head) more
+  now-is = λ j. tables head loans (more j .chunks) index (more j .room)
 
-  pub same-given : getD h₁ givenAt 0 ≡ getD head givenAt 0
-  same-given = ap (λ (t : List ℕ). getD t givenAt 0) head-is ∙ getD-set-other head chunkPlacesAt givenAt (chunkTaken s Before .slab .places) 0 (λ e. omega arith)
-
-  same-places : getD h₁ placesAt 0 ≡ getD head placesAt 0
-  same-places = ap (λ (t : List ℕ). getD t placesAt 0) head-is ∙ getD-set-other head chunkPlacesAt placesAt (chunkTaken s Before .slab .places) 0 (λ e. omega arith)
-
-  -- the next place of the book is the same
-  pub still-next : (k : Taken) → k ≡ takenOf (getD head placesAt 0) index → k ≡ takenOf (getD h₁ placesAt 0) index
-  still-next k next = next ∙ ap (λ (x : ℕ). takenOf x index) (sym same-places)
-
-  now-is : tables h₁ loans c₁ index t₁ ≡ chunkTables s memory bytes Before
-  unfolding chunkTables
-  now-is = λ j. tables (more j .head) loans (more j .chunks) index (more j .room)
-
-  module _ (levels : ℕ) (top : levels ≡ getD head levelsAt 0) (c : ℕ) (taken : c ≡ chunkTaken s (tables head [] [] [] tree) .place) (level : ℕ) where
+  module _ (levels : ℕ) (top : levels ≡ getD head levelsAt 0) (c : ℕ) (taken : c ≡ chunkTaken s (tables head [] chunks [] tree) .place) (level : ℕ) where
     -- what was shown of the tables with the chunk holds of what the code has
     pub still : (P : ℕ → ℕ → List ℕ → Type 0) → P (chunkTaken s Before .place) (getD head levelsAt 0) (chunkTables s memory bytes Before .room) → P c levels t₁
     still P r =
@@ -86,18 +68,18 @@ module _ (s : BuddySettings) (memory bytes : ℕ) (head loans chunks index tree 
         (subst (λ (t : Tables). P (chunkTaken s Before .place) (getD head levelsAt 0) (t .room)) (sym now-is) r))
 
     -- the loan of its left end
-    pub loan-done : (size g : ℕ) → g ≡ getD h₁ givenAt 0 → loan (g + 1) c 0 size ≡ loan (getD head givenAt 0 + 1) (chunkTaken s (tables head [] [] [] tree) .place) 0 size
-    loan-done size g e = let f = e ∙ same-given in (λ j. loan (f j + 1) (taken j) 0 size)
+    pub loan-done : (size g : ℕ) → g ≡ getD loans givenAt 0 → loan (g + 1) c 0 size ≡ loan (getD loans givenAt 0 + 1) (chunkTaken s (tables head [] chunks [] tree) .place) 0 size
+    loan-done size g e = λ j. loan (e j + 1) (taken j) 0 size
 
-    module _ (k : Taken) (next : k ≡ takenOf (getD head placesAt 0) index) where
+    module _ (k : Taken) (next : k ≡ takenOf (getD loans placesAt 0) index) where
       abbrev cutBy : ℕ → ℕ → ℕ → List ℕ → Cut
       cutBy x p n t = splitChunk (s .pairs) level x p (n - level - 1) t
 
-      pub served-done : (size n : ℕ) (t₂ h′ l′ i′ t′ : List ℕ) → n ≡ cutBy c (k .place) levels t₁ .node → t₂ ≡ cutBy c (k .place) levels t₁ .room
-          → tables h′ l′ [] i′ t′ ≡ bookedTables s c 0 size (record { node = n; room = t₂ }) (tables h₁ loans [] index [])
-          → tables h′ l′ c₁ i′ t′ ≡ servedTables s size level memory bytes Before
+      pub served-done : (size n : ℕ) (t₂ l′ i′ t′ : List ℕ) → n ≡ cutBy c (k .place) levels t₁ .node → t₂ ≡ cutBy c (k .place) levels t₁ .room
+          → tables head l′ [] i′ t′ ≡ bookedTables s c 0 size (record { node = n; room = t₂ }) (tables head loans [] index [])
+          → tables head l′ c₁ i′ t′ ≡ servedTables s size level memory bytes Before
       unfolding bookedTables servedTables
-      served-done size n t₂ h′ l′ i′ t′ a b d =
-          (λ j. tables (d j .head) (d j .loans) c₁ (d j .index) (d j .room))
-          ∙ (λ j. bookedTables s c 0 size (record { node = a j; room = b j }) (tables h₁ loans c₁ index t₁))
+      served-done size n t₂ l′ i′ t′ a b d =
+          (λ j. tables head (d j .loans) c₁ (d j .index) (d j .room))
+          ∙ (λ j. bookedTables s c 0 size (record { node = a j; room = b j }) (tables head loans c₁ index t₁))
           ∙ (λ j. bookedTables s (taken j) 0 size (cutBy (taken j) (next j .place) (top j) (now-is j .room)) (now-is j))

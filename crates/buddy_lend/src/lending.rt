@@ -5,18 +5,19 @@ ghost use Prim.Native.Nat.{_≤_, _^_};
 ghost use lib.ListN.{getD};
 ghost use Rattle.counter.specs.InTable.{BuddyIn};
 ghost use Rattle.counter.specs.Limits.{levelsMost};
+ghost use Rattle.store_rules.specs.Loans.{placesAt};
 ghost use Rattle.book_rules.specs.Book.{takenOf};
 ghost use Rattle.buddy_rules.specs.Level.{ringHead};
 ghost use Rattle.buddy_rules.specs.Levels.{baseOf};
 ghost use Rattle.buddy_levels.specs.Pairs.{entFrom};
-ghost use Rattle.buddy_rules.specs.Tables.{tables, placesAt, levelFrom};
+ghost use Rattle.buddy_rules.specs.Tables.{tables, levelFrom};
 ghost use Rattle.buddy_outcomes.specs.Ask.{loanFrom, takenTables};
 ghost use Rattle.buddy_moves.specs.Ready.{Lends};
 use buddy_levels::Pair;
-use buddy_rules::GIVEN_AT;
 use buddy_rules::LEFT_READY;
 use counter::BuddySettings;
 use slab::Taken;
+use store_rules::GIVEN_AT;
 use store_rules::Loan;
 
 // Where the ready side of a pair begins.
@@ -38,20 +39,19 @@ pub fn lend(
     from: usize,
     pair: u64,
     loan: Taken,
-    head: &mut [u64],
     loans: &mut [u64],
     index: &mut [u64],
     tree: &mut [u64],
 ) -> Loan
-    requires { ⌜ Lends s size level from (tables (now head) (now loans) [] (now index) (now tree)) × (pair ≡ ringHead (levelFrom s from) (now tree)) × (loan ≡ takenOf (getD (now head) placesAt 0) (now index)) ⌝ }
-    ensures { λ r. ⌜ r ≡ loanFrom s size (tables (now (head .entry)) [] [] [] (now (tree .entry))) from ⌝ }
-    ensures { λ _. ⌜ tables (now (head .exit)) (now (loans .exit)) [] (now (index .exit)) (now (tree .exit)) ≡ takenTables s size level (tables (now (head .entry)) (now (loans .entry)) [] (now (index .entry)) (now (tree .entry))) from ⌝ }
+    requires { ⌜ Lends s size level from (tables [] (now loans) [] (now index) (now tree)) × (pair ≡ ringHead (levelFrom s from) (now tree)) × (loan ≡ takenOf (getD (now loans) placesAt 0) (now index)) ⌝ }
+    ensures { λ r. ⌜ r ≡ loanFrom s size (tables [] (now (loans .entry)) [] [] (now (tree .entry))) from ⌝ }
+    ensures { λ _. ⌜ tables [] (now (loans .exit)) [] (now (index .exit)) (now (tree .exit)) ≡ takenTables s size level (tables [] (now (loans .entry)) [] (now (index .entry)) (now (tree .entry))) from ⌝ }
 {
     let base = buddy_levels::level_from(s.pairs, from);
     let e = buddy_levels::pair_at(tree, base, pair);
     let offset = side_from(s, e, from as u64);
     let l = Loan {
-        serial: words::word(head, GIVEN_AT) + 1,
+        serial: words::word(loans, GIVEN_AT) + 1,
         chunk: e.chunk,
         offset: offset,
         size: size,
@@ -69,6 +69,6 @@ pub fn lend(
     );
     let own = s.store;
     crate::booking::put_node(s, loan.place, n, tree);
-    crate::booking::book_loan(own.loans, loan, l, head, loans, index);
+    book::enter_at(loans, index, own.loans, loan, l);
     l
 }

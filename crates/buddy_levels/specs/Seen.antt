@@ -15,14 +15,14 @@ partSettings minimal pairs chunks =
       pairs = pairs;
     }
 
--- tables whose head has so many levels, loan places and chunk places
-abbrev pub partTables : ℕ → ℕ → ℕ → List ℕ → List ℕ → List ℕ → Tables
-partTables levels places chunkPlaces loans chunks tree = tables (marks .head ∷ 0 ∷ levels ∷ places ∷ chunkPlaces ∷ []) loans chunks [] tree
+-- tables whose head has so many levels
+abbrev pub partTables : ℕ → List ℕ → List ℕ → List ℕ → Tables
+partTables levels loans chunks tree = tables (marks .head ∷ levels ∷ []) loans chunks [] tree
 
--- of these a walk down a chunk reads the loan places, the loans and the tree
-abbrev pub loanPart : ℕ → List ℕ → List ℕ → Tables
-loanPart places loans tree = partTables 0 places 0 loans [] tree
+-- of these a walk down a chunk reads the loans and the tree
+abbrev pub loanPart : List ℕ → List ℕ → Tables
+loanPart loans tree = partTables 0 loans [] tree
 
--- and the looks at what leads to a node the levels, the chunk places, the chunks and the tree
-abbrev pub levelPart : ℕ → ℕ → List ℕ → List ℕ → Tables
-levelPart levels chunkPlaces chunks tree = partTables levels 0 chunkPlaces [] chunks tree
+-- and the looks at what leads to a node the levels, the chunks and the tree
+abbrev pub levelPart : ℕ → List ℕ → List ℕ → Tables
+levelPart levels chunks tree = partTables levels [] chunks tree

@@ -121,9 +121,9 @@ pub lends-ready : (s : BuddySettings) (h : Heap) (objects size mask : ℕ) (t : 
     → Lends s (sizeFor s size mask) (levelFor s size mask) i t
 lends-ready s h objects size mask t fit lengths sound i e = lends s t fit lengths sound size mask i (takes s h objects size mask t i e)
 
--- what is asked looks at no chunk
-pub lends-rest : (s : BuddySettings) (z l i : ℕ) (t : Tables) (chunks : List ℕ) → Lends s z l i t → Lends s z l i (tables (t .head) (t .loans) chunks (t .index) (t .room))
-lends-rest s z l i t chunks r =
+-- what is asked looks at neither head nor chunks
+pub lends-rest : (s : BuddySettings) (z l i : ℕ) (t : Tables) (head chunks : List ℕ) → Lends s z l i t → Lends s z l i (tables head (t .loans) chunks (t .index) (t .room))
+lends-rest s z l i t head chunks r =
     record {
       enters = record { fit = r .enters .fit; serial = r .enters .serial; opens = r .enters .opens };
       below = r .below;

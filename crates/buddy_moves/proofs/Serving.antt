@@ -22,9 +22,10 @@ use Rattle.buddy_rules.proofs.Worded.{Short}
 use Rattle.buddy_moves.specs.Roomy.{Roomy}
 use Rattle.buddy_outcomes.specs.Ask.{levelFor, grownTo, chunkTaken, decideAsk, grownTables}
 use Rattle.buddy_outcomes.specs.Deliver.{chunkTables}
-use Rattle.buddy_outcomes.proofs.Changed.{few-pairs, grown-lengths, grown-given}
+use Rattle.buddy_outcomes.proofs.Changed.{few-pairs, grown-lengths}
 use Rattle.buddy_outcomes.proofs.Chunked.{chunked, chunked-lengths, chunked-level}
-use Rattle.buddy_outcomes.proofs.Delivered.{more, most, grown-sound, count, place, chunk-room, pair}
+use Rattle.buddy_outcomes.proofs.Delivered.{most, grown-sound, count, place, chunk-room, pair}
+use Rattle.buddy_outcomes.proofs.Heads.{grown-given}
 use Rattle.buddy_outcomes.proofs.Plans.{Buys, buys}
 use Rattle.buddy_moves.specs.Ready.{Serves}
 use Rattle.buddy_moves.proofs.Lending.{opens}
@@ -45,7 +46,7 @@ module _ (s : BuddySettings) (t : Tables) (fit : BuddyIn s) (lengths : Lengths s
   low = omega (arith, count s t fit lengths sound size mask z b, most s t fit lengths sound size mask z b)
 
   serial : givenIn grown < spent
-  serial = omega (arith, grown-given s t fit lengths sound (grownTo (levelFor s size mask) t) (more s t fit lengths sound size mask z b) (most s t fit lengths sound size mask z b), b .serial)
+  serial = omega (arith, grown-given s (grownTo (levelFor s size mask) t) t, b .serial)
 
   abbrev under : ℕ
   under = levelsIn grown - lev - 1

@@ -50,7 +50,8 @@ use Rattle.buddy_outcomes.proofs.Given.{given-lengths, given-sound}
 use Rattle.buddy_outcomes.proofs.Returned as Returned
 use Rattle.buddy_outcomes.proofs.Returned.{ReturnComes, return-comes}
 use Rattle.buddy_outcomes.proofs.Delivered.{grown-sound, count, chunk-room, arrived-lengths, arrived-sound, new-memory, held-low, Open, opened}
-use Rattle.buddy_outcomes.proofs.Held.{chunksHeld, bytesHeld, Holds, holds-account, account-covers, grown-holds, taken-holds, served-holds, given-places, freed-holds, kept-holds}
+use Rattle.buddy_outcomes.proofs.Heads.{back-chunk-places}
+use Rattle.buddy_outcomes.proofs.Held.{chunksHeld, bytesHeld, Holds, holds-account, account-covers, grown-holds, taken-holds, served-holds, freed-holds, kept-holds}
 
 -- what tests 1 to 4 ask for
 pub gate-passes : (s : BuddySettings) (a : Account) (t : Tables) → BuddyIn s → heapsOk (a .heaps) ≡ true → Lengths s t → noOrder (a .order) ≡ true → Sound s t → accountOk s a t ≡ true → gateOf s a t true ≡ pass
@@ -140,7 +141,7 @@ module _ (s : BuddySettings) (a : Account) (t : Tables) (typed : Typed a) (passe
     released-again k y fewer less =
         let n = heldCount u (chunkPlacesIn t) in
         let z = heldBytes u (chunkPlacesIn t) in
-        let e = given-places s t fit lengths sound b on in
+        let e = back-chunk-places s b (wordFor s b t) t in
         let before : coversOk (heapAt a (s .store .heap)) (a .objects) (n + k) (z + y) ≡ true =
         (λ j. coversOk (heapAt a (s .store .heap)) (a .objects) (fewer j) (less j)) ∙ account-covers s a t (went .covered) in
         gate-passes s (releasedAccount (s .store) a k y) u fit
@@ -157,7 +158,7 @@ module _ (s : BuddySettings) (a : Account) (t : Tables) (typed : Typed a) (passe
         ⊎-elim
         (λ f. let h = freed-holds s t fit lengths sound b on f in rw f (released-again 1 (chunkSizeIn t (b .chunk)) (h .0) (h .1)))
         (λ f. let h = kept-holds s t fit lengths sound b on f in
-        let e = given-places s t fit lengths sound b on in
+        let e = back-chunk-places s b (wordFor s b t) t in
         let n : heldCount u (chunkPlacesIn t) ≡ chunksHeld t = sym (ap (heldCount u) e) ∙ h .0 in
         let z : heldBytes u (chunkPlacesIn t) ≡ bytesHeld t = sym (ap (heldBytes u) e) ∙ h .1 in
         rw f (released-again 0 0 (omega (arith, n)) (omega (arith, z))))

@@ -35,10 +35,11 @@ use Rattle.buddy_rules.proofs.Viewed.{loan-live, chunkAt, held-seen}
 use Rattle.buddy_outcomes.specs.Ask.{sizeFor, levelFor, grownTo, chunkTaken, grownTables}
 use Rattle.buddy_outcomes.specs.Deliver as Deliver
 use Rattle.buddy_outcomes.specs.Deliver.{chunkTables, loanIn as lentIn, servedTables, asOrdered, carryFate, decideDeliver, deliverGateOf, planDeliver, carryDeliver, deliverOf}
-use Rattle.buddy_outcomes.proofs.Changed.{grown-lengths, grown-held, grown-given}
+use Rattle.buddy_outcomes.proofs.Changed.{grown-lengths, grown-held}
 use Rattle.buddy_outcomes.proofs.Chunked.{chunked, size-here, held-here, taken-dead}
 use Rattle.buddy_outcomes.proofs.Delivered.{more, most, grown-sound, count, chunk-room, gate-sound, opened}
 use Rattle.buddy_outcomes.proofs.Fitted.{refusal-block, same-block}
+use Rattle.buddy_outcomes.proofs.Heads.{grown-given}
 use Rattle.buddy_outcomes.proofs.Passing.{Lent}
 use Rattle.buddy_outcomes.proofs.Plans.{Buys}
 use Rattle.buddy_outcomes.proofs.Rounds.{size-level, size-enough}
@@ -167,7 +168,7 @@ module _ (s : BuddySettings) (t : Tables) (fit : BuddyIn s) (lengths : Lengths s
   -- a block lent of it is good
   pub came-good : GoodBlock (s .store .atom) size mask (givenIn t) (loansIn t) (chunksIn (servedTables s (sizeFor s size mask) (levelFor s size mask) memory z g)) (givenIn g + 1) c 0 (sizeFor s size mask)
   came-good =
-      let e : givenIn g ≡ givenIn t = grown-given s t fit lengths sound n (more s t fit lengths sound size mask z b) (most s t fit lengths sound size mask z b) in
+      let e : givenIn g ≡ givenIn t = grown-given s n t in
       record {
         next = ap (λ (x : ℕ). x + 1) e;
         held = chunk-seen;

@@ -31,7 +31,7 @@ use Rattle.buddy_rules.specs.Stores.{with}
 use Rattle.buddy_rules.specs.Stores as Stores
 use Rattle.buddy_rules.specs.Level.{part}
 use Rattle.buddy_rules.proofs.Ops.{levelOps}
-use Rattle.buddy_rules.specs.Tables.{Tables, tables, Lengths, givenAt, levelsAt, placesAt, chunkPlacesAt, givenIn, levelsIn, placesIn, chunkPlacesIn, memoryIn, chunkSizeIn, chunksFrom, placeAt, topAt, afterAt, placeWords, nodesFrom, loanCell, loanIn, liveIn, heldIn, highIn, topIn, vacantChunk, chunkAfter, chunkSlab, initialLevels, marks, Signed}
+use Rattle.buddy_rules.specs.Tables.{Tables, tables, Lengths, givenIn, levelsIn, placesIn, chunkPlacesIn, memoryIn, chunkSizeIn, chunksFrom, placeAt, topAt, afterAt, placeWords, nodesFrom, loanCell, loanIn, liveIn, heldIn, highIn, topIn, vacantChunk, chunkAfter, chunkSlab, initialLevels, marks, Signed}
 use Rattle.buddy_rules.specs.Moves.{Cut}
 use Rattle.buddy_rules.specs.Sound.{Sound}
 use Rattle.buddy_rules.proofs.Abstract.{storeOf, Sizes, store-trees}
@@ -39,7 +39,8 @@ use Rattle.buddy_rules.proofs.Walks.{minimal-pos}
 use Rattle.buddy_outcomes.specs.Ask.{bookedTables}
 use Rattle.buddy_outcomes.proofs.Same.{sound-as}
 use Rattle.buddy_outcomes.proofs.Changed.{few-pairs, part-set}
-use Rattle.buddy_outcomes.proofs.Written.{OfLoan, chunk-here, offset-here, size-here, cell-other}
+use Rattle.buddy_outcomes.proofs.Heads.{booked-given, booked-places}
+use Rattle.buddy_outcomes.proofs.Written.{OfLoan, entered-chunk, entered-offset, entered-size, entered-other}
 
 -- ---- what is asked of the tables before: all but the trees
 pub record Kept (s : BuddySettings) (t : Tables) : Type 0 where
@@ -84,7 +85,7 @@ module _ (s : BuddySettings) (t : Tables) (fit : BuddyIn s) (lengths : Lengths s
 
   abbrev booked : Tables
   booked =
-      tables (set (set (t .head) givenAt (givenIn t + 1)) placesAt q)
+      tables (t .head)
       (entered (placesIn t) (t .index) new (t .loans))
       (t .chunks)
       (enteredIndex (s .store .loans) (placesIn t) (givenIn t + 1) (t .index))
@@ -92,7 +93,7 @@ module _ (s : BuddySettings) (t : Tables) (fit : BuddyIn s) (lengths : Lengths s
 
   booked-long : Lengths s booked
   booked-long = record {
-    head = length-set (set (t .head) givenAt (givenIn t + 1)) placesAt q ∙ length-set (t .head) givenAt (givenIn t + 1) ∙ lengths .head;
+    head = lengths .head;
     loans = entered-long (placesIn t) (t .index) new (t .loans) ∙ lengths .loans;
     chunks = lengths .chunks;
     index = entered-wide (s .store .loans) (placesIn t) (givenIn t + 1) (t .index) ∙ lengths .index;
@@ -103,27 +104,15 @@ module _ (s : BuddySettings) (t : Tables) (fit : BuddyIn s) (lengths : Lengths s
   unfolding bookedTables
   booked-lengths = booked-long
 
-  -- ---- words of the head
+  -- ---- the counts
 
-  head-given : givenIn booked ≡ givenIn t + 1
-  head-given =
-      getD-set-other (set (t .head) givenAt (givenIn t + 1)) placesAt givenAt q 0 (λ e. omega arith)
-      ∙ getD-set-same (t .head) givenAt (givenIn t + 1) 0 (omega (arith, lengths .head))
+  count-given : givenIn booked ≡ givenIn t + 1
+  unfolding bookedTables
+  count-given = booked-given s t c o size cut (omega (arith, lengths .loans))
 
-  head-places : placesIn booked ≡ q
-  head-places = getD-set-same (set (t .head) givenAt (givenIn t + 1)) placesAt q 0 (omega (arith, length-set (t .head) givenAt (givenIn t + 1), lengths .head))
-
-  head-other : (i : ℕ) → (i ≡ givenAt → ⊥) → (i ≡ placesAt → ⊥) → getD (booked .head) i 0 ≡ getD (t .head) i 0
-  head-other i a b = getD-set-other (set (t .head) givenAt (givenIn t + 1)) placesAt i q 0 b ∙ getD-set-other (t .head) givenAt i (givenIn t + 1) 0 a
-
-  chunk-places : chunkPlacesIn booked ≡ chunkPlacesIn t
-  chunk-places = head-other chunkPlacesAt (λ e. omega arith) (λ e. omega arith)
-
-  held : (b : ℕ) → heldIn booked b ≡ heldIn t b
-  held b = ap (λ (p : ℕ). ltb b p && not (eqb (chunkSizeIn t b) 0)) chunk-places
-
-  high : (b : ℕ) → highIn s booked b ≡ highIn s t b
-  high b = ap (λ (x : Bool). cond x (levelOf (chunkSizeIn t b) (s .minimal)) 0) (held b)
+  count-places : placesIn booked ≡ q
+  unfolding bookedTables
+  count-places = booked-places s t c o size cut (omega (arith, lengths .loans))
 
   module _ (lev : ℕ) (K : Kept s t) (place : takenOf (placesIn t) (t .index) .place < s .store .loans)
       (level : levelOf size (s .minimal) ≡ lev) (is : size ≡ bytes (s .minimal) lev) (at-units : o % (s .store .atom + 1) ≡ 0) (size-units : size % (s .store .atom + 1) ≡ 0)
@@ -145,20 +134,16 @@ module _ (s : BuddySettings) (t : Tables) (fit : BuddyIn s) (lengths : Lengths s
     -- ---- words of the loans
 
     cell-same : (f x : ℕ) → OfLoan f → (x ≡ k → ⊥) → loanCell booked f x ≡ loanCell t f x
-    unfolding entered
-    cell-same f x h n = cell-other (t .loans) (s .store .loans) k new (lengths .loans) place f x h n
+    cell-same = entered-other (placesIn t) (t .index) new (t .loans) (s .store .loans) (lengths .loans) place
 
     size-new : loanCell booked sizeAt k ≡ size
-    unfolding entered
-    size-new = size-here (t .loans) (s .store .loans) k new (lengths .loans) place
+    size-new = entered-size (placesIn t) (t .index) new (t .loans) (s .store .loans) (lengths .loans) place
 
     chunk-new : loanCell booked Loans.chunkAt k ≡ c
-    unfolding entered
-    chunk-new = chunk-here (t .loans) (s .store .loans) k new (lengths .loans) place
+    chunk-new = entered-chunk (placesIn t) (t .index) new (t .loans) (s .store .loans) (lengths .loans) place
 
     offset-new : loanCell booked offsetAt k ≡ o
-    unfolding entered
-    offset-new = offset-here (t .loans) (s .store .loans) k new (lengths .loans) place
+    offset-new = entered-offset (placesIn t) (t .index) new (t .loans) (s .store .loans) (lengths .loans) place
 
     taken : ((k ≡ placesIn t) × (q ≡ placesIn t + 1)) ⊎ ((k < placesIn t) × (q ≡ placesIn t))
     taken = ⊎-elim (λ w. inl w) (λ w. inr (w .0, w .2)) (taken-where (t .loans) (t .index) (s .store .loans) (placesIn t) few (K .loans-parted))
@@ -167,10 +152,10 @@ module _ (s : BuddySettings) (t : Tables) (fit : BuddyIn s) (lengths : Lengths s
     within-places = ⊎-elim (λ w. omega (arith, w .0, w .1)) (λ w. omega (arith, w .0, w .1)) taken
 
     live-here : liveIn booked k ≡ true
-    live-here = rw (head-places, size-new, lt-ltb k q within-places, ne-eqb size 0 some)
+    live-here = rw (count-places, size-new, lt-ltb k q within-places, ne-eqb size 0 some)
 
     live-other : (j : ℕ) → (j ≡ k → ⊥) → liveIn booked j ≡ liveIn t j
-    live-other j n = rw (head-places, cell-same sizeAt j (omega arith) n, lower j k (placesIn t) q taken n)
+    live-other j n = rw (count-places, cell-same sizeAt j (omega arith) n, lower j k (placesIn t) q taken n)
 
     abbrev d : Nodes.Loan
     d = record { chunk = c; at = o; lev = lev; node = cut .node }
@@ -203,7 +188,7 @@ module _ (s : BuddySettings) (t : Tables) (fit : BuddyIn s) (lengths : Lengths s
     held-low b h = omega (arith, ltb-true b (chunkPlacesIn t) (and-left (ltb b (chunkPlacesIn t)) (not (eqb (chunkSizeIn t b) 0)) h), K .chunks-parted .limit)
 
     top : (b : ℕ) → topIn s booked b ≡ topIn s t b
-    top b = ap (λ (x : Bool). cond x (getD (booked .room) (cellOf (placeAt s topAt) placeWords b) 0) 0) (held b) ∙ by (told (heldIn t b))
+    top b = by (told (heldIn t b))
       where
         by : (heldIn t b ≡ true) ⊎ (heldIn t b ≡ false) → cond (heldIn t b) (getD (booked .room) (cellOf (placeAt s topAt) placeWords b) 0) 0 ≡ topIn s t b
         by (inl h) =
@@ -213,9 +198,8 @@ module _ (s : BuddySettings) (t : Tables) (fit : BuddyIn s) (lengths : Lengths s
 
     slab : chunkSlab s t ≡ chunkSlab s booked
     slab =
-        let a = sym chunk-places in
         let b = sym (tree-other (chunksFrom s) (omega arith) (λ e. omega arith)) in
-        (λ j. record { places = a j; vacant = b j })
+        (λ j. record { places = chunkPlacesIn t; vacant = b j })
 
     chunks-parted : Parted (vacantChunk t) (chunkAfter s booked) (chunkSlab s booked) (s .store .chunks)
     chunks-parted =
@@ -231,7 +215,7 @@ module _ (s : BuddySettings) (t : Tables) (fit : BuddyIn s) (lengths : Lengths s
 
     sizes : Sizes s booked
     sizes = record {
-      chunks = λ b h. let r = K .sizes .chunks b (sym (held b) ∙ h) in let e = high b in (rw e (r .0), rw e (r .1), rw e (r .2));
+      chunks = K .sizes .chunks;
       loans = λ j h. loan-sized j h (same? j k);
     }
 
@@ -254,40 +238,37 @@ module _ (s : BuddySettings) (t : Tables) (fit : BuddyIn s) (lengths : Lengths s
           high = highIn s t;
           top = topIn s t;
         }) T) where
-      count : levelsIn booked ≡ levelsIn t
-      count = head-other levelsAt (λ e. omega arith) (λ e. omega arith)
-
       booked-store : Stores.Sound (s .minimal) (levelOps (s .pairs) (few-pairs s fit)) (storeOf s (few-pairs s fit) booked) T
       booked-store =
-          sound-as (s .minimal) (levelOps (s .pairs) (few-pairs s fit)) (minimal-pos s fit) _ (storeOf s (few-pairs s fit) booked) T A count
+          sound-as (s .minimal) (levelOps (s .pairs) (few-pairs s fit)) (minimal-pos s fit) _ (storeOf s (few-pairs s fit) booked) T A refl
           (λ i h. let l : i < levelsMost = omega (arith, K .levels-most) in part-set s i (nodesFrom s + k) (cut .node) (cut .room) l (omega arith) ∙ levels i l)
-          loaned live high top
+          loaned live (λ b. refl) top
 
       pub booked-sound : Sound s (bookedTables s c o size cut t)
       unfolding bookedTables
       booked-sound =
-          let X = store-trees s (few-pairs s fit) booked T fit booked-long booked-store sizes (omega (arith, count, K .levels-most)) in
+          let X = store-trees s (few-pairs s fit) booked T fit booked-long booked-store sizes (K .levels-most) in
           let n : ℕ = s .store .loans in
           record {
             signed =
                 record {
-                  head = head-other markAt (λ e. omega arith) (λ e. omega arith) ∙ K .signed .head;
+                  head = K .signed .head;
                   loans = entered-mark (placesIn t) (t .index) new (t .loans) ∙ K .signed .loans;
                   chunks = K .signed .chunks;
                   index = entered-index-mark n (placesIn t) (givenIn t + 1) (t .index) ∙ K .signed .index;
                   room = getD-set-other (cut .room) (nodesFrom s + k) markAt (cut .node) 0 (λ e. omega arith) ∙ own ∙ K .signed .room;
                 };
-            levels-least = omega (arith, count, K .levels-least);
-            levels-most = omega (arith, count, K .levels-most);
+            levels-least = K .levels-least;
+            levels-most = K .levels-most;
             loans-parted =
-                subst (λ (p : ℕ). BookParted (booked .loans) (booked .index) n p) (sym head-places)
+                subst (λ (p : ℕ). BookParted (booked .loans) (booked .index) n p) (sym count-places)
                 (entered-parted (t .loans) (t .index) n (placesIn t) few (K .loans-parted) (givenIn t) new (lengths .loans) (lengths .index) place refl some);
             chained =
-                subst (λ (p : ℕ). BookChained (booked .loans) (booked .index) n p (givenIn booked)) (sym head-places)
-                (subst (λ (g : ℕ). BookChained (booked .loans) (booked .index) n q g) (sym head-given)
+                subst (λ (p : ℕ). BookChained (booked .loans) (booked .index) n p (givenIn booked)) (sym count-places)
+                (subst (λ (g : ℕ). BookChained (booked .loans) (booked .index) n q g) (sym count-given)
                 (entered-chained (t .loans) (t .index) n (placesIn t) few (K .loans-parted) (givenIn t) new (lengths .loans) (lengths .index) place refl some (K .chained)));
             chunks-parted = chunks-parted;
-            memories-differ = λ a b h g. K .memories-differ a b (sym (held a) ∙ h) (sym (held b) ∙ g);
+            memories-differ = K .memories-differ;
             good = X .1;
             standing = X .0;
             loans-units = λ j h. loan-units j h (same? j k);

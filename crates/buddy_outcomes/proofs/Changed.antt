@@ -1,19 +1,17 @@
 -- What the tables hold after set-up, and when levels have grown: they are sound.
 use mathlib.Core.Path.{_≡_, refl, sym, ap, _∙_, subst}
-use mathlib.Core.Bool.{Bool, true, false, cond, _&&_, not}
+use mathlib.Core.Bool.{true, false, cond}
 use mathlib.Core.Logic.{⊎-elim}
 use mathlib.Core.List.{List}
 use Prim.Native.Nat.{ℕ, _+_, _-_, _*_, _^_, _≤_, _<_, zero, suc}
 use native.Mathlib.Nat.{mul-suc}
 use native.Mathlib.Omega.{arith}
-use lib.Dec.{eqb, ltb}
 use lib.ListN.{length, getD, set, take, drop, length-set}
 use lib.Seq.{getD-set-same, getD-set-other, drop-set-add, take-set-le}
 use borrow.Author.Tests.{le-ltb}
 use Rattle.lists.proofs.Bools.{true-false, lt-or-le}
 use Rattle.words.specs.Words.{cellOf, markAt, blank}
 use Rattle.words.proofs.Filled.{blank-long, blank-mark}
-use Rattle.rounding_rules.specs.Raising.{levelOf}
 use Rattle.counter.specs.InTable.{BuddyIn}
 use Rattle.counter.specs.Limits.{levelsMost}
 use Rattle.counter.specs.declared.settings.BuddySettings.{BuddySettings}
@@ -21,7 +19,7 @@ use Rattle.slab.specs.Slab.{nowhere, Parted}
 use Rattle.slab.specs.declared.Slab.{Slab}
 use Rattle.slab.specs.declared.Taken.{Taken}
 use Rattle.slab.proofs.Places.{parted-fresh, parted-same}
-use Rattle.store_rules.specs.Loans.{loanWords, sizeAt}
+use Rattle.store_rules.specs.Loans.{loanWords}
 use Rattle.book_rules.proofs.Firsts.{fresh-wide, fresh-vacated, fresh-first}
 use Rattle.book_rules.proofs.Keeps.{BookChained, BookParted, fresh-chained}
 use Rattle.buddy_trees.specs.Trees.{Tree, free}
@@ -33,13 +31,14 @@ use Rattle.buddy_rules.specs.Level.{levelWords, ringHead, pairTaken, freshLevel
 use Rattle.buddy_rules.proofs.Fresh.{fresh-length, fresh-head, fresh-taken, fresh-none, fresh-good}
 use Rattle.buddy_rules.proofs.Ops.{levelOps}
 use Rattle.buddy_rules.proofs.Parts.{part-length, part-head, part-taken}
-use Rattle.buddy_rules.specs.Tables.{Tables, tables, Lengths, chunkWords, treeWords, givenAt, levelsAt, placesAt, chunkPlacesAt, givenIn, levelsIn, placesIn, chunkPlacesIn, levelFrom, chunksFrom, placeAt, topAt, placeWords, nodesFrom, loanIn, liveIn, heldIn, highIn, topIn, vacantChunk, chunkAfter, chunkSlab, vacantLoan, loanAfter, initialLevels, chunkSizeAt, marks}
+use Rattle.buddy_rules.specs.Tables.{Tables, tables, Lengths, chunkWords, treeWords, levelsAt, givenIn, levelsIn, chunkPlacesIn, levelFrom, chunksFrom, placeAt, topAt, placeWords, nodesFrom, loanIn, liveIn, heldIn, highIn, topIn, vacantChunk, chunkAfter, chunkSlab, vacantLoan, loanAfter, initialLevels, marks}
 use Rattle.buddy_rules.specs.Sound.{Sound}
 use Rattle.buddy_rules.proofs.Abstract.{storeOf, levels-in, sound-store, Sizes, store-trees}
 use Rattle.buddy_rules.proofs.Walks.{minimal-pos}
 use Rattle.buddy_rules.proofs.Owns.{fresh-own}
 use Rattle.buddy_outcomes.specs.Ask.{freshLevels, grownTables}
 use Rattle.buddy_outcomes.specs.SetUp.{freshTables}
+use Rattle.buddy_outcomes.proofs.Heads.{fresh-places, fresh-chunk-places}
 use Rattle.buddy_outcomes.proofs.Same.{sound-levels, sound-as, Freshened, freshened, freshened-long}
 
 pub few-pairs : (s : BuddySettings) → BuddyIn s → s .pairs ≤ 2 ^ 32
@@ -99,12 +98,10 @@ module _ (s : BuddySettings) (t : Tables) (fit : BuddyIn s) (lengths : Lengths s
       }
 
   fresh-held : (c : ℕ) → heldIn (freshTables s) c ≡ false
-  unfolding freshTables
-  fresh-held c = rw (le-ltb c 0 (omega arith))
+  fresh-held c = rw (fresh-chunk-places s, le-ltb c 0 (omega arith))
 
   fresh-live : (k : ℕ) → liveIn (freshTables s) k ≡ false
-  unfolding freshTables
-  fresh-live k = rw (le-ltb k 0 (omega arith))
+  fresh-live k = rw (fresh-places s, le-ltb k 0 (omega arith))
 
   none-vacated : getD (freshTables s .room) (chunksFrom s) 0 ≡ nowhere
   unfolding freshTables
@@ -153,9 +150,15 @@ module _ (s : BuddySettings) (t : Tables) (fit : BuddyIn s) (lengths : Lengths s
             };
         levels-least = omega arith;
         levels-most = few;
-        loans-parted = subst (λ (v : ℕ). Parted (vacantLoan u) (loanAfter u) (record { places = 0; vacant = v }) (s .store .loans)) (sym (fresh-vacated (marks .index) (s .store .loans))) (parted-fresh (vacantLoan u) (loanAfter u) (s .store .loans));
-        chained = fresh-chained (u .loans) (u .index) (s .store .loans) 0 (fresh-first (marks .index) (s .store .loans));
-        chunks-parted = subst (λ (v : ℕ). Parted (vacantChunk u) (chunkAfter s u) (record { places = 0; vacant = v }) (s .store .chunks)) (sym none-vacated) (parted-fresh (vacantChunk u) (chunkAfter s u) (s .store .chunks));
+        loans-parted =
+            subst (λ (p : ℕ). BookParted (u .loans) (u .index) (s .store .loans) p) (sym (fresh-places s))
+            (subst (λ (v : ℕ). Parted (vacantLoan u) (loanAfter u) (record { places = 0; vacant = v }) (s .store .loans)) (sym (fresh-vacated (marks .index) (s .store .loans))) (parted-fresh (vacantLoan u) (loanAfter u) (s .store .loans)));
+        chained =
+            subst (λ (p : ℕ). BookChained (u .loans) (u .index) (s .store .loans) p (givenIn u)) (sym (fresh-places s))
+            (fresh-chained (u .loans) (u .index) (s .store .loans) (givenIn u) (fresh-first (marks .index) (s .store .loans)));
+        chunks-parted =
+            subst (λ (p : ℕ). Parted (vacantChunk u) (chunkAfter s u) (record { places = p; vacant = getD (u .room) (chunksFrom s) 0 }) (s .store .chunks)) (sym (fresh-chunk-places s))
+            (subst (λ (v : ℕ). Parted (vacantChunk u) (chunkAfter s u) (record { places = 0; vacant = v }) (s .store .chunks)) (sym none-vacated) (parted-fresh (vacantChunk u) (chunkAfter s u) (s .store .chunks)));
         memories-differ = λ c d h. absurd (never c h);
         good = X .1;
         standing = X .0;
@@ -189,25 +192,8 @@ module _ (s : BuddySettings) (t : Tables) (fit : BuddyIn s) (lengths : Lengths s
       count : levelsIn grown ≡ n
       count = getD-set-same (t .head) levelsAt n 0 (omega (arith, lengths .head))
 
-      chunk-places : chunkPlacesIn grown ≡ chunkPlacesIn t
-      chunk-places = word chunkPlacesAt (λ e. omega arith)
-
-      places : placesIn grown ≡ placesIn t
-      places = word placesAt (λ e. omega arith)
-
-      held : (c : ℕ) → heldIn grown c ≡ heldIn t c
-      held c = ap (λ (p : ℕ). ltb c p && not (eqb (getD (t .chunks) (cellOf chunkSizeAt chunkWords c) 0) 0)) chunk-places
-
-      live : (k : ℕ) → liveIn grown k ≡ liveIn t k
-      live k = ap (λ (p : ℕ). ltb k p && not (eqb (getD (t .loans) (cellOf sizeAt loanWords k) 0) 0)) places
-
-      high : (c : ℕ) → highIn s grown c ≡ highIn s t c
-      high c = ap (λ (b : Bool). cond b (levelOf (getD (t .chunks) (cellOf chunkSizeAt chunkWords c) 0) (s .minimal)) 0) (held c)
-
       top : (c : ℕ) → topIn s grown c ≡ topIn s t c
-      top c =
-          ap (λ (b : Bool). cond b (getD (grown .room) (cellOf (placeAt s topAt) placeWords c) 0) 0) (held c)
-          ∙ ap (λ (w : ℕ). cond (heldIn t c) w 0) (made .past (cellOf (placeAt s topAt) placeWords c) (omega arith))
+      top c = ap (λ (w : ℕ). cond (heldIn t c) w 0) (made .past (cellOf (placeAt s topAt) placeWords c) (omega arith))
 
       loaned : (k : ℕ) → loanIn s grown k ≡ loanIn s t k
       loaned k =
@@ -223,22 +209,17 @@ module _ (s : BuddySettings) (t : Tables) (fit : BuddyIn s) (lengths : Lengths s
           let A : Stores.Sound (s .minimal) O u T = sound-levels (s .minimal) O (minimal-pos s fit) (storeOf s small t) T (sound-store s small t fit lengths sound) W (λ i h. made .below i h) in
           let fresh : (i : ℕ) → levelsIn t ≤ i → i < n → W i ≡ freshLevel 0 (part (s .pairs) i (t .room)) = λ i k h. made .inside i k (omega arith) in
           let B = grown-sound (s .minimal) O (minimal-pos s fit) u T A n more (λ i k h. level-good (t .room) i (W i) (lengths .room) (omega arith) (fresh i k h)) (λ i p k h. level-none (t .room) i p (W i) (lengths .room) (omega arith) (fresh i k h)) in
-          sound-as (s .minimal) O (minimal-pos s fit) (grownTo (s .minimal) O n u) (storeOf s small grown) T B count (λ i h. refl) loaned live high top
+          sound-as (s .minimal) O (minimal-pos s fit) (grownTo (s .minimal) O n u) (storeOf s small grown) T B count (λ i h. refl) loaned (λ k. refl) (λ c. refl) top
 
       sizes : Sizes s grown
-      sizes = record {
-        chunks = λ c h. let r = sound .standing .sized c (sym (held c) ∙ h) in let e = high c in (rw e (r .0), rw e (r .1), rw e (r .2));
-        loans = λ k h. sound .standing .loans-sized k (sym (live k) ∙ h);
-      }
+      sizes = record { chunks = λ c h. let r = sound .standing .sized c h in (r .0, r .1, r .2); loans = sound .standing .loans-sized }
 
       slab : chunkSlab s t ≡ chunkSlab s grown
-      slab = let a = sym chunk-places in let b = sym (made .past (chunksFrom s) (omega arith)) in (λ j. record { places = a j; vacant = b j })
+      slab = let b = sym (made .past (chunksFrom s) (omega arith)) in (λ j. record { places = chunkPlacesIn t; vacant = b j })
 
       grown-is-sound : Lengths s grown → Sound s grown
       grown-is-sound len =
           let X = store-trees s small grown (λ (c : ℕ). cond (heldIn t c) (sound .standing .trees c) free) fit len grown-store sizes (omega (arith, count)) in
-          let e = sym places in
-          let f : givenIn t ≡ givenIn grown = sym (word givenAt (λ e. omega arith)) in
           record {
             signed =
                 record {
@@ -250,18 +231,16 @@ module _ (s : BuddySettings) (t : Tables) (fit : BuddyIn s) (lengths : Lengths s
                 };
             levels-least = omega (arith, count, sound .levels-least);
             levels-most = omega (arith, count);
-            loans-parted = subst (λ (p : ℕ). BookParted (t .loans) (t .index) (s .store .loans) p) e (sound .loans-parted);
-            chained =
-                subst (λ (p : ℕ). BookChained (t .loans) (t .index) (s .store .loans) p (givenIn grown)) e
-                (subst (λ (g : ℕ). BookChained (t .loans) (t .index) (s .store .loans) (placesIn t) g) f (sound .chained));
+            loans-parted = sound .loans-parted;
+            chained = sound .chained;
             chunks-parted =
                 subst (λ (z : Slab). Parted (vacantChunk t) (chunkAfter s grown) z (s .store .chunks)) slab
                 (parted-same (vacantChunk t) (vacantChunk t) (chunkAfter s t) (chunkAfter s grown) (chunkSlab s t) (s .store .chunks) (λ x h. refl)
                 (λ x h. made .past (cellOf (placeAt s 1) placeWords x) (omega arith)) (sound .chunks-parted));
-            memories-differ = λ c d h k. sound .memories-differ c d (sym (held c) ∙ h) (sym (held d) ∙ k);
+            memories-differ = sound .memories-differ;
             good = X .1;
             standing = X .0;
-            loans-units = λ k h. sound .loans-units k (sym (live k) ∙ h);
+            loans-units = sound .loans-units;
           }
 
     pub grown-tables-sound : (n : ℕ) → levelsIn t ≤ n → n ≤ levelsMost → Sound s (grownTables s n t)
@@ -277,15 +256,7 @@ module _ (s : BuddySettings) (t : Tables) (fit : BuddyIn s) (lengths : Lengths s
 
       pub grown-held : (c : ℕ) → heldIn (grownTables s n t) c ≡ heldIn t c
       unfolding grownTables
-      grown-held = held n more most
-
-      pub grown-places : placesIn (grownTables s n t) ≡ placesIn t
-      unfolding grownTables
-      grown-places = places n more most
-
-      pub grown-given : givenIn (grownTables s n t) ≡ givenIn t
-      unfolding grownTables
-      grown-given = word n more most givenAt (λ e. omega arith)
+      grown-held c = refl
 
       pub grown-slab : chunkSlab s (grownTables s n t) ≡ chunkSlab s t
       unfolding grownTables

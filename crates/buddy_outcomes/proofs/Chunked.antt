@@ -1,6 +1,6 @@
 -- What the tables say when a chunk stands at the place that is taken next: all but its tree.
 use mathlib.Core.Path.{_≡_, refl, sym, ap, _∙_, subst}
-use mathlib.Core.Bool.{Bool, true, false, cond, _&&_, not}
+use mathlib.Core.Bool.{Bool, true, false, cond, not}
 use mathlib.Core.Logic.{_⊎_, inl, inr, ⊎-elim}
 use mathlib.Core.List.{List, [], _∷_}
 use Prim.Native.Nat.{ℕ, _+_, _-_, _*_, _^_, _%_, _≤_, _<_}
@@ -21,18 +21,18 @@ use Rattle.slab.specs.Slab.{nowhere, linkAt, inserted, Chain, Parted, changed}
 use Rattle.slab.specs.declared.Slab.{Slab}
 use Rattle.slab.specs.declared.Taken.{Taken}
 use Rattle.slab.proofs.Places.{parted-same, insert-first, insert-next, insert-last, inserted-parted, changed-here, changed-other}
-use Rattle.store_rules.specs.Loans.{sizeAt}
-use Rattle.book_rules.proofs.Keeps.{BookChained, BookParted}
 use Rattle.buddy_trees.specs.Trees.{bytes}
 use Rattle.buddy_trees.proofs.Bytes.{bytes-pos}
 use Rattle.buddy_rules.specs.Stores.{with}
 use Rattle.buddy_rules.specs.Level.{pairTaken, part}
-use Rattle.buddy_rules.specs.Tables.{Tables, tables, Lengths, givenAt, levelsAt, placesAt, chunkPlacesAt, memoryAt, chunkSizeAt, chunkWords, givenIn, levelsIn, placesIn, chunkPlacesIn, memoryIn, chunkSizeIn, levelFrom, chunksFrom, placeAt, topAt, afterAt, placeWords, nodesFrom, loanIn, liveIn, loanCell, heldIn, highIn, topIn, vacantChunk, chunkAfter, chunkSlab, initialLevels}
+use Rattle.buddy_rules.specs.Tables.{Tables, tables, Lengths, chunkPlacesAt, memoryAt, chunkSizeAt, chunkWords, levelsIn, chunkPlacesIn, memoryIn, chunkSizeIn, levelFrom, chunksFrom, placeAt, topAt, afterAt, placeWords, nodesFrom, loanIn, heldIn, highIn, topIn, vacantChunk, chunkAfter, chunkSlab, initialLevels}
 use Rattle.buddy_rules.specs.Sound.{Sound}
 use Rattle.buddy_rules.proofs.Walks.{minimal-pos, level-bytes}
 use Rattle.buddy_outcomes.specs.Ask.{chunkTaken}
+use Rattle.buddy_outcomes.specs.Deliver.{chunkTables}
 use Rattle.buddy_outcomes.proofs.Changed.{part-set}
 use Rattle.buddy_outcomes.proofs.Booked.{Kept, and-no, lower}
+use Rattle.buddy_outcomes.proofs.Heads.{chunk-mark, chunk-counted}
 
 -- the place that is taken is the next new one, or one that was vacant, and then no place more is used
 inserted-where : (free : ℕ → Bool) (links : List ℕ) (at step : ℕ) (s : Slab) (most : ℕ) → Parted free (linkAt links at step) s most → most < nowhere
@@ -73,42 +73,46 @@ module _ (s : BuddySettings) (t : Tables) (fit : BuddyIn s) (lengths : Lengths s
 
   abbrev pub chunked : Tables
   chunked =
-      tables (set (t .head) chunkPlacesAt q) (t .loans)
-      (set (set (t .chunks) (cellOf memoryAt chunkWords p) memory) (cellOf chunkSizeAt chunkWords p) z)
+      tables (t .head) (t .loans)
+      (set (set (set (t .chunks) chunkPlacesAt q) (cellOf memoryAt chunkWords p) memory) (cellOf chunkSizeAt chunkWords p) z)
       (t .index)
       (set (set (t .room) (chunksFrom s) (chunkTaken s t .slab .vacant)) topCell topWord)
 
+  -- the chunks with their places counted, and then with the memory number
+  abbrev counted : List ℕ
+  counted = set (t .chunks) chunkPlacesAt q
+
+  counted-long : length counted ≡ chunkWords + chunkWords * s .store .chunks
+  counted-long = length-set (t .chunks) chunkPlacesAt q ∙ lengths .chunks
+
+  abbrev first : List ℕ
+  first = set counted (cellOf memoryAt chunkWords p) memory
+
+  first-long : length first ≡ chunkWords + chunkWords * s .store .chunks
+  first-long = length-set counted (cellOf memoryAt chunkWords p) memory ∙ counted-long
+
   pub chunked-lengths : Lengths s chunked
   chunked-lengths = record {
-    head = length-set (t .head) chunkPlacesAt q ∙ lengths .head;
+    head = lengths .head;
     loans = lengths .loans;
-    chunks = length-set (set (t .chunks) (cellOf memoryAt chunkWords p) memory) (cellOf chunkSizeAt chunkWords p) z ∙ length-set (t .chunks) (cellOf memoryAt chunkWords p) memory ∙ lengths .chunks;
+    chunks = length-set first (cellOf chunkSizeAt chunkWords p) z ∙ first-long;
     index = lengths .index;
     room = length-set (set (t .room) (chunksFrom s) (chunkTaken s t .slab .vacant)) topCell topWord ∙ length-set (t .room) (chunksFrom s) (chunkTaken s t .slab .vacant) ∙ lengths .room;
   }
 
-  -- ---- words of the head
+  -- ---- the counts
 
-  pub head-places : chunkPlacesIn chunked ≡ q
-  head-places = getD-set-same (t .head) chunkPlacesAt q 0 (omega (arith, lengths .head))
-
-  head-other : (i : ℕ) → (i ≡ chunkPlacesAt → ⊥) → getD (chunked .head) i 0 ≡ getD (t .head) i 0
-  head-other i n = getD-set-other (t .head) chunkPlacesAt i q 0 n
-
-  pub chunked-count : levelsIn chunked ≡ levelsIn t
-  chunked-count = head-other levelsAt (λ e. omega arith)
-
-  pub chunked-places : placesIn chunked ≡ placesIn t
-  chunked-places = head-other placesAt (λ e. omega arith)
+  pub places-now : chunkPlacesIn chunked ≡ q
+  unfolding chunkTables
+  places-now = chunk-counted s memory z t (omega (arith, lengths .chunks))
 
   pub chunked-level : (i : ℕ) → i < levelsMost → part (s .pairs) i (chunked .room) ≡ part (s .pairs) i (t .room)
   chunked-level i h = part-set s i topCell topWord (set (t .room) (chunksFrom s) (chunkTaken s t .slab .vacant)) h (omega arith) ∙ part-set s i (chunksFrom s) (chunkTaken s t .slab .vacant) (t .room) h (omega arith)
 
   -- the chunks' mark stays
   chunks-mark : getD (chunked .chunks) markAt 0 ≡ getD (t .chunks) markAt 0
-  chunks-mark =
-      getD-set-other (set (t .chunks) (cellOf memoryAt chunkWords p) memory) (cellOf chunkSizeAt chunkWords p) markAt z 0 (λ e. omega arith)
-      ∙ getD-set-other (t .chunks) (cellOf memoryAt chunkWords p) markAt memory 0 (λ e. omega arith)
+  unfolding chunkTables
+  chunks-mark = chunk-mark s memory z t
 
   -- ---- words of the tree
 
@@ -126,9 +130,6 @@ module _ (s : BuddySettings) (t : Tables) (fit : BuddyIn s) (lengths : Lengths s
 
     -- ---- the loans are the same
 
-    pub chunked-live : (j : ℕ) → liveIn chunked j ≡ liveIn t j
-    chunked-live j = ap (λ (n : ℕ). ltb j n && not (eqb (loanCell t sizeAt j) 0)) chunked-places
-
     pub chunked-loan : (j : ℕ) → loanIn s chunked j ≡ loanIn s t j
     chunked-loan j =
         let e = tree-other (nodesFrom s + j) (λ e. omega arith) (λ e. omega arith) in
@@ -136,29 +137,25 @@ module _ (s : BuddySettings) (t : Tables) (fit : BuddyIn s) (lengths : Lengths s
 
     -- ---- words of the chunks
 
-    abbrev first : List ℕ
-    first = set (t .chunks) (cellOf memoryAt chunkWords p) memory
-
-    first-long : length first ≡ chunkWords + chunkWords * s .store .chunks
-    first-long = length-set (t .chunks) (cellOf memoryAt chunkWords p) memory ∙ lengths .chunks
-
     pub size-here : chunkSizeIn chunked (chunkTaken s t .place) ≡ z
     size-here = getD-set-same first (cellOf chunkSizeAt chunkWords p) z 0 (omega (arith, first-long))
 
     pub size-other : (b : ℕ) → (b ≡ p → ⊥) → chunkSizeIn chunked b ≡ chunkSizeIn t b
     size-other b n =
         getD-set-other first (cellOf chunkSizeAt chunkWords p) (cellOf chunkSizeAt chunkWords b) z 0 (λ e. n (omega arith))
-        ∙ getD-set-other (t .chunks) (cellOf memoryAt chunkWords p) (cellOf chunkSizeAt chunkWords b) memory 0 (λ e. omega arith)
+        ∙ getD-set-other counted (cellOf memoryAt chunkWords p) (cellOf chunkSizeAt chunkWords b) memory 0 (λ e. omega arith)
+        ∙ getD-set-other (t .chunks) chunkPlacesAt (cellOf chunkSizeAt chunkWords b) q 0 (λ e. omega arith)
 
     pub memory-here : memoryIn chunked (chunkTaken s t .place) ≡ memory
     memory-here =
         getD-set-other first (cellOf chunkSizeAt chunkWords p) (cellOf memoryAt chunkWords p) z 0 (λ e. omega arith)
-        ∙ getD-set-same (t .chunks) (cellOf memoryAt chunkWords p) memory 0 (omega (arith, lengths .chunks))
+        ∙ getD-set-same counted (cellOf memoryAt chunkWords p) memory 0 (omega (arith, counted-long))
 
     pub memory-other : (b : ℕ) → (b ≡ chunkTaken s t .place → ⊥) → memoryIn chunked b ≡ memoryIn t b
     memory-other b n =
         getD-set-other first (cellOf chunkSizeAt chunkWords p) (cellOf memoryAt chunkWords b) z 0 (λ e. omega arith)
-        ∙ getD-set-other (t .chunks) (cellOf memoryAt chunkWords p) (cellOf memoryAt chunkWords b) memory 0 (λ e. n (omega arith))
+        ∙ getD-set-other counted (cellOf memoryAt chunkWords p) (cellOf memoryAt chunkWords b) memory 0 (λ e. n (omega arith))
+        ∙ getD-set-other (t .chunks) chunkPlacesAt (cellOf memoryAt chunkWords b) q 0 (λ e. omega arith)
 
     -- ---- the place was vacant, and is held now
 
@@ -186,10 +183,10 @@ module _ (s : BuddySettings) (t : Tables) (fit : BuddyIn s) (lengths : Lengths s
           by (inr w) = and-no (ltb p (chunkPlacesIn t)) (not (vacantChunk t p)) (ap not (w .1))
 
       pub held-here : heldIn chunked (chunkTaken s t .place) ≡ true
-      held-here = rw (head-places, size-here, lt-ltb p q within-places, ne-eqb z 0 some)
+      held-here = rw (places-now, size-here, lt-ltb p q within-places, ne-eqb z 0 some)
 
       pub held-other : (b : ℕ) → (b ≡ p → ⊥) → heldIn chunked b ≡ heldIn t b
-      held-other b n = rw (head-places, size-other b n, lower b p (chunkPlacesIn t) q taken-low n)
+      held-other b n = rw (places-now, size-other b n, lower b p (chunkPlacesIn t) q taken-low n)
 
       high-here : highIn s chunked p ≡ levelsIn t
       high-here = rw (held-here) (ap (λ (x : ℕ). levelOf x (s .minimal)) (size-here ∙ is) ∙ level-bytes s fit (levelsIn t) (sound .levels-most))
@@ -220,7 +217,7 @@ module _ (s : BuddySettings) (t : Tables) (fit : BuddyIn s) (lengths : Lengths s
           (same? x p)
 
       slab : chunkTaken s t .slab ≡ chunkSlab s chunked
-      slab = let a = sym head-places in let b = sym tree-vacated in (λ j. record { places = a j; vacant = b j })
+      slab = let a = sym places-now in let b = sym tree-vacated in (λ j. record { places = a j; vacant = b j })
 
       chunks-parted : Parted (vacantChunk chunked) (chunkAfter s chunked) (chunkSlab s chunked) (s .store .chunks)
       chunks-parted =
@@ -255,25 +252,21 @@ module _ (s : BuddySettings) (t : Tables) (fit : BuddyIn s) (lengths : Lengths s
 
       pub chunked-kept : ((c : ℕ) → heldIn t c ≡ true → memoryIn t c ≡ memory → ⊥) → Kept s chunked
       chunked-kept new =
-          let e = sym chunked-places in
-          let f : givenIn t ≡ givenIn chunked = sym (head-other givenAt (λ e. omega arith)) in
           record {
             signed =
                 record {
-                  head = head-other markAt (λ e. omega arith) ∙ sound .signed .head;
+                  head = sound .signed .head;
                   loans = sound .signed .loans;
                   chunks = chunks-mark ∙ sound .signed .chunks;
                   index = sound .signed .index;
                   room = tree-other markAt (λ e. omega arith) (λ e. omega arith) ∙ sound .signed .room;
                 };
-            levels-least = omega (arith, chunked-count, sound .levels-least);
-            levels-most = omega (arith, chunked-count, sound .levels-most);
-            loans-parted = subst (λ (n : ℕ). BookParted (t .loans) (t .index) (s .store .loans) n) e (sound .loans-parted);
-            chained =
-                subst (λ (n : ℕ). BookChained (t .loans) (t .index) (s .store .loans) n (givenIn chunked)) e
-                (subst (λ (g : ℕ). BookChained (t .loans) (t .index) (s .store .loans) (placesIn t) g) f (sound .chained));
+            levels-least = sound .levels-least;
+            levels-most = sound .levels-most;
+            loans-parted = sound .loans-parted;
+            chained = sound .chained;
             chunks-parted = chunks-parted;
             memories-differ = differ new;
-            sizes = record { chunks = λ b h. chunk-sized b h (same? b p); loans = λ j h. sound .standing .loans-sized j (sym (chunked-live j) ∙ h) };
-            units = λ j h. sound .loans-units j (sym (chunked-live j) ∙ h);
+            sizes = record { chunks = λ b h. chunk-sized b h (same? b p); loans = sound .standing .loans-sized };
+            units = sound .loans-units;
           }

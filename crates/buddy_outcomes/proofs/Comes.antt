@@ -37,7 +37,7 @@ use Rattle.book_rules.proofs.Keeps.{BookParted}
 use Rattle.buddy_trees.specs.Trees.{bytes}
 use Rattle.buddy_rules.specs.Moves.{Cut}
 use Rattle.buddy_rules.specs.Sound.{Sound}
-use Rattle.buddy_rules.specs.Tables.{Tables, Lengths, placesAt, headWords, givenIn, levelsIn, placesIn, chunkPlacesIn, memories, heldIn}
+use Rattle.buddy_rules.specs.Tables.{Tables, Lengths, givenIn, levelsIn, placesIn, chunkPlacesIn, memories, heldIn}
 use Rattle.buddy_rules.specs.Views.{loansIn, chunksOf, chunksIn}
 use Rattle.buddy_rules.proofs.Viewed.{chunkAt}
 use Rattle.buddy_outcomes.specs.Ask as Ask
@@ -46,10 +46,10 @@ use Rattle.buddy_outcomes.specs.Deliver as Deliver
 use Rattle.buddy_outcomes.specs.Deliver.{chunkTables, loanIn, servedTables, carryFate, decideDeliver, deliverGateOf, planDeliver, carryDeliver, deliverOf}
 use Rattle.buddy_outcomes.specs.Gate.{gateOf}
 use Rattle.buddy_outcomes.proofs.Changed.{grown-lengths}
-use Rattle.buddy_outcomes.proofs.Chunked.{chunked, head-places, size-here, size-other, memory-here, memory-other, taken-low, within-places, taken-dead, held-here, held-other}
+use Rattle.buddy_outcomes.proofs.Chunked.{chunked, places-now, size-here, size-other, memory-here, memory-other, taken-low, within-places, taken-dead, held-here, held-other}
 use Rattle.buddy_outcomes.proofs.Delivered.{grown-sound, count, place, chunk-room, gate-sound, opened}
 use Rattle.buddy_outcomes.proofs.Goes.{SameAt, Parts, parts}
-use Rattle.buddy_outcomes.proofs.Heads.{chunk-word, chunk-head, booked-places}
+use Rattle.buddy_outcomes.proofs.Heads.{booked-places}
 use Rattle.buddy_outcomes.proofs.Lendings.{grown-view, booked-chunks}
 use Rattle.buddy_outcomes.proofs.Passing.{Lent, Passed, gate-passed}
 use Rattle.buddy_outcomes.proofs.Plans.{Takes, takes, Buys}
@@ -132,12 +132,12 @@ unfolding deniedTables
 denied-tables s size mask n t = ⊎-elim (λ e. inl (rw e)) (λ e. inr (rw e)) (told (eqb n 9))
 
 -- a loan that is entered stands amid those that there were
-booked-amid : (s : BuddySettings) (t : Tables) (c o size : ℕ) (cut : Cut) → BuddyIn s → length (t .head) ≡ headWords → length (t .loans) ≡ loanWords + loanWords * s .store .loans → BookParted (t .loans) (t .index) (s .store .loans) (placesIn t)
+booked-amid : (s : BuddySettings) (t : Tables) (c o size : ℕ) (cut : Cut) → BuddyIn s → length (t .loans) ≡ loanWords + loanWords * s .store .loans → BookParted (t .loans) (t .index) (s .store .loans) (placesIn t)
     → takenOf (placesIn t) (t .index) .place < s .store .loans → (size ≡ 0 → ⊥) → Amid (loan (givenIn t + 1) c o size) (loansIn t) (loansIn (bookedTables s c o size cut t))
 unfolding bookedTables
-booked-amid s t c o size cut fit head long parted room some =
+booked-amid s t c o size cut fit long parted room some =
     let l : Loan = loan (givenIn t + 1) c o size in
-    let e = booked-places s t c o size cut head in
+    let e = booked-places s t c o size cut (omega (arith, long)) in
     subst (λ (k : ℕ). Amid l (loansIn t) (loansOf k (entered (placesIn t) (t .index) l (t .loans)))) (sym e)
     (entered-amid l (ne-eqb size 0 some) (t .loans) (t .index) (s .store .loans) (placesIn t) (omega (arith, fit .store .loans-most)) parted room (omega (arith, long)))
 
@@ -149,7 +149,7 @@ size-some s fit size mask e z = omega (arith, ltb-true 0 size (and-left (ltb 0 s
 pub taken-amid : (s : BuddySettings) (t : Tables) → BuddyIn s → Lengths s t → Sound s t → (size mask i : ℕ) → Takes s size mask t i → Amid (loanFrom s (sizeFor s size mask) t i) (loansIn t) (loansIn (takenTables s (sizeFor s size mask) (levelFor s size mask) t i))
 unfolding takenTables
 taken-amid s t fit lengths sound size mask i w =
-    booked-amid s t _ _ _ _ fit (lengths .head) (lengths .loans) (sound .loans-parted) (room-place s t size mask (Ask.at i) (w .room)) (size-some s fit size mask (w .sized))
+    booked-amid s t _ _ _ _ fit (lengths .loans) (sound .loans-parted) (room-place s t size mask (Ask.at i) (w .room)) (size-some s fit size mask (w .sized))
 
 -- a place that holds no chunk shows none
 past-one : (t : Tables) (n : ℕ) → heldIn t n ≡ false → chunksOf t (suc n) ≡ chunksOf t n
@@ -172,31 +172,12 @@ module _ (s : BuddySettings) (t : Tables) (fit : BuddyIn s) (lengths : Lengths s
   abbrev p : ℕ
   p = chunkTaken s g .place
 
-  is : chunkTables s memory z g ≡ u
-  unfolding chunkTables
-  is = refl
-
-  same-places : placesIn (chunkTables s memory z g) ≡ placesIn g
-  same-places = chunk-word s memory z g placesAt (λ e. omega arith)
-
-  same-given : givenIn (chunkTables s memory z g) ≡ givenIn g
-  same-given = chunk-word s memory z g 1 (λ e. omega arith)
-
-  same-loans : loansIn (chunkTables s memory z g) ≡ loansIn t
-  unfolding chunkTables
-  same-loans = ap (λ (k : ℕ). loansOf k (g .loans)) same-places ∙ grown-loans s (grownTo (levelFor s size mask) t) t
-
   -- the new chunk's block stands amid the loans that there were
   pub served-amid : Amid (loanIn s size mask g) (loansIn t) (loansIn (servedTables s (sizeFor s size mask) (levelFor s size mask) memory z g))
   unfolding servedTables chunkTables
   served-amid =
-      let v : Tables = chunkTables s memory z g in
-      let A = booked-amid s v p 0 (sizeFor s size mask) _ fit (chunk-head s memory z g ∙ g-lengths .head) (g-lengths .loans)
-      (subst (BookParted (g .loans) (g .index) (s .store .loans)) (sym same-places) (g-sound .loans-parted))
-      (subst (λ (k : ℕ). takenOf k (g .index) .place < s .store .loans) (sym same-places) (place s t fit lengths sound size mask z b))
-      (size-some s fit size mask (b .sized)) in
-      subst (λ (n : ℕ). Amid (loan (n + 1) p 0 (sizeFor s size mask)) (loansIn t) (loansIn (servedTables s (sizeFor s size mask) (levelFor s size mask) memory z g))) same-given
-      (subst (λ (ls : List Loan). Amid (loan (givenIn v + 1) p 0 (sizeFor s size mask)) ls (loansIn (servedTables s (sizeFor s size mask) (levelFor s size mask) memory z g))) same-loans A)
+      let A = booked-amid s (chunkTables s memory z g) p 0 (sizeFor s size mask) _ fit (g-lengths .loans) (g-sound .loans-parted) (place s t fit lengths sound size mask z b) (size-some s fit size mask (b .sized)) in
+      subst (λ (ls : List Loan). Amid (loan (givenIn g + 1) p 0 (sizeFor s size mask)) ls (loansIn (servedTables s (sizeFor s size mask) (levelFor s size mask) memory z g))) (grown-loans s (grownTo (levelFor s size mask) t) t) A
 
   -- ---- the chunks
 
@@ -232,7 +213,7 @@ module _ (s : BuddySettings) (t : Tables) (fit : BuddyIn s) (lengths : Lengths s
 
       by-parts : Parts u g p q → Amid (chunk p memory z) (chunksIn t) (chunksIn (servedTables s (sizeFor s size mask) (levelFor s size mask) memory z g))
       by-parts w =
-          let f : chunksIn u ≡ chunksOf u q = ap (chunksOf u) (head-places s g fit g-lengths memory z) in
+          let f : chunksIn u ≡ chunksOf u q = ap (chunksOf u) (places-now s g fit g-lengths memory z) in
           let m = memory-here s g fit g-lengths memory z room in
           let y = size-here s g fit g-lengths memory z room in
           record {

@@ -37,9 +37,10 @@ use Rattle.buddy_outcomes.specs.Ask as Ask
 use Rattle.buddy_outcomes.specs.Ask.{Found, nowhere, levelFor, grownTo, searchFrom, foundFrom, splitFrom, pairRoom, pairsRoom, chunkTaken, roomOk, countOk, objectsOk, askRow, planned, decideAsk, grownTables, carryAsk, askOf}
 use Rattle.buddy_outcomes.specs.Deliver.{stillOk, deliverGateOf}
 use Rattle.buddy_outcomes.specs.Gate.{inTableOk, accountOk}
-use Rattle.buddy_outcomes.proofs.Changed.{grown-lengths, grown-given}
+use Rattle.buddy_outcomes.proofs.Changed.{grown-lengths}
 use Rattle.buddy_outcomes.proofs.Comes.{AskComes, denied, lends, orders, ask-comes}
-use Rattle.buddy_outcomes.proofs.Delivered.{more, most, grown-sound, count, place, chunk-room, empty, pair}
+use Rattle.buddy_outcomes.proofs.Delivered.{grown-sound, count, place, chunk-room, empty, pair}
+use Rattle.buddy_outcomes.proofs.Heads.{grown-given}
 use Rattle.buddy_outcomes.proofs.Held.{chunksHeld, bytesHeld, holds-account, account-covers, grown-holds}
 use Rattle.buddy_outcomes.proofs.Passing.{Passed, are-lengths}
 use Rattle.buddy_outcomes.proofs.Plans.{Buys, buys, buy-bears, planned-buy}
@@ -137,7 +138,7 @@ module _ (s : BuddySettings) (a : Account) (size mask : ℕ) (t : Tables) where
     counts : countOk s own (levelFor s size mask) g nowhere ≡ true
     unfolding countOk
     counts =
-        let e : givenIn g ≡ givenIn t = grown-given s t fit lengths sound n (more s t fit lengths sound size mask z bought) (most s t fit lengths sound size mask z bought) in
+        let e : givenIn g ≡ givenIn t = grown-given s n t in
         and-both (ltb (givenIn g) spent) (bearsOk own (Ask.orderBytes s (levelFor s size mask) g)) (lt-ltb (givenIn g) spent (omega (arith, e, bought .serial)))
         (ap (bearsOk own) same-order-size ∙ buy-bears s own (a .objects) size mask t z (b .buys-it) .0)
 

@@ -46,7 +46,8 @@ use Rattle.buddy_outcomes.specs.Deliver.{stillOk, deliverGateOf, servedT
 use Rattle.buddy_outcomes.proofs.Passing.{Lent, lent-in}
 use Rattle.buddy_outcomes.proofs.Plans.{Buys, buys, buy-bears}
 use Rattle.buddy_outcomes.proofs.Rounds.{level-low}
-use Rattle.buddy_outcomes.proofs.Changed.{grown-lengths, grown-tables-sound, grown-count, grown-held, grown-places, grown-slab, grown-head, grown-place}
+use Rattle.buddy_outcomes.proofs.Changed.{grown-lengths, grown-tables-sound, grown-count, grown-held, grown-slab, grown-head, grown-place}
+use Rattle.buddy_outcomes.proofs.Heads.{grown-places}
 use Rattle.buddy_outcomes.proofs.Searches.{search-none, room-place, room-chunk, room-pair}
 use Rattle.buddy_outcomes.proofs.Served.{served-lengths, served-sound}
 
@@ -78,7 +79,7 @@ module _ (s : BuddySettings) (t : Tables) (fit : BuddyIn s) (lengths : Lengths s
   place-before = room-place s t size mask Ask.nowhere (b .room)
 
   pub place : takenOf (placesIn (grownTables s n t)) (grownTables s n t .index) .place < s .store .loans
-  place = subst (λ (p : ℕ). takenOf p (grownTables s n t .index) .place < s .store .loans) (sym (grown-places s t fit lengths sound n more most)) place-before
+  place = subst (λ (p : ℕ). takenOf p (grownTables s n t .index) .place < s .store .loans) (sym (grown-places s n t)) place-before
 
   pub chunk-room : chunkTaken s (grownTables s n t) .place < s .store .chunks
   chunk-room =

@@ -37,7 +37,7 @@ use Rattle.buddy_outcomes.specs.Ask.{sizeFor, levelFor, grownTo, chunkTa
 use Rattle.buddy_outcomes.specs.Deliver.{loanIn, asOrdered, chunkTables, servedTables, deliverOf}
 use Rattle.buddy_outcomes.proofs.Arrives.{deliver-came}
 use Rattle.buddy_outcomes.proofs.Changed.{few-pairs, grown-lengths, grown-count, grown-head}
-use Rattle.buddy_outcomes.proofs.Chunked.{chunked, chunked-lengths, chunked-count, chunked-level}
+use Rattle.buddy_outcomes.proofs.Chunked.{chunked, chunked-lengths, chunked-level}
 use Rattle.buddy_outcomes.proofs.Comes.{served-amid, served-chunks}
 use Rattle.buddy_outcomes.proofs.Deliverable.{order-buying}
 use Rattle.buddy_outcomes.proofs.Delivered as Delivered
@@ -116,8 +116,7 @@ module _ (s : BuddySettings) (t : Tables) (fit : BuddyIn s) (lengths : Lengths s
       let d = levelsIn g - lev - 1 in
       let r = served-rings s (few-pairs s fit) g fit g-lengths g-sound W rings (u .room) (chunked-lengths s g fit g-lengths memory z .room) (chunked-level s g fit g-lengths memory z) lev d c k top
       (λ i x y. Delivered.pair s t fit lengths sound size mask z b i x y) in
-      booked-rings s u (omega (arith, chunked-count s g fit g-lengths memory z, g-sound .levels-most)) c 0 (sizeFor s size mask) _ _
-      (λ l h. r l (omega (arith, h, chunked-count s g fit g-lengths memory z)))
+      booked-rings s u (g-sound .levels-most) c 0 (sizeFor s size mask) _ _ r
 
 -- ---- a delivery
 

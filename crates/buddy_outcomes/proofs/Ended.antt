@@ -19,7 +19,7 @@ use Rattle.counter.specs.Paper as Paper
 use Rattle.counter.specs.declared.account.Account.{Account}
 use Rattle.counter.specs.declared.answers.Block.{Block}
 use Rattle.counter.specs.declared.settings.BuddySettings.{BuddySettings}
-use Rattle.store_rules.specs.Loans.{loanWords, sizeAt}
+use Rattle.store_rules.specs.Loans.{loanWords, sizeAt, loansOf}
 use Rattle.store_rules.specs.Outcomes.{Listed, listed, listOk, toFree, releasedAccount}
 use Rattle.store_rules.specs.Views.{chunk, OnLoan, loansLess, Differ, Go, sizes}
 use Rattle.store_rules.specs.declared.Chunk.{Chunk}
@@ -40,6 +40,7 @@ use Rattle.buddy_outcomes.specs.Gate.{gateOf}
 use Rattle.buddy_outcomes.specs.Return.{wordFor, onLoanOk, climbFor, givenTables, releasedBy, returnOf}
 use Rattle.buddy_outcomes.proofs.Passing.{gate-passed}
 use Rattle.buddy_outcomes.proofs.Loaned.{live-used, lent-live, on-loan-is, is-on-loan}
+use Rattle.buddy_outcomes.proofs.Heads.{back-places, back-chunk-places}
 use Rattle.buddy_outcomes.proofs.Given as Back
 use Rattle.buddy_outcomes.proofs.Given.{given-sound, given-held, given-memory}
 use Rattle.buddy_outcomes.proofs.Returned.{held-taken}
@@ -67,7 +68,8 @@ module _ (s : BuddySettings) (t : Tables) (fit : BuddyIn s) (lengths : Lengths s
       let xs = earlier (placesIn t) k (t .loans) (u .0) h in
       let ys = later (placesIn t) k (t .loans) (u .0) h in
       let e : loansIn t ≡ xs ++ (loanAt t k ∷ ys) = loans-with (placesIn t) k (t .loans) (u .0) h z in
-      loans-less (placesIn t) k (t .loans) (u .0) h
+      ap (λ (n : ℕ). loansOf n (v .loans)) (back-places s b (wordFor s b t) t)
+      ∙ loans-less (placesIn t) k (t .loans) (u .0) h
       ∙ sym (less-mid b (loanAt t k) xs ys (o .1) (subst Once e (loans-once s t fit sound)) (subst (Differ (λ (l : Loan). l .serial)) e (standing s t fit sound .serials)))
       ∙ ap (loansLess (b ∷ [])) (sym e)
 
@@ -122,8 +124,7 @@ module _ (s : BuddySettings) (t : Tables) (fit : BuddyIn s) (lengths : Lengths s
       ∙ sym (stay-append (loansIn v) (chunksOf t n) (cond (heldIn t n) (chunkAt t n ∷ []) []))
 
   v-places : chunkPlacesIn v ≡ chunkPlacesIn t
-  unfolding givenTables
-  v-places = refl
+  v-places = back-chunk-places s b (wordFor s b t) t
 
   -- the chunks in which one of them lies
   pub back-chunks : chunksIn (givenTables s b (wordFor s b t) t) ≡ stay (loansIn (givenTables s b (wordFor s b t) t)) (chunksIn t)
@@ -138,7 +139,7 @@ module _ (s : BuddySettings) (t : Tables) (fit : BuddyIn s) (lengths : Lengths s
 
   -- ---- its chunk
 
-  -- what the words of chunks say of place x
+  -- what the words of chunks say of place x, the places in use being the same
   abbrev held-by : ℕ → List ℕ → Bool
   held-by x cs = ltb x (chunkPlacesIn t) && not (eqb (getD cs (cellOf chunkSizeAt chunkWords x) 0) 0)
 
@@ -146,8 +147,7 @@ module _ (s : BuddySettings) (t : Tables) (fit : BuddyIn s) (lengths : Lengths s
   chunk-by x cs = chunk x (getD cs (cellOf memoryAt chunkWords x) 0) (getD cs (cellOf chunkSizeAt chunkWords x) 0)
 
   by-words : (cs : List ℕ) → v .chunks ≡ cs → (x : ℕ) → (heldIn v x ≡ held-by x cs) × (chunkAt v x ≡ chunk-by x cs)
-  unfolding givenTables
-  by-words cs e x = (ap (held-by x) e, ap (chunk-by x) e)
+  by-words cs e x = ((λ j. ltb x (v-places j) && not (eqb (getD (e j) (cellOf chunkSizeAt chunkWords x) 0) 0)), ap (chunk-by x) e)
 
   abbrev freed : Bool
   freed = climbFor s b (wordFor s b t) t .freed

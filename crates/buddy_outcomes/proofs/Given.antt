@@ -33,7 +33,7 @@ use Rattle.buddy_rules.specs.Stores as Stores
 use Rattle.buddy_rules.proofs.Returned.{returned-sound}
 use Rattle.buddy_rules.specs.Level.{part}
 use Rattle.buddy_rules.proofs.Ops.{levelOps}
-use Rattle.buddy_rules.specs.Tables.{Tables, Lengths, givenIn, levelsIn, placesIn, chunkPlacesIn, memoryIn, chunkSizeIn, chunksFrom, nodesFrom, loanCell, loanIn, liveIn, heldIn, highIn, topIn, vacantChunk}
+use Rattle.buddy_rules.specs.Tables.{Tables, Lengths, givenIn, levelsIn, placesIn, chunkPlacesIn, memoryIn, chunkSizeIn, chunksFrom, nodesFrom, loanCell, loanIn, liveIn, heldIn, highIn, topIn, vacantChunk, vacantLoan}
 use Rattle.buddy_rules.specs.Sound.{Sound}
 use Rattle.buddy_rules.specs.Moves.{Climbed, climbed}
 use Rattle.buddy_rules.proofs.Abstract.{storeOf, treeIn, sound-store, Sizes, store-trees}
@@ -42,6 +42,7 @@ use Rattle.buddy_rules.proofs.Walks.{minimal-pos}
 use Rattle.buddy_rules.proofs.Owns.{climbed-own}
 use Rattle.buddy_outcomes.specs.Return.{wordFor, onLoanOk, climbFor, givenTables}
 use Rattle.buddy_outcomes.proofs.Agree.{Agree, agree-sound}
+use Rattle.buddy_outcomes.proofs.Heads.{struck-given, struck-places}
 use Rattle.buddy_outcomes.proofs.Loaned.{live-used, on-loan-is}
 use Rattle.buddy_outcomes.proofs.Written.{OfLoan}
 use Rattle.buddy_outcomes.proofs.Vacated.{Past, tablesBy, part-by, word-by, tree-by, chunks-by, memory-by, still-held, high-by, top-by, parted-by, chunks-mark-by, tree-mark-by}
@@ -122,10 +123,17 @@ module _ (s : BuddySettings) (t : Tables) (fit : BuddyIn s) (lengths : Lengths s
   abbrev after : Bool → Tables
   after = tablesBy s t c (r .room) loans′ index′
 
+  -- the serials given and the loan places used are as they were
+  same-given : (f : Bool) → givenIn (after f) ≡ givenIn t
+  same-given f = struck-given w (t .index) (t .loans)
+
+  same-places : (f : Bool) → placesIn (after f) ≡ placesIn t
+  same-places f = struck-places w (t .index) (t .loans)
+
   -- its loans
   live-left : (f : Bool) (j : ℕ) → liveIn (after f) j ≡ with (liveIn t) k false j
   unfolding struck
-  live-left f j = ap (λ (z : Bool). ltb j (placesIn t) && not z) (vacant-now (t .loans) n k (lengths .loans) room j) ∙ ⊎-elim
+  live-left f j = ap (λ (p : ℕ). ltb j p && not (vacantLoan (after f) j)) (same-places f) ∙ ap (λ (z : Bool). ltb j (placesIn t) && not z) (vacant-now (t .loans) n k (lengths .loans) room j) ∙ ⊎-elim
       (λ e. rw (eq-eqb j k e) (and-false (ltb j (placesIn t))))
       (λ o. rw (ne-eqb j k o) refl)
       (same? j k)
@@ -251,8 +259,10 @@ module _ (s : BuddySettings) (t : Tables) (fit : BuddyIn s) (lengths : Lengths s
               };
           levels-least = sound .levels-least;
           levels-most = sound .levels-most;
-          loans-parted = after-parted;
-          chained = after-chained;
+          loans-parted = subst (λ (p : ℕ). BookParted loans′ index′ n p) (sym (same-places f)) after-parted;
+          chained =
+              subst (λ (p : ℕ). BookChained loans′ index′ n p (givenIn (after f))) (sym (same-places f))
+              (subst (λ (g : ℕ). BookChained loans′ index′ n (placesIn t) g) (sym (same-given f)) after-chained);
           chunks-parted = parted-by s t c (r .room) loans′ index′ lengths past f (place .0) (place .1) (sound .chunks-parted);
           memories-differ = λ x y h g m. sound .memories-differ x y (was x h) (was y g) (sym (memory x) ∙ m ∙ memory y);
           good = T .1;

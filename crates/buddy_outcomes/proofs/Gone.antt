@@ -30,10 +30,10 @@ use Rattle.store_rules.specs.Loans.{loan, loanWords, sizeAt, serialAt}
 use Rattle.store_rules.specs.Orders.{Plan, deny, take, buy}
 use Rattle.store_rules.specs.Outcomes.{Listed, listed, listOk}
 use Rattle.store_rules.specs.declared.Loan.{Loan}
-use Rattle.book_rules.specs.Book.{takenOf, entered, serialOf, struck}
+use Rattle.book_rules.specs.Book.{takenOf, serialOf, struck}
 use Rattle.book_rules.proofs.Decides.{serial-once}
 use Rattle.book_rules.proofs.Keeps.{BookParted, freeIn, taken-where}
-use Rattle.buddy_rules.specs.Tables.{Tables, Lengths, givenAt, levelsAt, placesAt, headWords, givenIn, placesIn, chunkPlacesIn, loanCell, liveIn, chainStart, chainNext, memories, marks}
+use Rattle.buddy_rules.specs.Tables.{Tables, Lengths, givenIn, placesIn, chunkPlacesIn, loanCell, liveIn, chainStart, chainNext, memories, marks}
 use Rattle.buddy_rules.specs.Moves.{Cut}
 use Rattle.buddy_rules.specs.Sound.{Sound}
 use Rattle.buddy_outcomes.specs.Gate.{gateOf}
@@ -48,14 +48,14 @@ use Rattle.buddy_outcomes.proofs.Booked.{lower}
 use Rattle.buddy_outcomes.proofs.Changed.{grown-lengths}
 use Rattle.buddy_outcomes.proofs.Delivered.{grown-sound, place, gate-sound, opened}
 use Rattle.buddy_outcomes.proofs.Given as Back
-use Rattle.buddy_outcomes.proofs.Heads.{grown-word, chunk-word, chunk-head, booked-mark, booked-given, booked-places}
+use Rattle.buddy_outcomes.proofs.Heads.{grown-word, booked-given, booked-places, back-given, back-places}
 use Rattle.buddy_outcomes.proofs.Loaned.{live-used, live-given}
 use Rattle.buddy_outcomes.proofs.Passing.{Passed, gate-passed}
 use Rattle.buddy_outcomes.proofs.Plans.{Takes, takes, Buys}
 use Rattle.buddy_outcomes.proofs.Refused.{return-refused}
 use Rattle.buddy_outcomes.proofs.Returned.{ReturnComes, return-comes, given-tables}
 use Rattle.buddy_outcomes.proofs.Searches.{room-place}
-use Rattle.buddy_outcomes.proofs.Written.{OfLoan, serial-here, cell-other}
+use Rattle.buddy_outcomes.proofs.Written.{OfLoan, entered-serial, entered-other}
 
 -- serial k was given by a buddy store, and no loan of these tables has it
 pub record Gone (k : ℕ) (t : Tables) : Type 0 where
@@ -67,31 +67,16 @@ pub record Gone (k : ℕ) (t : Tables) : Type 0 where
 
 grown-gone : (k : ℕ) (s : BuddySettings) (n : ℕ) (t : Tables) → Gone k t → Gone k (grownTables s n t)
 unfolding grownTables
-grown-gone k s n t g =
-    let word : (i : ℕ) → (i ≡ levelsAt → ⊥) → getD (grownTables s n t .head) i 0 ≡ getD (t .head) i 0 = grown-word s n t in
-    record {
-      old = omega (arith, g .old, word givenAt (λ e. omega arith));
-      away = λ p h. g .away p (ap (λ (q : ℕ). ltb p q && not (eqb (loanCell t sizeAt p) 0)) (sym (word placesAt (λ e. omega arith))) ∙ h);
-      marked = word markAt (λ e. omega arith) ∙ g .marked;
-    }
+grown-gone k s n t g = record { old = g .old; away = g .away; marked = grown-word s n t markAt (λ e. omega arith) ∙ g .marked }
 
-module _ (s : BuddySettings) (memory z : ℕ) (t : Tables) where
-  chunk-places : placesIn (chunkTables s memory z t) ≡ placesIn t
-  chunk-places = chunk-word s memory z t placesAt (λ e. omega arith)
-
-  chunk-gone : (k : ℕ) → Gone k t → Gone k (chunkTables s memory z t)
-  unfolding chunkTables
-  chunk-gone k g = record {
-    old = omega (arith, g .old, chunk-word s memory z t givenAt (λ e. omega arith));
-    away = λ p h. g .away p (ap (λ (q : ℕ). ltb p q && not (eqb (loanCell t sizeAt p) 0)) (sym chunk-places) ∙ h);
-    marked = chunk-word s memory z t markAt (λ e. omega arith) ∙ g .marked;
-  }
+chunk-gone : (k : ℕ) (s : BuddySettings) (memory z : ℕ) (t : Tables) → Gone k t → Gone k (chunkTables s memory z t)
+unfolding chunkTables
+chunk-gone k s memory z t g = record { old = g .old; away = g .away; marked = g .marked }
 
 -- ---- a loan is entered: its serial is a new one, and the others are as they were
 
 -- what is asked of the book
 record Roomy (s : BuddySettings) (t : Tables) : Type 0 where
-  head : length (t .head) ≡ headWords
   loans : length (t .loans) ≡ loanWords + loanWords * s .store .loans
   place : takenOf (placesIn t) (t .index) .place < s .store .loans
   parted : BookParted (t .loans) (t .index) (s .store .loans) (placesIn t)
@@ -106,13 +91,16 @@ module _ (k : ℕ) (s : BuddySettings) (t : Tables) (fit : BuddyIn s) (r : Roomy
   abbrev booked : Tables
   booked = bookedTables s c o size cut t
 
+  some : loanWords ≤ length (t .loans)
+  some = omega (arith, r .loans)
+
   booked-serial : loanCell booked serialAt here ≡ givenIn t + 1
-  unfolding bookedTables entered
-  booked-serial = serial-here (t .loans) (s .store .loans) here new (r .loans) (r .place)
+  unfolding bookedTables
+  booked-serial = entered-serial (placesIn t) (t .index) new (t .loans) (s .store .loans) (r .loans) (r .place)
 
   booked-cell : (f x : ℕ) → OfLoan f → (x ≡ here → ⊥) → loanCell booked f x ≡ loanCell t f x
-  unfolding bookedTables entered
-  booked-cell f x h n = cell-other (t .loans) (s .store .loans) here new (r .loans) (r .place) f x h n
+  unfolding bookedTables
+  booked-cell = entered-other (placesIn t) (t .index) new (t .loans) (s .store .loans) (r .loans) (r .place)
 
   booked-live : (x : ℕ) → (x ≡ here → ⊥) → liveIn booked x ≡ liveIn t x
   booked-live x n =
@@ -120,18 +108,19 @@ module _ (k : ℕ) (s : BuddySettings) (t : Tables) (fit : BuddyIn s) (r : Roomy
       let w : ((here ≡ placesIn t) × (q ≡ placesIn t + 1)) ⊎ ((here < placesIn t) × (q ≡ placesIn t)) =
       ⊎-elim (λ w. inl w) (λ w. inr (w .0, w .2))
       (taken-where (t .loans) (t .index) (s .store .loans) (placesIn t) (omega (arith, fit .store .loans-most)) (r .parted)) in
-      ap (λ (p : ℕ). ltb x p && not (eqb (loanCell booked sizeAt x) 0)) (booked-places s t c o size cut (r .head))
+      ap (λ (p : ℕ). ltb x p && not (eqb (loanCell booked sizeAt x) 0)) (booked-places s t c o size cut some)
       ∙ ap (λ (y : ℕ). ltb x q && not (eqb y 0)) (booked-cell sizeAt x (omega arith) n)
       ∙ ap (λ (b : Bool). b && not (eqb (loanCell t sizeAt x) 0)) (lower x here (placesIn t) q w n)
 
   booked-gone : Gone k t → Gone k booked
+  unfolding bookedTables
   booked-gone g = record {
-    old = omega (arith, g .old, booked-given s t c o size cut (r .head));
+    old = omega (arith, g .old, booked-given s t c o size cut some);
     away = λ p h e. ⊎-elim
         (λ i. let z : loanCell booked serialAt p ≡ givenIn t + 1 = ap (loanCell booked serialAt) i ∙ booked-serial in omega (arith, g .old, z, e))
         (λ n. g .away p (sym (booked-live p n) ∙ h) (sym (booked-cell serialAt p (omega arith) n) ∙ e))
         (same? p here);
-    marked = booked-mark s t c o size cut ∙ g .marked;
+    marked = g .marked;
   }
 
 -- ---- an ask
@@ -145,7 +134,6 @@ module _ (k : ℕ) (s : BuddySettings) (a : Account) (size mask : ℕ) (t : Tabl
   unfolding takenTables
   taken-gone i p h =
       let r : Roomy s t = record {
-        head = p .lent .lengths .head;
         loans = p .lent .lengths .loans;
         place = room-place s t size mask (Ask.at i) (h .room);
         parted = p .sound .loans-parted;
@@ -173,14 +161,7 @@ module _ (k : ℕ) (s : BuddySettings) (a : Account) (size mask : ℕ) (t : Tabl
 
 roomy-chunk : (s : BuddySettings) (memory z : ℕ) (t : Tables) → Roomy s t → Roomy s (chunkTables s memory z t)
 unfolding chunkTables
-roomy-chunk s memory z t r =
-    let e : placesIn t ≡ placesIn (chunkTables s memory z t) = sym (chunk-places s memory z t) in
-    record {
-      head = chunk-head s memory z t ∙ r .head;
-      loans = r .loans;
-      place = subst (λ (p : ℕ). takenOf p (t .index) .place < s .store .loans) e (r .place);
-      parted = subst (λ (p : ℕ). BookParted (t .loans) (t .index) (s .store .loans) p) e (r .parted);
-    }
+roomy-chunk s memory z t r = record { loans = r .loans; place = r .place; parted = r .parted }
 
 module _ (k : ℕ) (s : BuddySettings) (a : Account) (o : Outcome) (t : Tables) (g : Gone k t) where
   served-gone : BuddyIn s → Lengths s t → Sound s t → (size mask z memory : ℕ) → Buys s size mask t z → Gone k (servedTables s (sizeFor s size mask) (levelFor s size mask) memory z (grownTables s (grownTo (levelFor s size mask) t) t))
@@ -189,12 +170,11 @@ module _ (k : ℕ) (s : BuddySettings) (a : Account) (o : Outcome) (t : Tables) 
       let u : Tables = grownTables s (grownTo (levelFor s size mask) t) t in
       let l = grown-lengths s t fit lengths sound (grownTo (levelFor s size mask) t) in
       let r : Roomy s u = record {
-        head = l .head;
         loans = l .loans;
         place = place s t fit lengths sound size mask z b;
         parted = grown-sound s t fit lengths sound size mask z b .loans-parted;
       } in
-      booked-gone k s (chunkTables s memory z u) fit (roomy-chunk s memory z u r) _ _ _ _ (chunk-gone s memory z u k (grown-gone k s (grownTo (levelFor s size mask) t) t g))
+      booked-gone k s (chunkTables s memory z u) fit (roomy-chunk s memory z u r) _ _ _ _ (chunk-gone k s memory z u (grown-gone k s (grownTo (levelFor s size mask) t) t g))
 
   fate-gone : BuddyIn s → Lengths s t → Sound s t → (x : KeptOrder) → Buys s (x .ask .size) (x .ask .mask) t (x .order .size) → (f : Fate) → Gone k (carryFate s a x t f .tables)
   unfolding carryFate
@@ -235,20 +215,23 @@ module _ (s : BuddySettings) (b : Block) (t : Tables) (fit : BuddyIn s) (lengths
   unfolding givenTables struck
   given-was j h = ⊎-elim
       (λ e. ap (liveIn t) e ∙ Back.live s t fit lengths sound b on)
-      (λ n. ap (λ (y : ℕ). ltb j (placesIn t) && not (eqb y 0)) (sym (getD-set-other (t .loans) (cellOf sizeAt loanWords back) (cellOf sizeAt loanWords j) 0 0 (λ e. n (omega arith)))) ∙ h)
+      (λ n.
+      let y = getD-set-other (t .loans) (cellOf sizeAt loanWords back) (cellOf sizeAt loanWords j) 0 0 (λ e. n (omega arith)) in
+      let p = back-places s b (wordFor s b t) t in
+      sym (λ i. ltb j (p i) && not (eqb (y i) 0)) ∙ h)
       (same? j back)
 
   -- and the one that comes back is not
   given-left : liveIn given back ≡ false
   unfolding givenTables struck
   given-left =
-      ap (λ (y : ℕ). ltb back (placesIn t) && not (eqb y 0))
+      ap (λ (y : ℕ). ltb back (placesIn given) && not (eqb y 0))
       (getD-set-same (t .loans) (cellOf sizeAt loanWords back) 0 0 (omega (arith, lengths .loans, Back.room s t fit lengths sound b on)))
-      ∙ and-false (ltb back (placesIn t))
+      ∙ and-false (ltb back (placesIn given))
 
   given-gone : (k : ℕ) → Gone k t → Gone k given
   unfolding givenTables
-  given-gone k g = record { old = g .old; away = λ j h e. g .away j (given-was j h) (sym (given-serial j) ∙ e); marked = g .marked }
+  given-gone k g = record { old = omega (arith, g .old, back-given s b (wordFor s b t) t); away = λ j h e. g .away j (given-was j h) (sym (given-serial j) ∙ e); marked = g .marked }
 
   -- the serial that comes back was given
   back-old : b .serial ≤ givenIn t
@@ -270,7 +253,7 @@ module _ (s : BuddySettings) (b : Block) (t : Tables) (fit : BuddyIn s) (lengths
 
   back-gone : Gone (b .serial) given
   unfolding givenTables
-  back-gone = record { old = back-old; away = back-away; marked = sound .signed .head }
+  back-gone = record { old = omega (arith, back-old, back-given s b (wordFor s b t) t); away = back-away; marked = sound .signed .head }
 
 module _ (s : BuddySettings) (a : Account) (b : Block) (t : Tables) (list : List ℕ) where
   pub return-gone-stays : (k : ℕ) → Gone k t → Gone k (returnOf s a b t list .tables)

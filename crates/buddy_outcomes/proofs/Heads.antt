@@ -1,55 +1,113 @@
--- The head of a buddy store's tables after each way of writing them: levels grown, a chunk placed, a loan entered.
-use mathlib.Core.Path.{_≡_, _∙_}
-use Prim.Native.Nat.{ℕ, _+_}
+-- The counts of a buddy store's tables after each way of writing them: set up, levels grown, a chunk placed, a loan entered, one struck out.
+use mathlib.Core.Path.{_≡_, refl, _∙_}
+use mathlib.Core.Bool.{Bool, true, false, cond}
+use mathlib.Core.List.{List}
+use Prim.Native.Nat.{ℕ, _+_, _*_, _≤_}
 use native.Mathlib.Omega.{arith}
-use lib.ListN.{length, getD, set, length-set}
+use lib.ListN.{length, getD, set}
 use lib.Seq.{getD-set-same, getD-set-other}
+use Rattle.words.specs.Words.{cellOf, markAt}
+use Rattle.words.proofs.Filled.{blank-other}
+use Rattle.counter.specs.declared.answers.Block.{Block}
 use Rattle.counter.specs.declared.settings.BuddySettings.{BuddySettings}
-use Rattle.book_rules.specs.Book.{takenOf}
-use Rattle.buddy_rules.specs.Tables.{Tables, givenAt, levelsAt, placesAt, chunkPlacesAt, headWords, givenIn, placesIn}
+use Rattle.store_rules.specs.Loans.{givenAt, placesAt, loanWords, sizeAt, loan}
+use Rattle.book_rules.specs.Book.{takenOf, struck}
+use Rattle.book_rules.proofs.Counted.{entered-given, entered-places}
+use Rattle.buddy_rules.specs.Tables.{Tables, levelsAt, chunkPlacesAt, chunkWords, memoryAt, chunkSizeAt, givenIn, placesIn, chunkPlacesIn, marks}
 use Rattle.buddy_rules.specs.Moves.{Cut}
-use Rattle.buddy_outcomes.specs.Ask.{grownTables, bookedTables}
+use Rattle.buddy_outcomes.specs.Ask.{chunkTaken, grownTables, bookedTables}
 use Rattle.buddy_outcomes.specs.Deliver.{chunkTables}
-use Rattle.words.specs.Words.{markAt}
+use Rattle.buddy_outcomes.specs.Return.{climbFor, givenTables}
+use Rattle.buddy_outcomes.specs.SetUp.{freshTables}
 
--- grown levels change no other word
-pub grown-word : (s : BuddySettings) (n : ℕ) (t : Tables) (i : ℕ) → (i ≡ levelsAt → ⊥) → getD (grownTables s n t .head) i 0 ≡ getD (t .head) i 0
-unfolding grownTables
-grown-word s n t i o = getD-set-other (t .head) levelsAt i n 0 o
+-- ---- set-up: nothing is given, and no place used
 
-pub grown-head-words : (s : BuddySettings) (n : ℕ) (t : Tables) → length (grownTables s n t .head) ≡ length (t .head)
-unfolding grownTables
-grown-head-words s n t = length-set (t .head) levelsAt n
+module _ (s : BuddySettings) where
+  pub fresh-given : givenIn (freshTables s) ≡ 0
+  unfolding freshTables
+  fresh-given = blank-other (loanWords + loanWords * s .store .loans) (marks .loans) 0 givenAt (omega arith) (omega arith)
+
+  pub fresh-places : placesIn (freshTables s) ≡ 0
+  unfolding freshTables
+  fresh-places = blank-other (loanWords + loanWords * s .store .loans) (marks .loans) 0 placesAt (omega arith) (omega arith)
+
+  pub fresh-chunk-places : chunkPlacesIn (freshTables s) ≡ 0
+  unfolding freshTables
+  fresh-chunk-places = blank-other (chunkWords + chunkWords * s .store .chunks) (marks .chunks) 0 chunkPlacesAt (omega arith) (omega arith)
+
+-- ---- grown levels change no other word of the head, and no other count
+
+module _ (s : BuddySettings) (n : ℕ) (t : Tables) where
+  pub grown-word : (i : ℕ) → (i ≡ levelsAt → ⊥) → getD (grownTables s n t .head) i 0 ≡ getD (t .head) i 0
+  unfolding grownTables
+  grown-word i o = getD-set-other (t .head) levelsAt i n 0 o
+
+  pub grown-given : givenIn (grownTables s n t) ≡ givenIn t
+  unfolding grownTables
+  grown-given = refl
+
+  pub grown-places : placesIn (grownTables s n t) ≡ placesIn t
+  unfolding grownTables
+  grown-places = refl
+
+-- ---- a chunk that is placed counts its place
 
 module _ (s : BuddySettings) (memory z : ℕ) (t : Tables) where
-  -- nor does a chunk that is placed, but for how many places are used
-  pub chunk-word : (i : ℕ) → (i ≡ chunkPlacesAt → ⊥) → getD (chunkTables s memory z t .head) i 0 ≡ getD (t .head) i 0
+  -- the chunks' mark stays
+  pub chunk-mark : getD (chunkTables s memory z t .chunks) markAt 0 ≡ getD (t .chunks) markAt 0
   unfolding chunkTables
-  chunk-word i o = getD-set-other (t .head) chunkPlacesAt i _ 0 o
+  chunk-mark =
+      let c = chunkTaken s t .place in
+      let one = set (t .chunks) chunkPlacesAt (chunkTaken s t .slab .places) in
+      getD-set-other (set one (cellOf memoryAt chunkWords c) memory) (cellOf chunkSizeAt chunkWords c) markAt z 0 (λ e. omega arith)
+      ∙ getD-set-other one (cellOf memoryAt chunkWords c) markAt memory 0 (λ e. omega arith)
+      ∙ getD-set-other (t .chunks) chunkPlacesAt markAt (chunkTaken s t .slab .places) 0 (λ e. omega arith)
 
-  pub chunk-head : length (chunkTables s memory z t .head) ≡ length (t .head)
+  pub chunk-counted : chunkWords ≤ length (t .chunks) → chunkPlacesIn (chunkTables s memory z t) ≡ chunkTaken s t .slab .places
   unfolding chunkTables
-  chunk-head = length-set (t .head) chunkPlacesAt _
+  chunk-counted h =
+      let q = chunkTaken s t .slab .places in
+      let c = chunkTaken s t .place in
+      let one = set (t .chunks) chunkPlacesAt q in
+      getD-set-other (set one (cellOf memoryAt chunkWords c) memory) (cellOf chunkSizeAt chunkWords c) chunkPlacesAt z 0 (λ e. omega arith)
+      ∙ getD-set-other one (cellOf memoryAt chunkWords c) chunkPlacesAt memory 0 (λ e. omega arith)
+      ∙ getD-set-same (t .chunks) chunkPlacesAt q 0 (omega arith)
 
-module _ (s : BuddySettings) (t : Tables) (c o size : ℕ) (cut : Cut) where
-  -- a loan that is entered leaves the mark
-  pub booked-mark : getD (bookedTables s c o size cut t .head) markAt 0 ≡ getD (t .head) markAt 0
+-- ---- a loan that is entered: one more serial was given, and the loan places are those that the slab says
+
+module _ (s : BuddySettings) (t : Tables) (c o size : ℕ) (cut : Cut) (some : loanWords ≤ length (t .loans)) where
+  pub booked-given : givenIn (bookedTables s c o size cut t) ≡ givenIn t + 1
   unfolding bookedTables
-  booked-mark =
-      getD-set-other (set (t .head) givenAt (givenIn t + 1)) placesAt markAt _ 0 (λ e. omega arith)
-      ∙ getD-set-other (t .head) givenAt markAt (givenIn t + 1) 0 (λ e. omega arith)
+  booked-given = entered-given (placesIn t) (t .index) (loan (givenIn t + 1) c o size) (t .loans) some
 
-  module _ (head : length (t .head) ≡ headWords) where
-    -- one more serial was given
-    pub booked-given : givenIn (bookedTables s c o size cut t) ≡ givenIn t + 1
-    unfolding bookedTables
-    booked-given =
-        getD-set-other (set (t .head) givenAt (givenIn t + 1)) placesAt givenAt _ 0 (λ e. omega arith)
-        ∙ getD-set-same (t .head) givenAt (givenIn t + 1) 0 (omega (arith, head))
+  pub booked-places : placesIn (bookedTables s c o size cut t) ≡ takenOf (placesIn t) (t .index) .slab .places
+  unfolding bookedTables
+  booked-places = entered-places (placesIn t) (t .index) (loan (givenIn t + 1) c o size) (t .loans) some
 
-    -- and the places are those that the slab says
-    pub booked-places : placesIn (bookedTables s c o size cut t) ≡ takenOf (placesIn t) (t .index) .slab .places
-    unfolding bookedTables
-    booked-places =
-        getD-set-same (set (t .head) givenAt (givenIn t + 1)) placesAt (takenOf (placesIn t) (t .index) .slab .places) 0
-        (omega (arith, length-set (t .head) givenAt (givenIn t + 1), head))
+-- ---- a loan that is struck out, and the chunk that may go with it, leave every count
+
+pub struck-given : (at : ℕ) (index loans : List ℕ) → getD (struck at index loans) givenAt 0 ≡ getD loans givenAt 0
+unfolding struck
+struck-given at index loans = getD-set-other loans (cellOf sizeAt loanWords (getD index at 0)) givenAt 0 0 (λ e. omega arith)
+
+pub struck-places : (at : ℕ) (index loans : List ℕ) → getD (struck at index loans) placesAt 0 ≡ getD loans placesAt 0
+unfolding struck
+struck-places at index loans = getD-set-other loans (cellOf sizeAt loanWords (getD index at 0)) placesAt 0 0 (λ e. omega arith)
+
+-- the chunk at place c gone, or not
+pub left-chunk-places : (c : ℕ) (chunks : List ℕ) (f : Bool) → getD (cond f (set chunks (cellOf chunkSizeAt chunkWords c) 0) chunks) chunkPlacesAt 0 ≡ getD chunks chunkPlacesAt 0
+left-chunk-places c chunks true = getD-set-other chunks (cellOf chunkSizeAt chunkWords c) chunkPlacesAt 0 0 (λ e. omega arith)
+left-chunk-places c chunks false = refl
+
+module _ (s : BuddySettings) (b : Block) (w : ℕ) (t : Tables) where
+  pub back-given : givenIn (givenTables s b w t) ≡ givenIn t
+  unfolding givenTables
+  back-given = struck-given w (t .index) (t .loans)
+
+  pub back-places : placesIn (givenTables s b w t) ≡ placesIn t
+  unfolding givenTables
+  back-places = struck-places w (t .index) (t .loans)
+
+  pub back-chunk-places : chunkPlacesIn (givenTables s b w t) ≡ chunkPlacesIn t
+  unfolding givenTables
+  back-chunk-places = left-chunk-places (b .chunk) (t .chunks) (climbFor s b w t .freed)

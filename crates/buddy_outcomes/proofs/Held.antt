@@ -18,17 +18,17 @@ use Rattle.counter.specs.declared.account.Account.{Account}
 use Rattle.counter.specs.declared.answers.Block.{Block}
 use Rattle.counter.specs.declared.settings.BuddySettings.{BuddySettings}
 use Rattle.store_rules.specs.Tests.{coversOk}
-use Rattle.book_rules.specs.Book.{takenOf}
 use Rattle.buddy_trees.specs.Trees.{bytes}
-use Rattle.buddy_rules.specs.Tables.{Tables, Lengths, chunkWords, chunkSizeAt, givenAt, levelsAt, placesAt, chunkPlacesAt, givenIn, levelsIn, placesIn, chunkPlacesIn, chunkSizeIn, heldIn}
+use Rattle.buddy_rules.specs.Tables.{Tables, Lengths, chunkWords, chunkSizeAt, chunkPlacesAt, levelsIn, chunkPlacesIn, chunkSizeIn, heldIn}
 use Rattle.buddy_rules.specs.Moves.{Cut}
 use Rattle.buddy_rules.specs.Sound.{Sound}
 use Rattle.buddy_outcomes.specs.Gate.{heldCount, heldBytes, accountOk}
 use Rattle.buddy_outcomes.specs.Ask.{chunkTaken, grownTables, bookedTables, takenTables, sizeFor, levelFor}
 use Rattle.buddy_outcomes.specs.Deliver.{chunkTables, servedTables}
 use Rattle.buddy_outcomes.specs.Return.{wordFor, onLoanOk, climbFor, givenTables}
-use Rattle.buddy_outcomes.proofs.Chunked.{chunked, head-places, size-here, size-other, taken-low, within-places, taken-dead, held-here, held-other}
+use Rattle.buddy_outcomes.proofs.Chunked.{chunked, places-now, size-here, size-other, taken-low, within-places, taken-dead, held-here, held-other}
 use Rattle.buddy_outcomes.proofs.Given.{held, place}
+use Rattle.buddy_outcomes.proofs.Heads.{back-chunk-places}
 
 -- ---- sums over the first n places
 
@@ -121,9 +121,10 @@ held-past t n h =
     )
 
 -- where the words of the chunks and the count of their places are the same, so is what is held
-pub same-holds : (t u : Tables) → u .chunks ≡ t .chunks → chunkPlacesIn u ≡ chunkPlacesIn t → Holds u (chunksHeld t) (bytesHeld t)
-same-holds t u words places =
+pub same-holds : (t u : Tables) → u .chunks ≡ t .chunks → Holds u (chunksHeld t) (bytesHeld t)
+same-holds t u words =
     let n = chunkPlacesIn u in
+    let places : chunkPlacesIn u ≡ chunkPlacesIn t = ap (λ (w : List ℕ). getD w chunkPlacesAt 0) words in
     let held-same : (x : ℕ) → heldIn u x ≡ heldIn t x = λ x. (λ j. ltb x (places j) && not (eqb (getD (words j) (cellOf chunkSizeAt chunkWords x) 0) 0)) in
     let size-same : (x : ℕ) → chunkSizeIn u x ≡ chunkSizeIn t x = λ x. ap (λ (w : List ℕ). getD w (cellOf chunkSizeAt chunkWords x) 0) words in (
       count-is u n ∙ sums-same (heldOne u) (heldOne t) n (λ x h. ap (λ (b : Bool). cond b 1 0) (held-same x)) ∙ sym (count-is t n) ∙ ap (heldCount t) places,
@@ -135,15 +136,11 @@ same-holds t u words places =
 -- grown levels change no chunk
 pub grown-holds : (s : BuddySettings) (t : Tables) (n : ℕ) → Holds (grownTables s n t) (chunksHeld t) (bytesHeld t)
 unfolding grownTables
-grown-holds s t n = same-holds t (grownTables s n t) refl (getD-set-other (t .head) levelsAt chunkPlacesAt n 0 (λ e. omega arith))
+grown-holds s t n = same-holds t (grownTables s n t) refl
 
 booked-holds : (s : BuddySettings) (c o size : ℕ) (cut : Cut) (t : Tables) → Holds (bookedTables s c o size cut t) (chunksHeld t) (bytesHeld t)
 unfolding bookedTables
-booked-holds s c o size cut t =
-    let given = set (t .head) givenAt (givenIn t + 1) in
-    let q = takenOf (placesIn t) (t .index) .slab .places in
-    same-holds t (bookedTables s c o size cut t) refl
-    (getD-set-other given placesAt chunkPlacesAt q 0 (λ e. omega arith) ∙ getD-set-other (t .head) givenAt chunkPlacesAt (givenIn t + 1) 0 (λ e. omega arith))
+booked-holds s c o size cut t = same-holds t (bookedTables s c o size cut t) refl
 
 -- nor does a loan from a level with a ready side
 pub taken-holds : (s : BuddySettings) (size mask : ℕ) (t : Tables) (i : ℕ) → Holds (takenTables s (sizeFor s size mask) (levelFor s size mask) t i) (chunksHeld t) (bytesHeld t)
@@ -165,7 +162,7 @@ module _ (s : BuddySettings) (t : Tables) (fit : BuddyIn s) (lengths : Lengths s
       let u = chunked s t fit lengths memory z in
       let low : p < q = within-places s t fit lengths memory z room sound tall is in
       let after : chunkPlacesIn t ≤ q = ⊎-elim (λ w. omega (arith, w .1)) (λ w. omega (arith, w .1)) (taken-low s t fit lengths memory z room sound tall is) in
-      let e : chunkPlacesIn u ≡ q = head-places s t fit lengths memory z in
+      let e : chunkPlacesIn u ≡ q = places-now s t fit lengths memory z in
       let here : chunkSizeIn u p ≡ z = size-here s t fit lengths memory z room in
       let r = chunk-goes u t p q low (held-here s t fit lengths memory z room sound tall is) (taken-dead s t fit lengths memory z room sound tall is)
       (λ x o. (sym (held-other s t fit lengths memory z room sound tall is x o), sym (size-other s t fit lengths memory z room x o))) in
@@ -189,11 +186,6 @@ module _ (s : BuddySettings) (t : Tables) (fit : BuddyIn s) (lengths : Lengths s
 
   abbrev cell : ℕ → ℕ
   cell x = cellOf chunkSizeAt chunkWords x
-
-  -- the places in use are the same
-  pub given-places : chunkPlacesIn (givenTables s b (wordFor s b t) t) ≡ chunkPlacesIn t
-  unfolding givenTables
-  given-places = refl
 
   module _ (f : climbFor s b (wordFor s b t) t .freed ≡ true) where
     chunks-freed : u .chunks ≡ set (t .chunks) (cell (b .chunk)) 0
@@ -220,9 +212,9 @@ module _ (s : BuddySettings) (t : Tables) (fit : BuddyIn s) (lengths : Lengths s
         × (heldBytes (givenTables s b (wordFor s b t) t) (chunkPlacesIn t) + chunkSizeIn t (b .chunk) ≡ bytesHeld t)
     freed-holds =
         chunk-goes t u (b .chunk) (chunkPlacesIn t) (place s t fit lengths sound b on .0) (held s t fit lengths sound b on) dead
-        (λ x o. ((λ j. ltb x (given-places j) && not (eqb (stays-other x o j) 0)), stays-other x o))
+        (λ x o. ((λ j. ltb x (back-chunk-places s b (wordFor s b t) t j) && not (eqb (stays-other x o j) 0)), stays-other x o))
 
   -- one that stays changes nothing
   pub kept-holds : climbFor s b (wordFor s b t) t .freed ≡ false → Holds (givenTables s b (wordFor s b t) t) (chunksHeld t) (bytesHeld t)
   unfolding givenTables
-  kept-holds f = same-holds t u (rw f refl) refl
+  kept-holds f = same-holds t u (rw f refl)

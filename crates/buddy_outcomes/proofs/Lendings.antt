@@ -5,8 +5,7 @@ use mathlib.Core.List.{List, [], _∷_, _++_, List·Memᴰ}
 use Prim.Native.Nat.{ℕ, zero, suc, _+_, _-_, _/_, _%_, _≤_}
 use native.Mathlib.Omega.{arith}
 use lib.Dec.{eqb, ltb}
-use lib.ListN.{getD, set}
-use lib.Seq.{getD-set-other}
+use lib.ListN.{getD}
 use Rattle.words.specs.Words.{cellOf}
 use Rattle.words.proofs.Records.{cell-row}
 use Rattle.rounding_rules.proofs.Raising.{whole}
@@ -17,15 +16,15 @@ use Rattle.counter.specs.Paper as Paper
 use Rattle.counter.specs.Table.{alignmentOk}
 use Rattle.counter.specs.declared.account.Account.{Account}
 use Rattle.counter.specs.declared.settings.BuddySettings.{BuddySettings}
-use Rattle.store_rules.specs.Loans.{loanWords, serialAt, loansOf}
+use Rattle.store_rules.specs.Loans.{loanWords, serialAt}
 use Rattle.store_rules.specs.Orders.{Plan, deny, take, buy, orderFrom}
 use Rattle.store_rules.specs.Outcomes.{Out, out, blockSaid}
 use Rattle.store_rules.specs.Views.{chunk, GoodBlock}
 use Rattle.store_rules.specs.declared.Chunk.{Chunk}
 use Rattle.store_rules.specs.declared.Loan.{Loan}
-use Rattle.book_rules.specs.Book.{takenOf, serialOf}
+use Rattle.book_rules.specs.Book.{serialOf}
 use Rattle.buddy_rules.specs.Levels.{baseOf}
-use Rattle.buddy_rules.specs.Tables.{Tables, Lengths, givenAt, levelsAt, placesAt, chunkPlacesAt, memoryAt, chunkSizeAt, chunkWords, givenIn, placesIn, chunkPlacesIn}
+use Rattle.buddy_rules.specs.Tables.{Tables, Lengths, chunkPlacesAt, memoryAt, chunkSizeAt, chunkWords, givenIn, chunkPlacesIn}
 use Rattle.buddy_rules.specs.Moves.{Cut}
 use Rattle.buddy_rules.specs.Sound.{Sound}
 use Rattle.buddy_rules.specs.Views.{loansIn, chunksOf, chunksIn, viewOf}
@@ -43,33 +42,23 @@ use Rattle.buddy_outcomes.proofs.Taken as Taken
 
 -- ---- the chunks that the tables show
 
-chunks-of : (t u : Tables) → chunkPlacesIn u ≡ chunkPlacesIn t → u .chunks ≡ t .chunks → (n : ℕ) → chunksOf u n ≡ chunksOf t n
+chunks-of : (t u : Tables) → u .chunks ≡ t .chunks → (n : ℕ) → chunksOf u n ≡ chunksOf t n
 unfolding chunksOf
-chunks-of t u p q zero = refl
-chunks-of t u p q (suc n) = ap₂ (λ (x y : List Chunk). x ++ y) (chunks-of t u p q n) (ap₂ here p q)
+chunks-of t u q zero = refl
+chunks-of t u q (suc n) = ap₂ (λ (x y : List Chunk). x ++ y) (chunks-of t u q n) (ap here q)
   where
-    here : ℕ → List ℕ → List Chunk
-    here m cs = cond (ltb n m && not (eqb (getD cs (cellOf chunkSizeAt chunkWords n) 0) 0)) (chunk n (getD cs (cellOf memoryAt chunkWords n) 0) (getD cs (cellOf chunkSizeAt chunkWords n) 0) ∷ []) []
+    here : List ℕ → List Chunk
+    here cs = cond (ltb n (getD cs chunkPlacesAt 0) && not (eqb (getD cs (cellOf chunkSizeAt chunkWords n) 0) 0)) (chunk n (getD cs (cellOf memoryAt chunkWords n) 0) (getD cs (cellOf chunkSizeAt chunkWords n) 0) ∷ []) []
 
 -- levels that grow change nothing that a user sees
 pub grown-view : (s : BuddySettings) (n : ℕ) (t : Tables) → viewOf s (grownTables s n t) ≡ viewOf s t
 unfolding grownTables
-grown-view s n t =
-    let u : Tables = grownTables s n t in
-    let p : placesIn u ≡ placesIn t = getD-set-other (t .head) levelsAt placesAt n 0 (λ e. omega arith) in
-    let q : chunkPlacesIn u ≡ chunkPlacesIn t = getD-set-other (t .head) levelsAt chunkPlacesAt n 0 (λ e. omega arith) in
-    ap₂ (viewFrom (s .minimal)) (ap (λ (k : ℕ). loansOf k (t .loans)) p) (ap (chunksOf u) q ∙ chunks-of t u q refl (chunkPlacesIn t))
+grown-view s n t = ap (viewFrom (s .minimal) (loansIn t)) (chunks-of t (grownTables s n t) refl (chunkPlacesIn t))
 
 -- a loan entered changes no chunk
 pub booked-chunks : (s : BuddySettings) (c o size : ℕ) (cut : Cut) (t : Tables) → chunksIn (bookedTables s c o size cut t) ≡ chunksIn t
 unfolding bookedTables
-booked-chunks s c o size cut t =
-    let q = takenOf (placesIn t) (t .index) .slab .places in
-    let u : Tables = bookedTables s c o size cut t in
-    let p : chunkPlacesIn u ≡ chunkPlacesIn t =
-    getD-set-other (set (t .head) givenAt (givenIn t + 1)) placesAt chunkPlacesAt q 0 (λ e. omega arith)
-    ∙ getD-set-other (t .head) givenAt chunkPlacesAt (givenIn t + 1) 0 (λ e. omega arith) in
-    ap (chunksOf u) p ∙ chunks-of t u p refl (chunkPlacesIn t)
+booked-chunks s c o size cut t = chunks-of t (bookedTables s c o size cut t) refl (chunkPlacesIn t)
 
 -- an ask that lends changes none
 pub taken-chunks : (s : BuddySettings) (size mask : ℕ) (t : Tables) (i : ℕ) → chunksIn (takenTables s (sizeFor s size mask) (levelFor s size mask) t i) ≡ chunksIn t

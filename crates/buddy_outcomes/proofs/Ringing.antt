@@ -6,7 +6,6 @@ use mathlib.Core.List.{List, [], _∷_, _++_}
 use Prim.Native.Nat.{ℕ, suc, _+_, _-_, _/_, _≤_, _<_}
 use native.Mathlib.Omega.{arith}
 use lib.ListN.{getD, set}
-use lib.Seq.{getD-set-other}
 use borrow.Author.Tests.{eq-eqb, ne-eqb}
 use Rattle.lists.specs.Members.{NotIn}
 use Rattle.lists.proofs.Bools.{told}
@@ -31,7 +30,7 @@ use Rattle.buddy_rules.proofs.Ringed.{ringed-one, out-of, part-ringed, ringed-p
 use Rattle.buddy_rules.specs.Moves.{sideIn, Cut, splitDown, readyNode, climbed}
 use Rattle.buddy_rules.specs.Rings.{Rings, ringsLent, ringsBack}
 use Rattle.buddy_rules.specs.Sound.{Sound}
-use Rattle.buddy_rules.specs.Tables.{Tables, Lengths, givenAt, levelsAt, placesAt, givenIn, levelsIn, placesIn, levelFrom, pairsIn, nodesFrom, chunksFrom, loanIn}
+use Rattle.buddy_rules.specs.Tables.{Tables, Lengths, levelsIn, placesIn, levelFrom, pairsIn, nodesFrom, chunksFrom, loanIn}
 use Rattle.buddy_rules.proofs.Ringing.{ringsOf, sound-rings, lent-here, lent-new, lent-other, back-joins, back-here, back-below, loan-under, climbed-rings, lent-rings}
 use Rattle.buddy_outcomes.specs.Ask as Ask
 use Rattle.buddy_outcomes.specs.Ask.{Found, at, sizeFor, levelFor, foundFrom, bookedTables, headEnt, takenTables, askOf}
@@ -55,16 +54,13 @@ ringed-set s l j v t R h k r =
 module _ (s : BuddySettings) (t : Tables) where
   pub booked-levels : (c o size : ℕ) (cut : Cut) → levelsIn (bookedTables s c o size cut t) ≡ levelsIn t
   unfolding bookedTables
-  booked-levels c o size cut =
-      getD-set-other (set (t .head) givenAt (givenIn t + 1)) placesAt levelsAt (takenOf (placesIn t) (t .index) .slab .places) 0 (λ e. omega arith)
-      ∙ getD-set-other (t .head) givenAt levelsAt (givenIn t + 1) 0 (λ e. omega arith)
+  booked-levels c o size cut = refl
 
   -- a loan entered in the book leaves the rings that the tree has then
   pub booked-rings : levelsIn t ≤ levelsMost → (c o size : ℕ) (cut : Cut) (Q : ℕ → List ℕ) → ((l : ℕ) → l < levelsIn t → Ringed (levelFrom s l) (s .pairs) (cut .room) (Q l)) → Rings s (bookedTables s c o size cut t) Q
   unfolding bookedTables
   booked-rings most c o size cut Q r l h =
-      let k : l < levelsIn t = omega (arith, h, booked-levels c o size cut) in
-      ringed-set s l (nodesFrom s + takenOf (placesIn t) (t .index) .place) (cut .node) (cut .room) (Q l) (omega arith) (omega arith) (r l k)
+      ringed-set s l (nodesFrom s + takenOf (placesIn t) (t .index) .place) (cut .node) (cut .room) (Q l) (omega arith) (omega arith) (r l h)
 
 module _ (s : BuddySettings) (t : Tables) (fit : BuddyIn s) (lengths : Lengths s t) (sound : Sound s t) (size mask i : ℕ) (w : Takes s size mask t i) (W : ℕ → List ℕ) (rings : Rings s t W) where
   abbrev lev : ℕ

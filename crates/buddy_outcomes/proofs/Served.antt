@@ -1,6 +1,6 @@
 -- What the tables hold when a chunk was delivered and its left end lent: they are sound.
 use mathlib.Core.Path.{_≡_, refl, ap, _∙_}
-use mathlib.Core.Bool.{Bool, true, false, cond}
+use mathlib.Core.Bool.{true, false, cond}
 use mathlib.Core.List.{List}
 use Prim.Native.Nat.{ℕ, suc, _+_, _-_, _*_, _%_, _≤_, _<_}
 use native.Mathlib.Nat.{zero-mod}
@@ -39,7 +39,7 @@ use Rattle.buddy_outcomes.proofs.Changed.{few-pairs}
 use Rattle.buddy_outcomes.proofs.Rounds.{size-level, size-units}
 use Rattle.buddy_outcomes.proofs.Booked.{booked-lengths, booked-sound}
 use Rattle.buddy_outcomes.proofs.Taken.{place-dead, level-empty, level-room}
-use Rattle.buddy_outcomes.proofs.Chunked.{chunked, chunked-lengths, chunked-count, chunked-places, chunked-level, chunked-live, chunked-loan, taken-dead, chunked-high, chunked-top, chunked-kept}
+use Rattle.buddy_outcomes.proofs.Chunked.{chunked, chunked-lengths, chunked-level, chunked-loan, taken-dead, chunked-high, chunked-top, chunked-kept}
 use Rattle.words.specs.Words.{markAt}
 
 module _ (s : BuddySettings) (t : Tables) (fit : BuddyIn s) (lengths : Lengths s t) (sound : Sound s t) (size lev d memory z : ℕ)
@@ -95,25 +95,17 @@ module _ (s : BuddySettings) (t : Tables) (fit : BuddyIn s) (lengths : Lengths s
       delivered-sound (s .minimal) (levelOps (s .pairs) (few-pairs s fit)) (minimal-pos s fit) (storeOf s (few-pairs s fit) t) T (sound-store s (few-pairs s fit) t fit lengths sound) lev d k c
       (place-dead s t fit sound) (rw dead) top room-in (λ j h g. level-empty s t fit sound j (none j h g)) (λ j h g. omega (arith, room-in j h g, fit .pairs-most))
 
-  -- the place is the same
-  same-place : takenOf (placesIn u) (u .index) .place ≡ k
-  same-place = ap (λ (n : ℕ). takenOf n (t .index) .place) (chunked-places s t fit lengths memory z)
-
   abbrev made : Nodes.Loan
   made = record { chunk = c; at = 0; lev = lev; node = cut .node }
 
   loan-is : made ≡ newLoan (s .minimal) (levelOps (s .pairs) (few-pairs s fit)) (storeOf s (few-pairs s fit) t) lev c
   loan-is = let n = is-cut .0 in (λ j. record { chunk = c; at = 0; lev = lev; node = n j })
 
-  loans-as : (j : ℕ) → with (loanIn s u) (takenOf (placesIn u) (u .index) .place) made j
+  loans-as : (j : ℕ) → with (loanIn s u) k made j
       ≡ with (loanIn s t) k (newLoan (s .minimal) (levelOps (s .pairs) (few-pairs s fit)) (storeOf s (few-pairs s fit) t) lev c) j
   loans-as j =
-      ap (λ (x : ℕ). with (loanIn s u) x made j) same-place
-      ∙ ap (λ (x : Nodes.Loan). cond (eqb j k) x (loanIn s u j)) loan-is
+      ap (λ (x : Nodes.Loan). cond (eqb j k) x (loanIn s u j)) loan-is
       ∙ ap (λ (x : Nodes.Loan). cond (eqb j k) (newLoan (s .minimal) (levelOps (s .pairs) (few-pairs s fit)) (storeOf s (few-pairs s fit) t) lev c) x) (chunked-loan s t fit lengths memory z chunk-room j)
-
-  live-as : (j : ℕ) → with (liveIn u) (takenOf (placesIn u) (u .index) .place) true j ≡ with (liveIn t) k true j
-  live-as j = ap (λ (x : ℕ). with (liveIn u) x true j) same-place ∙ ap (λ (x : Bool). cond (eqb j k) true x) (chunked-live s t fit lengths memory z chunk-room j)
 
   high-as : (b : ℕ) → highIn s u b ≡ with (highIn s t) c (up (suc d) lev) b
   high-as b = chunked-high s t fit lengths memory z chunk-room sound tall is-chunk b ∙ ap (λ (x : ℕ). with (highIn s t) c x b) top
@@ -134,21 +126,21 @@ module _ (s : BuddySettings) (t : Tables) (fit : BuddyIn s) (lengths : Lengths s
   after-as : Stores.Sound (s .minimal) (levelOps (s .pairs) (few-pairs s fit)) (record {
     count = levelsIn u;
     levels = W′;
-    loans = with (loanIn s u) (takenOf (placesIn u) (u .index) .place) made;
-    live = with (liveIn u) (takenOf (placesIn u) (u .index) .place) true;
+    loans = with (loanIn s u) k made;
+    live = with (liveIn u) k true;
     high = highIn s u;
     top = topIn s u;
   }) T′
   unfolding delivered
   after-as =
       sound-as (s .minimal) (levelOps (s .pairs) (few-pairs s fit)) (minimal-pos s fit) (delivered (s .minimal) (levelOps (s .pairs) (few-pairs s fit)) (storeOf s (few-pairs s fit) t) lev d k c) _ T′ after
-      (chunked-count s t fit lengths memory z) (λ i h. refl) loans-as live-as high-as top-as
+      refl (λ i h. refl) loans-as (λ j. refl) high-as top-as
 
   module _ (place : takenOf (placesIn t) (t .index) .place < s .store .loans) (level : levelOf size (s .minimal) ≡ lev) (is : size ≡ bytes (s .minimal) lev) (units : size % (s .store .atom + 1) ≡ 0)
       (new : (b : ℕ) → heldIn t b ≡ true → memoryIn t b ≡ memory → ⊥) where
     served-tables-sound : Sound s (bookedTables s c 0 size cut u)
     served-tables-sound =
-        booked-sound s u fit (chunked-lengths s t fit lengths memory z) c 0 size cut (is-cut .3) lev (chunked-kept s t fit lengths memory z chunk-room sound tall is-chunk new) (rw same-place place) level is
+        booked-sound s u fit (chunked-lengths s t fit lengths memory z) c 0 size cut (is-cut .3) lev (chunked-kept s t fit lengths memory z chunk-room sound tall is-chunk new) place level is
         (zero-mod (s .store .atom + 1)) units (is-cut .2) (split-chunk-own (s .pairs) markAt (omega arith) _ _ _ _ (u .room)) T′ W′ (is-cut .1) after-as
 
 -- ---- for an ask that no level has a ready side for, and all have a vacant pair place

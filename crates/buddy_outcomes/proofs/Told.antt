@@ -7,7 +7,7 @@ use mathlib.Core.List.{List, [], _∷_}
 use Prim.Native.Nat.{ℕ, _+_, _≤_, _<_}
 use native.Mathlib.Omega.{arith}
 use lib.Dec.{eqb, ltb}
-use lib.ListN.{length, getD}
+use lib.ListN.{length, getD, set}
 use lib.Seq.{length-sets, getD-set-same, getD-set-other}
 use borrow.Author.Tests.{leb-true}
 use Rattle.lists.proofs.Bools.{told}
@@ -22,7 +22,7 @@ use Rattle.counter.specs.declared.answers.Block.{Block}
 use Rattle.counter.specs.declared.settings.BuddySettings.{BuddySettings}
 use Rattle.store_rules.specs.Orders.{orderFrom, keptFrom}
 use Rattle.store_rules.specs.Outcomes.{Listed, out, listOk, withOrder, blockSaid, releasedAccount}
-use Rattle.buddy_rules.specs.Tables.{Tables, chunkWords, chunkSizeAt, chunkPlacesIn, memoryIn, heldIn}
+use Rattle.buddy_rules.specs.Tables.{Tables, chunkWords, chunkSizeAt, memoryIn, heldIn, chunkPlacesAt}
 use Rattle.buddy_outcomes.specs.Gate.{gateOf}
 use Rattle.buddy_outcomes.specs.Ask as Ask
 use Rattle.buddy_outcomes.specs.Ask.{Found, nowhere, at, foundFrom, grownTo, orderBytes, sizeOk, roomOk, countOk, objectsOk, askRow, planned, decideAsk, loanFrom, takenTables, grownTables, deniedTables, carryAsk, planAsk, askOf, sizeFor, levelFor}
@@ -30,6 +30,7 @@ use Rattle.buddy_outcomes.specs.Return.{wordFor, onLoanOk, climbFor, giv
 use Rattle.buddy_outcomes.proofs.Passing.{gate-passed}
 use Rattle.buddy_outcomes.proofs.Loaned.{on-loan-is}
 use Rattle.buddy_outcomes.proofs.Given.{held, place}
+use Rattle.buddy_outcomes.proofs.Heads.{left-chunk-places}
 use Rattle.buddy_outcomes.proofs.Returned.{held-taken}
 
 -- ---- an ask that passes the gate and the tests of mask and size
@@ -86,9 +87,18 @@ pub record Releases (a : Account) (c : ℕ) (t : Tables) (list : List ℕ) (r : 
   pub long : length (r .list) ≡ length list
 
 module _ (s : BuddySettings) (a : Account) (b : Block) (t : Tables) (list : List ℕ) where
-  -- whether the place x holds a chunk, by the word of its size
-  abbrev size-says : ℕ → ℕ → Bool
-  size-says x z = ltb x (chunkPlacesIn t) && not (eqb z 0)
+  -- the chunks with the size of the block's struck out: whether the place x holds one still
+  abbrev less : List ℕ
+  less = set (t .chunks) (cellOf chunkSizeAt chunkWords (b .chunk)) 0
+
+  abbrev still : ℕ → ℕ → Bool
+  still x z = ltb x (getD less chunkPlacesAt 0) && not (eqb z 0)
+
+  still-other : (x : ℕ) → (x ≡ b .chunk → ⊥) → still x (getD less (cellOf chunkSizeAt chunkWords x) 0) ≡ heldIn t x
+  still-other x n =
+      let z = getD-set-other (t .chunks) (cellOf chunkSizeAt chunkWords (b .chunk)) (cellOf chunkSizeAt chunkWords x) 0 0 (λ e. n (omega arith)) in
+      let p = left-chunk-places (b .chunk) (t .chunks) true in
+      (λ j. ltb x (p j) && not (eqb (z j) 0))
 
   releases : heldIn t (b .chunk) ≡ true → cellOf chunkSizeAt chunkWords (b .chunk) < length (t .chunks) → 0 < length list → (w : ℕ) → Releases a (b .chunk) t list (releasedBy s a b w t list)
   unfolding releasedBy releasedAccount givenTables
@@ -101,8 +111,8 @@ module _ (s : BuddySettings) (a : Account) (b : Block) (t : Tables) (list : List
         said = refl;
         objects = refl;
         held = h;
-        stays = ap (size-says (b .chunk)) (getD-set-same (t .chunks) (cellOf chunkSizeAt chunkWords (b .chunk)) 0 0 cell) ∙ and-false (ltb (b .chunk) (chunkPlacesIn t));
-        elsewhere = λ x n. ap (size-says x) (getD-set-other (t .chunks) (cellOf chunkSizeAt chunkWords (b .chunk)) (cellOf chunkSizeAt chunkWords x) 0 0 (λ z. n (omega arith)));
+        stays = ap (still (b .chunk)) (getD-set-same (t .chunks) (cellOf chunkSizeAt chunkWords (b .chunk)) 0 0 cell) ∙ and-false (ltb (b .chunk) (getD less chunkPlacesAt 0));
+        elsewhere = still-other;
         number = λ i k. let z : i ≡ 0 = omega arith in rw z (getD-set-same list 0 (memoryIn t (b .chunk)) 0 room);
         others = λ i k. getD-set-other list 0 i (memoryIn t (b .chunk)) 0 (λ z. omega arith);
         long = length-sets list 0 (memoryIn t (b .chunk) ∷ []);

@@ -16,12 +16,14 @@ use Rattle.rounding_rules.specs.Raising.{levelOf}
 use Rattle.counter.specs.Limits.{levelsMost}
 use Rattle.counter.specs.declared.settings.BuddySettings.{BuddySettings}
 use Rattle.slab.specs.Slab.{linkAt, removed, removedLinks, Parted, changed}
+use Rattle.slab.specs.declared.Slab.{Slab}
 use Rattle.slab.proofs.Places.{parted-same, removed-parted, vacant-set}
 use Rattle.buddy_rules.specs.Stores.{with}
 use Rattle.buddy_rules.specs.Level.{levelWords, part, levelStart}
 use Rattle.buddy_rules.specs.Tables.{Tables, tables, Lengths, chunkWords, memoryAt, chunkSizeAt, chunkPlacesIn, memoryIn, chunkSizeIn, chunksFrom, placeAt, topAt, afterAt, placeWords, heldIn, highIn, topIn, vacantChunk, chunkAfter, chunkSlab}
 use Rattle.buddy_rules.proofs.Abstract.{levels-in}
 use Rattle.buddy_outcomes.specs.Return.{vacatedTree}
+use Rattle.buddy_outcomes.proofs.Heads.{left-chunk-places}
 
 -- a word past a level is none of its
 part-past : (pairs i j v : ℕ) (t : List ℕ) → levelStart pairs (i + 1) ≤ j → part pairs i (set t j v) ≡ part pairs i t
@@ -53,6 +55,10 @@ module _ (s : BuddySettings) (t : Tables) (c : ℕ) (tree loans index : List ℕ
   pub chunks-mark-by : (f : Bool) → getD (tablesBy f .chunks) markAt 0 ≡ getD (t .chunks) markAt 0
   chunks-mark-by true = getD-set-other (t .chunks) (cellOf chunkSizeAt chunkWords c) markAt 0 0 (λ e. omega arith)
   chunks-mark-by false = refl
+
+  -- and so do the chunk places in use
+  places-by : (f : Bool) → chunkPlacesIn (tablesBy f) ≡ chunkPlacesIn t
+  places-by = left-chunk-places c (t .chunks)
 
   pub tree-mark-by : (f : Bool) → getD (tablesBy f .room) markAt 0 ≡ getD tree markAt 0
   unfolding vacatedTree
@@ -108,15 +114,15 @@ module _ (s : BuddySettings) (t : Tables) (c : ℕ) (tree loans index : List ℕ
         by : (x ≡ c) ⊎ (x ≡ c → ⊥) → Stays true x ⊎ Leaves true x
         by (inl e) =
             let z : chunkSizeIn (tablesBy true) x ≡ 0 = ap (chunkSizeIn (tablesBy true)) e ∙ getD-set-same (t .chunks) (cellOf chunkSizeAt chunkWords c) 0 0 cell-in in
-            inr (ap (λ (v : ℕ). ltb x (chunkPlacesIn t) && not (eqb v 0)) z ∙ and-false (ltb x (chunkPlacesIn t)), e, refl)
+            inr (ap (λ (v : ℕ). ltb x (chunkPlacesIn (tablesBy true)) && not (eqb v 0)) z ∙ and-false (ltb x (chunkPlacesIn (tablesBy true))), e, refl)
         by (inr n) = inl (getD-set-other (t .chunks) (cellOf chunkSizeAt chunkWords c) (cellOf chunkSizeAt chunkWords x) 0 0 (λ e. n (omega arith)), λ e. absurd (n e))
     chunk-cases false x = inl (refl, λ e. refl)
 
     held-stays : (f : Bool) (x : ℕ) → Stays f x → heldIn (tablesBy f) x ≡ heldIn t x
-    held-stays f x z = ap (λ (v : ℕ). ltb x (chunkPlacesIn t) && not (eqb v 0)) (z .0)
+    held-stays f x z = (λ j. ltb x (places-by f j) && not (eqb (z .0 j) 0))
 
     high-stays : (f : Bool) (x : ℕ) → Stays f x → highIn s (tablesBy f) x ≡ highIn s t x
-    high-stays f x z = ap (λ (v : ℕ). cond (ltb x (chunkPlacesIn t) && not (eqb v 0)) (levelOf v (s .minimal)) 0) (z .0)
+    high-stays f x z = (λ j. cond (held-stays f x z j) (levelOf (z .0 j) (s .minimal)) 0)
 
     top-stays : (f : Bool) (x : ℕ) → Stays f x → topIn s (tablesBy f) x ≡ topIn s t x
     top-stays f x z =
@@ -163,7 +169,8 @@ module _ (s : BuddySettings) (t : Tables) (c : ℕ) (tree loans index : List ℕ
         getD-set-other linked (chunksFrom s) (cellOf at placeWords x) c 0 (λ e. omega arith)
         ∙ ap (λ (y : ℕ). linkAt (set tree after y) at placeWords x) (p .same (chunksFrom s) (omega arith)) in
         let first : getD (t′ .room) (chunksFrom s) 0 ≡ c = getD-set-same linked (chunksFrom s) c 0 (omega (arith, length-set tree after (getD tree (chunksFrom s) 0), p .long, lengths .room)) in
-        subst (λ (y : ℕ). Parted (vacantChunk t′) (chunkAfter s t′) (record { places = chunkPlacesIn t; vacant = y }) m) (sym first)
+        let n = places-by true in
+        subst (λ (y : Slab). Parted (vacantChunk t′) (chunkAfter s t′) y m) (λ j. record { places = sym n j; vacant = sym first j })
         (parted-same (changed free c true) (vacantChunk t′) (linkAt (set tree after v) at placeWords) (chunkAfter s t′) (record { places = chunkPlacesIn t; vacant = c }) m
         (λ x i. vacant-set (t .chunks) chunkSizeAt chunkWords c 0 x (omega arith) cell-in) (λ x i. link x) R)
     parted-by false h u P =

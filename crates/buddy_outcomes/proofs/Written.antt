@@ -1,4 +1,4 @@
--- The words of a loan that was written at a place of the book, and those of the others.
+-- The words of a loan that was written at a place of the book, or entered in it, and those of the others.
 use mathlib.Core.Path.{_≡_, ap, _∙_}
 use mathlib.Core.List.{List}
 use Prim.Native.Nat.{ℕ, _*_, _<_, _+_, _≤_}
@@ -9,7 +9,9 @@ use Rattle.words.specs.Words.{cellOf}
 use Rattle.words.specs.Rows.{written}
 use Rattle.store_rules.specs.Loans.{loanRow, loanWords, serialAt, chunkAt, offsetAt, sizeAt}
 use Rattle.store_rules.specs.declared.Loan.{Loan}
+use Rattle.book_rules.specs.Book.{takenOf, counted, entered}
 use Rattle.book_rules.proofs.Changed.{by-words}
+use Rattle.book_rules.proofs.Counted.{counted-long, counted-cell}
 
 -- f is the place of a word of the loan at place 0
 abbrev pub OfLoan : ℕ → Type 0
@@ -67,3 +69,36 @@ module _ (loans : List ℕ) (n p : ℕ) (l : Loan) (long : length loans ≡ loan
       ∙ getD-set-other two (cellOf offsetAt loanWords p) (cellOf f loanWords x) (l .offset) 0 (λ e. o (omega (arith, h .0, h .1)))
       ∙ getD-set-other one (cellOf chunkAt loanWords p) (cellOf f loanWords x) (l .chunk) 0 (λ e. o (omega (arith, h .0, h .1)))
       ∙ getD-set-other loans (cellOf serialAt loanWords p) (cellOf f loanWords x) (l .serial) 0 (λ e. o (omega (arith, h .0, h .1)))
+
+-- ---- entered: the counts are written too, and they are words of no loan
+
+module _ (places : ℕ) (index : List ℕ) (l : Loan) (loans : List ℕ) (n : ℕ) (long : length loans ≡ loanWords + loanWords * n) (room : takenOf places index .place < n) where
+  abbrev p : ℕ
+  p = takenOf places index .place
+
+  abbrev kept : List ℕ
+  kept = counted (l .serial) (takenOf places index .slab .places) loans
+
+  kept-long : length kept ≡ loanWords + loanWords * n
+  kept-long = counted-long (l .serial) (takenOf places index .slab .places) loans ∙ long
+
+  pub entered-serial : getD (entered places index l loans) (cellOf serialAt loanWords (takenOf places index .place)) 0 ≡ l .serial
+  unfolding entered
+  entered-serial = serial-here kept n p l kept-long room
+
+  pub entered-chunk : getD (entered places index l loans) (cellOf chunkAt loanWords (takenOf places index .place)) 0 ≡ l .chunk
+  unfolding entered
+  entered-chunk = chunk-here kept n p l kept-long room
+
+  pub entered-offset : getD (entered places index l loans) (cellOf offsetAt loanWords (takenOf places index .place)) 0 ≡ l .offset
+  unfolding entered
+  entered-offset = offset-here kept n p l kept-long room
+
+  pub entered-size : getD (entered places index l loans) (cellOf sizeAt loanWords (takenOf places index .place)) 0 ≡ l .size
+  unfolding entered
+  entered-size = size-here kept n p l kept-long room
+
+  pub entered-other : (f x : ℕ) → OfLoan f → (x ≡ takenOf places index .place → ⊥) → getD (entered places index l loans) (cellOf f loanWords x) 0 ≡ getD loans (cellOf f loanWords x) 0
+  unfolding entered
+  entered-other f x h o =
+      cell-other kept n p l kept-long room f x h o ∙ counted-cell (l .serial) (takenOf places index .slab .places) loans f x (h .0)

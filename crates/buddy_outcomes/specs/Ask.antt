@@ -28,7 +28,7 @@ use Rattle.buddy_trees.specs.Trees.{bytes}
 use Rattle.buddy_rules.specs.Nodes.{freeWord, Ent}
 use Rattle.buddy_rules.specs.Levels.{baseOf}
 use Rattle.buddy_rules.specs.Level.{entOf, ringHead, pairTaken, acquired, freshLevel}
-use Rattle.buddy_rules.specs.Tables.{Tables, tables, givenAt, levelsAt, placesAt, givenIn, levelsIn, placesIn, levelFrom, placeAt, afterAt, placeWords, nodesFrom, chunkSlab}
+use Rattle.buddy_rules.specs.Tables.{Tables, tables, levelsAt, givenIn, levelsIn, placesIn, levelFrom, placeAt, afterAt, placeWords, nodesFrom, chunkSlab}
 use Rattle.buddy_rules.specs.Moves.{Cut, splitDown, readyNode}
 use Rattle.buddy_outcomes.specs.Gate.{gateOf}
 
@@ -144,7 +144,7 @@ grownTables s n t =
 unfoldable pub bookedTables : BuddySettings → ℕ → ℕ → ℕ → Cut → Tables → Tables
 bookedTables s c o size cut t =
     tables
-    (set (set (t .head) givenAt (givenIn t + 1)) placesAt (takenOf (placesIn t) (t .index) .slab .places))
+    (t .head)
     (entered (placesIn t) (t .index) (loan (givenIn t + 1) c o size) (t .loans))
     (t .chunks)
     (enteredIndex (s .store .loans) (placesIn t) (givenIn t + 1) (t .index))

@@ -44,9 +44,9 @@ deliverGateOf s a t =
 unfoldable pub chunkTables : BuddySettings → ℕ → ℕ → Tables → Tables
 chunkTables s memory z t =
     tables
-    (set (t .head) chunkPlacesAt (chunkTaken s t .slab .places))
+    (t .head)
     (t .loans)
-    (set (set (t .chunks) (cellOf memoryAt chunkWords (chunkTaken s t .place)) memory) (cellOf chunkSizeAt chunkWords (chunkTaken s t .place)) z)
+    (set (set (set (t .chunks) chunkPlacesAt (chunkTaken s t .slab .places)) (cellOf memoryAt chunkWords (chunkTaken s t .place)) memory) (cellOf chunkSizeAt chunkWords (chunkTaken s t .place)) z)
     (t .index)
     (set (set (t .room) (chunksFrom s) (chunkTaken s t .slab .vacant)) (cellOf (placeAt s topAt) placeWords (chunkTaken s t .place))
     (splitWord (pairTaken (levelFrom s (levelsIn t - 1)) (t .room) .place)))

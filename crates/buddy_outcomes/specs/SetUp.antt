@@ -15,9 +15,9 @@ pub use Rattle.store_rules.specs.Tables.{Begun, begun}
 use Rattle.buddy_rules.specs.Tables.{Tables, tables, marks, lengthsOk, chunkWords, chunksFrom, treeWords, initialLevels}
 use Rattle.buddy_outcomes.specs.Ask.{freshLevels}
 
--- the mark; nothing given, and "Initial levels"; no place used
+-- the mark, and "Initial levels"
 abbrev pub freshHead : BuddySettings → List ℕ
-freshHead s = marks .head ∷ 0 ∷ initialLevels s ∷ 0 ∷ 0 ∷ []
+freshHead s = marks .head ∷ initialLevels s ∷ []
 
 -- every word of every table is written, whatever was lent: the marks; no loan, no chunk, no link; the initial levels are there and empty, and
 -- no chunk place is vacated

@@ -13,13 +13,13 @@ use Rattle.counter.specs.Limits.{levelsMost}
 use Rattle.counter.specs.declared.settings.BuddySettings.{BuddySettings}
 use Rattle.slab.specs.Slab.{vacantAt, linkAt}
 use Rattle.slab.specs.declared.Slab.{Slab}
-use Rattle.store_rules.specs.Loans.{loanWords, chunkAt, offsetAt, sizeAt}
+use Rattle.store_rules.specs.Loans.{givenAt, placesAt, loanWords, chunkAt, offsetAt, sizeAt}
 pub use Rattle.store_rules.specs.Tables.{Tables, tables, Marks, Signed, signedOk}
 use Rattle.book_rules.specs.Book.{indexWords, entryWords, vacantAfterAt, nextOf, slabOf, firstIn}
 use Rattle.buddy_rules.specs.Nodes.{Ent, Loan}
 use Rattle.buddy_rules.specs.Level.{levelStart, pairIn}
 
--- ---- head: a mark; serials given, levels now; loan places and chunk places ever used
+-- ---- marks
 
 -- "budd" and what the table is, in ASCII: head, loan, chnk, indx, room
 abbrev pub marks : Marks
@@ -32,32 +32,30 @@ marks =
       room = 0x6275_6464_726f_6f6d;
     }
 
-abbrev pub givenAt : ℕ
-givenAt = 1
+-- ---- head: its mark, and the levels now
 
 abbrev pub levelsAt : ℕ
-levelsAt = 2
-
-abbrev pub placesAt : ℕ
-placesAt = 3
-
-abbrev pub chunkPlacesAt : ℕ
-chunkPlacesAt = 4
+levelsAt = 1
 
 abbrev pub headWords : ℕ
-headWords = 5
-
-abbrev pub givenIn : Tables → ℕ
-givenIn t = getD (t .head) givenAt 0
+headWords = 2
 
 abbrev pub levelsIn : Tables → ℕ
 levelsIn t = getD (t .head) levelsAt 0
 
+-- ---- the counts of loans stand with the loans; with the chunks, behind their mark, the chunk places ever used
+
+abbrev pub chunkPlacesAt : ℕ
+chunkPlacesAt = 1
+
+abbrev pub givenIn : Tables → ℕ
+givenIn t = getD (t .loans) givenAt 0
+
 abbrev pub placesIn : Tables → ℕ
-placesIn t = getD (t .head) placesAt 0
+placesIn t = getD (t .loans) placesAt 0
 
 abbrev pub chunkPlacesIn : Tables → ℕ
-chunkPlacesIn t = getD (t .head) chunkPlacesAt 0
+chunkPlacesIn t = getD (t .chunks) chunkPlacesAt 0
 
 -- ---- chunks: memory number and size in bytes, 0 at a vacant place; those of place 0 stand behind the table's own record
 

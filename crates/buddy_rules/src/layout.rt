@@ -10,15 +10,11 @@ pub const INDEX_MARK: u64 = 0x6275_6464_696e_6478;
 
 pub const ROOM_MARK: u64 = 0x6275_6464_726f_6f6d;
 
-pub const GIVEN_AT: usize = 1;
+pub const LEVELS_AT: usize = 1;
 
-pub const LEVELS_AT: usize = 2;
-
-pub const PLACES_AT: usize = 3;
-
-pub const CHUNK_PLACES_AT: usize = 4;
-
-pub const HEAD_WORDS: usize = 5;
+pub const HEAD_WORDS: usize = 2;
+// Chunk places ever used, in the chunks' own record.
+pub const CHUNK_PLACES_AT: usize = 1;
 // Of a chunk.
 pub const CHUNK_WORDS: usize = 2;
 

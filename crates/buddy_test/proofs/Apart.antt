@@ -7,7 +7,7 @@ use Prim.Native.Nat.{ℕ, zero, suc, _+_, _*_, _≤_, _<_}
 use native.Mathlib.Omega.{arith}
 use native.Mathlib.Numerals.{add-one}
 use lib.Dec.{ltb}
-use lib.ListN.{length, take, drop, set}
+use lib.ListN.{length, getD, take, drop, set}
 use lib.Seq.{take-suc-set, drop-cons}
 use borrow.Author.Tests.{lt-ltb, ltb-true, eq-eqb, ne-eqb}
 use Rattle.lists.specs.Members.{Mem, Distinct}
@@ -16,7 +16,7 @@ use Rattle.lists.proofs.Bools.{told, same?, same-test, lt-or-le, and-left}
 use Rattle.distinct.specs.Column.{column, columnFrom}
 use Rattle.distinct.proofs.Counts.{count-append, distinct-once, once-distinct}
 use Rattle.buddy_levels.specs.Seen.{partSettings, levelPart}
-use Rattle.buddy_rules.specs.Tables.{Tables, heldIn, memoryIn, chunkSizeIn, memories}
+use Rattle.buddy_rules.specs.Tables.{Tables, chunkPlacesAt, heldIn, memoryIn, chunkSizeIn, memories}
 use Rattle.buddy_rules.specs.Test.{memoriesOk}
 use Rattle.buddy_rules.proofs.Decides.{Differ, memories-yes, memories-all}
 
@@ -32,23 +32,23 @@ module _ (t : Tables) (m : ℕ) where
   memories-none h = ap (λ (b : Bool). memories t m ++ cond b (memoryIn t m ∷ []) []) h ∙ append-nil (memories t m)
 
 -- a loop that gathers them: k of the first c places have been put
-module _ (n c k : ℕ) (chunks found : List ℕ) (size : ℕ) (low : c < n) (is : size ≡ chunkSizeIn (levelPart 0 n chunks []) c) (so : take k found ≡ memories (levelPart 0 n chunks []) c) where
+module _ (c k : ℕ) (chunks found : List ℕ) (size : ℕ) (low : c < getD chunks chunkPlacesAt 0) (is : size ≡ chunkSizeIn (levelPart 0 chunks []) c) (so : take k found ≡ memories (levelPart 0 chunks []) c) where
   abbrev t : Tables
-  t = levelPart 0 n chunks []
+  t = levelPart 0 chunks []
 
   pub gather-put : (v : ℕ) → (size ≡ 0 → ⊥) → v ≡ memoryIn t c → k < length found → take (k + 1) (set found k v) ≡ memories t (c + 1)
   gather-put v z e h =
-      let held : heldIn t c ≡ true = rw (lt-ltb c n low, sym is, ne-eqb size 0 z) refl in
+      let held : heldIn t c ≡ true = rw (lt-ltb c (getD chunks chunkPlacesAt 0) low, sym is, ne-eqb size 0 z) refl in
       rw (add-one k, add-one c) (take-suc-set found k v h ∙ (λ j. so j ++ (e j ∷ [])) ∙ sym (memories-held t c held))
 
   pub gather-pass : size ≡ 0 → take k found ≡ memories t (c + 1)
   gather-pass z =
-      let none : heldIn t c ≡ false = rw (lt-ltb c n low, sym is, eq-eqb size 0 z) refl in
+      let none : heldIn t c ≡ false = rw (lt-ltb c (getD chunks chunkPlacesAt 0) low, sym is, eq-eqb size 0 z) refl in
       rw (add-one c) (so ∙ sym (memories-none t c none))
 
-pub gather-none : (n : ℕ) (chunks found : List ℕ) → take 0 found ≡ memories (levelPart 0 n chunks []) 0
+pub gather-none : (chunks found : List ℕ) → take 0 found ≡ memories (levelPart 0 chunks []) 0
 unfolding memories
-gather-none n chunks found = refl
+gather-none chunks found = refl
 
 -- ---- distinct numbers, places that differ
 
@@ -114,9 +114,9 @@ module _ (t : Tables) where
       (told (heldIn t m))
 
 -- the test of the tables by the distinct numbers of their places
-module _ (n k : ℕ) (chunks found : List ℕ) (so : take k found ≡ memories (levelPart 0 n chunks []) n) (fits : k ≤ length found) where
+module _ (n k : ℕ) (chunks found : List ℕ) (count : n ≡ getD chunks chunkPlacesAt 0) (so : take k found ≡ memories (levelPart 0 chunks []) n) (fits : k ≤ length found) where
   abbrev at : Tables
-  at = levelPart 0 n chunks []
+  at = levelPart 0 chunks []
 
   columned : (i m : ℕ) → i + m ≤ length found → columnFrom found 0 1 i m ≡ take m (drop i found)
   columned i zero h = refl
@@ -135,7 +135,7 @@ module _ (n k : ℕ) (chunks found : List ℕ) (so : take k found ≡ memories (
     where
       differ : Distinct (memories at n) → Differ (partSettings 0 0 0) at
       differ u c d h q m =
-          let low : (a : ℕ) → heldIn at a ≡ true → a < n = λ a e. ltb-true a n (and-left (ltb a n) _ e) in
+          let low : (a : ℕ) → heldIn at a ≡ true → a < n = λ a e. omega (arith, ltb-true a (getD chunks chunkPlacesAt 0) (and-left (ltb a (getD chunks chunkPlacesAt 0)) _ e), count) in
           ⊎-elim (λ z. absurd (distinct-apart at n d c u z (low d q) q h (sym m)))
           (λ z. ⊎-elim (λ y. absurd (distinct-apart at n c d u y (low c h) h q m)) (λ y. omega arith) (lt-or-le d c))
           (lt-or-le c d)

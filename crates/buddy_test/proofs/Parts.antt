@@ -16,12 +16,12 @@ use Rattle.counter.specs.Limits.{levelsMost}
 use Rattle.counter.specs.declared.settings.BuddySettings.{BuddySettings}
 use Rattle.slab.specs.Slab.{vacantAt, linkAt}
 use Rattle.slab.specs.Test.{partedOk}
-use Rattle.store_rules.specs.Loans.{loanWords, sizeAt, loanRow, offsetAt}
+use Rattle.store_rules.specs.Loans.{placesAt, loanWords, sizeAt, loanRow, offsetAt}
 use Rattle.store_rules.specs.declared.Loan.{Loan}
 use Rattle.buddy_rules.specs.Level.{levelStart}
 use Rattle.buddy_rules.specs.LevelTest.{goodOk}
 use Rattle.buddy_levels.specs.Seen.{partTables, levelPart}
-use Rattle.buddy_rules.specs.Tables.{levelsAt, initialLevels, chunkWords, chunkSizeAt, placeWords, afterAt, vacantChunk, chunkAfter, chunkSlab, marks, Tables, signedOk}
+use Rattle.buddy_rules.specs.Tables.{levelsAt, initialLevels, chunkPlacesAt, chunkWords, chunkSizeAt, placeWords, afterAt, vacantChunk, chunkAfter, chunkSlab, marks, Tables, signedOk}
 use Rattle.buddy_rules.specs.Test.{unitsOk}
 
 module _ (s : BuddySettings) where
@@ -29,13 +29,13 @@ module _ (s : BuddySettings) where
       → (m && (leb f l && leb l levelsMost)) ≡ (signedOk marks t && (leb (initialLevels s) (getD (t .head) levelsAt 0) && leb (getD (t .head) levelsAt 0) levelsMost))
   head-told t m l f e g h = λ j. e j && (leb (h j) (g j) && leb (g j) levelsMost)
 
-  pub places-told : (n at v : ℕ) (chunks tree : List ℕ) (r : Bool) → at ≡ levelStart (s .pairs) levelsMost → v ≡ getD tree at 0
+  pub places-told : (n at v : ℕ) (chunks tree : List ℕ) (r : Bool) → n ≡ getD chunks chunkPlacesAt 0 → at ≡ levelStart (s .pairs) levelsMost → v ≡ getD tree at 0
       → r ≡ partedOk (vacantAt chunks chunkSizeAt chunkWords) (linkAt tree (at + (placeWords + afterAt)) placeWords) (record { places = n; vacant = v }) (s .store .chunks)
-      → r ≡ partedOk (vacantChunk (levelPart 0 n chunks tree)) (chunkAfter s (levelPart 0 n chunks tree)) (chunkSlab s (levelPart 0 n chunks tree)) (s .store .chunks)
-  places-told n at v chunks tree r e f g =
+      → r ≡ partedOk (vacantChunk (levelPart 0 chunks tree)) (chunkAfter s (levelPart 0 chunks tree)) (chunkSlab s (levelPart 0 chunks tree)) (s .store .chunks)
+  places-told n at v chunks tree r c e f g =
       g
-      ∙ (λ j. partedOk (vacantAt chunks chunkSizeAt chunkWords) (linkAt tree (at + (placeWords + afterAt)) placeWords) (record { places = n; vacant = f j }) (s .store .chunks))
-      ∙ (λ j. partedOk (vacantAt chunks chunkSizeAt chunkWords) (linkAt tree (e j + (placeWords + afterAt)) placeWords) (record { places = n; vacant = getD tree (e j) 0 }) (s .store .chunks))
+      ∙ (λ j. partedOk (vacantAt chunks chunkSizeAt chunkWords) (linkAt tree (at + (placeWords + afterAt)) placeWords) (record { places = c j; vacant = f j }) (s .store .chunks))
+      ∙ (λ j. partedOk (vacantAt chunks chunkSizeAt chunkWords) (linkAt tree (e j + (placeWords + afterAt)) placeWords) (record { places = getD chunks chunkPlacesAt 0; vacant = getD tree (e j) 0 }) (s .store .chunks))
 
 pub good-told : (pairs l base : ℕ) (tree : List ℕ) (r : Bool) → base ≡ levelStart pairs l → r ≡ goodOk base pairs tree → r ≡ goodOk (levelStart pairs l) pairs tree
 good-told pairs l base tree r e f = f ∙ ap (λ (b : ℕ). goodOk b pairs tree) e
@@ -55,13 +55,13 @@ twice : (a b : Bool) → (a || b) ≡ (not (not a) || b)
 twice true b = refl
 twice false b = refl
 
-module _ (s : BuddySettings) (n k : ℕ) (loans : List ℕ) (l : Loan) (is : l ≡ row loanRow k loans) (used : k < n) where
+module _ (s : BuddySettings) (k : ℕ) (loans : List ℕ) (l : Loan) (is : l ≡ row loanRow k loans) (used : k < getD loans placesAt 0) where
   size-is : l .size ≡ getD loans (cellOf sizeAt loanWords k) 0
   size-is = ap (λ (x : Loan). x .size) is ∙ sym (cell-row loans sizeAt loanWords k)
 
   offset-is : l .offset ≡ getD loans (cellOf offsetAt loanWords k) 0
   offset-is = ap (λ (x : Loan). x .offset) is ∙ sym (cell-row loans offsetAt loanWords k)
 
-  pub units-told : (r : Bool) → r ≡ (eqb (l .size) 0 || units s l) → r ≡ unitsOk s (partTables 0 n 0 loans [] []) k
+  pub units-told : (r : Bool) → r ≡ (eqb (l .size) 0 || units s l) → r ≡ unitsOk s (partTables 0 loans [] []) k
   unfolding unitsOk
-  units-told r e = e ∙ rw (lt-ltb k n used, sym size-is, sym offset-is) (twice (eqb (l .size) 0) (units s l))
+  units-told r e = e ∙ rw (lt-ltb k (getD loans placesAt 0) used, sym size-is, sym offset-is) (twice (eqb (l .size) 0) (units s l))

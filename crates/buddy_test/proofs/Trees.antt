@@ -6,9 +6,10 @@ use Prim.Native.Nat.{ℕ, _+_}
 use lib.ListN.{getD}
 use Rattle.lists.proofs.Bools.{not-yes, not-no}
 use Rattle.counter.specs.declared.settings.BuddySettings.{BuddySettings}
+use Rattle.store_rules.specs.Loans.{placesAt}
 use Rattle.buddy_rules.specs.Level.{usedAt, levelStart}
 use Rattle.buddy_levels.specs.Seen.{partSettings, partTables, levelPart}
-use Rattle.buddy_rules.specs.Tables.{Tables, levelsIn, placesIn, chunkPlacesIn}
+use Rattle.buddy_rules.specs.Tables.{Tables, chunkPlacesAt, levelsIn, placesIn, chunkPlacesIn}
 use Rattle.buddy_rules.specs.Test.{every, chunkOk, pairOk, loanOk, treesOk}
 use Rattle.buddy_rules.proofs.Tests.{every-same}
 use Rattle.buddy_walk.proofs.Shows.{chunk-shows}
@@ -16,13 +17,13 @@ use Rattle.buddy_leads.proofs.Shows.{pairs-shown, loans-shown}
 
 module _ (s : BuddySettings) (levels places held : ℕ) (loans chunks tree : List ℕ) where
   abbrev chunksPart : Bool
-  chunksPart = every (chunkOk s (partTables levels places held loans chunks tree)) held
+  chunksPart = every (chunkOk s (partTables levels loans chunks tree)) held
 
   abbrev pairsPart : Bool
-  pairsPart = every (λ (l : ℕ). every (pairOk (partSettings (s .minimal) (s .pairs) 0) (levelPart levels held chunks tree) l) (getD tree (levelStart (s .pairs) l + usedAt) 0)) levels
+  pairsPart = every (λ (l : ℕ). every (pairOk (partSettings (s .minimal) (s .pairs) 0) (levelPart levels chunks tree) l) (getD tree (levelStart (s .pairs) l + usedAt) 0)) levels
 
   abbrev loansPart : Bool
-  loansPart = every (loanOk (partSettings (s .minimal) (s .pairs) (s .store .chunks)) (partTables levels places held loans chunks tree)) places
+  loansPart = every (loanOk (partSettings (s .minimal) (s .pairs) (s .store .chunks)) (partTables levels loans chunks tree)) places
 
 parts : (s : BuddySettings) (t : Tables)
     → treesOk s t ≡ (chunksPart s (levelsIn t) (placesIn t) (chunkPlacesIn t) (t .loans) (t .chunks) (t .room)
@@ -30,17 +31,17 @@ parts : (s : BuddySettings) (t : Tables)
 unfolding treesOk
 parts s t =
     let chunked : every (chunkOk s t) (chunkPlacesIn t) ≡ chunksPart s (levelsIn t) (placesIn t) (chunkPlacesIn t) (t .loans) (t .chunks) (t .room) =
-    every-same (chunkOk s t) (chunkOk s (partTables (levelsIn t) (placesIn t) (chunkPlacesIn t) (t .loans) (t .chunks) (t .room))) (chunkPlacesIn t) (λ c h. chunk-shows s t (chunkPlacesIn t) c h h) in
+    every-same (chunkOk s t) (chunkOk s (partTables (levelsIn t) (t .loans) (t .chunks) (t .room))) (chunkPlacesIn t) (λ c h. chunk-shows s t c) in
     λ j. chunked j && (pairs-shown s t j && loans-shown s t j)
 
 -- so it reads no more than these
-pub trees-shown : (s : BuddySettings) (t : Tables) → treesOk s t ≡ treesOk s (partTables (levelsIn t) (placesIn t) (chunkPlacesIn t) (t .loans) (t .chunks) (t .room))
-trees-shown s t = parts s t ∙ sym (parts s (partTables (levelsIn t) (placesIn t) (chunkPlacesIn t) (t .loans) (t .chunks) (t .room)))
+pub trees-shown : (s : BuddySettings) (t : Tables) → treesOk s t ≡ treesOk s (partTables (levelsIn t) (t .loans) (t .chunks) (t .room))
+trees-shown s t = parts s t ∙ sym (parts s (partTables (levelsIn t) (t .loans) (t .chunks) (t .room)))
 
 -- in turn, with what the code was told
-module _ (s : BuddySettings) (levels places held : ℕ) (loans chunks tree : List ℕ) where
+module _ (s : BuddySettings) (levels places held : ℕ) (loans chunks tree : List ℕ) (counted : places ≡ getD loans placesAt 0) (count : held ≡ getD chunks chunkPlacesAt 0) where
   abbrev whole : Bool
-  whole = treesOk s (partTables levels places held loans chunks tree)
+  whole = treesOk s (partTables levels loans chunks tree)
 
   abbrev one : Bool
   one = chunksPart s levels places held loans chunks tree
@@ -52,7 +53,9 @@ module _ (s : BuddySettings) (levels places held : ℕ) (loans chunks tree : Lis
   three = loansPart s levels places held loans chunks tree
 
   is : whole ≡ (one && (two && three))
-  is = parts s (partTables levels places held loans chunks tree)
+  is =
+      parts s (partTables levels loans chunks tree)
+      ∙ (λ j. chunksPart s levels (sym counted j) (sym count j) loans chunks tree && (two && loansPart s levels (sym counted j) (sym count j) loans chunks tree))
 
   module _ (c : Bool) (cs : c ≡ one) where
     pub chunks-fail : not c ≡ true → false ≡ whole

@@ -1,5 +1,5 @@
 -- The parts come to the whole row: the first that fails decides it, and where none does the units are left; and what those
--- that hold say of the numbers in the head.
+-- that hold say of the levels and the places in use.
 use mathlib.Core.Path.{_≡_, refl, sym, _∙_}
 use mathlib.Core.Bool.{Bool, true, false, _&&_, not, and-assoc}
 use mathlib.Core.List.{List, [], _∷_}
@@ -30,11 +30,11 @@ use Rattle.buddy_test.proofs.Trees.{trees-shown}
 regroup : (a b c d e f g h i j : Bool) → all (a ∷ b ∷ c ∷ d ∷ e ∷ f ∷ g ∷ h ∷ i ∷ j ∷ []) ≡ ((a && (b && c)) && ((d && e) && (f && (g && (h && (i && j))))))
 regroup a b c d e f g h i j = simp and-assoc
 
-memories-shown : (s : BuddySettings) (t : Tables) → memoriesOk s t ≡ memoriesOk (partSettings 0 0 0) (levelPart 0 (chunkPlacesIn t) (t .chunks) [])
+memories-shown : (s : BuddySettings) (t : Tables) → memoriesOk s t ≡ memoriesOk (partSettings 0 0 0) (levelPart 0 (t .chunks) [])
 unfolding memoriesOk
 memories-shown s t = refl
 
-units-shown : (s : BuddySettings) (t : Tables) → every (unitsOk s t) (placesIn t) ≡ every (unitsOk s (partTables 0 (placesIn t) 0 (t .loans) [] [])) (placesIn t)
+units-shown : (s : BuddySettings) (t : Tables) → every (unitsOk s t) (placesIn t) ≡ every (unitsOk s (partTables 0 (t .loans) [] [])) (placesIn t)
 unfolding unitsOk
 units-shown s t = refl
 
@@ -52,24 +52,24 @@ module _ (s : BuddySettings) (head loans chunks index tree : List ℕ) where
   abbrev keptPart : ℕ → ℕ → Bool
   keptPart places given = keptOk loans index (s .store .loans) places given
 
-  abbrev placesPart : ℕ → Bool
-  placesPart n = partedOk (vacantChunk (levelPart 0 n chunks tree)) (chunkAfter s (levelPart 0 n chunks tree)) (chunkSlab s (levelPart 0 n chunks tree)) (s .store .chunks)
+  abbrev placesPart : Bool
+  placesPart = partedOk (vacantChunk (levelPart 0 chunks tree)) (chunkAfter s (levelPart 0 chunks tree)) (chunkSlab s (levelPart 0 chunks tree)) (s .store .chunks)
 
-  abbrev memoriesPart : ℕ → Bool
-  memoriesPart n = memoriesOk (partSettings 0 0 0) (levelPart 0 n chunks [])
+  abbrev memoriesPart : Bool
+  memoriesPart = memoriesOk (partSettings 0 0 0) (levelPart 0 chunks [])
 
   abbrev goodPart : ℕ → Bool
   goodPart levels = every (λ (l : ℕ). goodOk (levelStart (s .pairs) l) (s .pairs) tree) levels
 
-  abbrev treesPart : ℕ → ℕ → ℕ → Bool
-  treesPart levels places held = treesOk s (partTables levels places held loans chunks tree)
+  abbrev treesPart : ℕ → Bool
+  treesPart levels = treesOk s (partTables levels loans chunks tree)
 
   abbrev unitsPart : ℕ → Bool
-  unitsPart places = every (unitsOk s (partTables 0 places 0 loans [] [])) places
+  unitsPart places = every (unitsOk s (partTables 0 loans [] [])) places
 
   -- the row is its parts
-  parts : whole ≡ (headPart && (keptPart (placesIn t) (givenIn t) && (placesPart (chunkPlacesIn t) && (memoriesPart (chunkPlacesIn t)
-      && (goodPart (levelsIn t) && (treesPart (levelsIn t) (placesIn t) (chunkPlacesIn t) && unitsPart (placesIn t)))))))
+  parts : whole ≡ (headPart && (keptPart (placesIn t) (givenIn t) && (placesPart && (memoriesPart
+      && (goodPart (levelsIn t) && (treesPart (levelsIn t) && unitsPart (placesIn t)))))))
   unfolding soundOk keptOk
   parts =
       regroup
@@ -78,26 +78,26 @@ module _ (s : BuddySettings) (head loans chunks index tree : List ℕ) where
       (leb (levelsIn t) levelsMost)
       (partedOk (vacantLoan t) (loanAfter t) (loanSlab t) (s .store .loans))
       (chainsOk (vacantLoan t) (chainStart t) (chainNext t) (serialOf (t .loans)) (s .store .loans) (placesIn t) (givenIn t))
-      (placesPart (chunkPlacesIn t))
+      placesPart
       (memoriesOk s t)
       (goodPart (levelsIn t))
       (treesOk s t)
       (every (unitsOk s t) (placesIn t))
-      ∙ (λ j. headPart && (keptPart (placesIn t) (givenIn t) && (placesPart (chunkPlacesIn t) && (memories-shown s t j
+      ∙ (λ j. headPart && (keptPart (placesIn t) (givenIn t) && (placesPart && (memories-shown s t j
       && (goodPart (levelsIn t) && (trees-shown s t j && units-shown s t j))))))
 
   -- in turn, with what the code has read and was told
   module _ (hd : Bool) (hs : hd ≡ headPart) where
     pub head-fails : not hd ≡ true → false ≡ whole
     head-fails f =
-        sym (parts ∙ (λ j. (sym hs ∙ not-yes hd f) j && (keptPart (placesIn t) (givenIn t) && (placesPart (chunkPlacesIn t) && (memoriesPart (chunkPlacesIn t)
-        && (goodPart (levelsIn t) && (treesPart (levelsIn t) (placesIn t) (chunkPlacesIn t) && unitsPart (placesIn t))))))))
+        sym (parts ∙ (λ j. (sym hs ∙ not-yes hd f) j && (keptPart (placesIn t) (givenIn t) && (placesPart && (memoriesPart
+        && (goodPart (levelsIn t) && (treesPart (levelsIn t) && unitsPart (placesIn t))))))))
 
     module _ (ht : not hd ≡ false) (levels places held given : ℕ) (ls : levels ≡ levelsIn t) (ps : places ≡ placesIn t) (cs : held ≡ chunkPlacesIn t) (gs : given ≡ givenIn t) where
-      rest : whole ≡ (keptPart places given && (placesPart held && (memoriesPart held && (goodPart levels && (treesPart levels places held && unitsPart places)))))
+      rest : whole ≡ (keptPart places given && (placesPart && (memoriesPart && (goodPart levels && (treesPart levels && unitsPart places)))))
       rest =
-          parts ∙ (λ j. (sym hs ∙ not-no hd ht) j && (keptPart (sym ps j) (sym gs j) && (placesPart (sym cs j) && (memoriesPart (sym cs j)
-          && (goodPart (sym ls j) && (treesPart (sym ls j) (sym ps j) (sym cs j) && unitsPart (sym ps j)))))))
+          parts ∙ (λ j. (sym hs ∙ not-no hd ht) j && (keptPart (sym ps j) (sym gs j) && (placesPart && (memoriesPart
+          && (goodPart (sym ls j) && (treesPart (sym ls j) && unitsPart (sym ps j)))))))
 
       pub levels-few : levels ≤ levelsMost
       levels-few =
@@ -107,32 +107,32 @@ module _ (s : BuddySettings) (head loans chunks index tree : List ℕ) where
       module _ (kp : Bool) (ks : kp ≡ keptPart places given) where
         pub kept-fails : not kp ≡ true → false ≡ whole
         kept-fails f =
-            sym (rest ∙ (λ j. (sym ks ∙ not-yes kp f) j && (placesPart held && (memoriesPart held && (goodPart levels && (treesPart levels places held && unitsPart places))))))
+            sym (rest ∙ (λ j. (sym ks ∙ not-yes kp f) j && (placesPart && (memoriesPart && (goodPart levels && (treesPart levels && unitsPart places))))))
 
         module _ (kt : not kp ≡ false) where
           pub places-few : BuddyIn s → places ≤ loansMost
           places-few fit = omega (arith, kept-most loans index (s .store .loans) places given (sym ks ∙ not-no kp kt), fit .store .loans-most)
 
-          module _ (pl : Bool) (pls : pl ≡ placesPart held) where
+          module _ (pl : Bool) (pls : pl ≡ placesPart) where
             pub places-fail : not pl ≡ true → false ≡ whole
             places-fail f =
-                sym (rest ∙ (λ j. (sym ks ∙ not-no kp kt) j && ((sym pls ∙ not-yes pl f) j && (memoriesPart held && (goodPart levels && (treesPart levels places held && unitsPart places))))))
+                sym (rest ∙ (λ j. (sym ks ∙ not-no kp kt) j && ((sym pls ∙ not-yes pl f) j && (memoriesPart && (goodPart levels && (treesPart levels && unitsPart places))))))
 
             module _ (pt : not pl ≡ false) where
               pub held-few : BuddyIn s → held ≤ chunksMost
               unfolding partedOk
-              held-few fit = omega (arith, leb-true held (s .store .chunks) (and-left (leb held (s .store .chunks)) _ (sym pls ∙ not-no pl pt)), fit .store .chunks-most)
+              held-few fit = omega (arith, cs, leb-true (chunkPlacesIn t) (s .store .chunks) (and-left (leb (chunkPlacesIn t) (s .store .chunks)) _ (sym pls ∙ not-no pl pt)), fit .store .chunks-most)
 
-              after : whole ≡ (memoriesPart held && (goodPart levels && (treesPart levels places held && unitsPart places)))
-              after = rest ∙ (λ j. (sym ks ∙ not-no kp kt) j && ((sym pls ∙ not-no pl pt) j && (memoriesPart held && (goodPart levels && (treesPart levels places held && unitsPart places)))))
+              after : whole ≡ (memoriesPart && (goodPart levels && (treesPart levels && unitsPart places)))
+              after = rest ∙ (λ j. (sym ks ∙ not-no kp kt) j && ((sym pls ∙ not-no pl pt) j && (memoriesPart && (goodPart levels && (treesPart levels && unitsPart places)))))
 
-              module _ (mm : Bool) (ms : mm ≡ memoriesPart held) where
+              module _ (mm : Bool) (ms : mm ≡ memoriesPart) where
                 pub memories-fail : not mm ≡ true → false ≡ whole
-                memories-fail f = sym (after ∙ (λ j. (sym ms ∙ not-yes mm f) j && (goodPart levels && (treesPart levels places held && unitsPart places))))
+                memories-fail f = sym (after ∙ (λ j. (sym ms ∙ not-yes mm f) j && (goodPart levels && (treesPart levels && unitsPart places))))
 
                 module _ (mt : not mm ≡ false) (gd : Bool) (gds : gd ≡ goodPart levels) where
                   pub good-fail : not gd ≡ true → false ≡ whole
-                  good-fail f = sym (after ∙ (λ j. (sym ms ∙ not-no mm mt) j && ((sym gds ∙ not-yes gd f) j && (treesPart levels places held && unitsPart places))))
+                  good-fail f = sym (after ∙ (λ j. (sym ms ∙ not-no mm mt) j && ((sym gds ∙ not-yes gd f) j && (treesPart levels && unitsPart places))))
 
                   module _ (gt : not gd ≡ false) where
                     pub used-few : (l : ℕ) → l < levels → getD tree (levelStart (s .pairs) l + usedAt) 0 ≤ s .pairs
@@ -141,7 +141,7 @@ module _ (s : BuddySettings) (head loans chunks index tree : List ℕ) where
                         let e = every-yes (λ (i : ℕ). goodOk (levelStart (s .pairs) i) (s .pairs) tree) levels l (sym gds ∙ not-no gd gt) h in
                         leb-true _ _ (and-left (leb (getD tree (levelStart (s .pairs) l + usedAt) 0) (s .pairs)) _ (and-left _ _ e))
 
-                    module _ (tr : Bool) (trs : tr ≡ treesPart levels places held) where
+                    module _ (tr : Bool) (trs : tr ≡ treesPart levels) where
                       pub trees-fail : not tr ≡ true → false ≡ whole
                       trees-fail f = sym (after ∙ (λ j. (sym ms ∙ not-no mm mt) j && ((sym gds ∙ not-no gd gt) j && ((sym trs ∙ not-yes tr f) j && unitsPart places))))
 

@@ -8,9 +8,10 @@ ghost use lib.ListN.{getD};
 ghost use Rattle.counter.specs.InTable.{BuddyIn};
 ghost use Rattle.counter.specs.Limits.{levelsMost, pairsMost, loansMost};
 ghost use Rattle.slab.specs.Test.{partedOk};
+ghost use Rattle.store_rules.specs.Loans.{placesAt};
 ghost use Rattle.buddy_rules.specs.LevelTest.{goodOk};
 ghost use Rattle.buddy_rules.specs.Level.{levelStart};
-ghost use Rattle.buddy_rules.specs.Tables.{tables, marks, signedOk, levelsAt, initialLevels, vacantChunk, chunkAfter, chunkSlab};
+ghost use Rattle.buddy_rules.specs.Tables.{tables, marks, signedOk, levelsAt, chunkPlacesAt, initialLevels, vacantChunk, chunkAfter, chunkSlab};
 ghost use Rattle.buddy_rules.specs.Test.{every, unitsOk};
 ghost use Rattle.buddy_levels.specs.Seen.{partTables, levelPart};
 use buddy_rules::AFTER_AT;
@@ -59,8 +60,8 @@ pub fn is_head(
 
 // Whether the first n chunk places are parted into used and vacant ones.
 pub fn are_places(s: BuddySettings, n: u64, chunks: &[u64], tree: &[u64]) -> bool
-    requires { ⌜ BuddyIn s ⌝ }
-    ensures { λ r. ⌜ r ≡ partedOk (vacantChunk (levelPart 0 n (now (chunks .entry)) (now (tree .entry)))) (chunkAfter s (levelPart 0 n (now (chunks .entry)) (now (tree .entry)))) (chunkSlab s (levelPart 0 n (now (chunks .entry)) (now (tree .entry)))) (s .store .chunks) ⌝ }
+    requires { ⌜ BuddyIn s × (n ≡ getD (now chunks) chunkPlacesAt 0) ⌝ }
+    ensures { λ r. ⌜ r ≡ partedOk (vacantChunk (levelPart 0 (now (chunks .entry)) (now (tree .entry)))) (chunkAfter s (levelPart 0 (now (chunks .entry)) (now (tree .entry)))) (chunkSlab s (levelPart 0 (now (chunks .entry)) (now (tree .entry)))) (s .store .chunks) ⌝ }
 {
     let own = s.store;
     let at = buddy_levels::chunks_from(s.pairs);
@@ -112,8 +113,8 @@ fn is_units(s: BuddySettings, l: Loan) -> bool
 
 // Whether each loan in the first n places is.
 pub fn are_units(s: BuddySettings, n: u64, loans: &[u64]) -> bool
-    requires { ⌜ BuddyIn s × (n ≤ loansMost) ⌝ }
-    ensures { λ r. ⌜ r ≡ every (unitsOk s (partTables 0 n 0 (now (loans .entry)) [] [])) n ⌝ }
+    requires { ⌜ BuddyIn s × (n ≤ loansMost) × (n ≡ getD (now loans) placesAt 0) ⌝ }
+    ensures { λ r. ⌜ r ≡ every (unitsOk s (partTables 0 (now (loans .entry)) [] [])) n ⌝ }
 {
     let mut k = 0;
     while k < n {

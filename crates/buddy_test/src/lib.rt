@@ -8,14 +8,15 @@ ghost use Rattle.counter.specs.Limits.{levelsMost, loansMost, chunksMost};
 ghost use Prim.Native.Nat.{_+_, _≤_, _<_};
 ghost use lib.ListN.{getD};
 ghost use Rattle.buddy_rules.specs.Level.{usedAt, levelStart};
-ghost use Rattle.buddy_rules.specs.Tables.{tables};
+ghost use Rattle.store_rules.specs.Loans.{placesAt};
+ghost use Rattle.buddy_rules.specs.Tables.{tables, chunkPlacesAt};
 ghost use Rattle.buddy_rules.specs.Test.{treesOk, soundOk};
 ghost use Rattle.buddy_levels.specs.Seen.{partTables};
 use buddy_rules::CHUNK_PLACES_AT;
-use buddy_rules::GIVEN_AT;
 use buddy_rules::LEVELS_AT;
-use buddy_rules::PLACES_AT;
 use counter::BuddySettings;
+use store_rules::GIVEN_AT;
+use store_rules::PLACES_AT;
 
 // Whether every chunk, pair and loan stands where the others say.
 fn are_trees(
@@ -27,8 +28,8 @@ fn are_trees(
     chunks: &[u64],
     tree: &[u64],
 ) -> bool
-    requires { ⌜ BuddyIn s × (levels ≤ levelsMost) × (places ≤ loansMost) × (held ≤ chunksMost) × ((l : _) → l < levels → getD (now tree) (levelStart (s .pairs) l + usedAt) 0 ≤ s .pairs) ⌝ }
-    ensures { λ r. ⌜ r ≡ treesOk s (partTables levels places held (now (loans .entry)) (now (chunks .entry)) (now (tree .entry))) ⌝ }
+    requires { ⌜ BuddyIn s × (levels ≤ levelsMost) × (places ≤ loansMost) × (held ≤ chunksMost) × ((l : _) → l < levels → getD (now tree) (levelStart (s .pairs) l + usedAt) 0 ≤ s .pairs) × (places ≡ getD (now loans) placesAt 0) × (held ≡ getD (now chunks) chunkPlacesAt 0) ⌝ }
+    ensures { λ r. ⌜ r ≡ treesOk s (partTables levels (now (loans .entry)) (now (chunks .entry)) (now (tree .entry))) ⌝ }
 {
     let own = s.store;
     if !buddy_walk::are_chunks(s, levels, places, held, loans, chunks, tree) {
@@ -67,9 +68,15 @@ pub fn is_sound(
     }
     let own = s.store;
     let levels = words::word(head, LEVELS_AT);
-    let places = words::word(head, PLACES_AT);
-    let held = words::word(head, CHUNK_PLACES_AT);
-    if !book::is_kept(loans, index, own.loans, places, words::word(head, GIVEN_AT)) {
+    let places = words::word(loans, PLACES_AT);
+    let held = words::word(chunks, CHUNK_PLACES_AT);
+    if !book::is_kept(
+        loans,
+        index,
+        own.loans,
+        places,
+        words::word(loans, GIVEN_AT),
+    ) {
         return false;
     }
     if !heads::are_places(s, held, chunks, tree) {

@@ -98,7 +98,7 @@ module _ (s : BuddySettings) (t : Tables) where
 
   -- ---- a pair, whose level begins at b and whose entry is e; r is what the entry's test says, which reads only the entry
 
-  module _ (l c o n p b : ℕ) (e : Ent) (r : Bool) (from : b ≡ levelFrom s l) (is : e ≡ pairIn b (t .room) p) (tested : r ≡ entryOk (partSettings 0 0 0) (loanPart 0 [] []) e c o n) where
+  module _ (l c o n p b : ℕ) (e : Ent) (r : Bool) (from : b ≡ levelFrom s l) (is : e ≡ pairIn b (t .room) p) (tested : r ≡ entryOk (partSettings 0 0 0) (loanPart [] []) e c o n) where
     abbrev leftOk : Bool
     leftOk = nodeOk s t l c o (nodeOf p L) (e .left)
 
@@ -107,7 +107,7 @@ module _ (s : BuddySettings) (t : Tables) where
 
     halves-of : (r && (leftOk && rightOk)) ≡ halvesOk s t l c o n p
     halves-of =
-        ap (λ (z : Bool). z && (leftOk && rightOk)) (tested ∙ entry-shows (partSettings 0 0 0) (loanPart 0 [] []) s t e c o n)
+        ap (λ (z : Bool). z && (leftOk && rightOk)) (tested ∙ entry-shows (partSettings 0 0 0) (loanPart [] []) s t e c o n)
         ∙ ap (λ (z : Ent). entryOk s t z c o n && (nodeOk s t l c o (nodeOf p L) (z .left) && nodeOk s t l c (o + bytes (s .minimal) l) (nodeOf p R) (z .right)))
         (is ∙ ap (λ (z : ℕ). pairIn z (t .room) p) from)
 

@@ -1,14 +1,13 @@
 -- What the walk down a chunk, and the test of a chunk, read: no more than their numbers and lists.
-use mathlib.Core.Path.{_≡_, refl, sym, _∙_}
-use mathlib.Core.Bool.{Bool, true, false, cond, _&&_}
-use Prim.Native.Nat.{ℕ, zero, suc, _+_, _<_}
+use mathlib.Core.Path.{_≡_, refl}
+use mathlib.Core.Bool.{true, false, cond, _&&_}
+use Prim.Native.Nat.{ℕ, zero, suc, _+_}
 use lib.Dec.{eqb}
-use borrow.Author.Tests.{lt-ltb}
 use Rattle.counter.specs.declared.settings.BuddySettings.{BuddySettings}
 use Rattle.buddy_trees.specs.Trees.{bytes}
 use Rattle.buddy_rules.specs.Nodes.{freeWord, saysLoan, loanSaid, pairSaid, Ent, L, R, nodeOf}
 use Rattle.buddy_levels.specs.Seen.{partSettings, partTables, loanPart}
-use Rattle.buddy_rules.specs.Tables.{Tables, levelsIn, placesIn, chunkPlacesIn, pairsIn}
+use Rattle.buddy_rules.specs.Tables.{Tables, levelsIn, pairsIn}
 use Rattle.buddy_rules.specs.Test.{leafOk, entryOk, nodeOk, chunkOk}
 
 module _ (s : BuddySettings) (t : Tables) where
@@ -16,7 +15,7 @@ module _ (s : BuddySettings) (t : Tables) where
   numbers = partSettings (s .minimal) (s .pairs) (s .store .chunks)
 
   abbrev shown : Tables
-  shown = loanPart (placesIn t) (t .loans) (t .room)
+  shown = loanPart (t .loans) (t .room)
 
   -- an entry by itself says all that is asked of it
   pub entry-shows : (z : BuddySettings) (v : Tables) (e : Ent) (c o n : ℕ) → entryOk s t e c o n ≡ entryOk z v e c o n
@@ -37,14 +36,6 @@ module _ (s : BuddySettings) (t : Tables) where
       (entry-shows numbers shown e c o n i
       && (node-shows l c o (nodeOf (pairSaid w) L) (e .left) i && node-shows l c (o + bytes (s .minimal) l) (nodeOf (pairSaid w) R) (e .right) i)))
 
--- how many chunk places there are matters to a chunk no more than that its own is one of them
-module _ (s : BuddySettings) (t : Tables) (n c : ℕ) (used : c < chunkPlacesIn t) (within : c < n) where
-  abbrev others : Tables
-  others = partTables (levelsIn t) (placesIn t) n (t .loans) (t .chunks) (t .room)
-
-  pub chunk-shows : chunkOk s t c ≡ chunkOk s others c
-  unfolding chunkOk
-  chunk-shows = rw (lt-ltb c (chunkPlacesIn t) used, lt-ltb c n within, node-shows s t, node-shows s others)
-
-  pub chunk-told : (r x : Bool) → r ≡ chunkOk s t c → r ≡ x → chunkOk s others c ≡ x
-  chunk-told r x e i = sym chunk-shows ∙ sym e ∙ i
+pub chunk-shows : (s : BuddySettings) (t : Tables) (c : ℕ) → chunkOk s t c ≡ chunkOk s (partTables (levelsIn t) (t .loans) (t .chunks) (t .room)) c
+unfolding chunkOk
+chunk-shows s t c = rw (node-shows s t, node-shows s (partTables (levelsIn t) (t .loans) (t .chunks) (t .room)))

@@ -1,6 +1,7 @@
 -- What the test of a chunk answers at each turn.
 use mathlib.Core.Path.{_≡_, refl, sym, ap, _∙_}
 use mathlib.Core.Bool.{Bool, true, false, _&&_, _||_, not}
+use mathlib.Core.List.{List}
 use Prim.Native.Nat.{ℕ, _+_, _≤_, _<_}
 use native.Mathlib.Nat.{mul-le-mul-left}
 use lib.Dec.{eqb, leb, ltb}
@@ -15,10 +16,11 @@ use Rattle.counter.specs.InTable.{BuddyIn}
 use Rattle.counter.specs.Limits.{levelsMost, loansMost}
 use Rattle.counter.specs.declared.settings.BuddySettings.{BuddySettings}
 use Rattle.slab.specs.Slab.{nowhere}
+use Rattle.store_rules.specs.Loans.{placesAt}
 use Rattle.buddy_trees.specs.Trees.{bytes}
 use Rattle.buddy_rules.specs.Nodes.{freeWord}
 use Rattle.buddy_levels.specs.Seen.{partSettings, loanPart}
-use Rattle.buddy_rules.specs.Tables.{Tables, placeWords, topAt, chunksFrom, placeAt, placesIn, levelsIn, chunkPlacesIn, chunkSizeIn, heldIn, highIn, topIn, initialLevels}
+use Rattle.buddy_rules.specs.Tables.{Tables, placeWords, topAt, chunksFrom, placeAt, levelsIn, chunkPlacesIn, chunkSizeIn, heldIn, highIn, topIn, initialLevels}
 use Rattle.buddy_rules.specs.Test.{nodeOk, chunkOk}
 use Rattle.buddy_walk.specs.Walks.{Small}
 use Rattle.buddy_walk.proofs.Shows.{node-shows}
@@ -92,7 +94,7 @@ module _ (s : BuddySettings) (t : Tables) (c z : ℕ) (used : c < chunkPlacesIn 
       chunk-off e = ends-no (eqb z y) (ltb 0 h) (leb f h) (leb h (levelsIn t)) (eqb w freeWord) _ e ∙ row
 
       pub chunk-walk : (r : Bool) → levelOk ≡ true → wrong ≡ false
-          → r ≡ nodeOk (partSettings (s .minimal) (s .pairs) (s .store .chunks)) (loanPart (placesIn t) (t .loans) (t .room)) h c 0 nowhere w → r ≡ chunkOk s t c
+          → r ≡ nodeOk (partSettings (s .minimal) (s .pairs) (s .store .chunks)) (loanPart (t .loans) (t .room)) h c 0 nowhere w → r ≡ chunkOk s t c
       chunk-walk r e g k = k ∙ sym (node-shows s t h c 0 nowhere w) ∙ last-is (eqb z y) (ltb 0 h) (leb f h) (leb h (levelsIn t)) (eqb w freeWord) _ e g ∙ row
 
 -- ---- what the calls ask for
@@ -104,6 +106,6 @@ pub whole-room : (u h : ℕ) → h ≤ levelsMost → bytes u h ≤ bytes u leve
 unfolding bytes
 whole-room u h e = mul-le-mul-left u (pow-mono {j = 32} e)
 
-pub small-in : (s : BuddySettings) (places : ℕ) → BuddyIn s → places ≤ loansMost → Small (s .minimal) (s .pairs) (s .store .chunks) places
-small-in s places fit few =
-    record { short = power-top (fit .minimal); few-pairs = fit .pairs-most; few-chunks = fit .store .chunks-most; few-places = few }
+pub small-in : (s : BuddySettings) (places : ℕ) (loans : List ℕ) → BuddyIn s → places ≤ loansMost → places ≡ getD loans placesAt 0 → Small (s .minimal) (s .pairs) (s .store .chunks) places loans
+small-in s places loans fit few count =
+    record { short = power-top (fit .minimal); few-pairs = fit .pairs-most; few-chunks = fit .store .chunks-most; few-places = few; counted = count }

@@ -1,8 +1,12 @@
 -- What the walk down a chunk asks for, and what it says of a pair.
+use mathlib.Core.Path.{_≡_}
 use mathlib.Core.Bool.{Bool, _&&_}
+use mathlib.Core.List.{List}
 use Prim.Native.Nat.{ℕ, _+_, _^_, _≤_}
+use lib.ListN.{getD}
 use Rattle.counter.specs.Limits.{pairsMost, loansMost, chunksMost, minimalBits}
 use Rattle.counter.specs.declared.settings.BuddySettings.{BuddySettings}
+use Rattle.store_rules.specs.Loans.{placesAt}
 use Rattle.buddy_trees.specs.Trees.{bytes}
 use Rattle.buddy_rules.specs.Nodes.{L, R, nodeOf}
 use Rattle.buddy_rules.specs.Tables.{Tables, pairsIn}
@@ -15,9 +19,10 @@ halvesOk s t l c o n p =
     && (nodeOk s t l c o (nodeOf p L) (pairsIn s t l p .left)
     && nodeOk s t l c (o + bytes (s .minimal) l) (nodeOf p R) (pairsIn s t l p .right))
 
--- the numbers are those of settings in the table
-pub record Small (minimal pairs chunks places : ℕ) : Type 0 where
+-- the numbers are those of settings in the table, and the loan places those that the loans tell
+pub record Small (minimal pairs chunks places : ℕ) (loans : List ℕ) : Type 0 where
   pub short : minimal ≤ 2 ^ minimalBits
   pub few-pairs : pairs ≤ pairsMost
   pub few-chunks : chunks ≤ chunksMost
   pub few-places : places ≤ loansMost
+  pub counted : places ≡ getD loans placesAt 0

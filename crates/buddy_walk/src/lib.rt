@@ -2,10 +2,13 @@
 mod walk;
 
 ghost use mathlib.Core.Path.{_≡_};
-ghost use Prim.Native.Nat.{_+_, _≤_, _<_};
+ghost use Prim.Native.Nat.{_≤_, _<_};
+ghost use lib.ListN.{getD};
 ghost use Rattle.counter.specs.InTable.{BuddyIn};
 ghost use Rattle.counter.specs.Limits.{levelsMost, loansMost, chunksMost};
+ghost use Rattle.store_rules.specs.Loans.{placesAt};
 ghost use Rattle.buddy_levels.specs.Seen.{partTables};
+ghost use Rattle.buddy_rules.specs.Tables.{chunkPlacesAt};
 ghost use Rattle.buddy_rules.specs.Test.{every, chunkOk};
 use buddy_rules::CHUNK_SIZE_AT;
 use buddy_rules::CHUNK_WORDS;
@@ -26,8 +29,8 @@ fn is_chunk(
     chunks: &[u64],
     tree: &[u64],
 ) -> bool
-    requires { ⌜ BuddyIn s × (levels ≤ levelsMost) × (places ≤ loansMost) × (c < chunksMost) ⌝ }
-    ensures { λ r. ⌜ r ≡ chunkOk s (partTables levels places (c + 1) (now (loans .entry)) (now (chunks .entry)) (now (tree .entry))) c ⌝ }
+    requires { ⌜ BuddyIn s × (levels ≤ levelsMost) × (places ≤ loansMost) × (c < chunksMost) × (places ≡ getD (now loans) placesAt 0) × (c < getD (now chunks) chunkPlacesAt 0) ⌝ }
+    ensures { λ r. ⌜ r ≡ chunkOk s (partTables levels (now (loans .entry)) (now (chunks .entry)) (now (tree .entry))) c ⌝ }
 {
     let size = words::cell(chunks, CHUNK_SIZE_AT, CHUNK_WORDS, c as usize);
     if size == 0 {
@@ -73,8 +76,8 @@ pub fn are_chunks(
     chunks: &[u64],
     tree: &[u64],
 ) -> bool
-    requires { ⌜ BuddyIn s × (levels ≤ levelsMost) × (places ≤ loansMost) × (n ≤ chunksMost) ⌝ }
-    ensures { λ r. ⌜ r ≡ every (chunkOk s (partTables levels places n (now (loans .entry)) (now (chunks .entry)) (now (tree .entry)))) n ⌝ }
+    requires { ⌜ BuddyIn s × (levels ≤ levelsMost) × (places ≤ loansMost) × (n ≤ chunksMost) × (places ≡ getD (now loans) placesAt 0) × (n ≡ getD (now chunks) chunkPlacesAt 0) ⌝ }
+    ensures { λ r. ⌜ r ≡ every (chunkOk s (partTables levels (now (loans .entry)) (now (chunks .entry)) (now (tree .entry)))) n ⌝ }
 {
     let mut c = 0;
     while c < n {

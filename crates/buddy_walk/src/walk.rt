@@ -30,8 +30,8 @@ fn is_leaf(
     loans: &[u64],
     tree: &[u64],
 ) -> bool
-    requires { ⌜ Small minimal pairs chunks places × (level ≤ levelsMost) ⌝ }
-    ensures { λ r. ⌜ r ≡ leafOk (partSettings minimal pairs chunks) (loanPart places (now (loans .entry)) (now (tree .entry))) place chunk level offset node ⌝ }
+    requires { ⌜ Small minimal pairs chunks places (now loans) × (level ≤ levelsMost) ⌝ }
+    ensures { λ r. ⌜ r ≡ leafOk (partSettings minimal pairs chunks) (loanPart (now (loans .entry)) (now (tree .entry))) place chunk level offset node ⌝ }
 {
     if places <= place {
         return false;
@@ -59,7 +59,7 @@ fn tag_of(left: u64, right: u64) -> u64
 
 // Whether a pair is that of this node, and ready where one of its nodes is free; not both, since they would be joined.
 fn is_entry(e: Pair, chunk: u64, offset: u64, node: u64) -> bool
-    ensures { λ r. ⌜ r ≡ entryOk (partSettings 0 0 0) (loanPart 0 [] []) (entFrom e) chunk offset node ⌝ }
+    ensures { λ r. ⌜ r ≡ entryOk (partSettings 0 0 0) (loanPart [] []) (entFrom e) chunk offset node ⌝ }
 {
     let free = (e.left == FREE_WORD) & (e.right == FREE_WORD);
     let stands = (e.chunk == chunk) & ((e.off == offset) & (e.up == node));
@@ -80,8 +80,8 @@ pub fn is_node(
     loans: &[u64],
     tree: &[u64],
 ) -> bool
-    requires { ⌜ Small minimal pairs chunks places × (level ≤ levelsMost) × (offset + bytes minimal level ≤ bytes minimal levelsMost) ⌝ }
-    ensures { λ r. ⌜ r ≡ nodeOk (partSettings minimal pairs chunks) (loanPart places (now (loans .entry)) (now (tree .entry))) level chunk offset node word ⌝ }
+    requires { ⌜ Small minimal pairs chunks places (now loans) × (level ≤ levelsMost) × (offset + bytes minimal level ≤ bytes minimal levelsMost) ⌝ }
+    ensures { λ r. ⌜ r ≡ nodeOk (partSettings minimal pairs chunks) (loanPart (now (loans .entry)) (now (tree .entry))) level chunk offset node word ⌝ }
 {
     if word == FREE_WORD {
         return true;
@@ -133,8 +133,8 @@ fn is_pair(
     loans: &[u64],
     tree: &[u64],
 ) -> bool
-    requires { ⌜ Small minimal pairs chunks places × (level < levelsMost) × (offset + 2 * bytes minimal level ≤ bytes minimal levelsMost) × (p < 2 ^ 63) ⌝ }
-    ensures { λ r. ⌜ r ≡ halvesOk (partSettings minimal pairs chunks) (loanPart places (now (loans .entry)) (now (tree .entry))) level chunk offset node p ⌝ }
+    requires { ⌜ Small minimal pairs chunks places (now loans) × (level < levelsMost) × (offset + 2 * bytes minimal level ≤ bytes minimal levelsMost) × (p < 2 ^ 63) ⌝ }
+    ensures { λ r. ⌜ r ≡ halvesOk (partSettings minimal pairs chunks) (loanPart (now (loans .entry)) (now (tree .entry))) level chunk offset node p ⌝ }
 {
     let base = buddy_levels::level_from(pairs, level as usize);
     let e = buddy_levels::pair_in(tree, base, p);

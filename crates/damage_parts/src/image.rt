@@ -20,6 +20,7 @@ use reel::Settings;
 use store_rules::CHUNK_AT;
 use store_rules::LOAN_WORDS;
 use store_rules::OFFSET_AT;
+use store_rules::PLACES_AT;
 use store_rules::SERIAL_AT;
 use store_rules::SIZE_AT;
 
@@ -243,17 +244,9 @@ fn block_at(image: &[u64], place: usize) -> Block {
     }
 }
 
-// How many loan places were ever used.
-fn places(settings: Settings, image: &[u64]) -> u64 {
-    match settings {
-        Settings::FreeList(_) => words::word(image, freelist_rules::PLACES_AT),
-        Settings::Buddy(_) => words::word(image, buddy_rules::PLACES_AT),
-    }
-}
-
 // The block at the last place with a loan; where the store has none, what the first place holds.
-pub fn held_block(settings: Settings, image: &[u64]) -> Block {
-    let places = places(settings, image);
+pub fn held_block(image: &[u64]) -> Block {
+    let places = words::word(image, LOANS_AT + PLACES_AT);
     let mut held = block_at(image, 0);
     let mut i = 0usize;
     while i < LOANS {

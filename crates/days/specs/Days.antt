@@ -20,13 +20,13 @@ use Rattle.store_rules.specs.Delivery.{deliveryOk}
 use Rattle.store_rules.specs.Loans.{loansOf}
 use Rattle.store_rules.specs.Outcomes.{out, listed, chargedAccount, releasedAccount}
 use Rattle.store_rules.specs.Tests.{coversOk}
-use Rattle.book_rules.specs.Book.{entered, enteredIndex, seekIn, wordTo, struck, struckIndex}
+use Rattle.book_rules.specs.Book.{counted, entered, enteredIndex, seekIn, wordTo, struck, struckIndex}
 use Rattle.book_rules.specs.Chains.{linkOk, leftAfter, leftOf, chainsOk}
 use Rattle.freelist_rules.specs.Walk.{fillsOk, sizedOk, chunkOk, loanOk}
 use Rattle.freelist_rules.specs.Place.{fitsIn, findFrom, cutOff}
 use Rattle.freelist_rules.specs.Join.{insert}
 use Rattle.freelist_rules.specs.Release.{staying, leaving, remaining}
-use Rattle.freelist_rules.specs.Tables.{Tables, tables, lengthsOk, ordered, storeOf, soundOk, laidRegions, marks}
+use Rattle.freelist_rules.specs.Tables.{Tables, tables, lengthsOk, ordered, storeOf, soundOk, laidRegions, laidChunks, marks}
 use Rattle.freelist_outcomes.specs.Gate.{inTableOk, accountOk, gateOf}
 use Rattle.freelist_outcomes.specs.Ask.{sizeOk, roomOk, countOk, objectsOk, decideAsk, takenTables, orderedTables, carryAsk, planAsk, askOf}
 use Rattle.freelist_outcomes.specs.Deliver.{deliverGateOf, deliveredTables, carryFate, planDeliver, carryDeliver, deliverOf}
@@ -74,7 +74,7 @@ list = record { store = record { number = 7; memtype = 0; properties = 1; heap =
 abbrev pub opening : Tables
 opening =
     tables
-    (marks .head ∷ 0 ∷ 0 ∷ 4096 ∷ 0 ∷ 0 ∷ [])
+    (marks .head ∷ 4096 ∷ [])
     (marks .loans ∷ 0 ∷ 0 ∷ 0 ∷ 0 ∷ 0 ∷ 0 ∷ 0 ∷ 0 ∷ 0 ∷ 0 ∷ 0 ∷ 0 ∷ 0 ∷ 0 ∷ 0 ∷ [])
     (marks .chunks ∷ 0 ∷ 0 ∷ 0 ∷ 0 ∷ 0 ∷ 0 ∷ 0 ∷ 0 ∷ [])
     (marks .index ∷ nowhere ∷ nowhere ∷ nowhere ∷ nowhere ∷ nowhere ∷ nowhere ∷ nowhere ∷ nowhere ∷ nowhere ∷ nowhere ∷ nowhere ∷ [])
@@ -84,9 +84,9 @@ opening =
 abbrev pub withOne : Tables
 withOne =
     tables
-    (marks .head ∷ 1 ∷ 1 ∷ 8192 ∷ 1 ∷ 1 ∷ [])
-    (marks .loans ∷ 0 ∷ 0 ∷ 0 ∷ 1 ∷ 1 ∷ 3968 ∷ 128 ∷ 0 ∷ 0 ∷ 0 ∷ 0 ∷ 0 ∷ 0 ∷ 0 ∷ 0 ∷ [])
-    (marks .chunks ∷ 0 ∷ 0 ∷ 1 ∷ 50 ∷ 4096 ∷ 0 ∷ 0 ∷ 0 ∷ [])
+    (marks .head ∷ 8192 ∷ [])
+    (marks .loans ∷ 1 ∷ 1 ∷ 0 ∷ 1 ∷ 1 ∷ 3968 ∷ 128 ∷ 0 ∷ 0 ∷ 0 ∷ 0 ∷ 0 ∷ 0 ∷ 0 ∷ 0 ∷ [])
+    (marks .chunks ∷ 1 ∷ 1 ∷ 1 ∷ 50 ∷ 4096 ∷ 0 ∷ 0 ∷ 0 ∷ [])
     (marks .index ∷ nowhere ∷ nowhere ∷ nowhere ∷ nowhere ∷ nowhere ∷ 0 ∷ nowhere ∷ nowhere ∷ nowhere ∷ nowhere ∷ nowhere ∷ [])
     (marks .room ∷ 1 ∷ 0 ∷ 1 ∷ 0 ∷ 3968 ∷ 0 ∷ 0 ∷ 0 ∷ 0 ∷ 0 ∷ 0 ∷ 0 ∷ 0 ∷ 0 ∷ 0 ∷ 0 ∷ 0 ∷ [])
 
@@ -94,9 +94,9 @@ withOne =
 abbrev pub withTwo : Tables
 withTwo =
     tables
-    (marks .head ∷ 2 ∷ 1 ∷ 8192 ∷ 2 ∷ 1 ∷ [])
-    (marks .loans ∷ 0 ∷ 0 ∷ 0 ∷ 1 ∷ 1 ∷ 3968 ∷ 128 ∷ 2 ∷ 1 ∷ 3072 ∷ 896 ∷ 0 ∷ 0 ∷ 0 ∷ 0 ∷ [])
-    (marks .chunks ∷ 0 ∷ 0 ∷ 1 ∷ 50 ∷ 4096 ∷ 0 ∷ 0 ∷ 0 ∷ [])
+    (marks .head ∷ 8192 ∷ [])
+    (marks .loans ∷ 2 ∷ 2 ∷ 0 ∷ 1 ∷ 1 ∷ 3968 ∷ 128 ∷ 2 ∷ 1 ∷ 3072 ∷ 896 ∷ 0 ∷ 0 ∷ 0 ∷ 0 ∷ [])
+    (marks .chunks ∷ 1 ∷ 1 ∷ 1 ∷ 50 ∷ 4096 ∷ 0 ∷ 0 ∷ 0 ∷ [])
     (marks .index ∷ nowhere ∷ nowhere ∷ nowhere ∷ nowhere ∷ nowhere ∷ 0 ∷ nowhere ∷ nowhere ∷ 1 ∷ nowhere ∷ nowhere ∷ [])
     (marks .room ∷ 1 ∷ 0 ∷ 1 ∷ 0 ∷ 3072 ∷ 0 ∷ 0 ∷ 0 ∷ 0 ∷ 0 ∷ 0 ∷ 0 ∷ 0 ∷ 0 ∷ 0 ∷ 0 ∷ 0 ∷ [])
 
@@ -104,9 +104,9 @@ withTwo =
 abbrev pub withThree : Tables
 withThree =
     tables
-    (marks .head ∷ 3 ∷ 2 ∷ 16384 ∷ 3 ∷ 2 ∷ [])
-    (marks .loans ∷ 0 ∷ 0 ∷ 0 ∷ 1 ∷ 1 ∷ 3968 ∷ 128 ∷ 2 ∷ 1 ∷ 3072 ∷ 896 ∷ 3 ∷ 2 ∷ 3136 ∷ 5056 ∷ [])
-    (marks .chunks ∷ 0 ∷ 0 ∷ 1 ∷ 50 ∷ 4096 ∷ 2 ∷ 51 ∷ 8192 ∷ [])
+    (marks .head ∷ 16384 ∷ [])
+    (marks .loans ∷ 3 ∷ 3 ∷ 0 ∷ 1 ∷ 1 ∷ 3968 ∷ 128 ∷ 2 ∷ 1 ∷ 3072 ∷ 896 ∷ 3 ∷ 2 ∷ 3136 ∷ 5056 ∷ [])
+    (marks .chunks ∷ 2 ∷ 2 ∷ 1 ∷ 50 ∷ 4096 ∷ 2 ∷ 51 ∷ 8192 ∷ [])
     (marks .index ∷ nowhere ∷ nowhere ∷ 2 ∷ nowhere ∷ nowhere ∷ 0 ∷ nowhere ∷ nowhere ∷ 1 ∷ nowhere ∷ nowhere ∷ [])
     (marks .room ∷ 2 ∷ 0 ∷ 1 ∷ 0 ∷ 3072 ∷ 2 ∷ 0 ∷ 3136 ∷ 0 ∷ 0 ∷ 0 ∷ 0 ∷ 0 ∷ 0 ∷ 0 ∷ 0 ∷ 0 ∷ [])
 
@@ -114,9 +114,9 @@ withThree =
 abbrev pub lessOne : Tables
 lessOne =
     tables
-    (marks .head ∷ 3 ∷ 2 ∷ 16384 ∷ 3 ∷ 2 ∷ [])
-    (marks .loans ∷ 0 ∷ 0 ∷ 0 ∷ 1 ∷ 1 ∷ 3968 ∷ 0 ∷ 2 ∷ 1 ∷ 3072 ∷ 896 ∷ 3 ∷ 2 ∷ 3136 ∷ 5056 ∷ [])
-    (marks .chunks ∷ 0 ∷ 0 ∷ 1 ∷ 50 ∷ 4096 ∷ 2 ∷ 51 ∷ 8192 ∷ [])
+    (marks .head ∷ 16384 ∷ [])
+    (marks .loans ∷ 3 ∷ 3 ∷ 0 ∷ 1 ∷ 1 ∷ 3968 ∷ 0 ∷ 2 ∷ 1 ∷ 3072 ∷ 896 ∷ 3 ∷ 2 ∷ 3136 ∷ 5056 ∷ [])
+    (marks .chunks ∷ 2 ∷ 2 ∷ 1 ∷ 50 ∷ 4096 ∷ 2 ∷ 51 ∷ 8192 ∷ [])
     (marks .index ∷ nowhere ∷ 0 ∷ 2 ∷ nowhere ∷ nowhere ∷ nowhere ∷ nowhere ∷ nowhere ∷ 1 ∷ nowhere ∷ nowhere ∷ [])
     (marks .room ∷ 3 ∷ 0 ∷ 1 ∷ 0 ∷ 3072 ∷ 1 ∷ 3968 ∷ 4096 ∷ 2 ∷ 0 ∷ 3136 ∷ 0 ∷ 0 ∷ 0 ∷ 0 ∷ 0 ∷ 0 ∷ [])
 
@@ -124,9 +124,9 @@ lessOne =
 abbrev pub lessTwo : Tables
 lessTwo =
     tables
-    (marks .head ∷ 3 ∷ 2 ∷ 16384 ∷ 3 ∷ 1 ∷ [])
-    (marks .loans ∷ 0 ∷ 0 ∷ 0 ∷ 1 ∷ 1 ∷ 3968 ∷ 0 ∷ 2 ∷ 1 ∷ 3072 ∷ 0 ∷ 3 ∷ 2 ∷ 3136 ∷ 5056 ∷ [])
-    (marks .chunks ∷ 0 ∷ 0 ∷ 2 ∷ 51 ∷ 8192 ∷ 2 ∷ 51 ∷ 8192 ∷ [])
+    (marks .head ∷ 16384 ∷ [])
+    (marks .loans ∷ 3 ∷ 3 ∷ 0 ∷ 1 ∷ 1 ∷ 3968 ∷ 0 ∷ 2 ∷ 1 ∷ 3072 ∷ 0 ∷ 3 ∷ 2 ∷ 3136 ∷ 5056 ∷ [])
+    (marks .chunks ∷ 2 ∷ 1 ∷ 2 ∷ 51 ∷ 8192 ∷ 2 ∷ 51 ∷ 8192 ∷ [])
     (marks .index ∷ nowhere ∷ 1 ∷ 2 ∷ nowhere ∷ nowhere ∷ nowhere ∷ nowhere ∷ 0 ∷ nowhere ∷ nowhere ∷ nowhere ∷ [])
     (marks .room ∷ 1 ∷ 0 ∷ 2 ∷ 0 ∷ 3136 ∷ 2 ∷ 0 ∷ 3136 ∷ 2 ∷ 0 ∷ 3136 ∷ 0 ∷ 0 ∷ 0 ∷ 0 ∷ 0 ∷ 0 ∷ [])
 
@@ -134,9 +134,9 @@ lessTwo =
 
 pub lending : List Day
 lending =
-    day (left (out (setUpOf list (tables (replicate 6 9) (replicate 16 9) (replicate 9 9) (replicate 12 9) (replicate 18 9)) .said)
+    day (left (out (setUpOf list (tables (replicate 2 9) (replicate 16 9) (replicate 9 9) (replicate 12 9) (replicate 18 9)) .said)
     (account 0 0 0 10 Nothing)
-    (setUpOf list (tables (replicate 6 9) (replicate 16 9) (replicate 9 9) (replicate 12 9) (replicate 18 9)) .tables)))
+    (setUpOf list (tables (replicate 2 9) (replicate 16 9) (replicate 9 9) (replicate 12 9) (replicate 18 9)) .tables)))
     (left (out Paper.ready (account 0 0 0 10 Nothing) opening))
     -- "Ask 100: order 4,096, block 3,968 size 128."
     ∷ day (left (askOf list (account 0 0 0 10 Nothing) 100 0 opening))
@@ -166,9 +166,9 @@ first-worked : map (λ (d : Day). d .gives) (ranking ++ lending) ≡ map (λ (d 
 unfolding ranking lending servesOk patternOf wantedOf keyOf before placed order rowAs alignmentOk storeOk freeListOk
     heapsUpto onesOk powerOk upTo downTo bits powerUp ceilDiv grown doubled plusOf chargedOf releasedOf bearsOk
     agreesOk inserted vacancies leads partedOk deliveryOk loansOf chargedAccount releasedAccount coversOk
-    blank signedOk entered enteredIndex seekIn wordTo struck struckIndex linkOk leftAfter leftOf chainsOk
+    blank signedOk counted entered enteredIndex seekIn wordTo struck struckIndex linkOk leftAfter leftOf chainsOk
     fillsOk sizedOk chunkOk loanOk fitsIn findFrom cutOff insert staying leaving remaining lengthsOk ordered storeOf
-    soundOk laidRegions inTableOk accountOk gateOf sizeOk roomOk countOk objectsOk decideAsk takenTables orderedTables
+    soundOk laidRegions laidChunks inTableOk accountOk gateOf sizeOk roomOk countOk objectsOk decideAsk takenTables orderedTables
     carryAsk planAsk askOf deliverGateOf deliveredTables carryFate planDeliver carryDeliver deliverOf onLoanOk
     givenTables releasedTables releaseOf decideReturn planReturn carryReturn returnOf freshTables fitOk
     planSetUp carrySetUp setUpOf

@@ -22,7 +22,7 @@ use Rattle.ring_rules.specs.Test.{metAfter, ringLength}
 use Rattle.store_rules.specs.Delivery.{deliveryOk}
 use Rattle.store_rules.specs.Outcomes.{Out, Listed, chargedAccount, releasedAccount}
 use Rattle.store_rules.specs.Tests.{coversOk}
-use Rattle.book_rules.specs.Book.{entered, enteredIndex, seekIn, wordTo, struck, struckIndex}
+use Rattle.book_rules.specs.Book.{counted, entered, enteredIndex, seekIn, wordTo, struck, struckIndex}
 use Rattle.book_rules.specs.Chains.{chainsOk, leftOf, leftAfter, linkOk}
 use Rattle.buddy_trees.specs.Trees.{bytes}
 use Rattle.buddy_rules.specs.Level.{dropped, backed, acquired, added, freshLevel}
@@ -46,7 +46,7 @@ halves = record { store = record { number = 7; memtype = 0; properties = 1; heap
 -- a store as it is set up, whatever stood in its tables
 abbrev pub empty : Tables
 empty =
-    setUpOf halves (tables (replicate 5 9) (replicate 20 9) (replicate 6 9) (replicate 15 9) (replicate (treeWords halves) 9)) .tables
+    setUpOf halves (tables (replicate 2 9) (replicate 20 9) (replicate 6 9) (replicate 15 9) (replicate (treeWords halves) 9)) .tables
 
 -- the day's calls, each on what the one before left
 abbrev pub asked : Out Tables
@@ -95,7 +95,7 @@ splitting =
 pub split-worked : map (λ (d : Day). d .gives) splitting ≡ map (λ (d : Day). d .says) splitting
 unfolding splitting trailingZeros onesOk powerOk upTo bits powerUp levelOf alignmentOk storeOk buddyOk heapsUpto
     plusOf chargedOf releasedOf bearsOk agreesOk inserted partedOk leads vacancies unlinked linked metAfter ringLength
-    deliveryOk chargedAccount releasedAccount coversOk blank signedOk entered enteredIndex seekIn
+    deliveryOk chargedAccount releasedAccount coversOk blank signedOk counted entered enteredIndex seekIn
     wordTo struck struckIndex chainsOk leftOf leftAfter linkOk bytes dropped backed acquired Level.entered added
     freshLevel along goodOk lengthsOk leafOk entryOk nodeOk chunkOk leadsOk pairOk loanOk treesOk memoriesOk unitsOk
     soundOk climbed worded splitDown splitChunk inTableOk heldCount heldBytes accountOk gateOf sizeFor levelFor searchFrom

@@ -5,9 +5,7 @@ use mathlib.Core.Bool.{true}
 use mathlib.Core.List.{List, [], _∷_, _++_}
 use Prim.Native.Nat.{ℕ, _+_, _-_, _≤_, _<_}
 use native.Mathlib.Omega.{arith}
-use lib.ListN.{length, getD, set, length-append}
-use lib.Seq.{getD-set-other}
-use Rattle.rounding_rules.specs.Growth.{doubled}
+use lib.ListN.{length, getD, length-append}
 use Rattle.rounding_rules.proofs.Raising.{down-enough}
 use Rattle.slab.specs.declared.Taken.{Taken}
 use Rattle.counter.specs.declared.account.KeptOrder.{KeptOrder}
@@ -21,7 +19,7 @@ use Rattle.book_rules.specs.Ready.{Opens}
 use Rattle.freelist_rules.specs.Records.{region}
 use Rattle.freelist_rules.specs.Place.{nowhere, cut}
 use Rattle.freelist_rules.specs.Steps.{noRegion}
-use Rattle.freelist_rules.specs.Tables.{Tables, givenAt, madeAt, chunkSizeAt, placesAt, chunksAt, regionsMost, regionCountAt, lengthsOk, placesIn, chunksIn, regionsIn, storeOf, SoundTables, laidRegions, regionsOf}
+use Rattle.freelist_rules.specs.Tables.{Tables, regionsMost, regionCountAt, lengthsOk, placesIn, chunksIn, regionsIn, storeOf, SoundTables, laidRegions, regionsOf}
 use Rattle.store_rules.specs.declared.Region.{Region}
 use Rattle.freelist_rules.proofs.Fits.{lengths-are, regions-fit, regions-length, chunks-length, loans-few, laid-fit, laid-count, laid-regions}
 use Rattle.freelist_rules.proofs.Meaning.{room-enough}
@@ -43,23 +41,6 @@ last-at : {A : Type 0} (xs : List A) (x d : A) → getD (xs ++ (x ∷ [])) (leng
 last-at [] x d = refl
 last-at (y ∷ xs) x d = last-at xs x d
 
--- a chunk added writes no other words of the head than its own three
-module _ (s : FreeListSettings) (memory z : ℕ) (t : Tables) where
-  word-stays : (j : ℕ) → (j ≡ madeAt → ⊥) → (j ≡ chunkSizeAt → ⊥) → (j ≡ chunksAt → ⊥) → getD (deliveredTables s memory z t .head) j 0 ≡ getD (t .head) j 0
-  unfolding deliveredTables
-  word-stays j made size chunks =
-      let a = set (t .head) madeAt (storeOf s t .made + 1) in
-      let b = set a chunkSizeAt (doubled z (s .last)) in
-      getD-set-other b chunksAt j (chunksIn t + 1) 0 chunks
-      ∙ getD-set-other a chunkSizeAt j (doubled z (s .last)) 0 size
-      ∙ getD-set-other (t .head) madeAt j (storeOf s t .made + 1) 0 made
-
-  given-stays : getD (deliveredTables s memory z t .head) givenAt 0 ≡ getD (t .head) givenAt 0
-  given-stays = word-stays givenAt (λ e. omega arith) (λ e. omega arith) (λ e. omega arith)
-
-  pub places-stay : placesIn (deliveredTables s memory z t) ≡ placesIn t
-  places-stay = word-stays placesAt (λ e. omega arith) (λ e. omega arith) (λ e. omega arith)
-
 module _ (s : FreeListSettings) (h : Heap) (objects size mask : ℕ) (t : Tables) (fit : FreeListIn s) (lengths : lengthsOk s t ≡ true) (sound : SoundTables s t) (z : ℕ)
     (order : decideAsk s h objects size mask t ≡ buy z) where
   few : chunksIn t < s .store .chunks
@@ -69,7 +50,7 @@ module _ (s : FreeListSettings) (h : Heap) (objects size mask : ℕ) (t : Tables
   room : regionsIn t < regionsMost s
   room = omega (arith, room-enough s (storeOf s t) fit (sound .store), regions-length s t, chunks-length s t, loans-few s t sound, few)
 
-  pub adds-ready : Adds s (t .head) (t .chunks) (t .room)
+  pub adds-ready : Adds s (t .chunks) (t .room)
   adds-ready =
       record {
         fit = regions-fit s t fit lengths sound;
@@ -101,7 +82,7 @@ module _ (s : FreeListSettings) (h : Heap) (objects size mask : ℕ) (t : Tables
         ∙ last-at (storeOf s t .regions) (region (storeOf s t .made + 1) 0 z) noRegion
 
     pub delivered-ready : (n m : ℕ) (k : Taken) → k ≡ takenOf (placesIn t) (t .index)
-        → Lends s (length (storeOf s t .regions)) (cut m n (region 0 0 z)) (k .place) (deliveredTables s memory z t .head) (t .loans) (deliveredTables s memory z t .room) (t .index)
+        → Lends s (length (storeOf s t .regions)) (cut m n (region 0 0 z)) (k .place) (t .loans) (t .index) (deliveredTables s memory z t .room)
     unfolding deliveredTables
     delivered-ready n m k g =
         let w = buy-held s h objects size mask t z order .2 in
@@ -111,12 +92,12 @@ module _ (s : FreeListSettings) (h : Heap) (objects size mask : ℕ) (t : Tables
           fit = laid-fit s after (t .room) old after-room;
           here = omega (arith, count, after-length);
           within = omega (arith, down-enough (z - n) m, ap (λ (r : Region). r .end) last-region);
-          serial = omega (arith, given-stays s memory z t, not-spent s h size t nowhere (w .1 .1 .1 .0));
+          serial = omega (arith, not-spent s h size t nowhere (w .1 .1 .1 .0));
           opens = subst (λ (x : Taken). Opens (s .store .loans) (x .place) (t .loans) (t .index)) (sym g) ordered-opens;
         }
 
 -- the region of a chunk that is added is the last
-pub delivered-last : (s : FreeListSettings) (memory z : ℕ) (t : Tables) → Adds s (t .head) (t .chunks) (t .room)
+pub delivered-last : (s : FreeListSettings) (memory z : ℕ) (t : Tables) → Adds s (t .chunks) (t .room)
     → getD (regionsOf (deliveredTables s memory z t .room)) (length (storeOf s t .regions)) noRegion ≡ region (storeOf s t .made + 1) 0 z
 unfolding deliveredTables
 delivered-last s memory z t adds =

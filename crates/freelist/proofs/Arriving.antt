@@ -58,7 +58,7 @@ use Rattle.freelist.specs.Deliveries.{deliveryOf}
 use Rattle.freelist.specs.Ready.{ComingBuys, Delivers, KeepReady, ComingReady, DeliverReady}
 use Rattle.freelist.specs.declared.plans.Delivery.{Delivery}
 use Rattle.freelist.specs.declared.plans.Delivery.the-variants as D
-use Rattle.freelist.proofs.Adding.{keep-ready, places-stay, delivered-last}
+use Rattle.freelist.proofs.Adding.{keep-ready, delivered-last}
 use Rattle.freelist.proofs.Asking.{lent-rest, loan-rest}
 
 -- ---- what a plan to go on tells
@@ -172,12 +172,12 @@ module _ (s : FreeListSettings) (share : Share) (k : KeptOrder) (memory : ℕ) (
   -- of the tables that a chunk added leaves
   pub lends-now : (i x : ℕ) (h₁ c₁ r₁ : List ℕ) → i ≡ getD regions regionCountAt 0 → x ≡ downTo (k .order .size - b .size) (b .mask)
       → tables h₁ [] c₁ [] r₁ ≡ deliveredTables s memory (k .order .size) (tables head [] chunks [] regions)
-      → Lends s i x (b .loan .place) h₁ loans r₁ index
+      → Lends s i x (b .loan .place) loans index r₁
   lends-now i x h₁ c₁ r₁ e d f =
       let g = added-rest s memory (k .order .size) head loans chunks regions index h₁ c₁ r₁ f in
-      subst (λ (t : Tables). Lends s i x (b .loan .place) (t .head) loans (t .room) index) (sym g)
-      (subst (λ (j : ℕ). Lends s j x (b .loan .place) (added .head) loans (added .room) index) (sym (last-is i e))
-      (subst (λ (y : ℕ). Lends s last y (b .loan .place) (added .head) loans (added .room) index) (sym d) (keeps .lends)))
+      subst (λ (t : Tables). Lends s i x (b .loan .place) loans index (t .room)) (sym g)
+      (subst (λ (j : ℕ). Lends s j x (b .loan .place) loans index (added .room)) (sym (last-is i e))
+      (subst (λ (y : ℕ). Lends s last y (b .loan .place) loans index (added .room)) (sym d) (keeps .lends)))
 
   -- the block starts where the kept ask's does
   starts-now : (x : ℕ) → x ≡ downTo (k .order .size - b .size) (b .mask) → x ≡ blockAt s (k .ask .size) (k .ask .mask) added last .start
@@ -188,24 +188,24 @@ module _ (s : FreeListSettings) (share : Share) (k : KeptOrder) (memory : ℕ) (
 
   loan-now : b .loan ≡ takenOf (placesIn added) (added .index)
   unfolding deliveredTables
-  loan-now = keeps .planned .2 ∙ ap (λ (p : ℕ). takenOf p index) (sym (places-stay s memory (k .order .size) start))
+  loan-now = keeps .planned .2
 
-  pub kept-done : (i x : ℕ) (h₁ c₁ r₁ h₂ l₂ r₂ i₂ : List ℕ) (after paid : Share) (order : OpenOrder) (l : Loan) (said : Said) → i ≡ getD regions regionCountAt 0
+  pub kept-done : (i x : ℕ) (h₁ c₁ r₁ l₂ r₂ i₂ : List ℕ) (after paid : Share) (order : OpenOrder) (l : Loan) (said : Said) → i ≡ getD regions regionCountAt 0
       → x ≡ downTo (k .order .size - b .size) (b .mask) → paid ≡ chargedShare share (k .order .size)
       → tables h₁ [] c₁ [] r₁ ≡ deliveredTables s memory (k .order .size) (tables head [] chunks [] regions)
-      → l ≡ lentFrom s x (tables h₁ [] [] [] r₁) i
-      → tables h₂ l₂ [] i₂ r₂ ≡ lentTables s x (b .loan) (tables h₁ loans [] index r₁) i
+      → l ≡ lentFrom s x (tables [] loans [] [] r₁) i
+      → tables [] l₂ [] i₂ r₂ ≡ lentTables s x (b .loan) (tables [] loans [] index r₁) i
       → after ≡ paid → order ≡ Nothing → said ≡ blockSaid l → (left : OpenOrder)
-      → out said (holding (s .store) after order) (tables h₂ l₂ c₁ i₂ r₂) ≡ carryFate s (holding (s .store) share left) k start (kept memory)
+      → out said (holding (s .store) after order) (tables h₁ l₂ c₁ i₂ r₂) ≡ carryFate s (holding (s .store) share left) k start (kept memory)
   unfolding carryFate
-  kept-done i x h₁ c₁ r₁ h₂ l₂ r₂ i₂ after paid order l said e y p f m g q n d left =
+  kept-done i x h₁ c₁ r₁ l₂ r₂ i₂ after paid order l said e y p f m g q n d left =
       let size = k .ask .size in
       let mask = k .ask .mask in
       let mid = added-rest s memory (k .order .size) head loans chunks regions index h₁ c₁ r₁ f in
       let w = last-is i e in
       let loan : l ≡ loanFrom s size mask added last =
       loan-rest s x i (b .loan) h₁ loans c₁ r₁ index l m ∙ (λ j. lentFrom s x (mid j) (w j)) ∙ loan-planned s size mask x last (b .loan) added (starts-now x y) in
-      let end = lent-rest s x i (b .loan) h₁ loans c₁ r₁ index h₂ l₂ r₂ i₂ g ∙ (λ j. lentTables s x (b .loan) (mid j) (w j)) ∙ tables-planned s size mask x last (b .loan) added (starts-now x y) loan-now in
+      let end = lent-rest s x i (b .loan) h₁ loans c₁ r₁ index l₂ r₂ i₂ g ∙ (λ j. lentTables s x (b .loan) (mid j) (w j)) ∙ tables-planned s size mask x last (b .loan) added (starts-now x y) loan-now in
       let words = d ∙ ap blockSaid loan in
       let shared = q ∙ p in
       let settled = (λ j. holding (s .store) (shared j) (n j)) ∙ sym (held-charged (s .store) share left (k .order .size)) in

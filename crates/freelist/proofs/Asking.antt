@@ -37,14 +37,14 @@ ask-ready s a size mask t (Decides.Take k) e c =
 
 -- ---- what is left
 
--- a block lent does not look at chunks
+-- a block lent does not look at head and chunks
 module _ (s : FreeListSettings) (start i : ℕ) (k : Taken) (head loans chunks regions index : List ℕ) where
-  pub lent-rest : (h′ l′ r′ i′ : List ℕ) → tables h′ l′ [] i′ r′ ≡ lentTables s start k (tables head loans [] index regions) i
-      → tables h′ l′ chunks i′ r′ ≡ lentTables s start k (tables head loans chunks index regions) i
+  pub lent-rest : (l′ r′ i′ : List ℕ) → tables [] l′ [] i′ r′ ≡ lentTables s start k (tables [] loans [] index regions) i
+      → tables head l′ chunks i′ r′ ≡ lentTables s start k (tables head loans chunks index regions) i
   unfolding lentTables storeOf
-  lent-rest h′ l′ r′ i′ e = ap (λ (t : Tables). tables (t .head) (t .loans) chunks (t .index) (t .room)) e
+  lent-rest l′ r′ i′ e = ap (λ (t : Tables). tables head (t .loans) chunks (t .index) (t .room)) e
 
-  pub loan-rest : (l : Loan) → l ≡ lentFrom s start (tables head [] [] [] regions) i → l ≡ lentFrom s start (tables head loans chunks index regions) i
+  pub loan-rest : (l : Loan) → l ≡ lentFrom s start (tables [] loans [] [] regions) i → l ≡ lentFrom s start (tables head loans chunks index regions) i
   unfolding storeOf
   loan-rest l e = e
 
@@ -57,14 +57,14 @@ module _ (s : FreeListSettings) (size mask : ℕ) (head loans chunks regions ind
   unfolding carryAsk
   ask-refused n w e g = (λ j. out (g j) (askLeft a size mask (g j)) now) ∙ ap (carryAsk s a size mask now) (sym e)
 
-  pub ask-taken : (i start : ℕ) (k : Taken) (l : Loan) (w : Said) (h′ l′ r′ i′ : List ℕ) → p ≡ take i
+  pub ask-taken : (i start : ℕ) (k : Taken) (l : Loan) (w : Said) (l′ r′ i′ : List ℕ) → p ≡ take i
       → start ≡ blockAt s size mask now i .start → k ≡ takenOf (placesIn now) index
-      → l ≡ lentFrom s start (tables head [] [] [] regions) i → tables h′ l′ [] i′ r′ ≡ lentTables s start k (tables head loans [] index regions) i
-      → w ≡ blockSaid l → out w (askLeft a size mask w) (tables h′ l′ chunks i′ r′) ≡ carryAsk s a size mask now p
+      → l ≡ lentFrom s start (tables [] loans [] [] regions) i → tables [] l′ [] i′ r′ ≡ lentTables s start k (tables [] loans [] index regions) i
+      → w ≡ blockSaid l → out w (askLeft a size mask w) (tables head l′ chunks i′ r′) ≡ carryAsk s a size mask now p
   unfolding carryAsk
-  ask-taken i start k l w h′ l′ r′ i′ e x y m t g =
+  ask-taken i start k l w l′ r′ i′ e x y m t g =
       let loan = loan-rest s start i k head loans chunks regions index l m ∙ loan-planned s size mask start i k now x in
-      let left = lent-rest s start i k head loans chunks regions index h′ l′ r′ i′ t ∙ tables-planned s size mask start i k now x y in
+      let left = lent-rest s start i k head loans chunks regions index l′ r′ i′ t ∙ tables-planned s size mask start i k now x y in
       (λ j. out (g j) (askLeft a size mask (g j)) (left j))
       ∙ (λ j. out (blockSaid (loan j)) a (takenTables s size mask now i)) ∙ ap (carryAsk s a size mask now) (sym e)
 

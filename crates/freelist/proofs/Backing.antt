@@ -14,7 +14,7 @@ use Rattle.book_rules.specs.Ready.{Strikes}
 use Rattle.book_rules.proofs.Keeps.{found}
 use Rattle.freelist_rules.specs.Pieces.{lo, hi, Rising}
 use Rattle.freelist_rules.specs.Steps.{noRegion}
-use Rattle.freelist_rules.specs.Tables.{Tables, givenAt, lengthsOk, placesIn, storeOf, SoundTables, regionsOf}
+use Rattle.freelist_rules.specs.Tables.{Tables, lengthsOk, givenIn, placesIn, storeOf, SoundTables, regionsOf}
 use Rattle.store_rules.specs.declared.Region.{Region}
 use Rattle.freelist_rules.proofs.Base.{at-in}
 use Rattle.freelist_rules.proofs.Facts.{Low, region-low}
@@ -58,7 +58,7 @@ module _ (s : FreeListSettings) (t : Tables) (fit : FreeListIn s) (sound : Sound
   word-inside : wordFor s b t < indexWords (s .store .loans)
   word-inside =
       let n = s .store .loans in
-      let given = getD (t .head) givenAt 0 in
+      let given = givenIn t in
       let at = block-leads s t fit sound b lent in
       let few : n < nowhere = omega (arith, fit .store .loans-most) in
       let f = found (t .loans) (t .index) n (placesIn t) given (fit .store .loans-some) (sound .parted .limit) few (sound .chained) (getD (t .index) (wordFor s b t) 0) (at .0) (at .1) in

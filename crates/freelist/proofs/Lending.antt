@@ -37,7 +37,7 @@ opens-below s t fit lengths p below =
 
 module _ (s : FreeListSettings) (h : Heap) (objects size mask : ℕ) (t : Tables) where
   pub lends-ready : FreeListIn s → lengthsOk s t ≡ true → SoundTables s t → (i start : ℕ) (k : Taken) → decideAsk s h objects size mask t ≡ take i
-      → start ≡ blockAt s size mask t i .start → k ≡ takenOf (placesIn t) (t .index) → Lends s i start (k .place) (t .head) (t .loans) (t .room) (t .index)
+      → start ≡ blockAt s size mask t i .start → k ≡ takenOf (placesIn t) (t .index) → Lends s i start (k .place) (t .loans) (t .index) (t .room)
   unfolding storeOf
   lends-ready fit lengths sound i start k e f g =
       let w = take-is s h objects size mask t i e in

@@ -28,7 +28,7 @@ use Rattle.counter.specs.InTable.{FreeListIn}
 use Rattle.counter.specs.Limits.{loansMost}
 use Rattle.counter.specs.declared.account.OpenOrder.{OpenOrder}
 use Rattle.counter.specs.declared.answers.Outcome.{Outcome}
-use Rattle.freelist_decide.proofs.Few.{ask-few, return-few}
+use Rattle.freelist_decide.proofs.Few.{return-few}
 use Rattle.freelist_outcomes.proofs.Passing.{gate-passed}
 
 module _ (s : FreeListSettings) (a : Account) (t : Tables) where
@@ -43,15 +43,14 @@ module _ (s : FreeListSettings) (size mask : ℕ) (head loans chunks regions ind
   now = tables head loans chunks index regions
 
   went : (a : Account) (h : Heap) (p : Plan ℕ) → pass ≡ gateOf s a now true → h ≡ heapAt a (s .store .heap)
-      → p ≡ decideAsk s h (a .objects) size mask (tables head [] [] index regions) → p ≡ planAsk s a size mask now
+      → p ≡ decideAsk s h (a .objects) size mask now → p ≡ planAsk s a size mask now
   unfolding planAsk
   went a h p g k e =
-      e ∙ ap (λ (x : Heap). decideAsk s x (a .objects) size mask (tables head [] [] index regions)) k
-      ∙ ask-few s (heapAt a (s .store .heap)) (a .objects) size mask now ∙ rw (sym g) refl
+      e ∙ ap (λ (x : Heap). decideAsk s x (a .objects) size mask now) k ∙ rw (sym g) refl
 
   -- by the share
   pub ask-go : (share : Share) (p : Plan ℕ) → pass ≡ gateOf s (holder (s .store) share) now true
-      → p ≡ decideAsk s (share .heap) (share .objects) size mask (tables head [] [] index regions) → p ≡ planAsk s (holder (s .store) share) size mask now
+      → p ≡ decideAsk s (share .heap) (share .objects) size mask now → p ≡ planAsk s (holder (s .store) share) size mask now
   unfolding holding
   ask-go share p g e =
       let below = gate-passed s (holder (s .store) share) now true g .settings .store .heap in
@@ -64,7 +63,7 @@ module _ (s : FreeListSettings) (a : Account) (b : Block) (t : Tables) (list : B
   unfolding planReturn
   return-shut n e = rw (sym e) refl
 
-  pub return-go : (p : Returns.Plan) → pass ≡ gateOf s a t list → p ≡ decideReturn s b (tables (t .head) (t .loans) [] (t .index) []) → p ≡ planReturn s a b t list
+  pub return-go : (p : Returns.Plan) → pass ≡ gateOf s a t list → p ≡ decideReturn s b (tables [] (t .loans) [] (t .index) []) → p ≡ planReturn s a b t list
   unfolding planReturn
   return-go p e d = d ∙ return-few s b t ∙ rw (sym e) refl
 

@@ -91,7 +91,7 @@ module _ (s : FreeListSettings) (share : Share) (t : Tables) (list : List ℕ) (
   cleaned-releases e =
       let p = gate-passed s held t (listOk (s .store) list) e in
       let bounds = cleaned-bounds s t (p .settings) (p .sound) (p .lengths) in
-      let frees : Frees s (t .head) (t .chunks) (t .room) list =
+      let frees : Frees s (t .chunks) (t .room) list =
       record {
         settings = p .settings;
         ready = cleaned-ready s t (p .settings) (p .sound);
@@ -125,7 +125,7 @@ module _ (s : FreeListSettings) (share : Share) (t : Tables) (list : List ℕ) (
     unfolding givenTables storeOf accountOk holding
     returned-releases =
         let bounds = returned-bounds s t (gate .settings) (gate .sound) b lent (gate .lengths) in
-        let frees : Frees s (t .head) (t .chunks) (joined s b (t .room)) list =
+        let frees : Frees s (t .chunks) (joined s b (t .room)) list =
         record {
           settings = gate .settings;
           ready = returned-ready s t (gate .settings) (gate .sound) b lent (gate .lengths);
@@ -146,33 +146,33 @@ module _ (s : FreeListSettings) (share : Share) (t : Tables) (list : List ℕ) (
 -- ---- carried out
 
 -- chunks released and counted are what a release is defined to leave
-module _ (s : FreeListSettings) (share : Share) (spare : Bool) (head chunks regions list : List ℕ) where
+module _ (s : FreeListSettings) (share : Share) (spare : Bool) (chunks regions list : List ℕ) where
   abbrev begun : Tables
-  begun = tables head [] chunks [] regions
+  begun = tables [] [] chunks [] regions
 
-  pub let-go-done : (count bytes : ℕ) (said : Paper.Said) (after : Share) (h′ c′ r′ l′ : List ℕ)
+  pub let-go-done : (count bytes : ℕ) (said : Paper.Said) (after : Share) (c′ r′ l′ : List ℕ)
       → count ≡ length (goneFrom s spare begun) → bytes ≡ bytesOf (goneFrom s spare begun)
-      → tables h′ [] c′ [] r′ ≡ releasedTables s spare begun
+      → tables [] [] c′ [] r′ ≡ releasedTables s spare begun
       → l′ ≡ sets list 0 (memoriesOf (storeOf s begun .chunks) (goneFrom s spare begun))
       → after ≡ releasedShare share count bytes → said ≡ Paper.released count
-      → listed said (holder (s .store) after) (tables h′ [] c′ [] r′) l′ ≡ releaseOf s (holder (s .store) share) spare begun list
+      → listed said (holder (s .store) after) (tables [] [] c′ [] r′) l′ ≡ releaseOf s (holder (s .store) share) spare begun list
   unfolding releaseOf
-  let-go-done count bytes said after h′ c′ r′ l′ e b t l x y =
+  let-go-done count bytes said after c′ r′ l′ e b t l x y =
       let account = holder (s .store) share in
       let x-is = ap (holder (s .store)) x ∙ sym (held-released (s .store) share (orderBy (share .idle)) count bytes) ∙ (λ j. releasedAccount (s .store) account (e j) (b j)) in
       let y-is = y ∙ ap Paper.released e in
       (λ j. listed (y-is j) (x-is j) (t j) (l j))
 
--- a release looks at neither loans nor index, and leaves them
-pub releases-few : (s : FreeListSettings) (objects : ℕ) (spare : Bool) (t : Tables) (list : List ℕ) → Releases s objects spare t list → Releases s objects spare (tables (t .head) [] (t .chunks) [] (t .room)) list
+-- a release looks at neither head, loans nor index, and leaves them
+pub releases-few : (s : FreeListSettings) (objects : ℕ) (spare : Bool) (t : Tables) (list : List ℕ) → Releases s objects spare t list → Releases s objects spare (tables [] [] (t .chunks) [] (t .room)) list
 unfolding storeOf
 releases-few s objects spare t list r = r
 
-module _ (s : FreeListSettings) (a : Account) (spare : Bool) (said : Paper.Said) (account : Account) (head chunks regions list h′ c′ r′ l′ : List ℕ)
-    (e : listed said account (tables h′ [] c′ [] r′) l′ ≡ releaseOf s a spare (tables head [] chunks [] regions) list) where
-  pub beside : (loans index : List ℕ) → listed said account (tables h′ loans c′ index r′) l′ ≡ releaseOf s a spare (tables head loans chunks index regions) list
+module _ (s : FreeListSettings) (a : Account) (spare : Bool) (said : Paper.Said) (account : Account) (chunks regions list c′ r′ l′ : List ℕ)
+    (e : listed said account (tables [] [] c′ [] r′) l′ ≡ releaseOf s a spare (tables [] [] chunks [] regions) list) where
+  pub beside : (head loans index : List ℕ) → listed said account (tables head loans c′ index r′) l′ ≡ releaseOf s a spare (tables head loans chunks index regions) list
   unfolding releaseOf releasedTables storeOf
-  beside loans index = ap (λ (y : Listed Tables). listed (y .said) (y .account) (tables (y .tables .head) loans (y .tables .chunks) index (y .tables .room)) (y .list)) e
+  beside head loans index = ap (λ (y : Listed Tables). listed (y .said) (y .account) (tables head loans (y .tables .chunks) index (y .tables .room)) (y .list)) e
 
 module _ (s : FreeListSettings) (a : Account) (b : Block) (at : ℕ) (loans regions index l′ r′ i′ : List ℕ)
     (e : tables [] l′ [] i′ r′ ≡ givenTables s b at (tables [] loans [] index regions)) where
@@ -181,17 +181,29 @@ module _ (s : FreeListSettings) (a : Account) (b : Block) (at : ℕ) (loans regi
   joined-is = ap (λ (x : Tables). x .room) e
 
   -- so what is asked of the joined regions holds of them as they are written
-  pub releases-now : (objects : ℕ) (head chunks list : List ℕ) → Releases s objects true (tables head loans chunks index (joined s b regions)) list → Releases s objects true (tables head [] chunks [] r′) list
+  pub releases-now : (objects : ℕ) (chunks list : List ℕ) → Releases s objects true (tables [] loans chunks index (joined s b regions)) list → Releases s objects true (tables [] [] chunks [] r′) list
   unfolding storeOf
-  releases-now objects head chunks list r = subst (λ (x : List ℕ). Releases s objects true (tables head [] chunks [] x) list) (sym joined-is) r
+  releases-now objects chunks list r = subst (λ (x : List ℕ). Releases s objects true (tables [] [] chunks [] x) list) (sym joined-is) r
 
-  pub taken-in : (head chunks list h″ c″ r″ m : List ℕ) (said : Paper.Said) (account : Account)
-      → listed said account (tables h″ [] c″ [] r″) m ≡ releaseOf s a true (tables head [] chunks [] r′) list
-      → listed said account (tables h″ l′ c″ i′ r″) m ≡ releaseOf s a true (givenTables s b at (tables head loans chunks index regions)) list
+  pub taken-in : (chunks list c″ r″ m : List ℕ) (said : Paper.Said) (account : Account)
+      → listed said account (tables [] [] c″ [] r″) m ≡ releaseOf s a true (tables [] [] chunks [] r′) list
+      → listed said account (tables [] l′ c″ i′ r″) m ≡ releaseOf s a true (givenTables s b at (tables [] loans chunks index regions)) list
   unfolding givenTables storeOf
-  taken-in head chunks list h″ c″ r″ m said account p =
-      beside s a true said account head chunks r′ list h″ c″ r″ m p l′ i′
-      ∙ ap (λ (t : Tables). releaseOf s a true (tables head (t .loans) chunks (t .index) (t .room)) list) e
+  taken-in chunks list c″ r″ m said account p =
+      beside s a true said account chunks r′ list c″ r″ m p [] l′ i′
+      ∙ ap (λ (t : Tables). releaseOf s a true (tables [] (t .loans) chunks (t .index) (t .room)) list) e
+
+-- nor does a return look at the head, which it leaves
+pub takes-few : (s : FreeListSettings) (objects : ℕ) (b : Block) (w : ℕ) (t : Tables) (list : List ℕ) → TakesBack s objects b w t list → TakesBack s objects b w (tables [] (t .loans) (t .chunks) (t .index) (t .room)) list
+unfolding storeOf
+takes-few s objects b w t list k = record { backs = k .backs; strikes = k .strikes; releases = k .releases }
+
+pub with-head : (s : FreeListSettings) (a : Account) (b : Block) (at : ℕ) (said : Paper.Said) (account : Account) (head loans chunks index regions list l′ c′ i′ r′ m : List ℕ)
+    → listed said account (tables [] l′ c′ i′ r′) m ≡ releaseOf s a true (givenTables s b at (tables [] loans chunks index regions)) list
+    → listed said account (tables head l′ c′ i′ r′) m ≡ releaseOf s a true (givenTables s b at (tables head loans chunks index regions)) list
+unfolding releaseOf releasedTables givenTables storeOf
+with-head s a b at said account head loans chunks index regions list l′ c′ i′ r′ m e =
+    ap (λ (y : Listed Tables). listed (y .said) (y .account) (tables head (y .tables .loans) (y .tables .chunks) (y .tables .index) (y .tables .room)) (y .list)) e
 
 module _ (s : FreeListSettings) (share : Share) (t : Tables) (list : List ℕ) where
   abbrev before : Account

@@ -42,7 +42,7 @@ SetUpReady s t Gate.Go = FreeListIn s × Lengths s t
 
 abbrev pub AskReady : FreeListSettings → Tables → Plan → Type 0
 AskReady s t (Refuse r) = Unit {0}
-AskReady s t (Take k) = Lends s (k .region) (k .start) (k .loan .place) (t .head) (t .loans) (t .room) (t .index)
+AskReady s t (Take k) = Lends s (k .region) (k .start) (k .loan .place) (t .loans) (t .index) (t .room)
 AskReady s t (Buy b) = Unit {0}
 
 -- ---- a delivery
@@ -62,8 +62,8 @@ pub record KeepReady (s : FreeListSettings) (k : KeptOrder) (memory : ℕ) (t : 
   pub planned : Planned s (k .ask .size) (k .ask .mask) t (Buy b)
   pub aligned : Ones 63 (b .mask)
   pub small : b .size ≤ k .order .size
-  pub adds : Adds s (t .head) (t .chunks) (t .room)
-  pub lends : Lends s (length (storeOf s t .regions)) (cut (b .mask) (b .size) (region 0 0 (k .order .size))) (b .loan .place) (deliveredTables s memory (k .order .size) t .head) (t .loans) (deliveredTables s memory (k .order .size) t .room) (t .index)
+  pub adds : Adds s (t .chunks) (t .room)
+  pub lends : Lends s (length (storeOf s t .regions)) (cut (b .mask) (b .size) (region 0 0 (k .order .size))) (b .loan .place) (t .loans) (t .index) (deliveredTables s memory (k .order .size) t .room)
 
 abbrev pub ComingReady : FreeListSettings → Tables → Buying → Coming → Type 0
 ComingReady s t b (Coming.Refuse r) = Unit {0}
@@ -78,7 +78,7 @@ DeliverReady s t (Delivery.Come c b) = ComingReady s t b c
 
 -- the chunks that go can be released, and the device objects allowed again stay within their limit
 abbrev pub Releases : FreeListSettings → ℕ → Bool → Tables → List ℕ → Type 0
-Releases s objects spare t list = Frees s (t .head) (t .chunks) (t .room) list × (objects + length (goneFrom s spare t) ≤ objectsMost)
+Releases s objects spare t list = Frees s (t .chunks) (t .room) list × (objects + length (goneFrom s spare t) ≤ objectsMost)
 
 -- the table of regions with a block's bytes among them
 abbrev pub joined : FreeListSettings → Block → List ℕ → List ℕ

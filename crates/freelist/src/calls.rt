@@ -58,14 +58,14 @@ pub fn return_block(
     s: FreeListSettings,
     share: Share,
     b: Block,
-    head: &mut [u64],
+    head: &[u64],
     loans: &mut [u64],
     chunks: &mut [u64],
     index: &mut [u64],
     regions: &mut [u64],
     list: &mut [u64],
 ) -> ReleasedShare
-    ensures { λ r. ⌜ listed (releaseSaid (r .answer)) (holder (s .store) (r .share)) (tables (now (head .exit)) (now (loans .exit)) (now (chunks .exit)) (now (index .exit)) (now (regions .exit))) (now (list .exit)) ≡ returnOf s (holder (s .store) share) b (tables (now (head .entry)) (now (loans .entry)) (now (chunks .entry)) (now (index .entry)) (now (regions .entry))) (now (list .entry)) ⌝ }
+    ensures { λ r. ⌜ listed (releaseSaid (r .answer)) (holder (s .store) (r .share)) (tables (now (head .entry)) (now (loans .exit)) (now (chunks .exit)) (now (index .exit)) (now (regions .exit))) (now (list .exit)) ≡ returnOf s (holder (s .store) share) b (tables (now (head .entry)) (now (loans .entry)) (now (chunks .entry)) (now (index .entry)) (now (regions .entry))) (now (list .entry)) ⌝ }
 {
     let plan = crate::plans::plan_return(s, share, b, head, loans, chunks, index, regions, list);
     crate::carries::carry_return(s, share, b, plan, head, loans, chunks, index, regions, list)
@@ -75,14 +75,14 @@ pub fn return_block(
 pub fn clean_up(
     s: FreeListSettings,
     share: Share,
-    head: &mut [u64],
+    head: &[u64],
     loans: &[u64],
     chunks: &mut [u64],
     index: &[u64],
     regions: &mut [u64],
     list: &mut [u64],
 ) -> ReleasedShare
-    ensures { λ r. ⌜ listed (releaseSaid (r .answer)) (holder (s .store) (r .share)) (tables (now (head .exit)) (now (loans .entry)) (now (chunks .exit)) (now (index .entry)) (now (regions .exit))) (now (list .exit)) ≡ cleanUpOf s (holder (s .store) share) (tables (now (head .entry)) (now (loans .entry)) (now (chunks .entry)) (now (index .entry)) (now (regions .entry))) (now (list .entry)) ⌝ }
+    ensures { λ r. ⌜ listed (releaseSaid (r .answer)) (holder (s .store) (r .share)) (tables (now (head .entry)) (now (loans .entry)) (now (chunks .exit)) (now (index .entry)) (now (regions .exit))) (now (list .exit)) ≡ cleanUpOf s (holder (s .store) share) (tables (now (head .entry)) (now (loans .entry)) (now (chunks .entry)) (now (index .entry)) (now (regions .entry))) (now (list .entry)) ⌝ }
 {
     let plan = crate::plans::plan_clean_up(s, share, head, loans, chunks, index, regions, list);
     crate::carries::carry_clean_up(s, share, plan, head, loans, chunks, index, regions, list)

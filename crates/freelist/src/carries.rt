@@ -79,7 +79,7 @@ pub fn carry_ask(
         Plan::Refuse(refusal) => store::refuse_ask(refusal),
         Plan::Take(k) => {
             let loan = k.loan;
-            let l = freelist_place::lend(s, k.region, k.start, loan, head, loans, index, regions);
+            let l = freelist_place::lend(s, k.region, k.start, loan, loans, index, regions);
             store::answer_block(l)
         }
         Plan::Buy(b) => {
@@ -112,7 +112,7 @@ fn keep_chunk(
     let start = rounding::lower_to_unit(order.size - b.size, b.mask);
     let charged = store_accounts::charged(share, order.size);
     freelist_place::add_chunk(s, memory, order.size, head, chunks, regions);
-    let l = freelist_place::lend(s, i, start, loan, head, loans, index, regions);
+    let l = freelist_place::lend(s, i, start, loan, loans, index, regions);
     store::deliver_block(charged, l)
 }
 
@@ -195,15 +195,14 @@ fn let_go(
     s: FreeListSettings,
     share: Share,
     spare: bool,
-    head: &mut [u64],
     chunks: &mut [u64],
     regions: &mut [u64],
     list: &mut [u64],
 ) -> ReleasedShare
-    requires { ⌜ Releases s (share .objects) spare (tables (now head) [] (now chunks) [] (now regions)) (now list) ⌝ }
-    ensures { λ r. ⌜ listed (releaseSaid (r .answer)) (holder (s .store) (r .share)) (tables (now (head .exit)) [] (now (chunks .exit)) [] (now (regions .exit))) (now (list .exit)) ≡ releaseOf s (holder (s .store) share) spare (tables (now (head .entry)) [] (now (chunks .entry)) [] (now (regions .entry))) (now (list .entry)) ⌝ }
+    requires { ⌜ Releases s (share .objects) spare (tables [] [] (now chunks) [] (now regions)) (now list) ⌝ }
+    ensures { λ r. ⌜ listed (releaseSaid (r .answer)) (holder (s .store) (r .share)) (tables [] [] (now (chunks .exit)) [] (now (regions .exit))) (now (list .exit)) ≡ releaseOf s (holder (s .store) share) spare (tables [] [] (now (chunks .entry)) [] (now (regions .entry))) (now (list .entry)) ⌝ }
 {
-    let f = freelist_release::release(s, spare, head, chunks, regions, list);
+    let f = freelist_release::release(s, spare, chunks, regions, list);
     store::settle(share, f.count, f.bytes)
 }
 
@@ -213,18 +212,17 @@ fn take_in(
     share: Share,
     b: Block,
     at: usize,
-    head: &mut [u64],
     loans: &mut [u64],
     chunks: &mut [u64],
     index: &mut [u64],
     regions: &mut [u64],
     list: &mut [u64],
 ) -> ReleasedShare
-    requires { ⌜ TakesBack s (share .objects) b at (tables (now head) (now loans) (now chunks) (now index) (now regions)) (now list) ⌝ }
-    ensures { λ r. ⌜ listed (releaseSaid (r .answer)) (holder (s .store) (r .share)) (tables (now (head .exit)) (now (loans .exit)) (now (chunks .exit)) (now (index .exit)) (now (regions .exit))) (now (list .exit)) ≡ releaseOf s (holder (s .store) share) true (givenTables s b at (tables (now (head .entry)) (now (loans .entry)) (now (chunks .entry)) (now (index .entry)) (now (regions .entry)))) (now (list .entry)) ⌝ }
+    requires { ⌜ TakesBack s (share .objects) b at (tables [] (now loans) (now chunks) (now index) (now regions)) (now list) ⌝ }
+    ensures { λ r. ⌜ listed (releaseSaid (r .answer)) (holder (s .store) (r .share)) (tables [] (now (loans .exit)) (now (chunks .exit)) (now (index .exit)) (now (regions .exit))) (now (list .exit)) ≡ releaseOf s (holder (s .store) share) true (givenTables s b at (tables [] (now (loans .entry)) (now (chunks .entry)) (now (index .entry)) (now (regions .entry)))) (now (list .entry)) ⌝ }
 {
     freelist_place::take_back(s, b, at, loans, index, regions);
-    let_go(s, share, true, head, chunks, regions, list)
+    let_go(s, share, true, chunks, regions, list)
 }
 
 pub fn carry_return(
@@ -232,7 +230,7 @@ pub fn carry_return(
     share: Share,
     b: Block,
     plan: Back,
-    head: &mut [u64],
+    head: &[u64],
     loans: &mut [u64],
     chunks: &mut [u64],
     index: &mut [u64],
@@ -240,11 +238,11 @@ pub fn carry_return(
     list: &mut [u64],
 ) -> ReleasedShare
     requires { ⌜ ReturnReady s (share .objects) b (tables (now head) (now loans) (now chunks) (now index) (now regions)) (now list) plan ⌝ }
-    ensures { λ r. ⌜ listed (releaseSaid (r .answer)) (holder (s .store) (r .share)) (tables (now (head .exit)) (now (loans .exit)) (now (chunks .exit)) (now (index .exit)) (now (regions .exit))) (now (list .exit)) ≡ carryReturn s (holder (s .store) share) b (tables (now (head .entry)) (now (loans .entry)) (now (chunks .entry)) (now (index .entry)) (now (regions .entry))) (now (list .entry)) (backOf plan) ⌝ }
+    ensures { λ r. ⌜ listed (releaseSaid (r .answer)) (holder (s .store) (r .share)) (tables (now (head .entry)) (now (loans .exit)) (now (chunks .exit)) (now (index .exit)) (now (regions .exit))) (now (list .exit)) ≡ carryReturn s (holder (s .store) share) b (tables (now (head .entry)) (now (loans .entry)) (now (chunks .entry)) (now (index .entry)) (now (regions .entry))) (now (list .entry)) (backOf plan) ⌝ }
 {
     match plan {
         Back::Refuse(refusal) => store::refuse_return(share, refusal),
-        Back::From(at) => take_in(s, share, b, at, head, loans, chunks, index, regions, list),
+        Back::From(at) => take_in(s, share, b, at, loans, chunks, index, regions, list),
     }
 }
 
@@ -252,7 +250,7 @@ pub fn carry_clean_up(
     s: FreeListSettings,
     share: Share,
     plan: Gate,
-    head: &mut [u64],
+    head: &[u64],
     loans: &[u64],
     chunks: &mut [u64],
     index: &[u64],
@@ -260,10 +258,10 @@ pub fn carry_clean_up(
     list: &mut [u64],
 ) -> ReleasedShare
     requires { ⌜ CleanUpReady s (share .objects) (tables (now head) (now loans) (now chunks) (now index) (now regions)) (now list) plan ⌝ }
-    ensures { λ r. ⌜ listed (releaseSaid (r .answer)) (holder (s .store) (r .share)) (tables (now (head .exit)) (now (loans .entry)) (now (chunks .exit)) (now (index .entry)) (now (regions .exit))) (now (list .exit)) ≡ carryCleanUp s (holder (s .store) share) (tables (now (head .entry)) (now (loans .entry)) (now (chunks .entry)) (now (index .entry)) (now (regions .entry))) (now (list .entry)) (verdictOf plan) ⌝ }
+    ensures { λ r. ⌜ listed (releaseSaid (r .answer)) (holder (s .store) (r .share)) (tables (now (head .entry)) (now (loans .entry)) (now (chunks .exit)) (now (index .entry)) (now (regions .exit))) (now (list .exit)) ≡ carryCleanUp s (holder (s .store) share) (tables (now (head .entry)) (now (loans .entry)) (now (chunks .entry)) (now (index .entry)) (now (regions .entry))) (now (list .entry)) (verdictOf plan) ⌝ }
 {
     match plan {
         Gate::Shut(refusal) => store::refuse_return(share, refusal),
-        Gate::Go => let_go(s, share, false, head, chunks, regions, list),
+        Gate::Go => let_go(s, share, false, chunks, regions, list),
     }
 }

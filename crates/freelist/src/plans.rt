@@ -68,7 +68,18 @@ pub fn plan_ask(
         Gate::Shut(refusal) => Plan::Refuse(refusal),
         Gate::Go => {
             let heap = share.heap;
-            freelist_decide::decide(s, heap, share.objects, size, mask, head, index, regions)
+            freelist_decide::decide(
+                s,
+                heap,
+                share.objects,
+                size,
+                mask,
+                head,
+                loans,
+                chunks,
+                index,
+                regions,
+            )
         }
     }
 }
@@ -91,7 +102,7 @@ pub fn plan_deliver(
     match g {
         Passing::Shut(refusal) => Delivery::Shut(refusal),
         Passing::Go(b) => {
-            let coming = freelist_decide::decide_delivery(order, o, head, chunks);
+            let coming = freelist_decide::decide_delivery(order, o, chunks);
             Delivery::Come(coming, b)
         }
     }
@@ -116,7 +127,7 @@ pub fn plan_return(
     let g = freelist_gate::gate(s, share, long, head, loans, chunks, index, regions);
     match g {
         Gate::Shut(refusal) => Back::Refuse(refusal),
-        Gate::Go => freelist_decide::decide_return(s, b, head, loans, index),
+        Gate::Go => freelist_decide::decide_return(s, b, loans, index),
     }
 }
 

@@ -14,14 +14,14 @@ pub fn return_block(
     s: FreeListSettings,
     a: Account,
     b: Block,
-    head: &mut [u64],
+    head: &[u64],
     loans: &mut [u64],
     chunks: &mut [u64],
     index: &mut [u64],
     regions: &mut [u64],
     list: &mut [u64],
 ) -> Released
-    ensures { λ r. ⌜ listed (releaseSaid (r .answer)) (r .account) (tables (now (head .exit)) (now (loans .exit)) (now (chunks .exit)) (now (index .exit)) (now (regions .exit))) (now (list .exit)) ≡ returnOf s a b (tables (now (head .entry)) (now (loans .entry)) (now (chunks .entry)) (now (index .entry)) (now (regions .entry))) (now (list .entry)) ⌝ }
+    ensures { λ r. ⌜ listed (releaseSaid (r .answer)) (r .account) (tables (now (head .entry)) (now (loans .exit)) (now (chunks .exit)) (now (index .exit)) (now (regions .exit))) (now (list .exit)) ≡ returnOf s a b (tables (now (head .entry)) (now (loans .entry)) (now (chunks .entry)) (now (index .entry)) (now (regions .entry))) (now (list .entry)) ⌝ }
 {
     let own = s.store;
     let share = store_accounts::share_of(own, a);
@@ -33,14 +33,14 @@ pub fn return_block(
 pub fn clean_up(
     s: FreeListSettings,
     a: Account,
-    head: &mut [u64],
+    head: &[u64],
     loans: &[u64],
     chunks: &mut [u64],
     index: &[u64],
     regions: &mut [u64],
     list: &mut [u64],
 ) -> Released
-    ensures { λ r. ⌜ listed (releaseSaid (r .answer)) (r .account) (tables (now (head .exit)) (now (loans .entry)) (now (chunks .exit)) (now (index .entry)) (now (regions .exit))) (now (list .exit)) ≡ cleanUpOf s a (tables (now (head .entry)) (now (loans .entry)) (now (chunks .entry)) (now (index .entry)) (now (regions .entry))) (now (list .entry)) ⌝ }
+    ensures { λ r. ⌜ listed (releaseSaid (r .answer)) (r .account) (tables (now (head .entry)) (now (loans .entry)) (now (chunks .exit)) (now (index .entry)) (now (regions .exit))) (now (list .exit)) ≡ cleanUpOf s a (tables (now (head .entry)) (now (loans .entry)) (now (chunks .entry)) (now (index .entry)) (now (regions .entry))) (now (list .entry)) ⌝ }
 {
     let own = s.store;
     let share = store_accounts::share_of(own, a);

@@ -35,5 +35,5 @@ held-next m i v b t e c =
     let g : v ≡ row chunkRow i t .memory = c ∙ cell-row t chunkMemoryAt chunkWords i in
     (λ j. e j || eqb (g j) m) ∙ sym (ap (λ (cs : List Chunk). holds m (memories cs)) (rows-snoc chunkRow i t) ∙ held-snoc m (rows chunkRow i t) (row chunkRow i t))
 
-pub known-made : (k : ℕ) (r : Bool) (head t : List ℕ) (o : Outcome) (d : Memory) → o ≡ O.Made d → k ≡ getD head chunksAt 0 → r ≡ holds (d .number) (memories (rows chunkRow k t)) → r ≡ knownIn (memories (rows chunkRow (getD head chunksAt 0) t)) o
-known-made k r head t o d e f g = g ∙ ap (λ (n : ℕ). holds (d .number) (memories (rows chunkRow n t))) f ∙ ap (knownIn (memories (rows chunkRow (getD head chunksAt 0) t))) (sym e)
+pub known-made : (k : ℕ) (r : Bool) (t : List ℕ) (o : Outcome) (d : Memory) → o ≡ O.Made d → k ≡ getD t chunksAt 0 → r ≡ holds (d .number) (memories (rows chunkRow k t)) → r ≡ knownIn (memories (rows chunkRow (getD t chunksAt 0) t)) o
+known-made k r t o d e f g = g ∙ ap (λ (n : ℕ). holds (d .number) (memories (rows chunkRow n t))) f ∙ ap (knownIn (memories (rows chunkRow (getD t chunksAt 0) t))) (sym e)

@@ -15,11 +15,12 @@ use Rattle.counter.specs.declared.settings.FreeListSettings.{FreeListSettings}
 use Rattle.heap.specs.Heap.{bearsOk}
 use Rattle.slab.specs.declared.Taken as Next
 use Rattle.store_rules.specs.Orders.{Plan, deny, take, buy}
+use Rattle.store_rules.specs.Loans.{givenAt, placesAt}
 use Rattle.book_rules.specs.Book.{takenOf}
 use Rattle.freelist_rules.specs.Records.{regionRow}
 use Rattle.freelist_rules.specs.Place.{Found, nowhere, at, find, cut, sizeFor, maskFor}
 use Rattle.freelist_rules.specs.Steps.{noRegion}
-use Rattle.freelist_rules.specs.Tables.{Tables, tables, givenAt, madeAt, chunkSizeAt, placesAt, chunksAt, regionCountAt, storeOf}
+use Rattle.freelist_rules.specs.Tables.{Tables, tables, madeAt, chunkSizeAt, chunksAt, regionCountAt, storeOf}
 use Rattle.freelist_outcomes.specs.Ask.{sizeOk, roomOk, countOk, objectsOk, lateRow, planned, foundFor, decideAsk, blockAt}
 use Rattle.words.specs.Rows.{rows}
 use Rattle.counter.specs.Limits.{spent}
@@ -29,43 +30,47 @@ use Rattle.freelist_regions.specs.declared.search.Found.the-variants.{At}
 use Rattle.freelist_decide.specs.Plans.{Carries, Planned}
 use Rattle.freelist_decide.specs.declared.deciding.Plan as Code
 
-module _ (s : FreeListSettings) (head index : List ℕ) where
-  abbrev now : Tables
-  now = tables head [] [] index []
+module _ (s : FreeListSettings) (loans index : List ℕ) where
+  abbrev book : Tables
+  book = tables [] loans [] index []
 
   -- a loan place is left
   abbrev pub left : Bool
-  left = ltb (takenOf (getD head placesAt 0) index .place) (s .store .loans)
+  left = ltb (takenOf (getD loans placesAt 0) index .place) (s .store .loans)
 
   abbrev pub Taken : ℕ → Plan ℕ
-  Taken i = planned s 0 now (at i) (first ((roomOk s now (at i), 8) ∷ (ltb (getD head givenAt 0) spent, 10) ∷ []))
+  Taken i = planned s 0 book (at i) (first ((roomOk s book (at i), 8) ∷ (ltb (getD loans givenAt 0) spent, 10) ∷ []))
 
   pub take-full : (i : ℕ) → left ≡ false → deny 8 ≡ Taken i
   unfolding roomOk
   take-full i e = rw e refl
 
-  pub take-spent : (i w : ℕ) → left ≡ true → w ≡ getD head givenAt 0 → w ≡ spent → deny 10 ≡ Taken i
+  pub take-spent : (i w : ℕ) → left ≡ true → w ≡ getD loans givenAt 0 → w ≡ spent → deny 10 ≡ Taken i
   unfolding roomOk
-  take-spent i w e g h = rw (e, le-ltb (getD head givenAt 0) spent (omega (arith, g, h))) refl
+  take-spent i w e g h = rw (e, le-ltb (getD loans givenAt 0) spent (omega (arith, g, h))) refl
 
-  pub take-go : (i w : ℕ) → left ≡ true → w ≡ getD head givenAt 0 → w < spent → take i ≡ Taken i
+  pub take-go : (i w : ℕ) → left ≡ true → w ≡ getD loans givenAt 0 → w < spent → take i ≡ Taken i
   unfolding roomOk
-  take-go i w e g h = rw (e, lt-ltb (getD head givenAt 0) spent (omega (arith, g, h))) refl
+  take-go i w e g h = rw (e, lt-ltb (getD loans givenAt 0) spent (omega (arith, g, h))) refl
 
   -- the place that the code read, and whether it is one of the store's
-  module _ (w : ℕ) (k : Next.Taken) (p : k ≡ takenOf w index) (e : w ≡ getD head placesAt 0) where
-    pub loan-is : k ≡ takenOf (getD head placesAt 0) index
+  module _ (w : ℕ) (k : Next.Taken) (p : k ≡ takenOf w index) (e : w ≡ getD loans placesAt 0) where
+    pub loan-is : k ≡ takenOf (getD loans placesAt 0) index
     loan-is = p ∙ ap (λ (x : ℕ). takenOf x index) e
 
     pub left-is : (has : Bool) → has ≡ ltb (k .place) (s .store .loans) → has ≡ left
     left-is has h = h ∙ ap (λ (x : Next.Taken). ltb (x .place) (s .store .loans)) loan-is
 
-  -- a chunk place is left
-  abbrev pub vacant : Bool
-  vacant = ltb (getD head chunksAt 0) (s .store .chunks)
+module _ (s : FreeListSettings) (head loans chunks index : List ℕ) where
+  abbrev now : Tables
+  now = tables head loans chunks index []
+
+  -- a loan place is left, and a chunk place
+  abbrev pub room : Bool
+  room = left s loans index && ltb (getD chunks chunksAt 0) (s .store .chunks)
 
   -- what the code read says the same
-  pub room-is : (has v : Bool) (w : ℕ) → has ≡ left → w ≡ getD head chunksAt 0 → (has && ltb w (s .store .chunks)) ≡ v → (left && vacant) ≡ v
+  pub room-is : (has v : Bool) (w : ℕ) → has ≡ left s loans index → w ≡ getD chunks chunksAt 0 → (has && ltb w (s .store .chunks)) ≡ v → room ≡ v
   room-is has v w e c r = (λ j. sym e j && ltb (sym c j) (s .store .chunks)) ∙ r
 
   module _ (h : Heap) (objects size : ℕ) where
@@ -73,12 +78,12 @@ module _ (s : FreeListSettings) (head index : List ℕ) where
     raised = grown (getD head chunkSizeAt 0) (sizeFor s size) (s .last)
 
     abbrev pub counts : Bool
-    counts = ltb (getD head givenAt 0) spent && (bearsOk h raised && ltb (getD head madeAt 0) spent)
+    counts = ltb (getD loans givenAt 0) spent && (bearsOk h raised && ltb (getD chunks madeAt 0) spent)
 
     pub raised-is : (n now′ z : ℕ) → n ≡ sizeFor s size → now′ ≡ getD head chunkSizeAt 0 → z ≡ grown now′ n (s .last) → z ≡ raised
     raised-is n now′ z a b c = c ∙ (λ j. grown (b j) (a j) (s .last))
 
-    pub counts-is : (n now′ z given made : ℕ) (bears v : Bool) → n ≡ sizeFor s size → now′ ≡ getD head chunkSizeAt 0 → z ≡ grown now′ n (s .last) → given ≡ getD head givenAt 0 → made ≡ getD head madeAt 0
+    pub counts-is : (n now′ z given made : ℕ) (bears v : Bool) → n ≡ sizeFor s size → now′ ≡ getD head chunkSizeAt 0 → z ≡ grown now′ n (s .last) → given ≡ getD loans givenAt 0 → made ≡ getD chunks madeAt 0
         → bears ≡ bearsOk h z → (ltb given spent && (bears && ltb made spent)) ≡ v → counts ≡ v
     counts-is n now′ z given made bears v a b c g m e r =
         let f : bears ≡ bearsOk h raised = e ∙ ap (bearsOk h) (raised-is n now′ z a b c) in
@@ -87,27 +92,27 @@ module _ (s : FreeListSettings) (head index : List ℕ) where
     abbrev pub Bought : Plan ℕ
     Bought = planned s size now nowhere (first (lateRow s h objects size now nowhere))
 
-    pub buy-full : (left && vacant) ≡ false → deny 8 ≡ Bought
+    pub buy-full : room ≡ false → deny 8 ≡ Bought
     unfolding roomOk
     buy-full e = rw e refl
 
-    pub buy-spent : (left && vacant) ≡ true → counts ≡ false → deny 10 ≡ Bought
+    pub buy-spent : room ≡ true → counts ≡ false → deny 10 ≡ Bought
     unfolding roomOk countOk storeOf
     buy-spent e c = rw (e, c) refl
 
-    pub buy-none : (left && vacant) ≡ true → counts ≡ true → objects ≡ 0 → deny 9 ≡ Bought
+    pub buy-none : room ≡ true → counts ≡ true → objects ≡ 0 → deny 9 ≡ Bought
     unfolding roomOk countOk objectsOk storeOf
     buy-none e c z = rw (e, c, le-ltb 0 objects (omega arith)) refl
 
-    pub buy-go : (left && vacant) ≡ true → counts ≡ true → 0 < objects → buy raised ≡ Bought
+    pub buy-go : room ≡ true → counts ≡ true → 0 < objects → buy raised ≡ Bought
     unfolding roomOk countOk objectsOk storeOf
     buy-go e c z = rw (e, c, lt-ltb 0 objects z) refl
 
 -- ---- the whole of it
 
-module _ (s : FreeListSettings) (h : Heap) (objects size mask : ℕ) (head regions index : List ℕ) where
+module _ (s : FreeListSettings) (h : Heap) (objects size mask : ℕ) (head loans chunks index regions : List ℕ) where
   abbrev all : Tables
-  all = tables head [] [] index regions
+  all = tables head loans chunks index regions
 
   pub found-is : (f : Found) (m n k : ℕ) → f ≡ find m n (rows regionRow k regions) → m ≡ maskFor s mask → n ≡ sizeFor s size → k ≡ getD regions regionCountAt 0 → f ≡ foundFor s size mask all
   unfolding storeOf
@@ -122,22 +127,22 @@ module _ (s : FreeListSettings) (h : Heap) (objects size mask : ℕ) (head regio
   decide-size e f = rw (e, f) refl
 
   -- of a region that serves, two tests are left
-  fewer : (i : ℕ) (r g : Bool) → planned s 0 (tables head [] [] index []) (at i) (first ((r, 8) ∷ (g, 10) ∷ [])) ≡ planned s size all (at i) (first ((r, 8) ∷ (g && true, 10) ∷ (true, 9) ∷ []))
+  fewer : (i : ℕ) (r g : Bool) → planned s 0 (tables [] loans [] index []) (at i) (first ((r, 8) ∷ (g, 10) ∷ [])) ≡ planned s size all (at i) (first ((r, 8) ∷ (g && true, 10) ∷ (true, 9) ∷ []))
   fewer i true true = refl
   fewer i true false = refl
   fewer i false g = refl
 
-  pub decide-at : (i : ℕ) (p : Plan ℕ) → alignmentOk mask ≡ true → sizeOk s size ≡ true → at i ≡ foundFor s size mask all → p ≡ Taken s head index i → p ≡ decideAsk s h objects size mask all
+  pub decide-at : (i : ℕ) (p : Plan ℕ) → alignmentOk mask ≡ true → sizeOk s size ≡ true → at i ≡ foundFor s size mask all → p ≡ Taken s loans index i → p ≡ decideAsk s h objects size mask all
   unfolding decideAsk roomOk countOk objectsOk storeOf
-  decide-at i p e f g t = t ∙ rw (e, f, sym g) (fewer i (roomOk s all (at i)) (ltb (getD head givenAt 0) spent))
+  decide-at i p e f g t = t ∙ rw (e, f, sym g) (fewer i (roomOk s all (at i)) (ltb (getD loans givenAt 0) spent))
 
   -- an order's size does not look at the regions
-  same : (v : Verdict) → planned s size (tables head [] [] index []) nowhere v ≡ planned s size all nowhere v
+  same : (v : Verdict) → planned s size (tables head loans chunks index []) nowhere v ≡ planned s size all nowhere v
   unfolding storeOf
   same pass = refl
   same (refuse n) = refl
 
-  pub decide-nowhere : (p : Plan ℕ) → alignmentOk mask ≡ true → sizeOk s size ≡ true → nowhere ≡ foundFor s size mask all → p ≡ Bought s head index h objects size → p ≡ decideAsk s h objects size mask all
+  pub decide-nowhere : (p : Plan ℕ) → alignmentOk mask ≡ true → sizeOk s size ≡ true → nowhere ≡ foundFor s size mask all → p ≡ Bought s head loans chunks index h objects size → p ≡ decideAsk s h objects size mask all
   unfolding decideAsk roomOk countOk objectsOk storeOf
   decide-nowhere p e f g t = t ∙ rw (e, f, sym g) (same (first (lateRow s h objects size all nowhere)))
 
@@ -150,8 +155,8 @@ module _ (s : FreeListSettings) (h : Heap) (objects size mask : ℕ) (head regio
       let h : x ≡ cut m n (getD (rows regionRow k regions) i noRegion) = subst (λ (y : Regions.Found). Starts m n (rows regionRow k regions) y) e g in
       h ∙ (λ j. cut (a j) (b j) (getD (rows regionRow (c j) regions) i noRegion))
 
-  pub carried-is : (p : Code.Plan) (m n : ℕ) → m ≡ maskFor s mask → n ≡ sizeFor s size → ((from : ℕ → ℕ) → Carries from n m (takenOf (getD head placesAt 0) index) p) → Planned s size mask all p
+  pub carried-is : (p : Code.Plan) (m n : ℕ) → m ≡ maskFor s mask → n ≡ sizeFor s size → ((from : ℕ → ℕ) → Carries from n m (takenOf (getD loans placesAt 0) index) p) → Planned s size mask all p
   carried-is p m n a b g =
       let from : ℕ → ℕ = λ i. blockAt s size mask all i .start in
-      let loan = takenOf (getD head placesAt 0) index in
+      let loan = takenOf (getD loans placesAt 0) index in
       subst (λ (y : ℕ). Carries from (sizeFor s size) y loan p) a (subst (λ (x : ℕ). Carries from x m loan p) b (g from))

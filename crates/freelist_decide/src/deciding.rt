@@ -7,9 +7,10 @@ ghost use lib.ListN.{getD};
 ghost use Rattle.counter.specs.Limits.{spent};
 ghost use Rattle.counter.specs.Gate.{first};
 ghost use Rattle.counter.specs.InTable.{FreeListIn};
+ghost use Rattle.store_rules.specs.Loans.{givenAt, placesAt};
 ghost use Rattle.book_rules.specs.Book.{takenOf};
 ghost use Rattle.freelist_rules.specs.Place.{nowhere, at, sizeFor};
-ghost use Rattle.freelist_rules.specs.Tables.{tables, givenAt, placesAt};
+ghost use Rattle.freelist_rules.specs.Tables.{tables};
 ghost use Rattle.freelist_outcomes.specs.Ask.{sizeOk, roomOk, lateRow, planned, decideAsk};
 ghost use Rattle.freelist_decide.specs.Plans.{planOf, Carries, Planned};
 use counter::FreeListSettings;
@@ -18,10 +19,10 @@ use counter::Refusal;
 use freelist_regions::Found;
 use freelist_rules::CHUNK_SIZE_AT;
 use freelist_rules::CHUNKS_AT;
-use freelist_rules::GIVEN_AT;
 use freelist_rules::MADE_AT;
-use freelist_rules::PLACES_AT;
 use slab::Taken;
+use store_rules::GIVEN_AT;
+use store_rules::PLACES_AT;
 
 // The region that serves, where its block starts, and the place that the loan takes in the book.
 pub struct Taking {
@@ -60,15 +61,15 @@ fn is_place(s: FreeListSettings, loan: Taken) -> bool
 }
 
 // Region i serves, from `start` on.
-fn decide_take(s: FreeListSettings, i: usize, start: u64, head: &[u64], index: &[u64]) -> Plan
-    ensures { λ r. ⌜ planOf r ≡ planned s 0 (tables (now (head .entry)) [] [] (now (index .entry)) []) (at i) (first ((roomOk s (tables (now (head .entry)) [] [] (now (index .entry)) []) (at i), 8) ∷ (ltb (getD (now (head .entry)) givenAt 0) spent, 10) ∷ [])) ⌝ }
-    ensures { λ r. ⌜ ((from : ℕ → ℕ) → (n m : ℕ) → start ≡ from i → Carries from n m (takenOf (getD (now (head .entry)) placesAt 0) (now (index .entry))) r) ⌝ }
+fn decide_take(s: FreeListSettings, i: usize, start: u64, loans: &[u64], index: &[u64]) -> Plan
+    ensures { λ r. ⌜ planOf r ≡ planned s 0 (tables [] (now (loans .entry)) [] (now (index .entry)) []) (at i) (first ((roomOk s (tables [] (now (loans .entry)) [] (now (index .entry)) []) (at i), 8) ∷ (ltb (getD (now (loans .entry)) givenAt 0) spent, 10) ∷ [])) ⌝ }
+    ensures { λ r. ⌜ ((from : ℕ → ℕ) → (n m : ℕ) → start ≡ from i → Carries from n m (takenOf (getD (now (loans .entry)) placesAt 0) (now (index .entry))) r) ⌝ }
 {
-    let loan = book::next_place(words::word(head, PLACES_AT), index);
+    let loan = book::next_place(words::word(loans, PLACES_AT), index);
     if !is_place(s, loan) {
         return Plan::Refuse(Refusal::Full);
     }
-    if words::word(head, GIVEN_AT) == u64::MAX {
+    if words::word(loans, GIVEN_AT) == u64::MAX {
         return Plan::Refuse(Refusal::Count);
     }
     Plan::Take(Taking {
@@ -86,20 +87,22 @@ fn decide_buy(
     size: u64,
     mask: u64,
     head: &[u64],
+    loans: &[u64],
+    chunks: &[u64],
     index: &[u64],
 ) -> Plan
-    ensures { λ r. ⌜ ((asked : ℕ) → size ≡ sizeFor s asked → planOf r ≡ planned s asked (tables (now (head .entry)) [] [] (now (index .entry)) []) nowhere (first (lateRow s h objects asked (tables (now (head .entry)) [] [] (now (index .entry)) []) nowhere))) ⌝ }
-    ensures { λ r. ⌜ ((from : ℕ → ℕ) → Carries from size mask (takenOf (getD (now (head .entry)) placesAt 0) (now (index .entry))) r) ⌝ }
+    ensures { λ r. ⌜ ((asked : ℕ) → size ≡ sizeFor s asked → planOf r ≡ planned s asked (tables (now (head .entry)) (now (loans .entry)) (now (chunks .entry)) (now (index .entry)) []) nowhere (first (lateRow s h objects asked (tables (now (head .entry)) (now (loans .entry)) (now (chunks .entry)) (now (index .entry)) []) nowhere))) ⌝ }
+    ensures { λ r. ⌜ ((from : ℕ → ℕ) → Carries from size mask (takenOf (getD (now (loans .entry)) placesAt 0) (now (index .entry))) r) ⌝ }
 {
     let store = s.store;
-    let loan = book::next_place(words::word(head, PLACES_AT), index);
-    let vacant = words::word(head, CHUNKS_AT) < store.chunks as u64;
+    let loan = book::next_place(words::word(loans, PLACES_AT), index);
+    let vacant = words::word(chunks, CHUNKS_AT) < store.chunks as u64;
     if !(is_place(s, loan) & vacant) {
         return Plan::Refuse(Refusal::Full);
     }
     let z = rounding::grow(words::word(head, CHUNK_SIZE_AT), size, s.last);
-    let given = words::word(head, GIVEN_AT) < u64::MAX;
-    let made = words::word(head, MADE_AT) < u64::MAX;
+    let given = words::word(loans, GIVEN_AT) < u64::MAX;
+    let made = words::word(chunks, MADE_AT) < u64::MAX;
     if !(given & (heap::bears(h, z) & made)) {
         return Plan::Refuse(Refusal::Count);
     }
@@ -121,12 +124,14 @@ pub fn decide(
     size: u64,
     mask: u64,
     head: &[u64],
+    loans: &[u64],
+    chunks: &[u64],
     index: &[u64],
     regions: &[u64],
 ) -> Plan
     requires { ⌜ FreeListIn s ⌝ }
-    ensures { λ r. ⌜ planOf r ≡ decideAsk s h objects size mask (tables (now (head .entry)) [] [] (now (index .entry)) (now (regions .entry))) ⌝ }
-    ensures { λ r. ⌜ Planned s size mask (tables (now (head .entry)) [] [] (now (index .entry)) (now (regions .entry))) r ⌝ }
+    ensures { λ r. ⌜ planOf r ≡ decideAsk s h objects size mask (tables (now (head .entry)) (now (loans .entry)) (now (chunks .entry)) (now (index .entry)) (now (regions .entry))) ⌝ }
+    ensures { λ r. ⌜ Planned s size mask (tables (now (head .entry)) (now (loans .entry)) (now (chunks .entry)) (now (index .entry)) (now (regions .entry))) r ⌝ }
 {
     if !counter::is_alignment(mask) {
         return Plan::Refuse(Refusal::Mask);
@@ -139,7 +144,7 @@ pub fn decide(
     let k = freelist_regions::region_count(regions);
     let found = freelist_regions::find_fit(regions, k, m, n);
     match found {
-        Found::At(i, start) => decide_take(s, i, start, head, index),
-        Found::Nowhere => decide_buy(s, h, objects, n, m, head, index),
+        Found::At(i, start) => decide_take(s, i, start, loans, index),
+        Found::Nowhere => decide_buy(s, h, objects, n, m, head, loans, chunks, index),
     }
 }

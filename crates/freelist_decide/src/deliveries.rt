@@ -30,19 +30,19 @@ fn is_held(chunks: &[u64], k: usize, memory: u64) -> bool
 }
 
 // Whether an outcome's memory is held already.
-fn is_known(o: Outcome, head: &[u64], chunks: &[u64]) -> bool
-    ensures { λ r. ⌜ r ≡ knownIn (memories (rows chunkRow (getD (now (head .entry)) chunksAt 0) (now (chunks .entry)))) o ⌝ }
+fn is_known(o: Outcome, chunks: &[u64]) -> bool
+    ensures { λ r. ⌜ r ≡ knownIn (memories (rows chunkRow (getD (now (chunks .entry)) chunksAt 0) (now (chunks .entry)))) o ⌝ }
 {
     match o {
-        Outcome::Made(m) => is_held(chunks, words::word(head, CHUNKS_AT) as usize, m.number),
+        Outcome::Made(m) => is_held(chunks, words::word(chunks, CHUNKS_AT) as usize, m.number),
         Outcome::OutOfDevice => false,
         Outcome::OutOfHost => false,
     }
 }
 
 // Test 13, and what the outcome leads to.
-pub fn decide_delivery(order: OpenOrder, o: Outcome, head: &[u64], chunks: &[u64]) -> Coming
-    ensures { λ r. ⌜ comingOf r ≡ decideDeliver o (memories (rows chunkRow (getD (now (head .entry)) chunksAt 0) (now (chunks .entry)))) order ⌝ }
+pub fn decide_delivery(order: OpenOrder, o: Outcome, chunks: &[u64]) -> Coming
+    ensures { λ r. ⌜ comingOf r ≡ decideDeliver o (memories (rows chunkRow (getD (now (chunks .entry)) chunksAt 0) (now (chunks .entry)))) order ⌝ }
 {
-    store::come(Engine::FreeList, order, o, is_known(o, head, chunks))
+    store::come(Engine::FreeList, order, o, is_known(o, chunks))
 }

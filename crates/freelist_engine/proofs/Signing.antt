@@ -9,7 +9,7 @@ use Rattle.counter.specs.declared.account.Account.{Account}
 use Rattle.counter.specs.declared.settings.FreeListSettings.{FreeListSettings}
 use Rattle.store_rules.specs.Outcomes.{Listed, listed}
 use Rattle.store_rules.proofs.Signed.{signed-yes, signed-all}
-use Rattle.engines.specs.Pools.{Slot, tableOf, seal, signOf, Marking}
+use Rattle.engines.specs.Pools.{Slot, tableOf, seal, signOf, Marking, Sealed}
 use Rattle.engines.proofs.Signs.{in-slot}
 use Rattle.engines.specs.Shapes.{Tables, Call, setsUp, does, lentList}
 use Rattle.freelist_rules.specs.Tables.{signedOk, marks}
@@ -18,6 +18,8 @@ use Rattle.freelist_outcomes.proofs.Sounds.{set-up-sound}
 use Rattle.freelist_engine.specs.Shape.{OwnCall, listShape}
 use Rattle.freelist_engine.proofs.Refusing.{unsigned-refused}
 use Rattle.freelist_engine.proofs.Stepping.{call-steps}
+use lib.ListN.{getD}
+use Rattle.store_rules.specs.Loans.{givenAt, placesAt, loansOf}
 
 -- a set-up that is accepted signs all five
 pub list-signs : (s : FreeListSettings) (t : Tables) → setUpOf s t .said ≡ Paper.ready → (z : Slot) → seal (tableOf (setUpOf s t .tables) z) ≡ signOf marks z
@@ -39,3 +41,14 @@ list-seals-stay s a t c f z =
 
 abbrev pub list-marking : Marking listShape
 list-marking = record { sign = signOf marks; head-sign = refl; signs = list-signs; seals-stay = list-seals-stay; unsigned = list-unsigned }
+
+-- serials given and loans are read from the loans table alone
+abbrev pub list-sealed : Sealed listShape
+list-sealed =
+    record {
+      marking = list-marking;
+      givenIn = λ loans. getD loans givenAt 0;
+      loansIn = λ loans. loansOf (getD loans placesAt 0) loans;
+      given-there = λ t. refl;
+      loans-there = λ t. refl;
+    }

@@ -18,7 +18,7 @@ use Rattle.freelist_rules.specs.Place.{sizeFor, maskFor, Found, nowhere, at}
 use Rattle.freelist_rules.specs.Records.{Store}
 use Rattle.freelist_rules.specs.Steps.{lent, raised, delivered, released, takenBack, returned}
 use Rattle.freelist_rules.specs.Seek.{seek}
-use Rattle.freelist_rules.specs.Tables.{givenAt, storeOf, marks, Signed}
+use Rattle.freelist_rules.specs.Tables.{storeOf, marks, Signed, givenIn}
 use Rattle.freelist_rules.proofs.Blocks.{returned-is}
 use Rattle.freelist_rules.proofs.Fits.{lengths-are}
 use Rattle.freelist_rules.proofs.NeverAgain as Rules
@@ -42,7 +42,7 @@ abbrev pub Marked : Tables → Type 0
 Marked t = getD (t .head) markAt 0 ≡ marks .head
 
 abbrev pub givenOf : Tables → ℕ
-givenOf t = getD (t .head) givenAt 0
+givenOf t = givenIn t
 
 -- the store after a block has been taken back and its chunks released
 pub back-store : (s : FreeListSettings) (a : Account) (b : Block) (t : Tables) (listed : Bool) → Passed s a t listed → onLoanOk s b t ≡ true → storeOf s (releasedTables s true (givenTables s b (wordFor s b t) t)) ≡ returned b (storeOf s t)

@@ -37,9 +37,9 @@ use Rattle.freelist_rules.proofs.Ordered.{put-in}
 use Rattle.freelist_outcomes.specs.Ask.{raisedFor, loanFrom, askOf}
 use Rattle.freelist_outcomes.specs.Deliver.{carryFate, deliverOf}
 use Rattle.freelist_outcomes.specs.Return.{releaseOf, returnOf, cleanUpOf}
-use Rattle.freelist_outcomes.specs.SetUp.{Begun, freshTables, setUpOf}
+use Rattle.freelist_outcomes.specs.SetUp.{Begun, setUpOf}
 use Rattle.freelist_outcomes.proofs.Arrives.{arrived, arrived-store, lent-store}
-use Rattle.freelist_outcomes.proofs.Changed.{ordered-store, released-store}
+use Rattle.freelist_outcomes.proofs.Changed.{ordered-store, released-store, fresh-loans}
 use Rattle.freelist_outcomes.proofs.Comes.{AskComes, lends, orders, ask-comes, DeliverComes, keeps, loses, deliver-comes, ReturnComes, takes, return-comes, CleanUpComes, cleans, clean-up-comes, SetUpComes, readies, set-up-comes}
 use Rattle.freelist_outcomes.proofs.Fitted.{refusal-block, same-block}
 use Rattle.freelist_outcomes.proofs.Taken.{taken-store}
@@ -122,9 +122,8 @@ own-leaves : (s : FreeListSettings) (a : Account) (c : OwnCall) (t : Tables) (li
 own-leaves s a cleansUp t list = clean-up-leaves s a t list (cleanUpOf s a t list) (clean-up-comes s a t list)
 
 fresh-none : (s : FreeListSettings) (t : Tables) (r : Begun) → SetUpComes s t r → kindOf (r .said) ≡ 0 → loansOf (placesIn (r .tables)) (r .tables .loans) ≡ []
-unfolding freshTables loansOf
 fresh-none s t _ SetUpComes.denied e = absurd (omega arith)
-fresh-none s t _ (readies fit lengths) e = refl
+fresh-none s t _ (readies fit lengths) e = fresh-loans s
 
 -- the loans as the tables have them
 seen-joined : (s : FreeListSettings) (t u : Tables) (said : Said) → Lends s t u said → Joined (listShape .loans u) (listShape .loans t) (lentBy said)

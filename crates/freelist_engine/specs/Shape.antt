@@ -2,7 +2,6 @@
 use mathlib.Core.Bool.{true}
 use mathlib.Core.List.{List}
 use Prim.Native.Nat.{ℕ, _≤_}
-use lib.ListN.{getD}
 use Rattle.counter.specs.InTable.{FreeListIn}
 use Rattle.counter.specs.Limits.{spent}
 use Rattle.counter.specs.Reasons.{Reasons}
@@ -15,7 +14,7 @@ use Rattle.store_rules.specs.Rows.{listRows}
 use Rattle.engines.specs.Shapes.{Shape}
 use Rattle.freelist_rules.specs.AtOnce.{atOnce}
 use Rattle.freelist_rules.specs.Records.{Store}
-use Rattle.freelist_rules.specs.Tables.{Tables, Lengths, givenAt, placesIn, storeOf, SoundTables, marks}
+use Rattle.freelist_rules.specs.Tables.{Tables, Lengths, placesIn, storeOf, SoundTables, marks, givenIn}
 use Rattle.freelist_outcomes.specs.Gate.{gateOf}
 use Rattle.freelist_outcomes.specs.Ask.{raisedFor, askOf}
 use Rattle.freelist_outcomes.specs.Deliver.{deliverGateOf, deliverOf}
@@ -57,7 +56,7 @@ listShape =
       other = ownOf;
       engine = freeList;
       mark = marks .head;
-      given = λ t. getD (t .head) givenAt 0;
+      given = λ t. givenIn t;
       loans = λ t. loansOf (placesIn t) (t .loans);
       view = λ s t. seen (storeOf s t);
       Rest = Counts;

@@ -1,9 +1,10 @@
 -- A delivery's gate in the code's order comes to the verdict that is defined.
 use mathlib.Core.Path.{_≡_, refl, sym, ap, subst, _∙_}
 use mathlib.Core.Bool.{Bool, true, false}
-use mathlib.Core.List.{[]}
+use mathlib.Core.List.{List}
 use Prim.Native.Nat.{ℕ}
 use lib.Dec.{eqb}
+use lib.ListN.{getD}
 use borrow.Author.Tests.{eqb-true}
 use Rattle.lists.proofs.Bools.{and-left, and-right}
 use Rattle.counter.specs.Account.{heapAt}
@@ -15,12 +16,12 @@ use Rattle.counter.specs.declared.account.OpenOrder.{OpenOrder}
 use Rattle.counter.specs.declared.account.OpenOrder.the-variants.{Nothing, Kept}
 use Rattle.counter.specs.declared.account.Order.{Order}
 use Rattle.counter.specs.declared.settings.FreeListSettings.{FreeListSettings}
-use Rattle.store_rules.specs.Orders.{Plan, deny, take, buy, orderFrom, sameOrder, leadsTo}
+use Rattle.store_rules.specs.Orders.{Plan, deny, take, buy, orderFrom, sameOrder}
 use Rattle.store_rules.proofs.Holders.{holding, holder}
-use Rattle.store_rules.specs.Tests.{openFor}
+use Rattle.store_rules.specs.Tests.{openFor, coversOk}
 use Rattle.store_rules.specs.declared.Share.{Share}
 use Rattle.store_rules.proofs.Shares.{held-heap}
-use Rattle.freelist_rules.specs.Tables.{Tables, tables, storeOf, soundOk}
+use Rattle.freelist_rules.specs.Tables.{Tables, chunksAt, storeOf, soundOk}
 use Rattle.freelist_outcomes.specs.Ask.{decideAsk}
 use Rattle.freelist_outcomes.specs.Deliver.{stillOk, deliverGateOf}
 use Rattle.freelist_outcomes.specs.Gate.{inTableOk, accountOk}
@@ -29,51 +30,58 @@ use Rattle.freelist_decide.specs.Plans.{Planned}
 use Rattle.freelist_decide.specs.declared.deciding.Buying.{Buying}
 use Rattle.freelist_decide.specs.declared.deciding.Plan as Code
 use Rattle.freelist_decide.specs.declared.deciding.Plan.the-variants.{Buy}
-use Rattle.freelist_decide.proofs.Few.{ask-few, planned-few}
-use Rattle.freelist_gate.specs.Gates.{keptGate, BoughtFor}
+use Rattle.freelist_gate.specs.Gates.{boughtGate, keptGate, BoughtAs, BoughtFor}
 use Rattle.freelist_gate.specs.declared.deliveries.Passing.{Passing}
-use Rattle.freelist_gate.proofs.Gates.{covered}
+use Rattle.freelist_gate.specs.declared.deliveries.Passing.the-variants.{Shut, Go}
+use Rattle.freelist_gate.proofs.Gates.{bytes}
 
 -- ---- the order that the kept ask leads to
 
-module _ (s : FreeListSettings) (k : KeptOrder) where
-  pub leads-not : (p q : Plan ℕ) (n : ℕ) → p ≡ deny n → p ≡ q → false ≡ leadsTo (s .store) (k .order) q
-  leads-not p q n e f = ap (leadsTo (s .store) (k .order)) (sym e ∙ f)
+module _ (s : FreeListSettings) (h : Heap) (objects : ℕ) (order : Order) (z : ℕ) (chunks : List ℕ) where
+  -- whether it is still the one that was told
+  abbrev pub same : Bool
+  same = sameOrder order (orderFrom (s .store) z)
 
-  pub leads-take : (p q : Plan ℕ) (i : ℕ) → p ≡ take i → p ≡ q → false ≡ leadsTo (s .store) (k .order) q
-  leads-take p q i e f = ap (leadsTo (s .store) (k .order)) (sym e ∙ f)
+  abbrev pub covers : Bool
+  covers = coversOk h objects (getD chunks chunksAt 0) (bytes (getD chunks chunksAt 0) chunks)
 
-  pub leads-buy : (p q : Plan ℕ) (z : ℕ) (o : Order) (r : Bool) → p ≡ buy z → p ≡ q → o ≡ orderFrom (s .store) z → r ≡ sameOrder (k .order) o → r ≡ leadsTo (s .store) (k .order) q
-  leads-buy p q z o r e f g h = h ∙ ap (sameOrder (k .order)) g ∙ ap (leadsTo (s .store) (k .order)) (sym e ∙ f)
+  pub bought-other : same ≡ false → refuse 3 ≡ boughtGate s h objects order z chunks
+  unfolding boughtGate
+  bought-other e = rw e refl
 
-  -- of the order's size
-  pub ordered-size : (z : ℕ) (r : Bool) → r ≡ sameOrder (k .order) (orderFrom (s .store) z) → r ≡ true → z ≡ k .order .size
-  ordered-size z r e f = sym (eqb-true (k .order .size) z (and-left _ _ (and-right (eqb (k .order .store) (s .store .number)) _ (sym e ∙ f))))
+  pub bought-short : same ≡ true → covers ≡ false → refuse 4 ≡ boughtGate s h objects order z chunks
+  unfolding boughtGate
+  bought-short e f = rw (e, f) refl
+
+  pub bought-go : same ≡ true → covers ≡ true → pass ≡ boughtGate s h objects order z chunks
+  unfolding boughtGate
+  bought-go e f = rw (e, f) refl
+
+-- of the order's size
+pub ordered-size : (s : FreeListSettings) (order : Order) (z : ℕ) → sameOrder order (orderFrom (s .store) z) ≡ true → z ≡ order .size
+ordered-size s order z e = sym (eqb-true (order .size) z (and-left _ _ (and-right (eqb (order .store) (s .store .number)) _ e)))
 
 -- ---- the gate
 
 module _ (s : FreeListSettings) (h : Heap) (objects : ℕ) (k : KeptOrder) (t : Tables) where
-  abbrev pub still : Bool
-  still = leadsTo (s .store) (k .order) (decideAsk s h objects (k .ask .size) (k .ask .mask) (tables (t .head) [] [] (t .index) (t .room)))
-
-  still-is : still ≡ leadsTo (s .store) (k .order) (decideAsk s h objects (k .ask .size) (k .ask .mask) t)
-  still-is = ap (leadsTo (s .store) (k .order)) (ask-few s h objects (k .ask .size) (k .ask .mask) t)
+  abbrev decided : Plan ℕ
+  decided = decideAsk s h objects (k .ask .size) (k .ask .mask) t
 
   pub kept-torn : soundOk s t ≡ false → refuse 3 ≡ keptGate s h objects k t
   unfolding keptGate
   kept-torn e = rw e refl
 
-  pub kept-other : soundOk s t ≡ true → still ≡ false → refuse 3 ≡ keptGate s h objects k t
+  pub kept-refused : (p : Plan ℕ) (n : ℕ) → soundOk s t ≡ true → p ≡ deny n → p ≡ decided → refuse 3 ≡ keptGate s h objects k t
   unfolding keptGate
-  kept-other e f = rw (e, sym still-is ∙ f) refl
+  kept-refused p n e f g = rw (e, sym g ∙ f) refl
 
-  pub kept-short : soundOk s t ≡ true → still ≡ true → covered s h objects t ≡ false → refuse 4 ≡ keptGate s h objects k t
-  unfolding keptGate storeOf
-  kept-short e f g = rw (e, sym still-is ∙ f, g) refl
+  pub kept-taken : (p : Plan ℕ) (i : ℕ) → soundOk s t ≡ true → p ≡ take i → p ≡ decided → refuse 3 ≡ keptGate s h objects k t
+  unfolding keptGate
+  kept-taken p i e f g = rw (e, sym g ∙ f) refl
 
-  pub kept-go : soundOk s t ≡ true → still ≡ true → covered s h objects t ≡ true → pass ≡ keptGate s h objects k t
-  unfolding keptGate storeOf
-  kept-go e f g = rw (e, sym still-is ∙ f, g) refl
+  pub kept-bought : (p : Plan ℕ) (z : ℕ) (v : Verdict) → soundOk s t ≡ true → p ≡ buy z → p ≡ decided → v ≡ boughtGate s h objects (k .order) z (t .chunks) → v ≡ keptGate s h objects k t
+  unfolding keptGate boughtGate storeOf
+  kept-bought p z v e f g b = b ∙ rw (e, sym g ∙ f) refl
 
 module _ (s : FreeListSettings) (a : Account) (t : Tables) where
   lent-not : inTableOk s a t ≡ false → refuse 1 ≡ deliverGateOf s a t
@@ -117,10 +125,10 @@ module _ (s : FreeListSettings) (share : Share) (order : OpenOrder) (t : Tables)
 -- ---- what it tells
 
 module _ (s : FreeListSettings) (k : KeptOrder) (t : Tables) where
-  pub bought-for : (b : Buying) (p : Code.Plan) → p ≡ Buy b → Planned s (k .ask .size) (k .ask .mask) (tables (t .head) [] [] (t .index) (t .room)) p
-      → b .order ≡ k .order .size → (b .order ≡ k .order .size) × Planned s (k .ask .size) (k .ask .mask) t (Buy b)
-  bought-for b p e c z =
-      (z, planned-few s (k .ask .size) (k .ask .mask) t (Buy b) (subst (λ (x : Code.Plan). Planned s (k .ask .size) (k .ask .mask) (tables (t .head) [] [] (t .index) (t .room)) x) e c))
+  pub bought-for : (b : Buying) (p : Code.Plan) (r : Passing) → p ≡ Buy b → Planned s (k .ask .size) (k .ask .mask) t p → BoughtAs (k .order) b r → BoughtFor s k t r
+  bought-for b p (Shut n) e c o = tt
+  bought-for b p (Go x) e c (f, z) =
+      (ap (λ (y : Buying). y .order) f ∙ z, subst (λ (y : Buying). Planned s (k .ask .size) (k .ask .mask) t (Buy y)) (sym f) (subst (Planned s (k .ask .size) (k .ask .mask) t) e c))
 
   -- of the order that is open
   pub open-for : (order : OpenOrder) (j : KeptOrder) (r : Passing) → order ≡ Kept j → BoughtFor s j t r → order ≡ Kept k → BoughtFor s k t r

@@ -93,9 +93,9 @@ module _ (s : FreeListSettings) (h : Heap) (objects : ℕ) (t : Tables) where
   unfolding storeGate storeOf
   store-go e f = rw (e, f) refl
 
-pub covered-is : (h : Heap) (objects k b : ℕ) (r : Bool) (head chunks : List ℕ) → k ≡ getD head chunksAt 0 → b ≡ bytes k chunks → r ≡ coversOk h objects k b
-    → r ≡ coversOk h objects (getD head chunksAt 0) (bytes (getD head chunksAt 0) chunks)
-covered-is h objects k b r head chunks e f g = g ∙ (λ j. coversOk h objects (e j) ((f ∙ ap (λ (i : ℕ). bytes i chunks) e) j))
+pub covered-is : (h : Heap) (objects k b : ℕ) (r : Bool) (chunks : List ℕ) → k ≡ getD chunks chunksAt 0 → b ≡ bytes k chunks → r ≡ coversOk h objects k b
+    → r ≡ coversOk h objects (getD chunks chunksAt 0) (bytes (getD chunks chunksAt 0) chunks)
+covered-is h objects k b r chunks e f g = g ∙ (λ j. coversOk h objects (e j) ((f ∙ ap (λ (i : ℕ). bytes i chunks) e) j))
 
 module _ (s : FreeListSettings) (a : Account) (t : Tables) (list : Bool) where
   pub gate-lent : (inTableOk s a t && list) ≡ false → refuse 1 ≡ gateOf s a t list

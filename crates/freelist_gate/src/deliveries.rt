@@ -1,14 +1,20 @@
 // The gate of a delivery: the tests 1 to 4, of which the third tests the kept ask again.
 ghost use mathlib.Core.Path.{_≡_};
 ghost use mathlib.Core.Bool.{true};
+ghost use Prim.Native.Nat.{_*_, _≤_};
+ghost use lib.ListN.{getD};
+ghost use Rattle.words.specs.Rows.{rows};
 ghost use Rattle.counter.specs.InTable.{FreeListIn};
+ghost use Rattle.counter.specs.Limits.{chunksMost, chunkSizeMost};
 ghost use Rattle.counter.specs.declared.account.KeptOrder.{KeptOrder};
 ghost use Rattle.counter.specs.declared.account.OpenOrder.the-variants.{Kept};
 ghost use Rattle.store_rules.specs.Orders.{orderFrom, sameOrder};
 ghost use Rattle.store_rules.proofs.Holders.{holding};
-ghost use Rattle.freelist_rules.specs.Tables.{tables, lengthsOk};
+ghost use Rattle.freelist_rules.specs.Records.{chunkRow};
+ghost use Rattle.freelist_rules.specs.Pieces.{total};
+ghost use Rattle.freelist_rules.specs.Tables.{tables, lengthsOk, chunksAt};
 ghost use Rattle.freelist_outcomes.specs.Deliver.{deliverGateOf};
-ghost use Rattle.freelist_gate.specs.Gates.{keptGate, passOf, BoughtFor};
+ghost use Rattle.freelist_gate.specs.Gates.{boughtGate, keptGate, passOf, BoughtAs, BoughtFor};
 use crate::gating::is_covered;
 use crate::gating::is_in_table;
 use counter::FreeListSettings;
@@ -35,6 +41,28 @@ fn is_still(s: FreeListSettings, order: Order, size: u64) -> bool
     store_accounts::same_order(order, store_accounts::order_from(store, size))
 }
 
+// The rest of tests 3 and 4, where the kept ask comes to b.
+fn gate_bought(
+    s: FreeListSettings,
+    h: Heap,
+    objects: u32,
+    order: Order,
+    b: Buying,
+    chunks: &[u64],
+) -> Passing
+    requires { ⌜ (getD (now chunks) chunksAt 0 ≤ chunksMost) × ((j : _) → j ≤ getD (now chunks) chunksAt 0 → total (λ c. c .size) (rows chunkRow j (now chunks)) ≤ j * chunkSizeMost) ⌝ }
+    ensures { λ r. ⌜ passOf r ≡ boughtGate s h objects order (b .order) (now (chunks .entry)) ⌝ }
+    ensures { λ r. ⌜ BoughtAs order b r ⌝ }
+{
+    if !is_still(s, order, b.order) {
+        return Passing::Shut(Refusal::Torn);
+    }
+    if !is_covered(h, objects, chunks) {
+        return Passing::Shut(Refusal::Account);
+    }
+    Passing::Go(b)
+}
+
 // Tests 3 and 4, where k is the order.
 fn gate_kept(
     s: FreeListSettings,
@@ -55,20 +83,22 @@ fn gate_kept(
         return Passing::Shut(Refusal::Torn);
     }
     let ask = k.ask;
-    let order = k.order;
-    let plan = freelist_decide::decide(s, h, objects, ask.size, ask.mask, head, index, regions);
+    let plan = freelist_decide::decide(
+        s,
+        h,
+        objects,
+        ask.size,
+        ask.mask,
+        head,
+        loans,
+        chunks,
+        index,
+        regions,
+    );
     match plan {
         Plan::Refuse(_) => Passing::Shut(Refusal::Torn),
         Plan::Take(_) => Passing::Shut(Refusal::Torn),
-        Plan::Buy(b) => {
-            if !is_still(s, order, b.order) {
-                return Passing::Shut(Refusal::Torn);
-            }
-            if !is_covered(h, objects, head, chunks) {
-                return Passing::Shut(Refusal::Account);
-            }
-            Passing::Go(b)
-        }
+        Plan::Buy(b) => gate_bought(s, h, objects, k.order, b, chunks),
     }
 }
 

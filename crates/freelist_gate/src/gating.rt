@@ -101,11 +101,11 @@ fn chunk_bytes(chunks: &[u64], k: usize) -> u64
 }
 
 // Test 4, of the store's own heap.
-pub fn is_covered(h: Heap, objects: u32, head: &[u64], chunks: &[u64]) -> bool
-    requires { ⌜ (getD (now head) chunksAt 0 ≤ chunksMost) × ((j : _) → j ≤ getD (now head) chunksAt 0 → total (λ c. c .size) (rows chunkRow j (now chunks)) ≤ j * chunkSizeMost) ⌝ }
-    ensures { λ r. ⌜ r ≡ coversOk h objects (getD (now (head .entry)) chunksAt 0) (total (λ c. c .size) (rows chunkRow (getD (now (head .entry)) chunksAt 0) (now (chunks .entry)))) ⌝ }
+pub fn is_covered(h: Heap, objects: u32, chunks: &[u64]) -> bool
+    requires { ⌜ (getD (now chunks) chunksAt 0 ≤ chunksMost) × ((j : _) → j ≤ getD (now chunks) chunksAt 0 → total (λ c. c .size) (rows chunkRow j (now chunks)) ≤ j * chunkSizeMost) ⌝ }
+    ensures { λ r. ⌜ r ≡ coversOk h objects (getD (now (chunks .entry)) chunksAt 0) (total (λ c. c .size) (rows chunkRow (getD (now (chunks .entry)) chunksAt 0) (now (chunks .entry)))) ⌝ }
 {
-    let k = words::word(head, CHUNKS_AT);
+    let k = words::word(chunks, CHUNKS_AT);
     store_accounts::covers(h, objects, k, chunk_bytes(chunks, k as usize))
 }
 
@@ -126,7 +126,7 @@ fn gate_store(
     if !freelist_test::is_sound(s, head, loans, chunks, index, regions) {
         return Gate::Shut(Refusal::Torn);
     }
-    if !is_covered(h, objects, head, chunks) {
+    if !is_covered(h, objects, chunks) {
         return Gate::Shut(Refusal::Account);
     }
     Gate::Go

@@ -1,10 +1,8 @@
 -- A chunk that has arrived serves the ask that ordered it, from its region, the last.
-use mathlib.Core.Path.{_≡_, sym, ap, subst, _∙_}
-use Prim.Native.Nat.{ℕ, _+_, _≤_}
+use mathlib.Core.Path.{_≡_, sym, ap, subst, _∙_, refl}
+use Prim.Native.Nat.{ℕ, _≤_}
 use native.Mathlib.Omega.{arith}
-use lib.ListN.{length, set}
-use lib.Seq.{getD-set-other}
-use Rattle.rounding_rules.specs.Growth.{doubled}
+use lib.ListN.{length}
 use Rattle.rounding_rules.proofs.Growth.{grown-enough}
 use Rattle.rounding_rules.proofs.Raising.{up-least}
 use Rattle.counter.specs.InTable.{FreeListIn}
@@ -16,7 +14,7 @@ use Rattle.freelist_rules.specs.Place.{find, sizeFor, maskFor}
 use Rattle.freelist_rules.specs.Pieces.{All}
 use Rattle.freelist_rules.specs.Steps.{delivered, lent}
 use Rattle.freelist_rules.specs.Records.{Store}
-use Rattle.freelist_rules.specs.Tables.{Tables, madeAt, chunkSizeAt, chunksAt, placesAt, Lengths, placesIn, chunksIn, storeOf, SoundTables}
+use Rattle.freelist_rules.specs.Tables.{Tables, Lengths, placesIn, storeOf, SoundTables}
 use Rattle.store_rules.specs.declared.Chunk.{Chunk}
 use Rattle.freelist_rules.proofs.Delivers.{delivered-serves}
 use Rattle.freelist_rules.proofs.Facts.{sized-some}
@@ -63,19 +61,9 @@ module _ (s : FreeListSettings) (a : Account) (t : Tables) (k : KeptOrder) (w : 
       ∙ delivered-store s t (w .settings) lengths (w .sound) size memory (w .buys .room) new
       ∙ ap (λ (z : ℕ). delivered s memory z (storeOf s t)) (sym (w .size))
 
-  -- the loans' places are as they were
-  places-stay : placesIn arrived ≡ placesIn t
-  unfolding deliveredTables
-  places-stay =
-      let x = set (t .head) madeAt (storeOf s t .made + 1) in
-      let y = set x chunkSizeAt (doubled (k .order .size) (s .last)) in
-      getD-set-other y chunksAt placesAt (chunksIn t + 1) 0 (λ e. omega arith)
-      ∙ getD-set-other x chunkSizeAt placesAt (doubled (k .order .size) (s .last)) 0 (λ e. omega arith)
-      ∙ getD-set-other (t .head) madeAt placesAt (storeOf s t .made + 1) 0 (λ e. omega arith)
-
   same-place : takenOf (placesIn arrived) (arrived .index) .place ≡ takenOf (placesIn t) (t .index) .place
   unfolding deliveredTables
-  same-place = ap (λ (n : ℕ). takenOf n (t .index) .place) places-stay
+  same-place = refl
 
   pub arrived-serves : Serves s size (k .ask .mask) arrived (length (storeOf s t .regions))
   arrived-serves =

@@ -6,7 +6,6 @@ use Prim.Native.Nat.{ℕ, _≤_}
 use native.Mathlib.Omega.{arith}
 use lib.Dec.{ltb}
 use lib.ListN.{length-set}
-use lib.Seq.{getD-set-other}
 use borrow.Author.Tests.{eq-eqb}
 use Rattle.lists.proofs.Bools.{and-both}
 use Rattle.rounding_rules.specs.Growth.{grown}
@@ -28,11 +27,10 @@ use Rattle.store_rules.specs.Orders.{orderFrom, keptFrom, leadsTo}
 use Rattle.store_rules.specs.Outcomes.{Out, out, withOrder}
 use Rattle.store_rules.specs.Tests.{openFor, gateRow}
 use Rattle.store_rules.proofs.Said.{refusal-order, block-order, same-order}
-use Rattle.book_rules.specs.Book.{takenOf}
 use Rattle.freelist_rules.specs.Place.{Found, nowhere, find, sizeFor, maskFor}
 use Rattle.freelist_rules.specs.Records.{Store}
 use Rattle.freelist_rules.specs.Steps.{raised}
-use Rattle.freelist_rules.specs.Tables.{Tables, chunkSizeAt, chunksAt, placesAt, Lengths, lengthsOk, storeOf, soundOk, SoundTables}
+use Rattle.freelist_rules.specs.Tables.{Tables, chunkSizeAt, Lengths, lengthsOk, storeOf, soundOk, SoundTables}
 use Rattle.freelist_rules.proofs.Facts.{sized-low, sized-some}
 use Rattle.freelist_rules.proofs.Fits.{lengths-are, are-lengths}
 use Rattle.freelist_rules.proofs.Tested.{tables-all}
@@ -101,10 +99,7 @@ module _ (s : FreeListSettings) (a : Account) (size mask : ℕ) (t : Tables) whe
 
     same-room : roomOk s u nowhere ≡ roomOk s t nowhere
     unfolding roomOk orderedTables
-    same-room =
-        let p = getD-set-other (t .head) chunkSizeAt placesAt z 0 (λ e. omega arith) in
-        let c = getD-set-other (t .head) chunkSizeAt chunksAt z 0 (λ e. omega arith) in
-        (λ j. ltb (takenOf (p j) (t .index) .place) (s .store .loans) && ltb (c j) (s .store .chunks))
+    same-room = refl
 
     -- an order raises the chunk size once
     raised-once : size ≤ s .last → raisedFor s size u ≡ z

@@ -17,7 +17,7 @@ use Rattle.counter.specs.declared.answers.Block.{Block}
 use Rattle.counter.specs.declared.settings.FreeListSettings.{FreeListSettings}
 use Rattle.slab.specs.Slab.{nowhere, changed}
 use Rattle.slab.proofs.Places.{changed-here, changed-other}
-use Rattle.store_rules.specs.Loans.{loanWords, serialAt, sizeAt, loanRow, loansOf}
+use Rattle.store_rules.specs.Loans.{givenAt, loanWords, serialAt, sizeAt, loanRow, loansOf, placesAt}
 use Rattle.store_rules.specs.Views.{OnLoan}
 use Rattle.store_rules.specs.declared.Loan.{Loan}
 use Rattle.store_rules.proofs.Loaned.{loan-same}
@@ -25,14 +25,14 @@ use Rattle.book_rules.specs.Book.{indexWords, serialOf, firstIn, wordTo, struck
 use Rattle.book_rules.proofs.Changed.{serial-kept, vacant-now}
 use Rattle.book_rules.proofs.Decides.{serial-once}
 use Rattle.book_rules.proofs.Keeps.{BookChained, BookParted, freeIn, nextIn, found, struck-long, struck-wide, struck-chained, struck-parted}
-use Rattle.book_rules.proofs.Owns.{struck-mark, struck-index-mark, word-past-mark}
+use Rattle.book_rules.proofs.Owns.{struck-mark, struck-own, struck-index-mark, word-past-mark}
 use Rattle.freelist_rules.specs.Join.{insert}
 use Rattle.freelist_rules.specs.Pieces.{All, piece}
 use Rattle.freelist_rules.specs.Records.{region}
 use Rattle.freelist_rules.specs.Seek.{sameLoan}
 use Rattle.freelist_rules.specs.Sound.{Sound}
 use Rattle.freelist_rules.specs.Steps.{noLoan}
-use Rattle.freelist_rules.specs.Tables.{Tables, Lengths, SoundTables, RegionsFit, givenAt, placesIn, ordered, regionsMost, storeOf}
+use Rattle.freelist_rules.specs.Tables.{Tables, Lengths, SoundTables, RegionsFit, placesIn, ordered, regionsMost, storeOf, givenIn}
 use Rattle.store_rules.specs.declared.Region.{Region}
 use Rattle.freelist_rules.proofs.Search.{same-loan}
 use Rattle.freelist_rules.proofs.Base.{at-in}
@@ -79,7 +79,7 @@ module _ (s : FreeListSettings) (t : Tables) (fit : FreeListIn s) (sound : Sound
   is-on-loan v =
       let n = s .store .loans in
       let w = place-of (placesIn t) (t .loans) (v .0) (ordered-out (v .0) (loansOf (placesIn t) (t .loans)) (v .1)) in
-      let f = found (t .loans) (t .index) n (placesIn t) (getD (t .head) givenAt 0) (fit .store .loans-some) (sound .parted .limit) (omega (arith, fit .store .loans-most)) (sound .chained) (w .loanPlace) (w .below) (w .used) in
+      let f = found (t .loans) (t .index) n (placesIn t) (givenIn t) (fit .store .loans-some) (sound .parted .limit) (omega (arith, fit .store .loans-most)) (sound .chained) (w .loanPlace) (w .below) (w .used) in
       let g : (wordFor s b t < indexWords n) × (getD (t .index) (wordFor s b t) 0 ≡ w .loanPlace) =
       subst (λ (k : ℕ). (wordTo (t .loans) (t .index) n (placesIn t) k < indexWords n) × (getD (t .index) (wordTo (t .loans) (t .index) n (placesIn t) k) 0 ≡ w .loanPlace)) (w .serial ∙ v .2 .serial) f in
       let there : not (eqb (wordFor s b t) nowhere) ≡ true = ap not (ne-eqb (wordFor s b t) nowhere (λ e. omega (arith, g .0, fit .store .loans-most))) in
@@ -100,7 +100,7 @@ module _ (s : FreeListSettings) (t : Tables) (fit : FreeListIn s) (lengths : Len
   n = s .store .loans
 
   abbrev given : ℕ
-  given = getD (t .head) givenAt 0
+  given = givenIn t
 
   few : n < nowhere
   few = omega (arith, fit .store .loans-most)
@@ -172,16 +172,25 @@ module _ (s : FreeListSettings) (t : Tables) (fit : FreeListIn s) (lengths : Len
 
   -- ---- the store
 
+  abbrev loans′ : List ℕ
+  loans′ = struck word (t .index) (t .loans)
+
+  given-stays : getD loans′ givenAt 0 ≡ givenIn t
+  given-stays = struck-own word givenAt (t .index) (t .loans) (omega arith)
+
+  places-stay : getD loans′ placesAt 0 ≡ placesIn t
+  places-stay = struck-own word placesAt (t .index) (t .loans) (omega arith)
+
   -- the store that the tables hold is the one with the loan given back that matches the block
   pub given-store : storeOf s (givenTables s b (wordFor s b t) t) ≡ give (on-loan-is s t fit sound b on .0) (storeOf s t)
   unfolding storeOf givenTables struck
   given-store =
       let v = on-loan-is s t fit sound b on in
       let m = v .2 in
-      let l = given-loans ∙ ap (λ (k : ℕ). without k (storeOf s t .loans)) (sym (m .serial)) in
+      let l = ap (λ (k : ℕ). ordered (loansOf k loans′)) places-stay ∙ given-loans ∙ ap (λ (k : ℕ). without k (storeOf s t .loans)) (sym (m .serial)) in
       let p : returning b ≡ piece (v .0) = λ j. region (sym (m .chunk) j) (sym (m .offset) j) (sym (m .offset) j + sym (m .size) j) in
       let r = laid-regions s joined (t .room) regions-whole room ∙ ap (λ (x : Region). insert x (storeOf s t .regions)) p in
-      (λ j. record { given = storeOf s t .given; made = storeOf s t .made; size = storeOf s t .size; loans = l j; chunks = storeOf s t .chunks; regions = r j })
+      (λ j. record { given = given-stays j; made = storeOf s t .made; size = storeOf s t .size; loans = l j; chunks = storeOf s t .chunks; regions = r j })
 
   given-chained : BookChained (struck word (t .index) (t .loans)) (struckIndex word (t .index)) n (placesIn t) given
   given-chained =
@@ -207,7 +216,9 @@ module _ (s : FreeListSettings) (t : Tables) (fit : FreeListIn s) (lengths : Len
             };
         chunks-fit = sound .chunks-fit;
         regions-fit = omega (arith, laid-count s joined (t .room) regions-whole room, room);
-        parted = given-parted;
-        chained = given-chained;
+        parted = subst (λ (k : ℕ). BookParted loans′ (struckIndex word (t .index)) n k) (sym places-stay) given-parted;
+        chained =
+            subst (λ (k : ℕ). BookChained loans′ (struckIndex word (t .index)) n k (getD loans′ givenAt 0)) (sym places-stay)
+            (subst (λ (g : ℕ). BookChained loans′ (struckIndex word (t .index)) n (placesIn t) g) (sym given-stays) given-chained);
         store = let v = on-loan-is s t fit sound b on in subst (Sound s) (sym given-store) (give-sound s (storeOf s t) fit (sound .store) (v .0) (v .1));
       }

@@ -21,7 +21,7 @@ use Rattle.freelist_rules.specs.Records.{region}
 use Rattle.freelist_rules.specs.Pieces.{piece}
 use Rattle.freelist_rules.specs.Seek.{sameLoan}
 use Rattle.freelist_rules.specs.Steps.{noLoan}
-use Rattle.freelist_rules.specs.Tables.{Tables, givenAt, placesIn, storeOf, vacantIn, SoundTables}
+use Rattle.freelist_rules.specs.Tables.{Tables, placesIn, storeOf, vacantIn, SoundTables, givenIn}
 use Rattle.freelist_rules.proofs.Base.{at-in}
 use Rattle.freelist_rules.proofs.Giving.{mem-at}
 use Rattle.freelist_rules.proofs.Ordered.{ordered-in, on-loan-in}
@@ -59,7 +59,7 @@ module _ (s : FreeListSettings) (t : Tables) where
       let w = wordFor s b t in
       let l = row loanRow (getD (t .index) w 0) (t .loans) in
       let there = eqb-false w nowhere (not-yes (eqb w nowhere) (and-left (not (eqb w nowhere)) (sameLoan b l) e)) in
-      leads-used (t .loans) (t .index) (s .store .loans) (placesIn t) (getD (t .head) givenAt 0) (b .serial) (fit .store .loans-some) (omega (arith, sound .parted .limit, fit .store .loans-most)) (sound .chained) there
+      leads-used (t .loans) (t .index) (s .store .loans) (placesIn t) (givenIn t) (b .serial) (fit .store .loans-some) (omega (arith, sound .parted .limit, fit .store .loans-most)) (sound .chained) there
 
   pub block-stands : FreeListIn s → SoundTables s t → (b : Block) → onLoanOk s b t ≡ true → Stands b
   unfolding onLoanOk

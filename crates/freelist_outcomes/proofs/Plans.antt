@@ -4,7 +4,6 @@ use mathlib.Core.Bool.{true, _&&_}
 use Prim.Native.Nat.{ℕ, _≤_, _<_}
 use native.Mathlib.Omega.{arith}
 use lib.Dec.{leb, ltb}
-use lib.ListN.{getD}
 use borrow.Author.Tests.{ltb-true, leb-true}
 use Rattle.lists.proofs.Bools.{and-left, and-right}
 use Rattle.counter.specs.Limits.{spent}
@@ -18,7 +17,7 @@ use Rattle.heap.specs.Heap.{bearsOk}
 use Rattle.store_rules.specs.Orders.{Plan, deny, take, buy}
 use Rattle.book_rules.specs.Book.{takenOf}
 use Rattle.freelist_rules.specs.Place.{Found, nowhere, at}
-use Rattle.freelist_rules.specs.Tables.{Tables, givenAt, madeAt, placesIn, chunksIn, storeOf}
+use Rattle.freelist_rules.specs.Tables.{Tables, placesIn, chunksIn, storeOf, givenIn, madeIn}
 use Rattle.freelist_outcomes.specs.Gate.{gateOf}
 use Rattle.freelist_outcomes.specs.Ask.{foundFor, raisedFor, sizeOk, roomOk, countOk, askRow, planned, decideAsk, planAsk}
 use Rattle.freelist_outcomes.proofs.Passing.{Passed, gate-passed}
@@ -65,9 +64,9 @@ pub size-most : (s : FreeListSettings) (size : ℕ) → sizeOk s size ≡ true �
 unfolding sizeOk
 size-most s size e = leb-true size (s .last) (and-right (ltb 0 size) (leb size (s .last)) e)
 
-pub not-spent : (s : FreeListSettings) (h : Heap) (size : ℕ) (t : Tables) (f : Found) → countOk s h size t f ≡ true → getD (t .head) givenAt 0 < spent
+pub not-spent : (s : FreeListSettings) (h : Heap) (size : ℕ) (t : Tables) (f : Found) → countOk s h size t f ≡ true → givenIn t < spent
 unfolding countOk storeOf
-not-spent s h size t f e = ltb-true (getD (t .head) givenAt 0) spent (and-left (ltb (getD (t .head) givenAt 0) spent) _ e)
+not-spent s h size t f e = ltb-true (givenIn t) spent (and-left (ltb (givenIn t) spent) _ e)
 
 module _ (s : FreeListSettings) (h : Heap) (objects size mask : ℕ) (t : Tables) where
   pub take-is : (i : ℕ) → decideAsk s h objects size mask t ≡ take i → (foundFor s size mask t ≡ at i) × Held (askRow s h objects size mask t (at i))
@@ -90,13 +89,13 @@ unfolding roomOk
 chunk-place s t e =
     ltb-true (chunksIn t) (s .store .chunks) (and-right (ltb (takenOf (placesIn t) (t .index) .place) (s .store .loans)) (ltb (chunksIn t) (s .store .chunks)) e)
 
-pub chunk-number : (s : FreeListSettings) (h : Heap) (size : ℕ) (t : Tables) → countOk s h size t nowhere ≡ true → getD (t .head) madeAt 0 < spent
+pub chunk-number : (s : FreeListSettings) (h : Heap) (size : ℕ) (t : Tables) → countOk s h size t nowhere ≡ true → madeIn t < spent
 unfolding countOk storeOf
 chunk-number s h size t e =
-    let a = ltb (getD (t .head) givenAt 0) spent in
+    let a = ltb (givenIn t) spent in
     let b = bearsOk h (raisedFor s size t) in
-    let c = ltb (getD (t .head) madeAt 0) spent in
-    ltb-true (getD (t .head) madeAt 0) spent (and-right b c (and-right a (b && c) e))
+    let c = ltb (madeIn t) spent in
+    ltb-true (madeIn t) spent (and-right b c (and-right a (b && c) e))
 
 -- ---- what a plan says
 

@@ -6,29 +6,26 @@ use mathlib.Core.List.{List}
 use Prim.Native.Nat.{ℕ, _+_, _≤_, _<_}
 use native.Mathlib.Omega.{arith}
 use lib.Dec.{eqb, ltb}
-use lib.ListN.{length, getD, set, length-set}
-use lib.Seq.{getD-set-same, getD-set-other}
+use lib.ListN.{length, getD, length-set}
 use borrow.Author.Tests.{ne-eqb}
 use Rattle.lists.proofs.Bools.{told}
-use Rattle.words.specs.Rows.{rows}
 use Rattle.words.proofs.Records.{length-removeAt}
-use Rattle.words.specs.Words.{markAt}
 use Rattle.counter.specs.InTable.{FreeListIn}
 use Rattle.counter.specs.Table.{alignmentOk}
 use Rattle.counter.specs.declared.settings.FreeListSettings.{FreeListSettings}
 use Rattle.slab.specs.Slab.{nowhere}
-use Rattle.store_rules.specs.Loans.{loansOf}
+use Rattle.store_rules.specs.Loans.{givenAt, placesAt, loansOf}
 use Rattle.store_rules.specs.declared.Loan.{Loan}
 use Rattle.book_rules.specs.Book.{takenOf, entered, enteredIndex}
 use Rattle.book_rules.proofs.Entering.{entered-amid}
 use Rattle.book_rules.proofs.Keeps.{BookChained, BookParted, entered-long, entered-wide, entered-chained, entered-parted}
 use Rattle.book_rules.proofs.Owns.{entered-mark, entered-index-mark}
-use Rattle.freelist_rules.specs.Records.{Store, chunkRow}
+use Rattle.freelist_rules.specs.Records.{Store}
 use Rattle.freelist_rules.specs.Pieces.{All}
 use Rattle.freelist_rules.specs.Place.{sizeFor, maskFor, at, cutOff, putLoan}
 use Rattle.freelist_rules.specs.Sound.{Sound}
 use Rattle.freelist_rules.specs.Steps.{noRegion, lent}
-use Rattle.freelist_rules.specs.Tables.{Tables, givenAt, madeAt, chunkSizeAt, placesAt, chunksAt, headWords, regionsMost, Lengths, placesIn, ordered, storeOf, SoundTables, RegionsFit}
+use Rattle.freelist_rules.specs.Tables.{Tables, regionsMost, Lengths, placesIn, ordered, storeOf, SoundTables, RegionsFit, givenIn}
 use Rattle.store_rules.specs.declared.Region.{Region}
 use Rattle.freelist_rules.proofs.Base.{rising-low, rising-apart}
 use Rattle.freelist_rules.proofs.Enters.{put-amid}
@@ -38,6 +35,7 @@ use Rattle.freelist_rules.proofs.Lends.{lent-block, lent-sound}
 use Rattle.freelist_rules.proofs.Ordered.{put-in, ordered-in}
 use Rattle.freelist_rules.proofs.Search.{find-fits}
 use Rattle.freelist_outcomes.specs.Ask.{foundFor, blockAt, loanFrom, takenTables}
+use Rattle.book_rules.proofs.Counted.{entered-given, entered-places}
 
 cut-length : (x i : ℕ) (rs : List Region) → i < length rs → length (cutOff x i rs) ≤ length rs
 unfolding cutOff
@@ -47,24 +45,6 @@ cut-length x i rs h =
     (λ e. rw e (omega (arith, length-set rs i (record { chunk = r .chunk; start = r .start; end = x }))))
     (λ e. rw e (omega (arith, length-removeAt i rs h)))
     (told (ltb (r .start) x))
-
--- ---- two words of the head are written
-
-abbrev headAfter : List ℕ → ℕ → ℕ → List ℕ
-headAfter h g q = set (set h givenAt g) placesAt q
-
-module _ (h : List ℕ) (long : length h ≡ headWords) (g q : ℕ) where
-  head-long : length (headAfter h g q) ≡ headWords
-  head-long = length-set (set h givenAt g) placesAt q ∙ length-set h givenAt g ∙ long
-
-  head-given : getD (headAfter h g q) givenAt 0 ≡ g
-  head-given = getD-set-other (set h givenAt g) placesAt givenAt q 0 (λ e. omega arith) ∙ getD-set-same h givenAt g 0 (omega arith)
-
-  head-places : getD (headAfter h g q) placesAt 0 ≡ q
-  head-places = getD-set-same (set h givenAt g) placesAt q 0 (omega (arith, length-set h givenAt g))
-
-  head-other : (k : ℕ) → (k ≡ givenAt → ⊥) → (k ≡ placesAt → ⊥) → getD (headAfter h g q) k 0 ≡ getD h k 0
-  head-other k a b = getD-set-other (set h givenAt g) placesAt k q 0 b ∙ getD-set-other h givenAt k g 0 a
 
 -- ---- a block is lent
 
@@ -119,6 +99,15 @@ module _ (s : FreeListSettings) (t : Tables) (fit : FreeListIn s) (lengths : Len
       let some : eqb (new .size) 0 ≡ false = ne-eqb (new .size) 0 new-some in
       put-amid new (loansOf n (t .loans)) _ (entered-amid new some (t .loans) (t .index) (s .store .loans) n few (sound .parted) place (omega (arith, lengths .loans))) o
 
+  abbrev loans′ : List ℕ
+  loans′ = entered (placesIn t) (t .index) new (t .loans)
+
+  given-now : getD loans′ givenAt 0 ≡ new .serial
+  given-now = entered-given (placesIn t) (t .index) new (t .loans) (omega (arith, lengths .loans))
+
+  places-now : getD loans′ placesAt 0 ≡ used
+  places-now = entered-places (placesIn t) (t .index) new (t .loans) (omega (arith, lengths .loans))
+
   -- ---- the regions
 
   table-fit : RegionsFit s (t .room)
@@ -134,7 +123,7 @@ module _ (s : FreeListSettings) (t : Tables) (fit : FreeListIn s) (lengths : Len
   unfolding takenTables
   taken-lengths =
       record {
-        head = head-long (t .head) (lengths .head) (before .given + 1) used;
+        head = lengths .head;
         loans = entered-long (placesIn t) (t .index) new (t .loans) ∙ lengths .loans;
         chunks = lengths .chunks;
         room = laid-long s left (t .room) table-fit left-room;
@@ -145,44 +134,34 @@ module _ (s : FreeListSettings) (t : Tables) (fit : FreeListIn s) (lengths : Len
   pub taken-store : storeOf s (takenTables s size mask t i) ≡ lent (maskFor s mask) (sizeFor s size) i (storeOf s t)
   unfolding takenTables storeOf
   taken-store =
-      let g : ℕ = getD (t .head) givenAt 0 + 1 in
-      let other = head-other (t .head) (lengths .head) g used in
-      let a = head-given (t .head) (lengths .head) g used in
-      let b = other madeAt (λ e. omega arith) (λ e. omega arith) in
-      let c = other chunkSizeAt (λ e. omega arith) (λ e. omega arith) in
-      let d = ap (λ (k : ℕ). ordered (loansOf k (entered (placesIn t) (t .index) new (t .loans)))) (head-places (t .head) (lengths .head) g used) ∙ loans-after in
-      let e = ap (λ (k : ℕ). rows chunkRow k (t .chunks)) (other chunksAt (λ e. omega arith) (λ e. omega arith)) in
+      let d = ap (λ (k : ℕ). ordered (loansOf k loans′)) places-now ∙ loans-after in
       let f = laid-regions s left (t .room) table-fit left-room in
-      (λ j. record { given = a j; made = b j; size = c j; loans = d j; chunks = e j; regions = f j })
+      (λ j. record { given = given-now j; made = before .made; size = before .size; loans = d j; chunks = before .chunks; regions = f j })
 
   -- and they are sound
   pub taken-sound : SoundTables s (takenTables s size mask t i)
   unfolding takenTables storeOf
   taken-sound =
-      let g : ℕ = getD (t .head) givenAt 0 + 1 in
+      let g : ℕ = givenIn t + 1 in
       let n : ℕ = s .store .loans in
-      let other = head-other (t .head) (lengths .head) g used in
-      let a = head-given (t .head) (lengths .head) g used in
-      let c = head-places (t .head) (lengths .head) g used in
-      let loans′ : List ℕ = entered (placesIn t) (t .index) new (t .loans) in
       let index′ : List ℕ = enteredIndex n (placesIn t) g (t .index) in
       record {
         signed =
             record {
-              head = other markAt (λ e. omega arith) (λ e. omega arith) ∙ sound .signed .head;
+              head = sound .signed .head;
               loans = entered-mark (placesIn t) (t .index) new (t .loans) ∙ sound .signed .loans;
               chunks = sound .signed .chunks;
               index = entered-index-mark n (placesIn t) g (t .index) ∙ sound .signed .index;
               room = laid-mark s left (t .room) table-fit ∙ sound .signed .room;
             };
-        chunks-fit = omega (arith, other chunksAt (λ e. omega arith) (λ e. omega arith), sound .chunks-fit);
+        chunks-fit = sound .chunks-fit;
         regions-fit = omega (arith, laid-count s left (t .room) table-fit left-room, left-room);
         parted =
-            subst (λ (k : ℕ). BookParted loans′ index′ n k) (sym c)
-            (entered-parted (t .loans) (t .index) n (placesIn t) few (sound .parted) (getD (t .head) givenAt 0) new (lengths .loans) (lengths .index) place refl new-some);
+            subst (λ (k : ℕ). BookParted loans′ index′ n k) (sym places-now)
+            (entered-parted (t .loans) (t .index) n (placesIn t) few (sound .parted) (givenIn t) new (lengths .loans) (lengths .index) place refl new-some);
         chained =
-            subst (λ (k : ℕ). BookChained loans′ index′ n k (getD (headAfter (t .head) g used) givenAt 0)) (sym c)
-            (subst (λ (k : ℕ). BookChained loans′ index′ n used k) (sym a)
-            (entered-chained (t .loans) (t .index) n (placesIn t) few (sound .parted) (getD (t .head) givenAt 0) new (lengths .loans) (lengths .index) place refl new-some (sound .chained)));
+            subst (λ (k : ℕ). BookChained loans′ index′ n k (getD loans′ givenAt 0)) (sym places-now)
+            (subst (λ (k : ℕ). BookChained loans′ index′ n used k) (sym given-now)
+            (entered-chained (t .loans) (t .index) n (placesIn t) few (sound .parted) (givenIn t) new (lengths .loans) (lengths .index) place refl new-some (sound .chained)));
         store = subst (Sound s) (sym taken-store) after-sound;
       }

@@ -22,7 +22,7 @@ use Rattle.store_rules.specs.declared.Loan.{Loan}
 use Rattle.book_rules.specs.Book.{takenOf, entered, enteredIndex}
 use Rattle.freelist_rules.specs.Place.{sizeFor, maskFor, Found, nowhere, at, find, cutOff, lentLoan}
 use Rattle.freelist_rules.specs.Steps.{served}
-use Rattle.freelist_rules.specs.Tables.{Tables, tables, givenAt, chunkSizeAt, placesAt, placesIn, chunksIn, storeOf, laidRegions}
+use Rattle.freelist_rules.specs.Tables.{Tables, tables, chunkSizeAt, placesIn, chunksIn, storeOf, laidRegions}
 use Rattle.store_rules.specs.declared.Region.{Region}
 use Rattle.freelist_outcomes.specs.Gate.{gateOf}
 
@@ -90,7 +90,7 @@ loanFrom s size mask t i = lentLoan (storeOf s t .given + 1) (blockAt s size mas
 abbrev pub bookedTables : FreeListSettings → Loan → Tables → Tables
 bookedTables s l t =
     tables
-    (set (set (t .head) givenAt (l .serial)) placesAt (takenOf (placesIn t) (t .index) .slab .places))
+    (t .head)
     (entered (placesIn t) (t .index) l (t .loans))
     (t .chunks)
     (enteredIndex (s .store .loans) (placesIn t) (l .serial) (t .index))

@@ -5,7 +5,6 @@ use mathlib.Core.List.{List, [], _∷_, _++_}
 use Prim.Native.Nat.{ℕ, _+_}
 use lib.ListN.{length, set}
 use Rattle.rounding_rules.specs.Growth.{doubled}
-use Rattle.words.specs.Rows.{laid}
 use Rattle.counter.specs.Account.{heapAt}
 use Rattle.counter.specs.Gate.{Verdict, first, gated}
 use Rattle.counter.specs.Paper as Paper
@@ -20,8 +19,8 @@ use Rattle.store_rules.specs.Delivery.{Fate, kept, lost, freeList}
 use Rattle.store_rules.specs.Orders.{leadsTo}
 use Rattle.store_rules.specs.Outcomes.{Out, out, chargedAccount, lostAccount, blockSaid}
 use Rattle.store_rules.specs.Tests.{openFor, gateRow}
-use Rattle.freelist_rules.specs.Records.{region, chunk, chunkRow}
-use Rattle.freelist_rules.specs.Tables.{Tables, tables, madeAt, chunkSizeAt, chunksAt, chunksIn, storeOf, soundOk, laidRegions}
+use Rattle.freelist_rules.specs.Records.{region, chunk}
+use Rattle.freelist_rules.specs.Tables.{Tables, tables, madeAt, chunkSizeAt, storeOf, soundOk, laidRegions, laidChunks}
 use Rattle.freelist_rules.specs.Walk.{memories}
 use Rattle.freelist_outcomes.specs.Gate.{inTableOk, accountOk}
 use Rattle.freelist_outcomes.specs.Ask.{decideAsk, loanFrom, takenTables}
@@ -41,9 +40,9 @@ deliverGateOf s a t =
 unfoldable pub deliveredTables : FreeListSettings → ℕ → ℕ → Tables → Tables
 deliveredTables s memory z t =
     tables
-    (set (set (set (t .head) madeAt (storeOf s t .made + 1)) chunkSizeAt (doubled z (s .last))) chunksAt (chunksIn t + 1))
+    (set (t .head) chunkSizeAt (doubled z (s .last)))
     (t .loans)
-    (laid chunkRow (storeOf s t .chunks ++ (chunk (storeOf s t .made + 1) memory z ∷ [])) (t .chunks))
+    (set (laidChunks (storeOf s t .chunks ++ (chunk (storeOf s t .made + 1) memory z ∷ [])) (t .chunks)) madeAt (storeOf s t .made + 1))
     (t .index)
     (laidRegions (storeOf s t .regions ++ (region (storeOf s t .made + 1) 0 z ∷ [])) (t .room))
 

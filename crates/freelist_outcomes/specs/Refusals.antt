@@ -4,14 +4,13 @@ use mathlib.Core.Path.{_≡_}
 use mathlib.Core.Logic.{_⊎_}
 use mathlib.Core.List.{List·Memᴰ}
 use Prim.Native.Nat.{ℕ, _+_, _%_, _≤_, _<_}
-use lib.ListN.{getD}
 use Rattle.counter.specs.InTable.{FreeListIn}
 use Rattle.counter.specs.Limits.{spent}
 use Rattle.counter.specs.declared.settings.FreeListSettings.{FreeListSettings}
 use Rattle.store_rules.specs.Views.{View}
 use Rattle.store_rules.specs.Words.{Words}
 use Rattle.freelist_rules.specs.Records.{Store}
-use Rattle.freelist_rules.specs.Tables.{Tables, Lengths, givenAt, storeOf, SoundTables}
+use Rattle.freelist_rules.specs.Tables.{Tables, Lengths, storeOf, SoundTables, givenIn}
 use Rattle.store_rules.specs.declared.Chunk.{Chunk}
 use Rattle.store_rules.specs.declared.Region.{Region}
 use Rattle.freelist_outcomes.specs.Ask.{raisedFor}
@@ -52,7 +51,7 @@ listWords =
       Settings = FreeListSettings;
       Tables = Tables;
       store = λ s. s .store;
-      given = λ t. getD (t .head) givenAt 0;
+      given = givenIn;
       view = λ s t. seen (storeOf s t);
       Sound = SoundTables;
       Needed = Needed;

@@ -2,9 +2,8 @@
 use mathlib.Core.Bool.{Bool, true, false}
 use mathlib.Core.List.{List, []}
 use Prim.Native.Nat.{ℕ, _+_}
-use lib.ListN.{length, set}
+use lib.ListN.{length}
 use lib.Seq.{sets}
-use Rattle.words.specs.Rows.{laid}
 use Rattle.counter.specs.Gate.{Verdict, pass, refuse, gated}
 use Rattle.counter.specs.Paper as Paper
 use Rattle.counter.specs.declared.account.Account.{Account}
@@ -14,10 +13,10 @@ use Rattle.store_rules.specs.Outcomes.{Listed, listed, listOk, releasedAccount}
 use Rattle.book_rules.specs.Book.{struck, struckIndex}
 use Rattle.book_rules.specs.Returns as Returns
 pub use Rattle.book_rules.specs.Returns.{Plan, deny, back, decided}
-use Rattle.freelist_rules.specs.Records.{region, chunkRow}
+use Rattle.freelist_rules.specs.Records.{region}
 use Rattle.freelist_rules.specs.Join.{insert}
 use Rattle.freelist_rules.specs.Release.{staying, leaving, remaining, memoriesOf, bytesOf}
-use Rattle.freelist_rules.specs.Tables.{Tables, tables, chunksAt, placesIn, storeOf, laidRegions}
+use Rattle.freelist_rules.specs.Tables.{Tables, tables, placesIn, storeOf, laidRegions, laidChunks}
 use Rattle.store_rules.specs.declared.Region.{Region}
 use Rattle.freelist_outcomes.specs.Gate.{gateOf}
 
@@ -48,9 +47,9 @@ goneFrom s spare t = leaving (storeOf s t .chunks) spare [] (storeOf s t .region
 unfoldable pub releasedTables : FreeListSettings → Bool → Tables → Tables
 releasedTables s spare t =
     tables
-    (set (t .head) chunksAt (length (remaining (goneFrom s spare t) (storeOf s t .chunks))))
+    (t .head)
     (t .loans)
-    (laid chunkRow (remaining (goneFrom s spare t) (storeOf s t .chunks)) (t .chunks))
+    (laidChunks (remaining (goneFrom s spare t) (storeOf s t .chunks)) (t .chunks))
     (t .index)
     (laidRegions (staying (storeOf s t .chunks) spare (storeOf s t .regions)) (t .room))
 

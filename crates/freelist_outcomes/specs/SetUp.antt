@@ -13,9 +13,9 @@ pub use Rattle.store_rules.specs.Tables.{Begun, begun}
 use Rattle.freelist_rules.specs.Records.{chunkWords}
 use Rattle.freelist_rules.specs.Tables.{Tables, tables, marks, lengthsOk, roomWords}
 
--- the mark; nothing given or held, and the chunk size of the settings
+-- the mark, and the chunk size of the settings
 abbrev pub freshHead : FreeListSettings → List ℕ
-freshHead s = marks .head ∷ 0 ∷ 0 ∷ s .start ∷ 0 ∷ 0 ∷ []
+freshHead s = marks .head ∷ s .start ∷ []
 
 -- every word of every table is written, whatever was lent: the marks; no loan, no chunk, no link, no region
 unfoldable pub freshTables : FreeListSettings → Tables

@@ -1,29 +1,29 @@
 -- A region serves as it is defined: the loan, and every table; and with the numbers that a plan carries, as an ask is.
 use mathlib.Core.Path.{_≡_, refl, sym, ap, _∙_}
 use mathlib.Core.List.{List, []}
-use Prim.Native.Nat.{ℕ, _+_, _-_, _%_, _≤_, _<_}
+use Prim.Native.Nat.{ℕ, _+_, _%_, _≤_, _<_, _-_}
 use native.Mathlib.Omega.{arith}
 use lib.ListN.{getD, set}
 use Rattle.counter.specs.declared.settings.FreeListSettings.{FreeListSettings}
 use Rattle.words.specs.Rows.{row, written}
 use Rattle.words.proofs.Records.{getD-rows}
 use Rattle.slab.specs.declared.Taken.{Taken}
-use Rattle.store_rules.specs.Loans.{loanRow}
+use Rattle.store_rules.specs.Loans.{givenAt, loanRow}
 use Rattle.store_rules.specs.declared.Loan.{Loan}
 use Rattle.store_rules.specs.declared.Region.{Region}
-use Rattle.book_rules.specs.Book.{vacatedAt, firstOf, nextOf, firstIn, takenOf, entered, enteredIndex}
+use Rattle.book_rules.specs.Book.{vacatedAt, firstOf, nextOf, firstIn, takenOf, counted, entered, enteredIndex}
 use Rattle.freelist_rules.specs.Records.{region, regionRow}
 use Rattle.freelist_rules.specs.Place.{cutOff, lentLoan}
 use Rattle.freelist_rules.specs.Steps.{noRegion}
-use Rattle.freelist_rules.specs.Tables.{Tables, tables, givenAt, placesAt, regionCountAt, placesIn, storeOf, laidRegions, regionsOf}
+use Rattle.freelist_rules.specs.Tables.{Tables, tables, regionCountAt, placesIn, storeOf, laidRegions, regionsOf}
 use Rattle.freelist_outcomes.specs.Ask.{blockAt, loanFrom, takenTables}
 use Rattle.freelist_place.specs.Lent.{lentFrom, enteredAt, lentTables}
 
-module _ (s : FreeListSettings) (i start : ℕ) (head regions : List ℕ) where
+module _ (s : FreeListSettings) (i start : ℕ) (loans regions : List ℕ) where
   abbrev Served : Loan
-  Served = lentFrom s start (tables head [] [] [] regions) i
+  Served = lentFrom s start (tables [] loans [] [] regions) i
 
-  pub loan-done : (w : ℕ) (r : Region) (l : Loan) → w ≡ getD head givenAt 0 → r ≡ row regionRow i regions
+  pub loan-done : (w : ℕ) (r : Region) (l : Loan) → w ≡ getD loans givenAt 0 → r ≡ row regionRow i regions
       → l ≡ record { serial = w + 1; chunk = r .chunk; offset = start; size = r .end - start } → i < getD regions regionCountAt 0 → l ≡ Served
   unfolding storeOf
   loan-done w r l c d e h =
@@ -36,11 +36,11 @@ module _ (s : FreeListSettings) (i start : ℕ) (head regions : List ℕ) where
       omega (arith, ap (λ (x : Region). x .end) e, ap (λ (x : Region). x .end) f, h)
 
   -- the tables as the loan l at its place k leaves them
-  abbrev after : List ℕ → List ℕ → Taken → Loan → Tables
-  after loans index k l =
+  abbrev after : List ℕ → Taken → Loan → Tables
+  after index k l =
       tables
-      (set (set head givenAt (l .serial)) placesAt (k .slab .places))
-      (written loanRow (k .place) l loans)
+      []
+      (written loanRow (k .place) l (counted (l .serial) (k .slab .places) loans))
       []
       (set
       (set (set index vacatedAt (k .slab .vacant)) (nextOf (k .place)) (firstIn index (l .serial % s .store .loans)))
@@ -48,15 +48,14 @@ module _ (s : FreeListSettings) (i start : ℕ) (head regions : List ℕ) where
       (k .place))
       (laidRegions (cutOff start i (regionsOf regions)) regions)
 
-  pub lent-done : (loans index h′ l′ r′ i′ : List ℕ) (k : Taken) (l : Loan) → l ≡ Served
+  pub lent-done : (index l′ r′ i′ : List ℕ) (k : Taken) (l : Loan) → l ≡ Served
       → r′ ≡ laidRegions (cutOff start i (regionsOf regions)) regions
-      → l′ ≡ written loanRow (k .place) l loans
+      → l′ ≡ written loanRow (k .place) l (counted (l .serial) (k .slab .places) loans)
       → i′ ≡ set (set (set index vacatedAt (k .slab .vacant)) (nextOf (k .place)) (firstIn index (l .serial % s .store .loans))) (firstOf (l .serial % s .store .loans)) (k .place)
-      → h′ ≡ set (set head givenAt (l .serial)) placesAt (k .slab .places)
-      → tables h′ l′ [] i′ r′ ≡ lentTables s start k (tables head loans [] index regions) i
+      → tables [] l′ [] i′ r′ ≡ lentTables s start k (tables [] loans [] index regions) i
   unfolding storeOf lentTables enteredAt
-  lent-done loans index h′ l′ r′ i′ k l e r a b h =
-      (λ j. tables (h j) (a j) [] (b j) (r j)) ∙ (λ j. after loans index k (e j))
+  lent-done index l′ r′ i′ k l e r a b =
+      (λ j. tables [] (a j) [] (b j) (r j)) ∙ (λ j. after index k (e j))
 
 -- ---- with the start and the place that an ask comes to
 

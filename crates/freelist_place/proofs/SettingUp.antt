@@ -6,20 +6,15 @@ use native.Mathlib.Omega.{arith}
 use lib.ListN.{length, set}
 use Rattle.counter.specs.declared.settings.FreeListSettings.{FreeListSettings}
 use Rattle.book_rules.specs.Book.{freshIndex}
-use Rattle.freelist_rules.specs.Tables.{Tables, tables, givenAt, madeAt, chunkSizeAt, placesAt, chunksAt, headWords, Lengths, marks}
+use Rattle.freelist_rules.specs.Tables.{Tables, tables, chunkSizeAt, headWords, Lengths, marks}
 use Rattle.freelist_outcomes.specs.SetUp.{freshHead, freshTables}
 use Rattle.words.specs.Words.{markAt, blank}
 
-pub head-fresh : (s : FreeListSettings) (t u v : List ℕ) → length t ≡ headWords → u ≡ set (set (set t markAt (marks .head)) givenAt 0) madeAt 0
-    → v ≡ set (set (set u chunkSizeAt (s .start)) placesAt 0) chunksAt 0 → v ≡ freshHead s
+pub head-fresh : (s : FreeListSettings) (t u v : List ℕ) → length t ≡ headWords → u ≡ set t markAt (marks .head) → v ≡ set u chunkSizeAt (s .start) → v ≡ freshHead s
 head-fresh s [] u v l p q = absurd (omega arith)
 head-fresh s (a ∷ []) u v l p q = absurd (omega arith)
-head-fresh s (a ∷ b ∷ []) u v l p q = absurd (omega arith)
-head-fresh s (a ∷ b ∷ c ∷ []) u v l p q = absurd (omega arith)
-head-fresh s (a ∷ b ∷ c ∷ d ∷ []) u v l p q = absurd (omega arith)
-head-fresh s (a ∷ b ∷ c ∷ d ∷ e ∷ []) u v l p q = absurd (omega arith)
-head-fresh s (a ∷ b ∷ c ∷ d ∷ e ∷ f ∷ []) u v l p q = q ∙ ap (λ (x : List ℕ). set (set (set x chunkSizeAt (s .start)) placesAt 0) chunksAt 0) p
-head-fresh s (a ∷ b ∷ c ∷ d ∷ e ∷ f ∷ g ∷ t) u v l p q = absurd (omega arith)
+head-fresh s (a ∷ b ∷ []) u v l p q = q ∙ ap (λ (x : List ℕ). set x chunkSizeAt (s .start)) p
+head-fresh s (a ∷ b ∷ c ∷ t) u v l p q = absurd (omega arith)
 
 -- a table of n words that is cleared is its mark and noughts
 none : (t : List ℕ) (n m : ℕ) (u : List ℕ) → length t ≡ n → u ≡ blank (length t) m 0 → u ≡ blank n m 0

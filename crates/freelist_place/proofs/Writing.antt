@@ -3,44 +3,48 @@ use mathlib.Core.Path.{_≡_, ap, _∙_}
 use mathlib.Core.List.{List, [], _∷_, _++_}
 use Prim.Native.Nat.{ℕ, _+_}
 use native.Mathlib.Omega.{arith}
-use lib.ListN.{getD, set}
+use lib.ListN.{length, getD, set, length-append}
 use Rattle.rounding_rules.specs.Growth.{doubled}
 use Rattle.words.specs.Rows.{rows, laid, written}
-use Rattle.words.proofs.Records.{appended}
+use Rattle.words.proofs.Records.{appended, length-rows}
 use Rattle.counter.specs.declared.answers.Block.{Block}
 use Rattle.counter.specs.declared.settings.FreeListSettings.{FreeListSettings}
 use Rattle.book_rules.specs.Book.{struck, struckIndex}
 use Rattle.freelist_rules.specs.Records.{region, chunk, chunkRow}
 use Rattle.freelist_rules.specs.Join.{insert}
-use Rattle.freelist_rules.specs.Tables.{Tables, tables, madeAt, chunkSizeAt, chunksAt, storeOf, laidRegions, regionsOf}
+use Rattle.freelist_rules.specs.Tables.{Tables, tables, madeAt, chunkSizeAt, chunksAt, storeOf, laidRegions, laidChunks, regionsOf}
 use Rattle.freelist_outcomes.specs.Deliver.{deliveredTables}
 use Rattle.freelist_outcomes.specs.Return.{givenTables}
 use Rattle.freelist_place.specs.Ready.{Adds}
 
 -- one word after the other
-pub thrice-set : (t u v w : List ℕ) (i j k a b c : ℕ) → u ≡ set t i a → v ≡ set u j b → w ≡ set v k c → w ≡ set (set (set t i a) j b) k c
-thrice-set t u v w i j k a b c p q r = r ∙ ap (λ (x : List ℕ). set x k c) (q ∙ ap (λ (x : List ℕ). set x j b) p)
+pub twice-set : (t u v : List ℕ) (i j a b : ℕ) → u ≡ set t i a → v ≡ set u j b → v ≡ set (set t i a) j b
+twice-set t u v i j a b p q = q ∙ ap (λ (x : List ℕ). set x j b) p
 
-module _ (s : FreeListSettings) (memory size : ℕ) (head chunks regions : List ℕ) (adds : Adds s head chunks regions) where
-  -- the tables as a chunk with this number leaves them, k being held before
-  abbrev pub after : ℕ → ℕ → ℕ → Tables
-  after k made twice =
-      tables
-      (set (set (set head madeAt (made + 1)) chunkSizeAt twice) chunksAt (k + 1))
-      []
-      (laid chunkRow (rows chunkRow k chunks ++ (chunk (made + 1) memory size ∷ [])) chunks)
-      []
-      (laidRegions (regionsOf regions ++ (region (made + 1) 0 size ∷ [])) regions)
+module _ (s : FreeListSettings) (memory size : ℕ) (head chunks regions : List ℕ) (adds : Adds s chunks regions) where
+  -- the chunks with one of this number behind k others, which are then so many
+  abbrev held : ℕ → ℕ → ℕ → List ℕ
+  held k made n = set (set (laid chunkRow (rows chunkRow k chunks ++ (chunk (made + 1) memory size ∷ [])) chunks) chunksAt n) madeAt (made + 1)
 
-  pub added-done : (k made twice : ℕ) (h′ c′ r′ : List ℕ) → k ≡ getD head chunksAt 0 → made ≡ getD head madeAt 0 → twice ≡ doubled size (s .last)
+  -- the tables as it leaves them
+  abbrev after : ℕ → ℕ → ℕ → ℕ → Tables
+  after k made twice n =
+      tables (set head chunkSizeAt twice) [] (held k made n) [] (laidRegions (regionsOf regions ++ (region (made + 1) 0 size ∷ [])) regions)
+
+  one-more : (k made : ℕ) → k + 1 ≡ length (rows chunkRow k chunks ++ (chunk (made + 1) memory size ∷ []))
+  one-more k made = omega (arith, length-append (rows chunkRow k chunks) (chunk (made + 1) memory size ∷ []), length-rows chunkRow k chunks)
+
+  pub added-done : (k made twice : ℕ) (h′ c′ d′ r′ : List ℕ) → k ≡ getD chunks chunksAt 0 → made ≡ getD chunks madeAt 0 → twice ≡ doubled size (s .last)
       → c′ ≡ written chunkRow k (chunk (made + 1) memory size) chunks
+      → d′ ≡ set (set c′ chunksAt (k + 1)) madeAt (made + 1)
       → r′ ≡ laidRegions (regionsOf regions ++ (region (made + 1) 0 size ∷ [])) regions
-      → h′ ≡ set (set (set head madeAt (made + 1)) chunkSizeAt twice) chunksAt (k + 1)
-      → tables h′ [] c′ [] r′ ≡ deliveredTables s memory size (tables head [] chunks [] regions)
-  unfolding storeOf deliveredTables
-  added-done k made twice h′ c′ r′ a b d c r h =
+      → h′ ≡ set head chunkSizeAt twice
+      → tables h′ [] d′ [] r′ ≡ deliveredTables s memory size (tables head [] chunks [] regions)
+  unfolding storeOf deliveredTables laidChunks
+  added-done k made twice h′ c′ d′ r′ a b d c f r h =
       let e = c ∙ appended chunkRow k (chunk (made + 1) memory size) chunks (omega (arith, a, adds .few, adds .long)) in
-      (λ j. tables (h j) [] (e j) [] (r j)) ∙ (λ j. after (a j) (b j) (d j))
+      let g = f ∙ ap (λ (x : List ℕ). set (set x chunksAt (k + 1)) madeAt (made + 1)) e in
+      (λ j. tables (h j) [] (g j) [] (r j)) ∙ (λ j. after k made twice (one-more k made j)) ∙ (λ j. after (a j) (b j) (d j) (length (rows chunkRow (a j) chunks ++ (chunk (b j + 1) memory size ∷ []))))
 
 pub given-done : (s : FreeListSettings) (b : Block) (at : ℕ) (loans regions index l′ r′ i′ : List ℕ)
     → r′ ≡ laidRegions (insert (region (b .chunk) (b .offset) (b .offset + b .size)) (regionsOf regions)) regions

@@ -8,11 +8,11 @@ use Rattle.slab.specs.declared.Taken.{Taken}
 use Rattle.store_rules.specs.Loans.{loanRow}
 use Rattle.store_rules.specs.declared.Loan.{Loan}
 use Rattle.store_rules.specs.declared.Region.{Region}
-use Rattle.book_rules.specs.Book.{vacatedAt, firstOf, nextOf, firstIn}
+use Rattle.book_rules.specs.Book.{vacatedAt, firstOf, nextOf, firstIn, counted}
 use Rattle.freelist_rules.specs.Records.{region}
 use Rattle.freelist_rules.specs.Place.{cutOff, lentLoan}
 use Rattle.freelist_rules.specs.Steps.{noRegion}
-use Rattle.freelist_rules.specs.Tables.{Tables, tables, givenAt, placesAt, storeOf, laidRegions}
+use Rattle.freelist_rules.specs.Tables.{Tables, tables, storeOf, laidRegions}
 
 -- "The block runs from there to the region's end"
 abbrev pub blockFrom : FreeListSettings → ℕ → Tables → ℕ → Region
@@ -34,8 +34,8 @@ enteredAt n k serial index =
 unfoldable pub lentTables : FreeListSettings → ℕ → Taken → Tables → ℕ → Tables
 lentTables s start k t i =
     tables
-    (set (set (t .head) givenAt (storeOf s t .given + 1)) placesAt (k .slab .places))
-    (written loanRow (k .place) (lentFrom s start t i) (t .loans))
+    (t .head)
+    (written loanRow (k .place) (lentFrom s start t i) (counted (storeOf s t .given + 1) (k .slab .places) (t .loans)))
     (t .chunks)
     (enteredAt (s .store .loans) k (storeOf s t .given + 1) (t .index))
     (laidRegions (cutOff start i (storeOf s t .regions)) (t .room))

@@ -2,23 +2,21 @@
 ghost use mathlib.Core.Path.{_≡_};
 ghost use mathlib.Core.List.{[]};
 ghost use lib.ListN.{set};
-ghost use Rattle.freelist_rules.specs.Tables.{tables, madeAt, chunkSizeAt, chunksAt};
+ghost use Rattle.freelist_rules.specs.Tables.{tables, madeAt, chunksAt};
 ghost use Rattle.freelist_outcomes.specs.Deliver.{deliveredTables};
 ghost use Rattle.freelist_place.specs.Ready.{Adds};
 use counter::FreeListSettings;
-use freelist_rules::CHUNK_SIZE_AT;
 use freelist_rules::CHUNKS_AT;
 use freelist_rules::MADE_AT;
 use store_rules::Chunk;
 use store_rules::Region;
 
-// A chunk number more is given, the chunk size is this, and so many chunks are held.
-fn count_chunk(head: &mut [u64], number: u64, size: u64, chunks: u64)
-    ensures { λ _. ⌜ now (head .exit) ≡ set (set (set (now (head .entry)) madeAt number) chunkSizeAt size) chunksAt chunks ⌝ }
+// So many chunks are held, and this chunk number was given last.
+fn count_chunk(chunks: &mut [u64], held: u64, number: u64)
+    ensures { λ _. ⌜ now (chunks .exit) ≡ set (set (now (chunks .entry)) chunksAt held) madeAt number ⌝ }
 {
-    words::put(head, MADE_AT, number);
-    words::put(head, CHUNK_SIZE_AT, size);
-    words::put(head, CHUNKS_AT, chunks);
+    words::put(chunks, CHUNKS_AT, held);
+    words::put(chunks, MADE_AT, number);
 }
 
 // Memory of `size` bytes is a chunk under the next number.
@@ -30,11 +28,11 @@ pub fn add_chunk(
     chunks: &mut [u64],
     regions: &mut [u64],
 )
-    requires { ⌜ Adds s (now head) (now chunks) (now regions) ⌝ }
+    requires { ⌜ Adds s (now chunks) (now regions) ⌝ }
     ensures { λ _. ⌜ tables (now (head .exit)) [] (now (chunks .exit)) [] (now (regions .exit)) ≡ deliveredTables s memory size (tables (now (head .entry)) [] (now (chunks .entry)) [] (now (regions .entry))) ⌝ }
 {
-    let k = words::word(head, CHUNKS_AT);
-    let number = words::word(head, MADE_AT) + 1;
+    let k = words::word(chunks, CHUNKS_AT);
+    let number = words::word(chunks, MADE_AT) + 1;
     let twice = rounding::double(size, s.last);
     freelist_regions::put_chunk(
         chunks,
@@ -45,6 +43,7 @@ pub fn add_chunk(
             size: size,
         },
     );
+    count_chunk(chunks, k + 1, number);
     crate::counted::append(
         s,
         regions,
@@ -54,5 +53,5 @@ pub fn add_chunk(
             end: size,
         },
     );
-    count_chunk(head, number, twice, k + 1);
+    crate::raising::raise_size(head, twice);
 }

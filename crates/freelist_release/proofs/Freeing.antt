@@ -11,14 +11,14 @@ use Rattle.counter.specs.Limits.{loansMost, chunksMost}
 use Rattle.counter.specs.declared.settings.FreeListSettings.{FreeListSettings}
 use Rattle.freelist_rules.specs.Records.{chunkWords, regionWords, chunkRow, regionRow}
 use Rattle.freelist_rules.specs.Release.{staying, leaving, remaining, memoriesOf, bytesOf}
-use Rattle.freelist_rules.specs.Tables.{Tables, tables, chunksAt, regionCountAt, storeOf, laidRegions}
+use Rattle.freelist_rules.specs.Tables.{Tables, tables, chunksAt, regionCountAt, storeOf, laidRegions, laidChunks}
 use Rattle.store_rules.specs.declared.Chunk.{Chunk}
 use Rattle.store_rules.specs.declared.Region.{Region}
 use Rattle.freelist_marks.specs.Releasable.{Releasable}
 use Rattle.freelist_outcomes.specs.Return.{goneFrom, releasedTables}
 use Rattle.freelist_release.specs.Frees.{Frees}
 
-module _ (s : FreeListSettings) (spare : Bool) (head chunks regions list : List ℕ) where
+module _ (s : FreeListSettings) (spare : Bool) (chunks regions list : List ℕ) where
   -- the chunks, the regions and those that go, by the counts that the code read
   abbrev held : ℕ → List Chunk
   held k = rows chunkRow k chunks
@@ -33,17 +33,17 @@ module _ (s : FreeListSettings) (spare : Bool) (head chunks regions list : List 
   abbrev leaves : ℕ → ℕ → Tables
   leaves k n =
       tables
-      (set head chunksAt (length (remaining (gone k n) (held k))))
       []
-      (laid chunkRow (remaining (gone k n) (held k)) chunks)
+      []
+      (set (laid chunkRow (remaining (gone k n) (held k)) chunks) chunksAt (length (remaining (gone k n) (held k))))
       []
       (set (laid regionRow (staying (held k) spare (free n)) regions) regionCountAt (length (staying (held k) spare (free n))))
 
   abbrev now : Tables
-  now = tables head [] chunks [] regions
+  now = tables [] [] chunks [] regions
 
-  module _ (k n : ℕ) (k-is : k ≡ getD head chunksAt 0) (count-is : n ≡ getD regions regionCountAt 0) where
-    module _ (f : Frees s head chunks regions list) where
+  module _ (k n : ℕ) (k-is : k ≡ getD chunks chunksAt 0) (count-is : n ≡ getD regions regionCountAt 0) where
+    module _ (f : Frees s chunks regions list) where
       pub drop-fits : (chunkWords + chunkWords * k ≤ length chunks) × (regionWords + regionWords * n ≤ length regions) × (k ≤ length list) × (n ≤ loansMost + chunksMost)
       drop-fits = (
         omega (arith, k-is, f .chunks-fit),
@@ -69,13 +69,13 @@ module _ (s : FreeListSettings) (spare : Bool) (head chunks regions list : List 
     unfolding storeOf
     gone-list l e = e ∙ (λ j. sets list 0 (memoriesOf (held (k-is j)) (gone (k-is j) (count-is j))))
 
-    pub gone-tables : (few left : ℕ) (h′ c′ r r′ : List ℕ)
+    pub gone-tables : (few left : ℕ) (c c′ r r′ : List ℕ)
         → few ≡ length (remaining (gone k n) (held k)) → left ≡ length (staying (held k) spare (free n))
-        → c′ ≡ laid chunkRow (remaining (gone k n) (held k)) chunks → r ≡ laid regionRow (staying (held k) spare (free n)) regions
-        → h′ ≡ set head chunksAt few → r′ ≡ set r regionCountAt left
-        → tables h′ [] c′ [] r′ ≡ releasedTables s spare now
-    unfolding releasedTables storeOf laidRegions
-    gone-tables few left h′ c′ r r′ m f c p g q =
-        let h-is = g ∙ ap (λ (v : ℕ). set head chunksAt v) m in
+        → c ≡ laid chunkRow (remaining (gone k n) (held k)) chunks → r ≡ laid regionRow (staying (held k) spare (free n)) regions
+        → c′ ≡ set c chunksAt few → r′ ≡ set r regionCountAt left
+        → tables [] [] c′ [] r′ ≡ releasedTables s spare now
+    unfolding releasedTables storeOf laidRegions laidChunks
+    gone-tables few left c c′ r r′ m f o p g q =
+        let c-is = g ∙ (λ j. set (o j) chunksAt (m j)) in
         let r-is = q ∙ (λ j. set (p j) regionCountAt (f j)) in
-        (λ j. tables (h-is j) [] (c j) [] (r-is j)) ∙ (λ j. leaves (k-is j) (count-is j))
+        (λ j. tables [] [] (c-is j) [] (r-is j)) ∙ (λ j. leaves (k-is j) (count-is j))

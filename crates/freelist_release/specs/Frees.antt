@@ -11,14 +11,14 @@ use Rattle.freelist_rules.specs.Tables.{chunksAt, regionCountAt, regionsOf}
 use Rattle.store_rules.specs.declared.Chunk.{Chunk}
 use Rattle.freelist_marks.specs.Releasable.{Releasable}
 
--- the chunks that a head and a table of chunks hold
-abbrev pub chunksOf : List ℕ → List ℕ → List Chunk
-chunksOf head chunks = rows chunkRow (getD head chunksAt 0) chunks
+-- the chunks that a table holds
+abbrev pub chunksOf : List ℕ → List Chunk
+chunksOf chunks = rows chunkRow (getD chunks chunksAt 0) chunks
 
-pub record Frees (s : FreeListSettings) (head chunks regions list : List ℕ) : Type 0 where
+pub record Frees (s : FreeListSettings) (chunks regions list : List ℕ) : Type 0 where
   pub settings : FreeListIn s
-  pub ready : Releasable (chunksOf head chunks) (regionsOf regions)
-  pub chunks-fit : chunkWords + chunkWords * getD head chunksAt 0 ≤ length chunks
+  pub ready : Releasable (chunksOf chunks) (regionsOf regions)
+  pub chunks-fit : chunkWords + chunkWords * getD chunks chunksAt 0 ≤ length chunks
   pub regions-fit : regionWords + regionWords * getD regions regionCountAt 0 ≤ length regions
   pub few : getD regions regionCountAt 0 ≤ loansMost + chunksMost
-  pub long : getD head chunksAt 0 ≤ length list
+  pub long : getD chunks chunksAt 0 ≤ length list

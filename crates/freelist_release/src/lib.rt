@@ -25,21 +25,20 @@ pub struct Freed {
 pub fn release(
     s: FreeListSettings,
     spare: bool,
-    head: &mut [u64],
     chunks: &mut [u64],
     regions: &mut [u64],
     list: &mut [u64],
 ) -> Freed
-    requires { ⌜ Frees s (now head) (now chunks) (now regions) (now list) ⌝ }
-    ensures { λ r. ⌜ r .count ≡ length (goneFrom s spare (tables (now (head .entry)) [] (now (chunks .entry)) [] (now (regions .entry)))) ⌝ }
-    ensures { λ r. ⌜ r .bytes ≡ bytesOf (goneFrom s spare (tables (now (head .entry)) [] (now (chunks .entry)) [] (now (regions .entry)))) ⌝ }
-    ensures { λ _. ⌜ tables (now (head .exit)) [] (now (chunks .exit)) [] (now (regions .exit)) ≡ releasedTables s spare (tables (now (head .entry)) [] (now (chunks .entry)) [] (now (regions .entry))) ⌝ }
-    ensures { λ _. ⌜ now (list .exit) ≡ sets (now (list .entry)) 0 (memoriesOf (storeOf s (tables (now (head .entry)) [] (now (chunks .entry)) [] (now (regions .entry))) .chunks) (goneFrom s spare (tables (now (head .entry)) [] (now (chunks .entry)) [] (now (regions .entry))))) ⌝ }
+    requires { ⌜ Frees s (now chunks) (now regions) (now list) ⌝ }
+    ensures { λ r. ⌜ r .count ≡ length (goneFrom s spare (tables [] [] (now (chunks .entry)) [] (now (regions .entry)))) ⌝ }
+    ensures { λ r. ⌜ r .bytes ≡ bytesOf (goneFrom s spare (tables [] [] (now (chunks .entry)) [] (now (regions .entry)))) ⌝ }
+    ensures { λ _. ⌜ tables [] [] (now (chunks .exit)) [] (now (regions .exit)) ≡ releasedTables s spare (tables [] [] (now (chunks .entry)) [] (now (regions .entry))) ⌝ }
+    ensures { λ _. ⌜ now (list .exit) ≡ sets (now (list .entry)) 0 (memoriesOf (storeOf s (tables [] [] (now (chunks .entry)) [] (now (regions .entry))) .chunks) (goneFrom s spare (tables [] [] (now (chunks .entry)) [] (now (regions .entry))))) ⌝ }
 {
-    let k = words::word(head, CHUNKS_AT) as usize;
+    let k = words::word(chunks, CHUNKS_AT) as usize;
     let n = words::word(regions, REGION_COUNT_AT) as usize;
     let gone = drop_chunks(chunks, k, regions, n, spare, list);
-    words::put(head, CHUNKS_AT, gone.chunks as u64);
+    words::put(chunks, CHUNKS_AT, gone.chunks as u64);
     words::put(regions, REGION_COUNT_AT, gone.regions as u64);
     Freed {
         count: gone.count,

@@ -1,25 +1,27 @@
--- What the lengths of a store's tables and its soundness say of the counts in them, and its regions written back.
+-- What the lengths of a store's tables and its soundness say of the counts in them, and its regions and chunks written back.
 use mathlib.Core.Path.{_≡_, ap, _∙_}
 use mathlib.Core.Bool.{true}
 use mathlib.Core.Logic.{⊎-elim}
 use mathlib.Core.List.{List, [], _∷_}
-use Prim.Native.Nat.{ℕ, _-_, _≤_}
+use Prim.Native.Nat.{ℕ, _+_, _*_, _≤_}
 use native.Mathlib.Omega.{arith}
 use lib.Dec.{eqb}
-use lib.ListN.{length, getD, length-set}
+use lib.ListN.{length, getD, set, length-set}
 use lib.Seq.{getD-set-same, getD-set-other}
 use borrow.Author.Tests.{eqb-true, eq-eqb}
 use Rattle.lists.proofs.Bools.{told, all-each, each-all}
 use Rattle.words.specs.Rows.{rows, laid}
-use Rattle.words.proofs.Records.{length-rows, length-laid, rows-own, rows-laid, own-laid}
+use Rattle.words.proofs.Records.{length-rows, rows-own, own-laid}
 use Rattle.words.specs.Words.{markAt}
 use Rattle.counter.specs.InTable.{FreeListIn}
 use Rattle.counter.specs.declared.settings.FreeListSettings.{FreeListSettings}
 use Rattle.store_rules.specs.Loans.{loanRow, onLoan, loansOf}
 use Rattle.store_rules.specs.declared.Loan.{Loan}
-use Rattle.freelist_rules.specs.Records.{chunkRow, regionRow}
-use Rattle.freelist_rules.specs.Tables.{Tables, regionsMost, regionCountAt, lengthsRow, lengthsOk, Lengths, placesIn, chunksIn, regionsIn, storeOf, SoundTables, laidRegions, RegionsFit, regionsOf, roomWords}
+use Rattle.freelist_rules.specs.Records.{chunkWords, regionWords, chunkRow, regionRow}
+use Rattle.freelist_rules.specs.Tables.{Tables, regionsMost, regionCountAt, madeAt, chunksAt, lengthsRow, lengthsOk, Lengths, placesIn, chunksIn, regionsIn, storeOf, SoundTables, laidRegions, laidChunks, RegionsFit, regionsOf, roomWords}
+use Rattle.store_rules.specs.declared.Chunk.{Chunk}
 use Rattle.store_rules.specs.declared.Region.{Region}
+use Rattle.freelist_rules.proofs.Laid.{counted-length, counted-count, counted-rows, counted-own}
 use Rattle.freelist_rules.proofs.Ordered.{ordered-length}
 
 -- ---- the lengths
@@ -77,30 +79,65 @@ module _ (s : FreeListSettings) (t : Tables) where
 -- ---- the regions written back
 
 module _ (s : FreeListSettings) (rs : List Region) (t : List ℕ) (fit : RegionsFit s t) (room : length rs ≤ regionsMost s) where
-  laid-length : length (laid regionRow rs t) ≡ roomWords s
-  laid-length = length-laid regionRow rs t (omega (arith, fit .long)) ∙ fit .long
+  fits : regionWords + regionWords * length rs ≤ length t
+  fits = omega (arith, fit .long)
 
   pub laid-long : length (laidRegions rs t) ≡ roomWords s
   unfolding laidRegions
-  laid-long = length-set (laid regionRow rs t) regionCountAt (length rs) ∙ laid-length
+  laid-long = counted-length regionRow regionCountAt (omega arith) rs t fits ∙ fit .long
 
   pub laid-count : getD (laidRegions rs t) regionCountAt 0 ≡ length rs
   unfolding laidRegions
-  laid-count = getD-set-same (laid regionRow rs t) regionCountAt (length rs) 0 (omega (arith, laid-length))
+  laid-count = counted-count regionRow regionCountAt (omega arith) rs t fits
 
   pub laid-fit : RegionsFit s (laidRegions rs t)
   laid-fit = record { settings = fit .settings; long = laid-long; count = omega (arith, laid-count) }
 
-  -- the count stands in the table's own record
   pub laid-regions : regionsOf (laidRegions rs t) ≡ rs
   unfolding laidRegions
-  laid-regions =
-      ap (λ (k : ℕ). rows regionRow k (laidRegions rs t)) laid-count
-      ∙ rows-own regionRow (length rs) regionCountAt (length rs) (laid regionRow rs t) (omega arith) (omega (arith, laid-length))
-      ∙ rows-laid regionRow rs t (omega (arith, fit .long))
+  laid-regions = counted-rows regionRow regionCountAt (omega arith) rs t fits
 
 -- their table's mark stays
 pub laid-mark : (s : FreeListSettings) (rs : List Region) (t : List ℕ) → RegionsFit s t → getD (laidRegions rs t) markAt 0 ≡ getD t markAt 0
 unfolding laidRegions
 laid-mark s rs t fit =
     getD-set-other (laid regionRow rs t) regionCountAt markAt (length rs) 0 (λ e. omega arith) ∙ own-laid regionRow rs t markAt 0 (omega (arith, fit .long)) (omega arith)
+
+-- ---- the chunks written back
+
+-- u is the table t of chunks with these chunks, and so many chunk numbers given
+pub record Holding (t : List ℕ) (made : ℕ) (cs : List Chunk) (u : List ℕ) : Type 0 where
+  pub long : length u ≡ length t
+  pub mark : getD u markAt 0 ≡ getD t markAt 0
+  pub number : getD u madeAt 0 ≡ made
+  pub count : getD u chunksAt 0 ≡ length cs
+  pub records : rows chunkRow (getD u chunksAt 0) u ≡ cs
+
+module _ (cs : List Chunk) (t : List ℕ) (room : chunkWords + chunkWords * length cs ≤ length t) where
+  -- as many numbers as before
+  pub chunks-laid : Holding t (getD t madeAt 0) cs (laidChunks cs t)
+  unfolding laidChunks
+  chunks-laid = record {
+    long = counted-length chunkRow chunksAt (omega arith) cs t room;
+    mark = counted-own chunkRow chunksAt (omega arith) cs t room markAt (omega arith) (λ e. omega arith);
+    number = counted-own chunkRow chunksAt (omega arith) cs t room madeAt (omega arith) (λ e. omega arith);
+    count = counted-count chunkRow chunksAt (omega arith) cs t room;
+    records = counted-rows chunkRow chunksAt (omega arith) cs t room;
+  }
+
+  -- or this many
+  pub chunks-numbered : (made : ℕ) → Holding t made cs (set (laidChunks cs t) madeAt made)
+  chunks-numbered made =
+      let u = laidChunks cs t in
+      let H = chunks-laid in
+      let same : getD (set u madeAt made) chunksAt 0 ≡ getD u chunksAt 0 = getD-set-other u madeAt chunksAt made 0 (λ e. omega arith) in
+      record {
+        long = length-set u madeAt made ∙ H .long;
+        mark = getD-set-other u madeAt markAt made 0 (λ e. omega arith) ∙ H .mark;
+        number = getD-set-same u madeAt made 0 (omega (arith, H .long));
+        count = same ∙ H .count;
+        records =
+            ap (λ (k : ℕ). rows chunkRow k (set u madeAt made)) same
+            ∙ rows-own chunkRow (getD u chunksAt 0) madeAt made u (omega arith) (omega (arith, H .long, H .count))
+            ∙ H .records;
+      }

@@ -26,6 +26,7 @@ pub mod Ordered
 pub mod Enters
 pub mod Tested
 pub mod NeverAgain
+pub mod Laid
 pub mod Fits
 pub mod Summing
 pub mod Struck

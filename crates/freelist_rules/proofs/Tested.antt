@@ -5,7 +5,6 @@ use mathlib.Core.List.{List}
 use Prim.Native.Nat.{ℕ, _≤_, _<_}
 use native.Mathlib.Omega.{arith}
 use lib.Dec.{eqb, leb}
-use lib.ListN.{getD}
 use borrow.Author.Tests.{leb-true, le-leb}
 use Rattle.lists.proofs.Bools.{and-left, and-right, all-each, each-all}
 use Rattle.words.specs.Rows.{row}
@@ -24,7 +23,7 @@ use Rattle.book_rules.proofs.Decides.{chains-yes, chains-all, serial-once}
 use Rattle.freelist_rules.specs.Pieces.{Differ}
 use Rattle.freelist_rules.specs.Walk.{allOk, sizedOk, chunkOk, loanOk, serials}
 use Rattle.freelist_rules.specs.Walk as Walk
-use Rattle.freelist_rules.specs.Tables.{Tables, marks, givenAt, placesIn, chunksIn, regionsIn, regionsMost, ordered, storeOf, vacantIn, vacantAfterIn, chainStart, chainNext, SoundTables, soundRow, soundOk}
+use Rattle.freelist_rules.specs.Tables.{Tables, marks, placesIn, chunksIn, regionsIn, regionsMost, ordered, storeOf, vacantIn, vacantAfterIn, chainStart, chainNext, SoundTables, soundRow, soundOk, givenIn}
 use Rattle.freelist_rules.proofs.Decides.{all-yes, all-all, apart-all, differ-distinct, sized-yes, numbers-yes, fills-yes, sound-yes, sound-all}
 use Rattle.freelist_rules.proofs.Facts.{Small, sized-low}
 use Rattle.freelist_rules.proofs.Gaps.{begins, stops, inside-rise}
@@ -35,14 +34,14 @@ module _ (s : FreeListSettings) (t : Tables) (fit : FreeListIn s) where
   loans = loansOf (placesIn t) (t .loans)
 
   abbrev Links : Type 0
-  Links = Chained (vacantIn t) (chainStart t) (chainNext t) (serialOf (t .loans)) (s .store .loans) (placesIn t) (getD (t .head) givenAt 0)
+  Links = Chained (vacantIn t) (chainStart t) (chainNext t) (serialOf (t .loans)) (s .store .loans) (placesIn t) (givenIn t)
 
   -- the chains lead to each serial once
   serials-differ : Links → Differ (λ (l : Loan). l .serial) (ordered loans)
   serials-differ C a b m k e =
       let p = loan-place (placesIn t) (t .loans) a (ordered-out a loans m) in
       let q = loan-place (placesIn t) (t .loans) b (ordered-out b loans k) in
-      let same : p .0 ≡ q .0 = serial-once (vacantIn t) (chainStart t) (chainNext t) (serialOf (t .loans)) (s .store .loans) (placesIn t) (getD (t .head) givenAt 0) (p .0) (q .0) (fit .store .loans-some) C (p .1) (q .1)
+      let same : p .0 ≡ q .0 = serial-once (vacantIn t) (chainStart t) (chainNext t) (serialOf (t .loans)) (s .store .loans) (placesIn t) (givenIn t) (p .0) (q .0) (fit .store .loans-some) C (p .1) (q .1)
       (used (p .0) a (p .2) (p .3)) (used (q .0) b (q .2) (q .3)) (serial (p .0) a (p .2) ∙ e ∙ sym (serial (q .0) b (q .2))) in
       sym (p .2) ∙ ap (λ (i : ℕ). row loanRow i (t .loans)) same ∙ q .2
     where
@@ -74,7 +73,7 @@ module _ (s : FreeListSettings) (t : Tables) (fit : FreeListIn s) where
       let at = all-each (soundRow s t) e in
       let few : placesIn t ≤ s .store .loans = few-places (at .1 .1 .1 .0) in
       let low : placesIn t < nowhere = omega (arith, few, fit .store .loans-most) in
-      let chained : Links = chains-yes (vacantIn t) (chainStart t) (chainNext t) (serialOf (t .loans)) (s .store .loans) (placesIn t) (getD (t .head) givenAt 0) low (at .1 .1 .1 .1 .0) in
+      let chained : Links = chains-yes (vacantIn t) (chainStart t) (chainNext t) (serialOf (t .loans)) (s .store .loans) (placesIn t) (givenIn t) low (at .1 .1 .1 .1 .0) in
       let sized = at .1 .1 .1 .1 .1 in
       let numbers = sized .1 in
       let chunks = numbers .1 in
@@ -107,7 +106,7 @@ module _ (s : FreeListSettings) (t : Tables) (fit : FreeListIn s) where
             (
               decides-all (vacantIn t) (vacantAfterIn t) (slabOf (placesIn t) (t .index)) (s .store .loans) (S .parted),
               (
-                chains-all (vacantIn t) (chainStart t) (chainNext t) (serialOf (t .loans)) (s .store .loans) (placesIn t) (getD (t .head) givenAt 0) low (fit .store .loans-some) (S .chained),
+                chains-all (vacantIn t) (chainStart t) (chainNext t) (serialOf (t .loans)) (s .store .loans) (placesIn t) (givenIn t) low (fit .store .loans-some) (S .chained),
                 (at .0, (at .1 .0, (at .1 .1 .0, (at .1 .1 .1 .1 .1 .0, (each, (at .1 .1 .1 .1 .0, tt)))))),
               ),
             ),

@@ -12,7 +12,7 @@ use Rattle.counter.specs.InTable.{FreeListIn}
 use Rattle.counter.specs.declared.settings.FreeListSettings.{FreeListSettings}
 use Rattle.slab.specs.Slab.{vacantAt, linkAt, Parted}
 use Rattle.slab.specs.Test.{partedOk}
-use Rattle.store_rules.specs.Loans.{loanWords, sizeAt, loansOf}
+use Rattle.store_rules.specs.Loans.{givenAt, placesAt, loanWords, sizeAt, loansOf}
 pub use Rattle.store_rules.specs.Tables.{Tables, tables, Marks, Signed, signedOk}
 use Rattle.store_rules.specs.declared.Loan.{Loan}
 use Rattle.book_rules.specs.Book.{entryWords, indexWords, vacantAfterAt, nextOf, serialOf, slabOf, firstIn}
@@ -21,9 +21,10 @@ use Rattle.freelist_rules.specs.Records.{Store, chunkWords, regionWords,
 use Rattle.freelist_rules.specs.Sound.{Sound}
 use Rattle.freelist_rules.specs.Walk.{allOk, sizedOk, numbersRise, chunkOk, loanOk, fillsOk, apart, memories}
 use Rattle.freelist_rules.specs.Place.{putLoan}
+use Rattle.store_rules.specs.declared.Chunk.{Chunk}
 use Rattle.store_rules.specs.declared.Region.{Region}
 
--- ---- head: a mark; serials given, chunk numbers given, chunk size now; loan places ever used, chunks held
+-- ---- marks
 
 -- "list" and what the table is, in ASCII: head, loan, chnk, indx, room
 abbrev pub marks : Marks
@@ -36,23 +37,21 @@ marks =
       room = 0x6c69_7374_726f_6f6d;
     }
 
-abbrev pub givenAt : ℕ
-givenAt = 1
-
-abbrev pub madeAt : ℕ
-madeAt = 2
+-- ---- head: its mark, and the chunk size now
 
 abbrev pub chunkSizeAt : ℕ
-chunkSizeAt = 3
-
-abbrev pub placesAt : ℕ
-placesAt = 4
-
-abbrev pub chunksAt : ℕ
-chunksAt = 5
+chunkSizeAt = 1
 
 abbrev pub headWords : ℕ
-headWords = 6
+headWords = 2
+
+-- ---- the chunks' own record, behind its mark: chunk numbers given, and chunks held
+
+abbrev pub madeAt : ℕ
+madeAt = 1
+
+abbrev pub chunksAt : ℕ
+chunksAt = 2
 
 -- ---- the regions' own record: how many there are
 
@@ -89,11 +88,18 @@ pub record Lengths (s : FreeListSettings) (t : Tables) : Type 0 where
 
 -- ---- the store that the tables hold
 
+-- the counts of loans stand with the loans, those of chunks with the chunks
+abbrev pub givenIn : Tables → ℕ
+givenIn t = getD (t .loans) givenAt 0
+
 abbrev pub placesIn : Tables → ℕ
-placesIn t = getD (t .head) placesAt 0
+placesIn t = getD (t .loans) placesAt 0
+
+abbrev pub madeIn : Tables → ℕ
+madeIn t = getD (t .chunks) madeAt 0
 
 abbrev pub chunksIn : Tables → ℕ
-chunksIn t = getD (t .head) chunksAt 0
+chunksIn t = getD (t .chunks) chunksAt 0
 
 abbrev pub regionsIn : Tables → ℕ
 regionsIn t = getD (t .room) regionCountAt 0
@@ -106,8 +112,8 @@ ordered (l ∷ ls) = putLoan l (ordered ls)
 unfoldable pub storeOf : FreeListSettings → Tables → Store
 storeOf s t =
     record {
-      given = getD (t .head) givenAt 0;
-      made = getD (t .head) madeAt 0;
+      given = givenIn t;
+      made = madeIn t;
       size = getD (t .head) chunkSizeAt 0;
       loans = ordered (loansOf (placesIn t) (t .loans));
       chunks = rows chunkRow (chunksIn t) (t .chunks);
@@ -136,7 +142,7 @@ pub record SoundTables (s : FreeListSettings) (t : Tables) : Type 0 where
   pub chunks-fit : chunksIn t ≤ s .store .chunks
   pub regions-fit : regionsIn t ≤ regionsMost s
   pub parted : Parted (vacantIn t) (vacantAfterIn t) (slabOf (placesIn t) (t .index)) (s .store .loans)
-  pub chained : Chained (vacantIn t) (chainStart t) (chainNext t) (serialOf (t .loans)) (s .store .loans) (placesIn t) (getD (t .head) givenAt 0)
+  pub chained : Chained (vacantIn t) (chainStart t) (chainNext t) (serialOf (t .loans)) (s .store .loans) (placesIn t) (givenIn t)
   pub store : Sound s (storeOf s t)
 
 -- the test of it
@@ -145,7 +151,7 @@ partedIn s t = partedOk (vacantIn t) (vacantAfterIn t) (slabOf (placesIn t) (t .
 
 abbrev pub chainedIn : FreeListSettings → Tables → Bool
 chainedIn s t =
-    chainsOk (vacantIn t) (chainStart t) (chainNext t) (serialOf (t .loans)) (s .store .loans) (placesIn t) (getD (t .head) givenAt 0)
+    chainsOk (vacantIn t) (chainStart t) (chainNext t) (serialOf (t .loans)) (s .store .loans) (placesIn t) (givenIn t)
 
 abbrev pub soundRow : FreeListSettings → Tables → List Bool
 soundRow s t =
@@ -169,6 +175,10 @@ soundOk s t = all (soundRow s t)
 
 unfoldable pub laidRegions : List Region → List ℕ → List ℕ
 laidRegions rs t = set (laid regionRow rs t) regionCountAt (length rs)
+
+-- the chunks likewise
+unfoldable pub laidChunks : List Chunk → List ℕ → List ℕ
+laidChunks cs t = set (laid chunkRow cs t) chunksAt (length cs)
 
 -- the regions that a table holds
 abbrev pub regionsOf : List ℕ → List Region

@@ -30,14 +30,10 @@ pub const INDEX_MARK: u64 = 0x6c69_7374_696e_6478;
 
 pub const ROOM_MARK: u64 = 0x6c69_7374_726f_6f6d;
 
-pub const GIVEN_AT: usize = 1;
+pub const CHUNK_SIZE_AT: usize = 1;
 
-pub const MADE_AT: usize = 2;
+pub const HEAD_WORDS: usize = 2;
+// Chunk numbers given and chunks held, in the chunks' own record.
+pub const MADE_AT: usize = 1;
 
-pub const CHUNK_SIZE_AT: usize = 3;
-
-pub const PLACES_AT: usize = 4;
-
-pub const CHUNKS_AT: usize = 5;
-
-pub const HEAD_WORDS: usize = 6;
+pub const CHUNKS_AT: usize = 2;

@@ -19,14 +19,14 @@ use Rattle.counter.specs.declared.settings.FreeListSettings.{FreeListSettings}
 use Rattle.slab.specs.Slab.{vacantAt, linkAt}
 use Rattle.slab.specs.Test.{partedOk}
 use Rattle.distinct.specs.Column.{column, columnFrom}
-use Rattle.store_rules.specs.Loans.{loanWords, sizeAt}
+use Rattle.store_rules.specs.Loans.{givenAt, placesAt, loanWords, sizeAt}
 use Rattle.store_rules.specs.declared.Loan.{Loan}
 use Rattle.rounding_rules.proofs.Masks.{masked}
 use Rattle.book_rules.specs.Book.{entryWords, vacatedAt, vacantAfterAt, nextOf, serialOf, firstIn}
 use Rattle.book_rules.specs.Chains.{chainsOk}
 use Rattle.freelist_rules.specs.Records.{chunkRow, chunkMemoryAt, chunkWords}
 use Rattle.freelist_rules.specs.Pieces.{All}
-use Rattle.freelist_rules.specs.Tables.{tables, givenAt, placesAt, chunksAt, regionsMost, partedIn, marks, Tables, signedOk}
+use Rattle.freelist_rules.specs.Tables.{tables, chunksIn, regionsMost, partedIn, marks, Tables, signedOk}
 use Rattle.freelist_rules.specs.Walk.{sizedOk, numbersRise, chunkOk, loanOk, apart, memories}
 use Rattle.store_rules.specs.declared.Chunk.{Chunk}
 use Rattle.freelist_rules.proofs.Decides.{all-yes, apart-yes, apart-all, sized-yes}
@@ -100,12 +100,12 @@ loan-told s fit given l = rw (masked (l .offset) (fit .store .atom), masked (l .
 
 -- ---- the head
 
-pub head-told : (s : FreeListSettings) (t : Tables) (n : ℕ) (m : Bool) (k : ℕ) → m ≡ signedOk marks t → k ≡ getD (t .head) chunksAt 0
+pub head-told : (s : FreeListSettings) (t : Tables) (n : ℕ) (m : Bool) (k : ℕ) → m ≡ signedOk marks t → k ≡ chunksIn t
     → ((m && leb k (s .store .chunks)) && leb n (regionsMost s)) ≡ headOk s t n
 unfolding headOk
 head-told s t n m k e f = rw (e, f)
 
-pub head-chunks : (s : FreeListSettings) (t : Tables) (n : ℕ) → headOk s t n ≡ true → getD (t .head) chunksAt 0 ≤ s .store .chunks
+pub head-chunks : (s : FreeListSettings) (t : Tables) (n : ℕ) → headOk s t n ≡ true → chunksIn t ≤ s .store .chunks
 unfolding headOk
 head-chunks s t n e = leb-true _ _ (and-right (signedOk marks t) _ (and-left _ (leb n (regionsMost s)) e))
 
@@ -123,20 +123,20 @@ pub parted-most : (s : FreeListSettings) (loans index : List ℕ) (r : Bool) (n 
 unfolding partedOk
 parted-most s loans index r n v e t = leb-true _ _ (and-left (leb n (s .store .loans)) _ (sym e ∙ t))
 
-module _ (s : FreeListSettings) (head loans index : List ℕ) (r : Bool) (n v : ℕ) (ns : n ≡ getD head placesAt 0) (vs : v ≡ getD index vacatedAt 0) (told : r ≡ partedBy s loans index n v) where
-  book-parted : r ≡ partedIn s (tables head loans [] index [])
+module _ (s : FreeListSettings) (loans index : List ℕ) (r : Bool) (n v : ℕ) (ns : n ≡ getD loans placesAt 0) (vs : v ≡ getD index vacatedAt 0) (told : r ≡ partedBy s loans index n v) where
+  book-parted : r ≡ partedIn s (tables [] loans [] index [])
   book-parted = told ∙ (λ j. partedBy s loans index (ns j) (vs j))
 
-  pub book-torn : r ≡ false → false ≡ bookOk s head loans index
+  pub book-torn : r ≡ false → false ≡ bookOk s loans index
   unfolding bookOk
   book-torn e = rw (sym book-parted ∙ e) refl
 
-  pub book-told : r ≡ true → (given : ℕ) (q : Bool) → given ≡ getD head givenAt 0 → q ≡ chainedBy s loans index n given → q ≡ bookOk s head loans index
+  pub book-told : r ≡ true → (given : ℕ) (q : Bool) → given ≡ getD loans givenAt 0 → q ≡ chainedBy s loans index n given → q ≡ bookOk s loans index
   unfolding bookOk
   book-told e given q gs f =
       f ∙ (λ j. chainedBy s loans index (ns j) (gs j)) ∙ rw (sym book-parted ∙ e) refl
 
 -- its places are within their limit
-pub book-most : (s : FreeListSettings) (head loans index : List ℕ) → bookOk s head loans index ≡ true → getD head placesAt 0 ≤ s .store .loans
+pub book-most : (s : FreeListSettings) (loans index : List ℕ) → bookOk s loans index ≡ true → getD loans placesAt 0 ≤ s .store .loans
 unfolding bookOk
-book-most s head loans index e = parted-most s loans index true (getD head placesAt 0) (getD index vacatedAt 0) (sym (and-left _ _ e)) refl
+book-most s loans index e = parted-most s loans index true (getD loans placesAt 0) (getD index vacatedAt 0) (sym (and-left _ _ e)) refl

@@ -8,9 +8,9 @@ use lib.ListN.{getD}
 use Rattle.lists.specs.Tests.{all}
 use Rattle.words.specs.Rows.{rows}
 use Rattle.counter.specs.declared.settings.FreeListSettings.{FreeListSettings}
-use Rattle.store_rules.specs.Loans.{loansOf}
+use Rattle.store_rules.specs.Loans.{givenAt, placesAt, loansOf}
 use Rattle.freelist_rules.specs.Records.{chunkRow, regionRow}
-use Rattle.freelist_rules.specs.Tables.{tables, givenAt, madeAt, chunkSizeAt, placesAt, chunksAt, regionCountAt, regionsMost, ordered, storeOf, partedIn, chainedIn, soundOk, marks, signedOk}
+use Rattle.freelist_rules.specs.Tables.{tables, madeAt, chunkSizeAt, chunksAt, regionCountAt, regionsMost, ordered, storeOf, partedIn, chainedIn, soundOk, marks, signedOk}
 use Rattle.freelist_rules.specs.Walk.{allOk, sizedOk, numbersRise, chunkOk, loanOk, fillsOk, apart, memories}
 use Rattle.freelist_test.specs.Parts.{counted, headOk, bookOk, eachOk, chunksOk}
 
@@ -18,7 +18,7 @@ use Rattle.freelist_test.specs.Parts.{counted, headOk, bookOk, eachOk, c
 regroup : (a b c d e f g h i j k : Bool) → all (a ∷ b ∷ c ∷ d ∷ e ∷ f ∷ g ∷ h ∷ i ∷ j ∷ k ∷ []) ≡ (((a && b) && c) && ((d && e) && ((f && ((g && h) && i)) && (j && k))))
 regroup a b c d e f g h i j k = simp and-assoc
 
-module _ (s : FreeListSettings) (head loans chunks regions index : List ℕ) where
+module _ (s : FreeListSettings) (head loans chunks index regions : List ℕ) where
   abbrev whole : Bool
   whole = soundOk s (tables head loans chunks index regions)
 
@@ -33,22 +33,22 @@ module _ (s : FreeListSettings) (head loans chunks regions index : List ℕ) whe
   fillsPart k p n = fillsOk (rows chunkRow k chunks) (ordered (loansOf p loans)) (rows regionRow n regions)
 
   -- the row is its groups
-  parts : whole ≡ (headOk s (tables head loans chunks index regions) (getD regions regionCountAt 0) && (bookOk s head loans index && (chunksPart (getD head madeAt 0) (getD head chunkSizeAt 0) (getD head chunksAt 0)
-      && (loansPart (getD head givenAt 0) (getD head placesAt 0) && fillsPart (getD head chunksAt 0) (getD head placesAt 0) (getD regions regionCountAt 0)))))
+  parts : whole ≡ (headOk s (tables head loans chunks index regions) (getD regions regionCountAt 0) && (bookOk s loans index && (chunksPart (getD chunks madeAt 0) (getD head chunkSizeAt 0) (getD chunks chunksAt 0)
+      && (loansPart (getD loans givenAt 0) (getD loans placesAt 0) && fillsPart (getD chunks chunksAt 0) (getD loans placesAt 0) (getD regions regionCountAt 0)))))
   unfolding soundOk storeOf headOk bookOk chunksOk eachOk chunkOk loanOk
   parts =
       regroup
       (signedOk marks (tables head loans chunks index regions))
-      (leb (getD head chunksAt 0) (s .store .chunks))
+      (leb (getD chunks chunksAt 0) (s .store .chunks))
       (leb (getD regions regionCountAt 0) (regionsMost s))
-      (partedIn s (tables head loans [] index []))
-      (chainedIn s (tables head loans [] index []))
+      (partedIn s (tables [] loans [] index []))
+      (chainedIn s (tables [] loans [] index []))
       (sizedOk s (getD head chunkSizeAt 0))
-      (numbersRise 1 (rows chunkRow (getD head chunksAt 0) chunks))
-      (allOk (chunkOk s (counted 0 (getD head madeAt 0) (getD head chunkSizeAt 0))) (rows chunkRow (getD head chunksAt 0) chunks))
-      (apart (memories (rows chunkRow (getD head chunksAt 0) chunks)))
-      (loansPart (getD head givenAt 0) (getD head placesAt 0))
-      (fillsPart (getD head chunksAt 0) (getD head placesAt 0) (getD regions regionCountAt 0))
+      (numbersRise 1 (rows chunkRow (getD chunks chunksAt 0) chunks))
+      (allOk (chunkOk s (counted 0 (getD chunks madeAt 0) (getD head chunkSizeAt 0))) (rows chunkRow (getD chunks chunksAt 0) chunks))
+      (apart (memories (rows chunkRow (getD chunks chunksAt 0) chunks)))
+      (loansPart (getD loans givenAt 0) (getD loans placesAt 0))
+      (fillsPart (getD chunks chunksAt 0) (getD loans placesAt 0) (getD regions regionCountAt 0))
 
   -- one group after the other, with what the code has read and was told
   module _ (n : ℕ) (hd : Bool) (ns : n ≡ getD regions regionCountAt 0) (hs : hd ≡ headOk s (tables head loans chunks index regions) n) where
@@ -58,20 +58,20 @@ module _ (s : FreeListSettings) (head loans chunks regions index : List ℕ) whe
     pub head-fails : hd ≡ false → false ≡ whole
     head-fails f = sym (parts ∙ rw (head-is ∙ f) refl)
 
-    module _ (ht : hd ≡ true) (bk : Bool) (bs : bk ≡ bookOk s head loans index) where
+    module _ (ht : hd ≡ true) (bk : Bool) (bs : bk ≡ bookOk s loans index) where
       pub book-fails : bk ≡ false → false ≡ whole
       book-fails f = sym (parts ∙ rw (head-is ∙ ht, sym bs ∙ f) refl)
 
-      module _ (bt : bk ≡ true) (k size made : ℕ) (ch : Bool) (ks : k ≡ getD head chunksAt 0) (zs : size ≡ getD head chunkSizeAt 0) (ms : made ≡ getD head madeAt 0)
+      module _ (bt : bk ≡ true) (k size made : ℕ) (ch : Bool) (ks : k ≡ getD chunks chunksAt 0) (zs : size ≡ getD head chunkSizeAt 0) (ms : made ≡ getD chunks madeAt 0)
           (cs : ch ≡ chunksPart made size k) where
-        chunks-is : chunksPart (getD head madeAt 0) (getD head chunkSizeAt 0) (getD head chunksAt 0) ≡ ch
+        chunks-is : chunksPart (getD chunks madeAt 0) (getD head chunkSizeAt 0) (getD chunks chunksAt 0) ≡ ch
         chunks-is = sym (cs ∙ (λ j. chunksPart (ms j) (zs j) (ks j)))
 
         pub chunks-fail : ch ≡ false → false ≡ whole
         chunks-fail f = sym (parts ∙ rw (head-is ∙ ht, sym bs ∙ bt, chunks-is ∙ f) refl)
 
-        module _ (ct : ch ≡ true) (given p : ℕ) (ln : Bool) (gs : given ≡ getD head givenAt 0) (ps : p ≡ getD head placesAt 0) (ls : ln ≡ loansPart given p) where
-          loans-is : loansPart (getD head givenAt 0) (getD head placesAt 0) ≡ ln
+        module _ (ct : ch ≡ true) (given p : ℕ) (ln : Bool) (gs : given ≡ getD loans givenAt 0) (ps : p ≡ getD loans placesAt 0) (ls : ln ≡ loansPart given p) where
+          loans-is : loansPart (getD loans givenAt 0) (getD loans placesAt 0) ≡ ln
           loans-is = sym (ls ∙ (λ j. loansPart (gs j) (ps j)))
 
           pub loans-fail : ln ≡ false → false ≡ whole

@@ -3,11 +3,10 @@ use mathlib.Core.Bool.{Bool, _&&_}
 use mathlib.Core.List.{List, [], _∷_}
 use Prim.Native.Nat.{ℕ}
 use lib.Dec.{leb}
-use lib.ListN.{getD}
 use Rattle.lists.specs.Tests.{all}
 use Rattle.counter.specs.declared.settings.FreeListSettings.{FreeListSettings}
 use Rattle.freelist_rules.specs.Records.{Store}
-use Rattle.freelist_rules.specs.Tables.{tables, chunksAt, regionsMost, partedIn, chainedIn, marks, Tables, signedOk}
+use Rattle.freelist_rules.specs.Tables.{tables, chunksIn, regionsMost, partedIn, chainedIn, marks, Tables, signedOk}
 use Rattle.freelist_rules.specs.Walk.{allOk, sizedOk, numbersRise, chunkOk, apart, memories}
 use Rattle.store_rules.specs.declared.Chunk.{Chunk}
 
@@ -17,12 +16,12 @@ counted given made size = record { given = given; made = made; size = size; loan
 
 -- the marks, and the counts of chunks and of n regions within their limits
 unfoldable pub headOk : FreeListSettings → Tables → ℕ → Bool
-headOk s t n = all (signedOk marks t ∷ leb (getD (t .head) chunksAt 0) (s .store .chunks) ∷ leb n (regionsMost s) ∷ [])
+headOk s t n = all (signedOk marks t ∷ leb (chunksIn t) (s .store .chunks) ∷ leb n (regionsMost s) ∷ [])
 
 -- the loans' places are parted into used and vacant ones, and the chains lead to each loan
-unfoldable pub bookOk : FreeListSettings → List ℕ → List ℕ → List ℕ → Bool
-bookOk s head loans index =
-    all (partedIn s (tables head loans [] index []) ∷ chainedIn s (tables head loans [] index []) ∷ [])
+unfoldable pub bookOk : FreeListSettings → List ℕ → List ℕ → Bool
+bookOk s loans index =
+    all (partedIn s (tables [] loans [] index []) ∷ chainedIn s (tables [] loans [] index []) ∷ [])
 
 -- the chunks' numbers rise, and each chunk is right
 unfoldable pub eachOk : FreeListSettings → ℕ → ℕ → List Chunk → Bool

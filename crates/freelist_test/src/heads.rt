@@ -1,4 +1,4 @@
-// The head, the counts, and the book of loans.
+// The marks, the counts, and the book of loans.
 ghost use mathlib.Core.Path.{_≡_};
 ghost use Rattle.counter.specs.InTable.{FreeListIn};
 ghost use Rattle.freelist_rules.specs.Tables.{tables, marks, signedOk};
@@ -9,14 +9,14 @@ use book::VACATED_AT;
 use counter::FreeListSettings;
 use freelist_rules::CHUNKS_AT;
 use freelist_rules::CHUNKS_MARK;
-use freelist_rules::GIVEN_AT;
 use freelist_rules::HEAD_MARK;
 use freelist_rules::INDEX_MARK;
 use freelist_rules::LOANS_MARK;
-use freelist_rules::PLACES_AT;
 use freelist_rules::ROOM_MARK;
 use slab::Slab;
+use store_rules::GIVEN_AT;
 use store_rules::LOAN_WORDS;
+use store_rules::PLACES_AT;
 use store_rules::SIZE_AT;
 use words::MARK_AT;
 
@@ -47,18 +47,18 @@ pub fn is_head(
     let store = s.store;
     let most = store.loans + store.chunks;
     let signed = is_signed(head, loans, chunks, index, regions);
-    let k = words::word(head, CHUNKS_AT);
+    let k = words::word(chunks, CHUNKS_AT);
     signed & (k <= store.chunks as u64) & (n <= most as u64)
 }
 
 // Whether the places of the loans are parted into used and vacant ones, and the chains lead to each loan.
-pub fn is_book(s: FreeListSettings, head: &[u64], loans: &[u64], index: &[u64]) -> bool
+pub fn is_book(s: FreeListSettings, loans: &[u64], index: &[u64]) -> bool
     requires { ⌜ FreeListIn s ⌝ }
-    ensures { λ r. ⌜ r ≡ bookOk s (now (head .entry)) (now (loans .entry)) (now (index .entry)) ⌝ }
+    ensures { λ r. ⌜ r ≡ bookOk s (now (loans .entry)) (now (index .entry)) ⌝ }
 {
     let store = s.store;
     let most = store.loans;
-    let n = words::word(head, PLACES_AT);
+    let n = words::word(loans, PLACES_AT);
     let last = words::word(index, VACATED_AT);
     let places = Slab {
         places: n,
@@ -77,5 +77,5 @@ pub fn is_book(s: FreeListSettings, head: &[u64], loans: &[u64], index: &[u64]) 
     if !parted {
         return false;
     }
-    book::is_chained(loans, index, most, n, words::word(head, GIVEN_AT))
+    book::is_chained(loans, index, most, n, words::word(loans, GIVEN_AT))
 }

@@ -1,5 +1,5 @@
-// The test of a free-list store's tables: its head, the book of its loans, its chunks and its loans, and that loans and
-// free regions fill the chunks. It reads each table as it stands, so that no word in one can make it fail.
+// The test of a free-list store's tables: its marks and counts, the book of its loans, its chunks and its loans, and that
+// loans and free regions fill the chunks. It reads each table as it stands, so that no word in one can make it fail.
 mod blocks;
 mod chunks;
 mod heads;
@@ -11,9 +11,9 @@ ghost use Rattle.freelist_rules.specs.Tables.{tables, lengthsOk, soundOk};
 use counter::FreeListSettings;
 use freelist_rules::CHUNK_SIZE_AT;
 use freelist_rules::CHUNKS_AT;
-use freelist_rules::GIVEN_AT;
 use freelist_rules::MADE_AT;
-use freelist_rules::PLACES_AT;
+use store_rules::GIVEN_AT;
+use store_rules::PLACES_AT;
 
 // Whether the tables hold a sound store. The tests that read least come first, and each relies on those before it.
 pub fn is_sound(
@@ -31,17 +31,17 @@ pub fn is_sound(
     if !heads::is_head(s, head, loans, chunks, index, regions, n as u64) {
         return false;
     }
-    if !heads::is_book(s, head, loans, index) {
+    if !heads::is_book(s, loans, index) {
         return false;
     }
-    let k = words::word(head, CHUNKS_AT) as usize;
+    let k = words::word(chunks, CHUNKS_AT) as usize;
     let size = words::word(head, CHUNK_SIZE_AT);
-    let made = words::word(head, MADE_AT);
+    let made = words::word(chunks, MADE_AT);
     if !chunks::are_chunks(s, made, size, chunks, k) {
         return false;
     }
-    let given = words::word(head, GIVEN_AT);
-    let places = words::word(head, PLACES_AT) as usize;
+    let given = words::word(loans, GIVEN_AT);
+    let places = words::word(loans, PLACES_AT) as usize;
     if !blocks::are_loans(s, given, loans, places) {
         return false;
     }

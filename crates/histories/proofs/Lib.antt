@@ -6,3 +6,4 @@ pub mod Told
 pub mod HeapAndObjects
 pub mod AnyOrder
 pub mod Marks
+pub mod Mixed

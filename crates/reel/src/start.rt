@@ -55,7 +55,7 @@ fn least(a: usize, b: usize) -> usize
 fn free_list_lengths(loans: usize, chunks: usize) -> Lengths
     requires { ⌜ loans ≤ 512 ⌝ }
     requires { ⌜ chunks ≤ 64 ⌝ }
-    ensures { λ r. ⌜ r .head ≤ 6 ⌝ }
+    ensures { λ r. ⌜ r .head ≤ 2 ⌝ }
     ensures { λ r. ⌜ r .loans ≤ 4 + 4 * loans ⌝ }
     ensures { λ r. ⌜ r .chunks ≤ 3 + 3 * chunks ⌝ }
     ensures { λ r. ⌜ r .index ≤ 3 + 3 * loans ⌝ }
@@ -74,7 +74,7 @@ fn buddy_lengths(loans: usize, chunks: usize, pairs: usize) -> Lengths
     requires { ⌜ loans ≤ 512 ⌝ }
     requires { ⌜ chunks ≤ 64 ⌝ }
     requires { ⌜ pairs ≤ 256 ⌝ }
-    ensures { λ r. ⌜ r .head ≤ 6 ⌝ }
+    ensures { λ r. ⌜ r .head ≤ 2 ⌝ }
     ensures { λ r. ⌜ r .loans ≤ 4 + 4 * loans ⌝ }
     ensures { λ r. ⌜ r .chunks ≤ 3 + 3 * chunks ⌝ }
     ensures { λ r. ⌜ r .index ≤ 3 + 3 * loans ⌝ }
@@ -94,7 +94,7 @@ pub fn table_lengths(settings: Settings, most: Limits) -> Lengths
     requires { ⌜ most .loans ≤ 512 ⌝ }
     requires { ⌜ most .chunks ≤ 64 ⌝ }
     requires { ⌜ most .pairs ≤ 256 ⌝ }
-    ensures { λ r. ⌜ r .head ≤ 6 ⌝ }
+    ensures { λ r. ⌜ r .head ≤ 2 ⌝ }
     ensures { λ r. ⌜ r .loans ≤ 4 + 4 * (most .loans) ⌝ }
     ensures { λ r. ⌜ r .chunks ≤ 3 + 3 * (most .chunks) ⌝ }
     ensures { λ r. ⌜ r .index ≤ 3 + 3 * (most .loans) ⌝ }

@@ -14,7 +14,7 @@ use freelist_rules::REGION_WORDS;
 use reel::Limits;
 use reel::Settings;
 
-// each table at the greatest limits, in words, for either engine: a free list's head and chunks are the longer
+// each table at the greatest limits, in words, for either engine: the heads are as long, a free list's chunks are the longer
 const LOANS_WORDS: usize = store_rules::LOAN_WORDS + store_rules::LOAN_WORDS * LOANS_MOST;
 
 const CHUNKS_WORDS: usize = CHUNK_WORDS + CHUNK_WORDS * CHUNKS_MOST;

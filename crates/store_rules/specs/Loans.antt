@@ -10,6 +10,13 @@ use lib.Seq.{getD-drop}
 use Rattle.words.specs.Rows.{Layout, rows}
 use Rattle.store_rules.specs.declared.Loan.{Loan}
 
+-- of the table's own record, behind its mark: serials given, and loan places ever used
+abbrev pub givenAt : ℕ
+givenAt = 1
+
+abbrev pub placesAt : ℕ
+placesAt = 2
+
 -- how many words a loan takes, and where those of the one at place 0 stand: behind the table's own record
 abbrev pub loanWords : ℕ
 loanWords = 4

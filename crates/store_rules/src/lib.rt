@@ -4,6 +4,11 @@ use counter::Heap;
 use counter::OpenOrder;
 use counter::ReleaseAnswer;
 
+// Of the loans' own record, behind its mark: serials given, and loan places ever used; specs/Loans has the same names.
+pub const GIVEN_AT: usize = 1;
+
+pub const PLACES_AT: usize = 2;
+
 // How many words a loan takes in a table, and where those of the one at place 0 stand; specs/Loans has the same names.
 pub const LOAN_WORDS: usize = 4;
 

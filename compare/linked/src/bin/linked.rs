@@ -1,16 +1,17 @@
 //! The linked stores and ranking against the crate: on tapes of several stores, on recorded ones, and
-//! on lists of memory types.
+//! on lists of memory types; and on tables that are mixed.
 
 use {
     compare::{difference::Difference, generator, parallel::share, shelf},
     linked::{
-        ranking,
+        mixed, ranking,
         shelf::{answers_of_one, answers_of_several},
     },
     std::{env, fs, io, path::Path, process::ExitCode},
 };
 
-const USAGE: &str = "linked recorded | linked stores SEED COUNT | linked rank SEED COUNT";
+const USAGE: &str =
+    "linked recorded | linked stores SEED COUNT | linked rank SEED COUNT | linked mixed SEED COUNT";
 /// The recorded tapes of one store and of several, seen from this package.
 const RECORDED: &str = "../recorded";
 const RECORDED_STORES: &str = "../recorded/stores";
@@ -43,6 +44,7 @@ fn run(arguments: &[&str]) -> Result<(), String> {
         ["recorded"] => recorded().map_err(|error| error.to_string())?.verdict(),
         ["stores", seed, count] => stores(number(seed)?, number(count)?).verdict(),
         ["rank", seed, count] => ranking::run(number(seed)?, number(count)?),
+        ["mixed", seed, count] => mixed::run(number(seed)?, number(count)?),
         _ => Err(USAGE.into()),
     }
 }

@@ -2,8 +2,11 @@ use native.Mathlib.Omega.{arith}
 use native.Mathlib.Nat.{mod-lt}
 use mathlib.Core.Path.{ap, _∙_}
 use Prim.Native.Nat.{ℕ, _%_}
-use lib.ListN.{set}
+use lib.ListN.{length, set}
+use Rattle.words.specs.Rows.{written}
+use Rattle.store_rules.specs.Loans.{loanRow}
 use Rattle.book_rules.specs.Book.{vacatedAt, firstOf, nextOf}
+use Rattle.book_rules.proofs.Counted.{counted-long}
 use borrow.Author.Needs.{needs}
 use Rattle.book.proofs.enter_at.Statement.{statement}
 use Rattle.book.proofs.enter_at.Tie as tie
@@ -14,11 +17,19 @@ rem-i c = search needs
 first-before-requires : tie.Need-first-before-requires
 first-before-requires c κs = search needs
 
+count-requires : tie.Need-count-requires
+count-requires c κs = search needs
+
 write-loan-requires : tie.Need-write-loan-requires
-write-loan-requires c κs = search needs
+write-loan-requires c κs =
+    let o = c .before .before .before .before .before .before .before .before .before .before .before in
+    let q = o .pre in
+    let k = c .before .before .before .count .ensures in
+    let long = ap length k ∙ counted-long (o .args .l .serial) (o .args .t .slab .places) (o .args .loans .now) in
+    omega (arith, q .place, q .loans-long, long)
 
 put-first-requires : tie.Need-put-first-requires
-put-first-requires c κs = let o = c .before .before .before .before .before .before .before .before .before .before .before in let q = o .pre in (omega (arith, mod-lt (o .args .l .serial) (q .some), q .index-long), omega (arith, q .place, q .index-long))
+put-first-requires c κs = let o = c .before .before .before .before .before .before .before .before .before .before .before .before .before .before .before in let q = o .pre in (omega (arith, mod-lt (o .args .l .serial) (q .some), q .index-long), omega (arith, q .place, q .index-long))
 
 same-length : tie.Need-same-length
 same-length c = search needs
@@ -30,9 +41,10 @@ returns : tie.Need-returns
 returns c =
     let d = c .before .before in
     let e = d .before .before .before .before in
-    let f = e .before .before in
+    let k = e .before .before .before .before in
+    let f = k .before .before in
     let a = f .before .before .before .before .before .before .args in
-    (e .write-loan .ensures, d .put-first .ensures ∙ ap (λ (x : ℕ). set (set (set (a .index .now) vacatedAt (a .t .slab .vacant)) (nextOf (a .t .place)) x) (firstOf (a .l .serial % a .n)) (a .t .place)) (f .first-before .ensures))
+    (e .write-loan .ensures ∙ ap (written loanRow (a .t .place) (a .l)) (k .count .ensures), d .put-first .ensures ∙ ap (λ (x : ℕ). set (set (set (a .index .now) vacatedAt (a .t .slab .vacant)) (nextOf (a .t .place)) x) (firstOf (a .l .serial % a .n)) (a .t .place)) (f .first-before .ensures))
 
 pub enter-at-spec : {M : Type 1} → statement M
 enter-at-spec =
@@ -40,6 +52,7 @@ enter-at-spec =
     (tie.spec
     rem-i
     first-before-requires
+    count-requires
     write-loan-requires
     put-first-requires
     same-length

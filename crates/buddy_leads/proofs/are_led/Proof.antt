@@ -10,7 +10,7 @@ use Rattle.buddy_leads.proofs.are_led.Statement.{statement}
 use Rattle.buddy_leads.proofs.are_led.Tie as tie
 
 abbrev Inv-loop : tie.InvT-loop
-Inv-loop minimal pairs levels held level n chunks tree p₀ p = (p ≤ n) × (every (pairOk (partSettings minimal pairs 0) (levelPart levels held chunks tree) level) p ≡ true)
+Inv-loop minimal pairs levels held level n chunks tree p₀ p = (p ≤ n) × (every (pairOk (partSettings minimal pairs 0) (levelPart levels chunks tree) level) p ≡ true)
 
 abbrev μ-loop : tie.MeasureT-loop
 μ-loop minimal pairs levels held level n chunks tree p₀ p = n - p
@@ -26,7 +26,7 @@ returns c =
     let i = c .before in
     let o = i .before .before in
     let a = o .before .before .before .args in
-    let led = pairOk (partSettings (a .minimal) (a .pairs) 0) (levelPart (a .levels) (a .held) (a .chunks .now) (a .tree .now)) (a .level) in
+    let led = pairOk (partSettings (a .minimal) (a .pairs) 0) (levelPart (a .levels) (a .chunks .now) (a .tree .now)) (a .level) in
     sym (look-stops led (o .loop .p) (i .is-led .result) (i .is-led .ensures) (a .n) (i .before .loop-test .taken) (c .if1 .taken))
 
 add-p : tie.Need-add-p Inv-loop μ-loop
@@ -40,14 +40,14 @@ loop-again c =
     let i = c .before in
     let o = i .before .before in
     let a = o .before .before .before .args in
-    let led = pairOk (partSettings (a .minimal) (a .pairs) 0) (levelPart (a .levels) (a .held) (a .chunks .now) (a .tree .now)) (a .level) in
+    let led = pairOk (partSettings (a .minimal) (a .pairs) 0) (levelPart (a .levels) (a .chunks .now) (a .tree .now)) (a .level) in
     (omega arith, look-goes led (o .loop .p) (i .is-led .result) (i .is-led .ensures) (o .loop .inv .1) (c .if1 .left))
 
 returns-2 : tie.Need-returns-2 Inv-loop μ-loop
 returns-2 c =
     let o = c .before in
     let a = o .before .before .before .args in
-    let led = pairOk (partSettings (a .minimal) (a .pairs) 0) (levelPart (a .levels) (a .held) (a .chunks .now) (a .tree .now)) (a .level) in
+    let led = pairOk (partSettings (a .minimal) (a .pairs) 0) (levelPart (a .levels) (a .chunks .now) (a .tree .now)) (a .level) in
     let e : o .loop .p ≡ a .n = omega arith in
     sym (o .loop .inv .1) ∙ ap (every led) e
 

@@ -5,12 +5,12 @@ use native.Mathlib.Omega.{arith}
 use borrow.Author.Needs.{needs}
 use Rattle.buddy_rules.specs.Test.{every, loanOk}
 use Rattle.buddy_levels.specs.Seen.{partSettings, partTables}
-use Rattle.buddy_leads.proofs.Looks.{look-stops, look-goes, lent-same}
+use Rattle.buddy_leads.proofs.Looks.{look-stops, look-goes}
 use Rattle.buddy_leads.proofs.are_lent.Statement.{statement}
 use Rattle.buddy_leads.proofs.are_lent.Tie as tie
 
 abbrev Inv-loop : tie.InvT-loop
-Inv-loop minimal pairs most levels held n loans chunks tree k₀ k = (k ≤ n) × (every (loanOk (partSettings minimal pairs most) (partTables levels n held loans chunks tree)) k ≡ true)
+Inv-loop minimal pairs most levels held n loans chunks tree k₀ k = (k ≤ n) × (every (loanOk (partSettings minimal pairs most) (partTables levels loans chunks tree)) k ≡ true)
 
 abbrev μ-loop : tie.MeasureT-loop
 μ-loop minimal pairs most levels held n loans chunks tree k₀ k = n - k
@@ -26,9 +26,8 @@ returns c =
     let i = c .before in
     let o = i .before .before in
     let a = o .before .before .before .before .args in
-    let lent = loanOk (partSettings (a .minimal) (a .pairs) (a .most)) (partTables (a .levels) (a .n) (a .held) (a .loans .now) (a .chunks .now) (a .tree .now)) in
-    let e = lent-same (a .minimal) (a .pairs) (a .most) (a .levels) (a .held) (o .loop .k) (a .loans .now) (a .chunks .now) (a .tree .now) (a .n) (i .is-loan-led .result) (i .before .loop-test .taken) (i .is-loan-led .ensures) in
-    sym (look-stops lent (o .loop .k) (i .is-loan-led .result) e (a .n) (i .before .loop-test .taken) (c .if1 .taken))
+    let lent = loanOk (partSettings (a .minimal) (a .pairs) (a .most)) (partTables (a .levels) (a .loans .now) (a .chunks .now) (a .tree .now)) in
+    sym (look-stops lent (o .loop .k) (i .is-loan-led .result) (i .is-loan-led .ensures) (a .n) (i .before .loop-test .taken) (c .if1 .taken))
 
 add-k : tie.Need-add-k Inv-loop μ-loop
 add-k c = search needs
@@ -41,15 +40,14 @@ loop-again c =
     let i = c .before in
     let o = i .before .before in
     let a = o .before .before .before .before .args in
-    let lent = loanOk (partSettings (a .minimal) (a .pairs) (a .most)) (partTables (a .levels) (a .n) (a .held) (a .loans .now) (a .chunks .now) (a .tree .now)) in
-    let e = lent-same (a .minimal) (a .pairs) (a .most) (a .levels) (a .held) (o .loop .k) (a .loans .now) (a .chunks .now) (a .tree .now) (a .n) (i .is-loan-led .result) (i .before .loop-test .taken) (i .is-loan-led .ensures) in
-    (omega arith, look-goes lent (o .loop .k) (i .is-loan-led .result) e (o .loop .inv .1) (c .if1 .left))
+    let lent = loanOk (partSettings (a .minimal) (a .pairs) (a .most)) (partTables (a .levels) (a .loans .now) (a .chunks .now) (a .tree .now)) in
+    (omega arith, look-goes lent (o .loop .k) (i .is-loan-led .result) (i .is-loan-led .ensures) (o .loop .inv .1) (c .if1 .left))
 
 returns-2 : tie.Need-returns-2 Inv-loop μ-loop
 returns-2 c =
     let o = c .before in
     let a = o .before .before .before .before .args in
-    let lent = loanOk (partSettings (a .minimal) (a .pairs) (a .most)) (partTables (a .levels) (a .n) (a .held) (a .loans .now) (a .chunks .now) (a .tree .now)) in
+    let lent = loanOk (partSettings (a .minimal) (a .pairs) (a .most)) (partTables (a .levels) (a .loans .now) (a .chunks .now) (a .tree .now)) in
     let e : o .loop .k ≡ a .n = omega arith in
     sym (o .loop .inv .1) ∙ ap (every lent) e
 

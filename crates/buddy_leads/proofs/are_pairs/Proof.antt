@@ -9,7 +9,7 @@ use Rattle.buddy_leads.proofs.are_pairs.Statement.{statement}
 use Rattle.buddy_leads.proofs.are_pairs.Tie as tie
 
 abbrev Inv-loop : tie.InvT-loop
-Inv-loop minimal pairs levels held chunks tree l₀ l = (l ≤ levels) × (every (levelLed minimal pairs levels held chunks tree) l ≡ true)
+Inv-loop minimal pairs levels held chunks tree l₀ l = (l ≤ levels) × (every (levelLed minimal pairs levels chunks tree) l ≡ true)
 
 abbrev μ-loop : tie.MeasureT-loop
 μ-loop minimal pairs levels held chunks tree l₀ l = levels - l
@@ -31,8 +31,8 @@ are-led-requires c κs =
     let f = c .before in
     let o = f .before .before in
     let s = o .before .before .before in
-    let e = used-is (s .args .minimal) (s .args .pairs) (s .args .levels) (s .args .held) (s .args .chunks .now) (s .args .tree .now) (o .loop .l) _ _ (f .level-from .ensures .0) (c .word .ensures) in
-    (s .pre .0, s .pre .1, omega arith, omega (arith, e, s .pre .2 (o .loop .l) (f .before .loop-test .taken)))
+    let e = used-is (s .args .minimal) (s .args .pairs) (s .args .levels) (s .args .chunks .now) (s .args .tree .now) (o .loop .l) _ _ (f .level-from .ensures .0) (c .word .ensures) in
+    (s .pre .0, s .pre .1, omega arith, omega (arith, e, s .pre .2 (o .loop .l) (f .before .loop-test .taken)), s .pre .3)
 
 returns : tie.Need-returns Inv-loop μ-loop
 returns c =
@@ -41,8 +41,8 @@ returns c =
     let f = w .before in
     let o = f .before .before in
     let a = o .before .before .before .args in
-    let e = level-led (a .minimal) (a .pairs) (a .levels) (a .held) (a .chunks .now) (a .tree .now) (o .loop .l) _ _ (f .level-from .ensures .0) (w .word .ensures) (i .are-led .result) (i .are-led .ensures) in
-    sym (look-stops (levelLed (a .minimal) (a .pairs) (a .levels) (a .held) (a .chunks .now) (a .tree .now)) (o .loop .l) (i .are-led .result) e (a .levels) (f .before .loop-test .taken) (c .if1 .taken))
+    let e = level-led (a .minimal) (a .pairs) (a .levels) (a .chunks .now) (a .tree .now) (o .loop .l) _ _ (f .level-from .ensures .0) (w .word .ensures) (i .are-led .result) (i .are-led .ensures) in
+    sym (look-stops (levelLed (a .minimal) (a .pairs) (a .levels) (a .chunks .now) (a .tree .now)) (o .loop .l) (i .are-led .result) e (a .levels) (f .before .loop-test .taken) (c .if1 .taken))
 
 add-l : tie.Need-add-l Inv-loop μ-loop
 add-l c = search needs
@@ -57,15 +57,15 @@ loop-again c =
     let f = w .before in
     let o = f .before .before in
     let a = o .before .before .before .args in
-    let e = level-led (a .minimal) (a .pairs) (a .levels) (a .held) (a .chunks .now) (a .tree .now) (o .loop .l) _ _ (f .level-from .ensures .0) (w .word .ensures) (i .are-led .result) (i .are-led .ensures) in
-    (omega arith, look-goes (levelLed (a .minimal) (a .pairs) (a .levels) (a .held) (a .chunks .now) (a .tree .now)) (o .loop .l) (i .are-led .result) e (o .loop .inv .1) (c .if1 .left))
+    let e = level-led (a .minimal) (a .pairs) (a .levels) (a .chunks .now) (a .tree .now) (o .loop .l) _ _ (f .level-from .ensures .0) (w .word .ensures) (i .are-led .result) (i .are-led .ensures) in
+    (omega arith, look-goes (levelLed (a .minimal) (a .pairs) (a .levels) (a .chunks .now) (a .tree .now)) (o .loop .l) (i .are-led .result) e (o .loop .inv .1) (c .if1 .left))
 
 returns-2 : tie.Need-returns-2 Inv-loop μ-loop
 returns-2 c =
     let o = c .before in
     let a = o .before .before .before .args in
     let e : o .loop .l ≡ a .levels = omega arith in
-    sym (o .loop .inv .1) ∙ ap (every (levelLed (a .minimal) (a .pairs) (a .levels) (a .held) (a .chunks .now) (a .tree .now))) e
+    sym (o .loop .inv .1) ∙ ap (every (levelLed (a .minimal) (a .pairs) (a .levels) (a .chunks .now) (a .tree .now))) e
 
 pub are-pairs-spec : {M : Type 1} → statement M
 are-pairs-spec =

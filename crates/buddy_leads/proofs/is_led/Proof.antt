@@ -15,7 +15,7 @@ returns c =
     let p = c .before .before in
     let f = p .before in
     let a = f .before .before .before .args in
-    led-none (a .minimal) (a .pairs) (a .levels) (a .held) (a .level) (a .p) (a .chunks .now) (a .tree .now) (entFrom (p .pair-in .result)) _ (f .level-from .ensures .0) (p .pair-in .ensures) (c .if1 .taken)
+    led-none (a .minimal) (a .pairs) (a .levels) (a .level) (a .p) (a .chunks .now) (a .tree .now) (entFrom (p .pair-in .result)) _ (f .level-from .ensures .0) (p .pair-in .ensures) (c .if1 .taken)
 
 add-leads-to : tie.Need-add-leads-to
 add-leads-to c = search needs
@@ -33,7 +33,7 @@ returns-2 c =
     let p = i .before .before in
     let f = p .before in
     let a = f .before .before .before .args in
-    led-is (a .minimal) (a .pairs) (a .levels) (a .held) (a .level) (a .p) (a .chunks .now) (a .tree .now) (entFrom (p .pair-in .result)) _ (f .level-from .ensures .0) (p .pair-in .ensures) _ _ (i .if1 .left) (w .split-word .ensures) (c .leads-to .ensures)
+    led-is (a .minimal) (a .pairs) (a .levels) (a .level) (a .p) (a .chunks .now) (a .tree .now) (entFrom (p .pair-in .result)) _ (f .level-from .ensures .0) (p .pair-in .ensures) _ _ (i .if1 .left) (w .split-word .ensures) (c .leads-to .ensures)
 
 pub is-led-spec : {M : Type 1} → statement M
 is-led-spec =

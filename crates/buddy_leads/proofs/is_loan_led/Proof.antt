@@ -9,8 +9,9 @@ loan-at-requires c κs = search needs
 returns : tie.Need-returns
 returns c =
     let l = c .before .before in
-    let a = l .before .before .before .before .args in
-    lent-none (a .minimal) (a .pairs) (a .most) (a .levels) (a .held) (a .place) (a .loans .now) (a .chunks .now) (a .tree .now) (l .loan-at .result) (l .loan-at .ensures) (c .if1 .taken)
+    let o = l .before .before .before .before in
+    let a = o .args in
+    lent-none (a .minimal) (a .pairs) (a .most) (a .levels) (a .place) (a .loans .now) (a .chunks .now) (a .tree .now) (o .pre .5) (l .loan-at .result) (l .loan-at .ensures) (c .if1 .taken)
 
 level-requires : tie.Need-level-requires
 level-requires c κs = search needs
@@ -41,8 +42,9 @@ returns-2 c =
     let v = n .before in
     let i = v .before in
     let l = i .before .before in
-    let a = l .before .before .before .before .args in
-    lent-is (a .minimal) (a .pairs) (a .most) (a .levels) (a .held) (a .place) (a .loans .now) (a .chunks .now) (a .tree .now) (l .loan-at .result) (l .loan-at .ensures) _ _ _ _ _ (i .if1 .left) (v .level .ensures) (n .nodes-from .ensures .0) (w .word .ensures) (k .loan-word .ensures) (c .leads-to .ensures)
+    let o = l .before .before .before .before in
+    let a = o .args in
+    lent-is (a .minimal) (a .pairs) (a .most) (a .levels) (a .place) (a .loans .now) (a .chunks .now) (a .tree .now) (o .pre .5) (l .loan-at .result) (l .loan-at .ensures) _ _ _ _ _ (i .if1 .left) (v .level .ensures) (n .nodes-from .ensures .0) (w .word .ensures) (k .loan-word .ensures) (c .leads-to .ensures)
 
 pub is-loan-led-spec : {M : Type 1} → statement M
 is-loan-led-spec =

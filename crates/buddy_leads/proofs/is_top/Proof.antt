@@ -6,8 +6,9 @@ use Rattle.buddy_leads.proofs.is_top.Tie as tie
 
 returns : tie.Need-returns
 returns c =
-    let a = c .before .before .before .args in
-    sym (top-none (a .minimal) (a .pairs) (a .held) (a .level) (a .chunk) (a .word) (a .chunks .now) (a .tree .now) (c .if1 .taken))
+    let o = c .before .before .before in
+    let a = o .args in
+    sym (top-none (a .minimal) (a .pairs) (a .held) (a .level) (a .chunk) (a .word) (a .chunks .now) (a .tree .now) (o .pre .1) (c .if1 .taken))
 
 cell-requires : tie.Need-cell-requires
 cell-requires c κs = search needs
@@ -15,8 +16,9 @@ cell-requires c κs = search needs
 returns-2 : tie.Need-returns-2
 returns-2 c =
     let i = c .before .before in
-    let a = i .before .before .before .args in
-    sym (top-vacant (a .minimal) (a .pairs) (a .held) (a .level) (a .chunk) (a .word) (a .chunks .now) (a .tree .now) _ (c .before .cell .ensures) (i .if1 .left) (c .if2 .taken))
+    let o = i .before .before .before in
+    let a = o .args in
+    sym (top-vacant (a .minimal) (a .pairs) (a .held) (a .level) (a .chunk) (a .word) (a .chunks .now) (a .tree .now) (o .pre .1) _ (c .before .cell .ensures) (i .if1 .left) (c .if2 .taken))
 
 chunks-from-requires : tie.Need-chunks-from-requires
 chunks-from-requires c κs = search needs
@@ -41,8 +43,9 @@ returns-3 c =
     let f = c .before .before in
     let z = f .before in
     let i = z .before .before in
-    let a = i .before .before .before .args in
-    top-is (a .minimal) (a .pairs) (a .held) (a .level) (a .chunk) (a .word) (a .chunks .now) (a .tree .now) _ _ _ _
+    let o = i .before .before .before in
+    let a = o .args in
+    top-is (a .minimal) (a .pairs) (a .held) (a .level) (a .chunk) (a .word) (a .chunks .now) (a .tree .now) (o .pre .1) _ _ _ _
     (z .before .cell .ensures) (i .if1 .left) (z .if2 .left) (f .chunks-from .ensures .0) (c .before .cell2 .ensures) (c .level .ensures)
 
 pub is-top-spec : {M : Type 1} → statement M

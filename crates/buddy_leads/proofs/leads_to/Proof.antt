@@ -16,12 +16,12 @@ is-top-requires c κs = search needs
 returns : tie.Need-returns
 returns c =
     let a = c .before .before .before .before .args in
-    lead-top (a .minimal) (a .pairs) (a .levels) (a .held) (a .level) (a .chunk) (a .node) (a .word) (a .chunks .now) (a .tree .now) _ (c .is-top .ensures) (c .before .if1 .taken)
+    lead-top (a .minimal) (a .pairs) (a .levels) (a .level) (a .chunk) (a .node) (a .word) (a .chunks .now) (a .tree .now) _ (c .is-top .ensures) (c .before .if1 .taken)
 
 returns-2 : tie.Need-returns-2
 returns-2 c =
     let a = c .before .before .before .before .args in
-    sym (lead-high (a .minimal) (a .pairs) (a .levels) (a .held) (a .level) (a .chunk) (a .node) (a .word) (a .chunks .now) (a .tree .now) (c .before .if1 .left) (c .if2 .taken))
+    sym (lead-high (a .minimal) (a .pairs) (a .levels) (a .level) (a .chunk) (a .node) (a .word) (a .chunks .now) (a .tree .now) (c .before .if1 .left) (c .if2 .taken))
 
 level-from-requires : tie.Need-level-from-requires
 level-from-requires c κs = search needs
@@ -48,8 +48,8 @@ returns-3 c =
     let e = p .pair-in .result in
     let by : (ℕ → Bool) = λ x. ltb vacant (e .tag) && eqb x (a .word) in
     ⊎-elim
-    (λ w. ap by (w .1) ∙ lead-left (a .minimal) (a .pairs) (a .levels) (a .held) (a .level) (a .chunk) (a .node) (a .word) (a .chunks .now) (a .tree .now) (entFrom e) _ _ _ (n .if1 .left) (i .if2 .left) (f .level-from .ensures .0) (o .pair-of .ensures) (p .pair-in .ensures) (l .is-left .ensures) (w .0 .taken))
-    (λ w. ap by (w .1) ∙ lead-right (a .minimal) (a .pairs) (a .levels) (a .held) (a .level) (a .chunk) (a .node) (a .word) (a .chunks .now) (a .tree .now) (entFrom e) _ _ _ (n .if1 .left) (i .if2 .left) (f .level-from .ensures .0) (o .pair-of .ensures) (p .pair-in .ensures) (l .is-left .ensures) (w .0 .left))
+    (λ w. ap by (w .1) ∙ lead-left (a .minimal) (a .pairs) (a .levels) (a .level) (a .chunk) (a .node) (a .word) (a .chunks .now) (a .tree .now) (entFrom e) _ _ _ (n .if1 .left) (i .if2 .left) (f .level-from .ensures .0) (o .pair-of .ensures) (p .pair-in .ensures) (l .is-left .ensures) (w .0 .taken))
+    (λ w. ap by (w .1) ∙ lead-right (a .minimal) (a .pairs) (a .levels) (a .level) (a .chunk) (a .node) (a .word) (a .chunks .now) (a .tree .now) (entFrom e) _ _ _ (n .if1 .left) (i .if2 .left) (f .level-from .ensures .0) (o .pair-of .ensures) (p .pair-in .ensures) (l .is-left .ensures) (w .0 .left))
     (s .if3 .came)
 
 pub leads-to-spec : {M : Type 1} → statement M

@@ -1,18 +1,17 @@
 use borrow.Author.Needs.{needs}
 use mathlib.Core.Path.{_≡_, refl, sym, ap, _∙_}
-use mathlib.Core.Bool.{true, false}
-use Prim.Native.Nat.{_+_, _-_, _≤_}
+use mathlib.Core.Bool.{true}
+use Prim.Native.Nat.{_-_, _≤_}
 use native.Mathlib.Omega.{arith}
 use Rattle.lists.proofs.Bools.{not-yes, not-no}
 use Rattle.buddy_levels.specs.Seen.{partTables}
 use Rattle.buddy_rules.specs.Test.{every, chunkOk}
 use Rattle.buddy_rules.proofs.Tests.{every-stop, every-next}
-use Rattle.buddy_walk.proofs.Shows.{chunk-told}
 use Rattle.buddy_walk.proofs.are_chunks.Statement.{statement}
 use Rattle.buddy_walk.proofs.are_chunks.Tie as tie
 
 abbrev Inv-loop : tie.InvT-loop
-Inv-loop s levels places n loans chunks tree c₀ c = (c ≤ n) × (every (chunkOk s (partTables levels places n loans chunks tree)) c ≡ true)
+Inv-loop s levels places n loans chunks tree c₀ c = (c ≤ n) × (every (chunkOk s (partTables levels loans chunks tree)) c ≡ true)
 
 abbrev μ-loop : tie.MeasureT-loop
 μ-loop s levels places n loans chunks tree c₀ c = n - c
@@ -28,9 +27,8 @@ returns c =
     let k = c .before in
     let o = k .before .before in
     let a = o .before .before .before .before .args in
-    let t = chunkOk (a .s) (partTables (a .levels) (a .places) (a .n) (a .loans .now) (a .chunks .now) (a .tree .now)) in
-    let e = chunk-told (a .s) (partTables (a .levels) (a .places) (o .loop .c + 1) (a .loans .now) (a .chunks .now) (a .tree .now)) (a .n) (o .loop .c) (omega arith) (k .before .loop-test .taken) in
-    sym (every-stop t (a .n) (o .loop .c) (k .before .loop-test .taken) (e (k .is-chunk .result) false (k .is-chunk .ensures) (not-yes _ (c .if1 .taken))))
+    let t = chunkOk (a .s) (partTables (a .levels) (a .loans .now) (a .chunks .now) (a .tree .now)) in
+    sym (every-stop t (a .n) (o .loop .c) (k .before .loop-test .taken) (sym (k .is-chunk .ensures) ∙ not-yes _ (c .if1 .taken)))
 
 add-c : tie.Need-add-c Inv-loop μ-loop
 add-c c = search needs
@@ -43,15 +41,14 @@ loop-again c =
     let k = c .before in
     let o = k .before .before in
     let a = o .before .before .before .before .args in
-    let t = chunkOk (a .s) (partTables (a .levels) (a .places) (a .n) (a .loans .now) (a .chunks .now) (a .tree .now)) in
-    let e = chunk-told (a .s) (partTables (a .levels) (a .places) (o .loop .c + 1) (a .loans .now) (a .chunks .now) (a .tree .now)) (a .n) (o .loop .c) (omega arith) (k .before .loop-test .taken) in
-    (omega arith, every-next t (o .loop .c) (o .loop .inv .1) (e (k .is-chunk .result) true (k .is-chunk .ensures) (not-no _ (c .if1 .left))))
+    let t = chunkOk (a .s) (partTables (a .levels) (a .loans .now) (a .chunks .now) (a .tree .now)) in
+    (omega arith, every-next t (o .loop .c) (o .loop .inv .1) (sym (k .is-chunk .ensures) ∙ not-no _ (c .if1 .left)))
 
 returns-2 : tie.Need-returns-2 Inv-loop μ-loop
 returns-2 c =
     let o = c .before in
     let a = o .before .before .before .before .args in
-    let t = chunkOk (a .s) (partTables (a .levels) (a .places) (a .n) (a .loans .now) (a .chunks .now) (a .tree .now)) in
+    let t = chunkOk (a .s) (partTables (a .levels) (a .loans .now) (a .chunks .now) (a .tree .now)) in
     let e : a .n ≡ o .loop .c = omega arith in
     sym (ap (every t) e ∙ o .loop .inv .1)
 

@@ -13,9 +13,9 @@ drop-chunks-requires : tie.Need-drop-chunks-requires
 drop-chunks-requires c κs =
     let n = c .before .before .before in
     let k = n .before .before in
-    let b = k .before .before .before .before .before .before in
+    let b = k .before .before .before .before .before in
     let a = b .args in
-    (drop-fits (a .s) (a .spare) (a .head .now) (a .chunks .now) (a .regions .now) (a .list .now) _ _ (k .word .ensures) (n .word2 .ensures) (b .pre), drop-ready (a .s) (a .spare) (a .head .now) (a .chunks .now) (a .regions .now) (a .list .now) _ _ (k .word .ensures) (n .word2 .ensures) (b .pre))
+    (drop-fits (a .s) (a .spare) (a .chunks .now) (a .regions .now) (a .list .now) _ _ (k .word .ensures) (n .word2 .ensures) (b .pre), drop-ready (a .s) (a .spare) (a .chunks .now) (a .regions .now) (a .list .now) _ _ (k .word .ensures) (n .word2 .ensures) (b .pre))
 
 put-requires : tie.Need-put-requires
 put-requires c κs = search needs
@@ -32,9 +32,6 @@ same-length-2 c = search needs
 same-length-3 : tie.Need-same-length-3
 same-length-3 c = search needs
 
-same-length-4 : tie.Need-same-length-4
-same-length-4 c = search needs
-
 returns : tie.Need-returns
 returns c =
     let r = c .before .before in
@@ -42,11 +39,11 @@ returns c =
     let g = h .before .before .before .before .before .before .before .before in
     let n = g .before .before .before .before in
     let k = n .before .before in
-    let a = k .before .before .before .before .before .before .args in
+    let a = k .before .before .before .before .before .args in
     let e = g .drop-chunks .ensures in
     let b = e .1 .1 in
     let l = b .1 .1 .1 in
-    (gone-count (a .s) (a .spare) (a .head .now) (a .chunks .now) (a .regions .now) (a .list .now) _ _ (k .word .ensures) (n .word2 .ensures) _ (e .0), (gone-bytes (a .s) (a .spare) (a .head .now) (a .chunks .now) (a .regions .now) (a .list .now) _ _ (k .word .ensures) (n .word2 .ensures) _ (e .1 .0), (gone-tables (a .s) (a .spare) (a .head .now) (a .chunks .now) (a .regions .now) (a .list .now) _ _ (k .word .ensures) (n .word2 .ensures) _ _ _ _ _ _ (b .0) (b .1 .0) (b .1 .1 .0) (l .0) (h .put .ensures) (r .put2 .ensures), gone-list (a .s) (a .spare) (a .head .now) (a .chunks .now) (a .regions .now) (a .list .now) _ _ (k .word .ensures) (n .word2 .ensures) _ (l .1))))
+    (gone-count (a .s) (a .spare) (a .chunks .now) (a .regions .now) (a .list .now) _ _ (k .word .ensures) (n .word2 .ensures) _ (e .0), (gone-bytes (a .s) (a .spare) (a .chunks .now) (a .regions .now) (a .list .now) _ _ (k .word .ensures) (n .word2 .ensures) _ (e .1 .0), (gone-tables (a .s) (a .spare) (a .chunks .now) (a .regions .now) (a .list .now) _ _ (k .word .ensures) (n .word2 .ensures) _ _ _ _ _ _ (b .0) (b .1 .0) (b .1 .1 .0) (l .0) (h .put .ensures) (r .put2 .ensures), gone-list (a .s) (a .spare) (a .chunks .now) (a .regions .now) (a .list .now) _ _ (k .word .ensures) (n .word2 .ensures) _ (l .1))))
 
 pub release-spec : {M : Type 1} → statement M
 release-spec =
@@ -60,5 +57,4 @@ release-spec =
     same-length
     same-length-2
     same-length-3
-    same-length-4
     returns)

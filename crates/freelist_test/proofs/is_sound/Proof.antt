@@ -21,7 +21,7 @@ returns c =
     let h = c .before in
     let n = h .before in
     let o = n .before .before .before .before .before .before in
-    head-fails (o .args .s) (o .args .head .now) (o .args .loans .now) (o .args .chunks .now) (o .args .regions .now) (o .args .index .now) (n .region-count .result) (h .is-head .result) (n .region-count .ensures) (h .is-head .ensures) (not-yes _ (c .if1 .taken))
+    head-fails (o .args .s) (o .args .head .now) (o .args .loans .now) (o .args .chunks .now) (o .args .index .now) (o .args .regions .now) (n .region-count .result) (h .is-head .result) (n .region-count .ensures) (h .is-head .ensures) (not-yes _ (c .if1 .taken))
 
 is-book-requires : tie.Need-is-book-requires
 is-book-requires c κs = search needs
@@ -33,7 +33,7 @@ returns-2 c =
     let h = i .before in
     let n = h .before in
     let o = n .before .before .before .before .before .before in
-    book-fails (o .args .s) (o .args .head .now) (o .args .loans .now) (o .args .chunks .now) (o .args .regions .now) (o .args .index .now) (n .region-count .result) (h .is-head .result) (n .region-count .ensures) (h .is-head .ensures) (not-no _ (i .if1 .left)) (b .is-book .result) (b .is-book .ensures) (not-yes _ (c .if2 .taken))
+    book-fails (o .args .s) (o .args .head .now) (o .args .loans .now) (o .args .chunks .now) (o .args .index .now) (o .args .regions .now) (n .region-count .result) (h .is-head .result) (n .region-count .ensures) (h .is-head .ensures) (not-no _ (i .if1 .left)) (b .is-book .result) (b .is-book .ensures) (not-yes _ (c .if2 .taken))
 
 word-requires : tie.Need-word-requires
 word-requires c κs = search needs
@@ -68,7 +68,7 @@ returns-3 c =
     let h = i .before in
     let n = h .before in
     let o = n .before .before .before .before .before .before in
-    chunks-fail (o .args .s) (o .args .head .now) (o .args .loans .now) (o .args .chunks .now) (o .args .regions .now) (o .args .index .now) (n .region-count .result) (h .is-head .result) (n .region-count .ensures) (h .is-head .ensures) (not-no _ (i .if1 .left)) (b .is-book .result) (b .is-book .ensures) (not-no _ (j .if2 .left)) (k .word .result) (z .word2 .result) (m .word3 .result) (d .are-chunks .result) (k .word .ensures) (z .word2 .ensures) (m .word3 .ensures) (d .are-chunks .ensures) (not-yes _ (c .if3 .taken))
+    chunks-fail (o .args .s) (o .args .head .now) (o .args .loans .now) (o .args .chunks .now) (o .args .index .now) (o .args .regions .now) (n .region-count .result) (h .is-head .result) (n .region-count .ensures) (h .is-head .ensures) (not-no _ (i .if1 .left)) (b .is-book .result) (b .is-book .ensures) (not-no _ (j .if2 .left)) (k .word .result) (z .word2 .result) (m .word3 .result) (d .are-chunks .result) (k .word .ensures) (z .word2 .ensures) (m .word3 .ensures) (d .are-chunks .ensures) (not-yes _ (c .if3 .taken))
 
 word-requires-4 : tie.Need-word-requires-4
 word-requires-4 c κs = search needs
@@ -95,7 +95,7 @@ returns-4 c =
     let h = i .before in
     let n = h .before in
     let o = n .before .before .before .before .before .before in
-    loans-fail (o .args .s) (o .args .head .now) (o .args .loans .now) (o .args .chunks .now) (o .args .regions .now) (o .args .index .now) (n .region-count .result) (h .is-head .result) (n .region-count .ensures) (h .is-head .ensures) (not-no _ (i .if1 .left)) (b .is-book .result) (b .is-book .ensures) (not-no _ (j .if2 .left)) (k .word .result) (z .word2 .result) (m .word3 .result) (d .are-chunks .result) (k .word .ensures) (z .word2 .ensures) (m .word3 .ensures) (d .are-chunks .ensures) (not-no _ (e .if3 .left)) (g .word4 .result) (p .word5 .result) (l .are-loans .result) (g .word4 .ensures) (p .word5 .ensures) (l .are-loans .ensures) (not-yes _ (c .if4 .taken))
+    loans-fail (o .args .s) (o .args .head .now) (o .args .loans .now) (o .args .chunks .now) (o .args .index .now) (o .args .regions .now) (n .region-count .result) (h .is-head .result) (n .region-count .ensures) (h .is-head .ensures) (not-no _ (i .if1 .left)) (b .is-book .result) (b .is-book .ensures) (not-no _ (j .if2 .left)) (k .word .result) (z .word2 .result) (m .word3 .result) (d .are-chunks .result) (k .word .ensures) (z .word2 .ensures) (m .word3 .ensures) (d .are-chunks .ensures) (not-no _ (e .if3 .left)) (g .word4 .result) (p .word5 .result) (l .are-loans .result) (g .word4 .ensures) (p .word5 .ensures) (l .are-loans .ensures) (not-yes _ (c .if4 .taken))
 
 fills-requires : tie.Need-fills-requires
 fills-requires c κs =
@@ -116,7 +116,7 @@ fills-requires c κs =
     let right = sym (d .are-chunks .ensures) ∙ not-no _ (e .if3 .left) in (
       (
         omega (arith, head-chunks (o .args .s) (tables (o .args .head .now) (o .args .loans .now) (o .args .chunks .now) (o .args .index .now) (o .args .regions .now)) (n .region-count .result) (sym (h .is-head .ensures) ∙ not-no _ (i .if1 .left)), k .word .ensures, o .pre .0 .store .chunks-most),
-        omega (arith, book-most (o .args .s) (o .args .head .now) (o .args .loans .now) (o .args .index .now) (sym (b .is-book .ensures) ∙ not-no _ (j .if2 .left)), p .word5 .ensures, o .pre .0 .store .loans-most),
+        omega (arith, book-most (o .args .s) (o .args .loans .now) (o .args .index .now) (sym (b .is-book .ensures) ∙ not-no _ (j .if2 .left)), p .word5 .ensures, o .pre .0 .store .loans-most),
       ),
       (
         chunks-rise (o .args .s) (m .word3 .result) (z .word2 .result) (rows chunkRow (k .word .result) (o .args .chunks .now)) right,
@@ -141,7 +141,7 @@ returns-5 c =
     let h = i .before in
     let n = h .before in
     let o = n .before .before .before .before .before .before in
-    fills-left (o .args .s) (o .args .head .now) (o .args .loans .now) (o .args .chunks .now) (o .args .regions .now) (o .args .index .now) (n .region-count .result) (h .is-head .result) (n .region-count .ensures) (h .is-head .ensures) (not-no _ (i .if1 .left)) (b .is-book .result) (b .is-book .ensures) (not-no _ (j .if2 .left)) (k .word .result) (z .word2 .result) (m .word3 .result) (d .are-chunks .result) (k .word .ensures) (z .word2 .ensures) (m .word3 .ensures) (d .are-chunks .ensures) (not-no _ (e .if3 .left)) (g .word4 .result) (p .word5 .result) (l .are-loans .result) (g .word4 .ensures) (p .word5 .ensures) (l .are-loans .ensures) (not-no _ (f .if4 .left)) (c .fills .result) (c .fills .ensures)
+    fills-left (o .args .s) (o .args .head .now) (o .args .loans .now) (o .args .chunks .now) (o .args .index .now) (o .args .regions .now) (n .region-count .result) (h .is-head .result) (n .region-count .ensures) (h .is-head .ensures) (not-no _ (i .if1 .left)) (b .is-book .result) (b .is-book .ensures) (not-no _ (j .if2 .left)) (k .word .result) (z .word2 .result) (m .word3 .result) (d .are-chunks .result) (k .word .ensures) (z .word2 .ensures) (m .word3 .ensures) (d .are-chunks .ensures) (not-no _ (e .if3 .left)) (g .word4 .result) (p .word5 .result) (l .are-loans .result) (g .word4 .ensures) (p .word5 .ensures) (l .are-loans .ensures) (not-no _ (f .if4 .left)) (c .fills .result) (c .fills .ensures)
 
 pub is-sound-spec : {M : Type 1} → statement M
 is-sound-spec =

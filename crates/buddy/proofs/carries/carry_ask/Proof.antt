@@ -33,9 +33,9 @@ enum-known-plan-3 c = search needs
 
 lend-requires : tie.Need-lend-requires
 lend-requires c κs =
-    let a = c .before .before .before .before .before .before .before .before .before .before .before .before .args in
-    let pre = c .before .before .before .before .before .before .before .before .before .before .before .before .pre in
-    subst (AskReady (a .s) (tables (a .head .now) (a .loans .now) [] (a .index .now) (a .tree .now))) ((c .before .before .before .before .before .before) .plan3 .given .1) pre
+    let a = c .before .before .before .before .before .before .before .before .before .before .before .args in
+    let pre = c .before .before .before .before .before .before .before .before .before .before .before .pre in
+    subst (AskReady (a .s) (tables (a .head .now) (a .loans .now) [] (a .index .now) (a .tree .now))) ((c .before .before .before .before .before) .plan3 .given .1) pre
 
 answer-block-requires : tie.Need-answer-block-requires
 answer-block-requires c κs = search needs
@@ -83,22 +83,19 @@ same-length-4 c = search needs
 same-length-5 : tie.Need-same-length-5
 same-length-5 c = search needs
 
+returns-3 : tie.Need-returns-3
+returns-3 c =
+    let a = c .before .before .before .before .before .before .before .before .before .before .before .before .before .before .before .before .before .before .before .args in
+    let e = (c .before .before .before .before .before .before .before .before .before .before .before .before .before) .plan3 .given .1 in
+    λ account size mask chunks k.
+    let h = subst (Planned (a .s) size mask (tables (a .head .now) (a .loans .now) chunks (a .index .now) (a .tree .now))) e k in
+    ask-taken (a .s) (a .head .now) (a .loans .now) chunks (a .index .now) (a .tree .now) account size mask _ _ _ _ _ _ _ _ (h .size) (h .level) ((c .before .before .before .before .before .before .before) .lend .ensures .0) ((c .before .before .before .before .before .before .before) .lend .ensures .1) ((c) .answer-block .ensures) ∙ ap (λ (p : Plan). carryAsk (a .s) account size mask (tables (a .head .now) (a .loans .now) chunks (a .index .now) (a .tree .now)) (planOf p)) (sym e)
+
 same-length-6 : tie.Need-same-length-6
 same-length-6 c = search needs
 
-returns-3 : tie.Need-returns-3
-returns-3 c =
-    let a = c .before .before .before .before .before .before .before .before .before .before .before .before .before .before .before .before .before .before .before .before .before .before .args in
-    let e = (c .before .before .before .before .before .before .before .before .before .before .before .before .before .before .before .before) .plan3 .given .1 in
-    λ account size mask chunks k.
-    let h = subst (Planned (a .s) size mask (tables (a .head .now) (a .loans .now) chunks (a .index .now) (a .tree .now))) e k in
-    ask-taken (a .s) (a .head .now) (a .loans .now) chunks (a .index .now) (a .tree .now) account size mask _ _ _ _ _ _ _ _ _ (h .size) (h .level) ((c .before .before .before .before .before .before .before .before .before) .lend .ensures .0) ((c .before .before .before .before .before .before .before .before .before) .lend .ensures .1) ((c) .answer-block .ensures) ∙ ap (λ (p : Plan). carryAsk (a .s) account size mask (tables (a .head .now) (a .loans .now) chunks (a .index .now) (a .tree .now)) (planOf p)) (sym e)
-
 same-length-7 : tie.Need-same-length-7
 same-length-7 c = search needs
-
-same-length-8 : tie.Need-same-length-8
-same-length-8 c = search needs
 
 returns-4 : tie.Need-returns-4
 returns-4 c =
@@ -109,4 +106,4 @@ returns-4 c =
     ask-ordered (a .s) (a .head .now) (a .loans .now) chunks (a .index .now) (a .tree .now) account size mask _ _ _ _ _ (h .levels) ((c .before .before .before .before .before) .grow2 .ensures) ((c) .answer-order .ensures) ∙ ap (λ (p : Plan). carryAsk (a .s) account size mask (tables (a .head .now) (a .loans .now) chunks (a .index .now) (a .tree .now)) (planOf p)) (sym e)
 
 pub carry-ask-spec : {M : Type 1} → statement M
-carry-ask-spec = tie.close (tie.spec enum-known-plan refuse-ask-requires enum-known-plan-2 grow-requires refuse-ask-requires-2 enum-known-plan-3 lend-requires answer-block-requires enum-known-plan-4 grow-requires-2 answer-order-requires returns same-length same-length-2 returns-2 same-length-3 same-length-4 same-length-5 same-length-6 returns-3 same-length-7 same-length-8 returns-4)
+carry-ask-spec = tie.close (tie.spec enum-known-plan refuse-ask-requires enum-known-plan-2 grow-requires refuse-ask-requires-2 enum-known-plan-3 lend-requires answer-block-requires enum-known-plan-4 grow-requires-2 answer-order-requires returns same-length same-length-2 returns-2 same-length-3 same-length-4 same-length-5 returns-3 same-length-6 same-length-7 returns-4)

@@ -5,7 +5,6 @@ use Rattle.counter.specs.Gate.{verdictOf}
 use Rattle.store_rules.proofs.Holders.{holder}
 use Rattle.buddy_rules.specs.Tables.{tables}
 use Rattle.buddy_outcomes.proofs.Passing.{gate-passed}
-use Rattle.buddy_decide.proofs.Fewer.{planned-more}
 use Rattle.buddy.proofs.Planned.{ask-shut, shut-number, ask-go}
 use Rattle.buddy.proofs.plans.plan_ask.Statement.{statement}
 use Rattle.buddy.proofs.plans.plan_ask.Tie as tie
@@ -34,7 +33,7 @@ returns c =
 returns-2 : tie.Need-returns-2
 returns-2 c =
     let a = c .before .before .before .before .before .before .before .before .before .before .args in
-    (ask-go (a .s) (a .share) (a .size) (a .mask) (a .head .now) (a .loans .now) (a .chunks .now) (a .index .now) (a .tree .now) _ (sym (ap verdictOf ((c .before .before) .enum-told .given .1)) ∙ (c .before .before .before .before) .gate .ensures) ((c) .decide .ensures .0), planned-more (a .s) (tables (a .head .now) (a .loans .now) (a .chunks .now) (a .index .now) (a .tree .now)) (a .size) (a .mask) ((c) .decide .result) ((c) .decide .ensures .1))
+    (ask-go (a .s) (a .share) (a .size) (a .mask) (tables (a .head .now) (a .loans .now) (a .chunks .now) (a .index .now) (a .tree .now)) _ (sym (ap verdictOf ((c .before .before) .enum-told .given .1)) ∙ (c .before .before .before .before) .gate .ensures) ((c) .decide .ensures .0), (c) .decide .ensures .1)
 
 pub plan-ask-spec : {M : Type 1} → statement M
 plan-ask-spec = tie.close (tie.spec gate-requires enum-known-g enum-told decide-requires returns returns-2)

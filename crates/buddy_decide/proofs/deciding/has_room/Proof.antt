@@ -24,7 +24,7 @@ returns c =
     let w = c .before in
     let a = w .before .before .before .before .args in
     ap (λ (b : Bool). ltb (a .loan) (a .s .store .loans) && (ltb (a .chunk) (a .s .store .chunks) && b))
-    (pairs-are (a .s) (a .level) (a .head .now) [] (a .tree .now) _ _ _ (w .word .ensures) (c .has-pairs .ensures))
+    (pairs-are (a .s) (a .level) (a .head .now) [] [] [] (a .tree .now) _ _ _ (w .word .ensures) (c .has-pairs .ensures))
 
 pub has-room-spec : {M : Type 1} → statement M
 has-room-spec = tie.close (tie.spec word-requires sub-has-pairs has-pairs-requires returns)

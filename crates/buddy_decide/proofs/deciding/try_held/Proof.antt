@@ -1,4 +1,5 @@
 use borrow.Author.Needs.{needs}
+use Rattle.buddy_rules.specs.Tables.{tables}
 use mathlib.Core.Path.{refl, sym, _∙_}
 use Rattle.lists.proofs.Bools.{not-yes, not-no}
 use Rattle.counter.proofs.Tables.{alignment-yes}
@@ -12,19 +13,19 @@ is-alignment-requires c κs = search needs
 returns : tie.Need-returns
 returns c =
     let m = c .before in
-    let a = m .before .before .before .before .args in
-    (λ h objects. decide-mask (a .s) h objects (a .size) (a .mask) (a .head .now) (a .index .now) (a .tree .now) (sym (m .is-alignment .ensures) ∙ not-yes _ (c .if1 .taken)), refl)
+    let a = m .before .before .before .before .before .args in
+    λ chunks. (λ h objects. decide-mask (a .s) h objects (a .size) (a .mask) (tables (a .head .now) (a .loans .now) chunks (a .index .now) (a .tree .now)) (sym (m .is-alignment .ensures) ∙ not-yes _ (c .if1 .taken)), refl)
 
 returns-2 : tie.Need-returns-2
 returns-2 c =
     let m = c .before .before in
-    let a = m .before .before .before .before .args in
-    (λ h objects. decide-zero (a .s) h objects (a .size) (a .mask) (a .head .now) (a .index .now) (a .tree .now) (sym (m .is-alignment .ensures) ∙ not-no _ (c .before .if1 .left)) (c .if2 .taken), refl)
+    let a = m .before .before .before .before .before .args in
+    λ chunks. (λ h objects. decide-zero (a .s) h objects (a .size) (a .mask) (tables (a .head .now) (a .loans .now) chunks (a .index .now) (a .tree .now)) (sym (m .is-alignment .ensures) ∙ not-no _ (c .before .if1 .left)) (c .if2 .taken), refl)
 
 size-for-requires : tie.Need-size-for-requires
 size-for-requires c κs =
     let m = c .before .before in
-    let b = m .before .before .before .before in
+    let b = m .before .before .before .before .before in
     (b .pre .0, alignment-yes (b .args .mask) (sym (m .is-alignment .ensures) ∙ not-no _ (c .before .if1 .left)))
 
 enum-known-raised : tie.Need-enum-known-raised
@@ -34,7 +35,7 @@ try-sized-requires : tie.Need-try-sized-requires
 try-sized-requires c κs =
     let z = c .before .before .before in
     let m = z .before .before .before in
-    let b = m .before .before .before .before in
+    let b = m .before .before .before .before .before in
     let a = b .args in
     let size = size-is (a .s) (a .size) (a .mask) _ (z .size-for .ensures) _ (c .before .raised .given .1) in
     (b .pre .0, b .pre .1, level-below (a .s) (a .size) (a .mask) _ size (b .pre .0) (search needs))
@@ -46,20 +47,20 @@ returns-3 : tie.Need-returns-3
 returns-3 c =
     let z = c .before .before .before .before in
     let m = z .before .before .before in
-    let b = m .before .before .before .before in
+    let b = m .before .before .before .before .before in
     let a = b .args in
     let size = size-is (a .s) (a .size) (a .mask) _ (z .size-for .ensures) _ (c .before .before .raised .given .1) in
     let aligned = sym (m .is-alignment .ensures) ∙ not-no _ (z .before .before .if1 .left) in
-    look-sized (a .s) (a .size) (a .mask) (a .head .now) (a .index .now) (a .tree .now) _ (c .try-sized .result) size aligned (search needs) (c .try-sized .ensures)
+    λ chunks. look-sized (a .s) (a .size) (a .mask) (tables (a .head .now) (a .loans .now) chunks (a .index .now) (a .tree .now)) _ (c .try-sized .result) size aligned (search needs) (c .try-sized .ensures chunks)
 
 returns-4 : tie.Need-returns-4
 returns-4 c =
     let z = c .before .before in
     let m = z .before .before .before in
-    let b = m .before .before .before .before in
+    let b = m .before .before .before .before .before in
     let a = b .args in
     let aligned = sym (m .is-alignment .ensures) ∙ not-no _ (z .before .before .if1 .left) in
-    (λ h objects. decide-over (a .s) h objects (a .size) (a .mask) (a .head .now) (a .index .now) (a .tree .now) _ (z .size-for .ensures) (b .pre .0) aligned (search needs) (c .enum-told .given .1), refl)
+    λ chunks. (λ h objects. decide-over (a .s) h objects (a .size) (a .mask) (tables (a .head .now) (a .loans .now) chunks (a .index .now) (a .tree .now)) _ (z .size-for .ensures) (b .pre .0) aligned (search needs) (c .enum-told .given .1), refl)
 
 pub try-held-spec : {M : Type 1} → statement M
 try-held-spec =

@@ -1,5 +1,4 @@
 use borrow.Author.Needs.{needs}
-use mathlib.Core.List.{[]}
 use mathlib.Core.Path.{refl}
 use native.Mathlib.Omega.{arith}
 use Rattle.rounding_rules.specs.Raising.{levelOf}
@@ -15,13 +14,13 @@ cast-node-bytes : tie.Need-cast-node-bytes
 cast-node-bytes c = search needs
 
 node-bytes-requires : tie.Need-node-bytes-requires
-node-bytes-requires c κs = (power-top (c .before .before .before .pre .0 .minimal), omega arith)
+node-bytes-requires c κs = (power-top (c .before .before .before .before .pre .0 .minimal), omega arith)
 
 returns : tie.Need-returns
 returns c =
     let n = c .before in
-    let a = n .before .before .before .before .args in
-    (λ h objects. sized-not (a .s) (levelOf (a .size) (a .s .minimal)) (a .head .now) (a .index .now) (a .tree .now) h objects (a .size) (foundFrom (a .s) (levelOf (a .size) (a .s .minimal)) (tables (a .head .now) [] [] (a .index .now) (a .tree .now))) _ (n .node-bytes .ensures .0) (c .if1 .taken), refl)
+    let a = n .before .before .before .before .before .args in
+    λ chunks. (λ h objects. sized-not (a .s) (levelOf (a .size) (a .s .minimal)) (a .head .now) (a .loans .now) chunks (a .index .now) (a .tree .now) h objects (a .size) (foundFrom (a .s) (levelOf (a .size) (a .s .minimal)) (tables (a .head .now) (a .loans .now) chunks (a .index .now) (a .tree .now))) _ (n .node-bytes .ensures .0) (c .if1 .taken), refl)
 
 level-requires : tie.Need-level-requires
 level-requires c κs = search needs
@@ -36,7 +35,7 @@ seek-requires : tie.Need-seek-requires
 seek-requires c κs =
     let v = c .before in
     let n = v .before .before in
-    let b = n .before .before .before .before in
+    let b = n .before .before .before .before .before in
     let a = b .args in
     let fits = fits-yes (a .s) (a .size) _ (n .node-bytes .ensures .0) (v .before .if1 .left) in
     (power-top (b .pre .0 .minimal), b .pre .0 .pairs-most, omega (arith, v .level .ensures, b .pre .2 fits), omega (arith, c .word .ensures, b .pre .1))
@@ -50,7 +49,7 @@ try-take-requires c κs =
     let w = k .before in
     let v = w .before in
     let n = v .before .before in
-    let b = n .before .before .before .before in
+    let b = n .before .before .before .before .before in
     let a = b .args in
     let fits = fits-yes (a .s) (a .size) _ (n .node-bytes .ensures .0) (v .before .if1 .left) in
     let found = sought-at (a .s) _ (a .head .now) (a .tree .now) _ _ (w .word .ensures) (k .seek .ensures) _ _ (c .before .found .given .1) in
@@ -67,12 +66,12 @@ returns-2 c =
     let w = k .before in
     let v = w .before in
     let n = v .before .before in
-    let b = n .before .before .before .before in
+    let b = n .before .before .before .before .before in
     let a = b .args in
     let l = v .level .result in
     let fits = fits-yes (a .s) (a .size) _ (n .node-bytes .ensures .0) (v .before .if1 .left) in
     let found = sought-at (a .s) l (a .head .now) (a .tree .now) _ _ (w .word .ensures) (k .seek .ensures) _ _ (c .before .before .found .given .1) in
-    look-at (a .s) l (a .head .now) (a .index .now) (a .tree .now) (a .size) _ (v .level .ensures) fits _ (c .try-take .result) (found .0) (c .try-take .ensures)
+    λ chunks. look-at (a .s) l (a .head .now) (a .loans .now) chunks (a .index .now) (a .tree .now) (a .size) _ (v .level .ensures) fits _ (c .try-take .result) (found .0) (c .try-take .ensures chunks)
 
 returns-3 : tie.Need-returns-3
 unfolding foundFrom
@@ -81,12 +80,12 @@ returns-3 c =
     let w = k .before in
     let v = w .before in
     let n = v .before .before in
-    let b = n .before .before .before .before in
+    let b = n .before .before .before .before .before in
     let a = b .args in
     let l = v .level .result in
     let fits = fits-yes (a .s) (a .size) _ (n .node-bytes .ensures .0) (v .before .if1 .left) in
     let found = sought-order (a .s) l (a .head .now) (a .tree .now) _ _ (w .word .ensures) (k .seek .ensures) _ _ (c .before .found2 .given .1) in
-    (refl, v .level .ensures, omega (arith, v .level .ensures, b .pre .2 fits), found .1, found .2, look-nowhere (a .s) l (a .head .now) (a .index .now) (a .tree .now) (a .size) _ (v .level .ensures) fits (found .0))
+    λ chunks. (refl, v .level .ensures, omega (arith, v .level .ensures, b .pre .2 fits), found .1, found .2, look-nowhere (a .s) l (a .head .now) (a .loans .now) chunks (a .index .now) (a .tree .now) (a .size) _ (v .level .ensures) fits (found .0))
 
 pub try-sized-spec : {M : Type 1} → statement M
 try-sized-spec =

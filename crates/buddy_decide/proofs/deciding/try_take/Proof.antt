@@ -14,8 +14,8 @@ next-loan-requires c κs = search needs
 returns : tie.Need-returns
 returns c =
     let p = c .before .before .before in
-    let a = p .before .before .before .before .before .args in
-    (λ h objects. take-full (a .s) (a .level) (a .head .now) (a .index .now) (a .tree .now) (a .from) (left-no (a .s) (a .level) (a .head .now) (a .index .now) (a .tree .now) _ (p .next-loan .ensures) (c .if1 .taken)), refl)
+    let a = p .before .before .before .before .before .before .args in
+    λ chunks. (λ h objects. take-full (a .s) (a .level) (a .head .now) (a .loans .now) chunks (a .index .now) (a .tree .now) (a .from) (left-no (a .s) (a .level) (a .head .now) (a .loans .now) chunks (a .index .now) (a .tree .now) _ (p .next-loan .ensures) (c .if1 .taken)), refl)
 
 sub-has-pairs : tie.Need-sub-has-pairs
 sub-has-pairs c = search needs
@@ -29,8 +29,8 @@ returns-2 c =
     let i = r .before in
     let p = i .before .before .before in
     let w = p .before in
-    let a = w .before .before .before .before .args in
-    (λ h objects. take-none (a .s) (a .level) (a .head .now) (a .index .now) (a .tree .now) (a .from) (left-yes (a .s) (a .level) (a .head .now) (a .index .now) (a .tree .now) _ (p .next-loan .ensures) (i .if1 .left)) (sym (pairs-are (a .s) (a .level) (a .head .now) (a .index .now) (a .tree .now) _ _ _ (w .word .ensures) (r .has-pairs .ensures)) ∙ not-yes _ (c .if2 .taken)), refl)
+    let a = w .before .before .before .before .before .args in
+    λ chunks. (λ h objects. take-none (a .s) (a .level) (a .head .now) (a .loans .now) chunks (a .index .now) (a .tree .now) (a .from) (left-yes (a .s) (a .level) (a .head .now) (a .loans .now) chunks (a .index .now) (a .tree .now) _ (p .next-loan .ensures) (i .if1 .left)) (sym (pairs-are (a .s) (a .level) (a .head .now) (a .loans .now) chunks (a .index .now) (a .tree .now) _ _ _ (w .word .ensures) (r .has-pairs .ensures)) ∙ not-yes _ (c .if2 .taken)), refl)
 
 word-requires-2 : tie.Need-word-requires-2
 word-requires-2 c κs = search needs
@@ -42,8 +42,8 @@ returns-3 c =
     let i = r .before in
     let p = i .before .before .before in
     let w = p .before in
-    let a = w .before .before .before .before .args in
-    (λ h objects. take-spent (a .s) (a .level) (a .head .now) (a .index .now) (a .tree .now) (a .from) _ (left-yes (a .s) (a .level) (a .head .now) (a .index .now) (a .tree .now) _ (p .next-loan .ensures) (i .if1 .left)) (sym (pairs-are (a .s) (a .level) (a .head .now) (a .index .now) (a .tree .now) _ _ _ (w .word .ensures) (r .has-pairs .ensures)) ∙ not-no _ (g .before .if2 .left)) (g .word2 .ensures) (c .if3 .taken), refl)
+    let a = w .before .before .before .before .before .args in
+    λ chunks. (λ h objects. take-spent (a .s) (a .level) (a .head .now) (a .loans .now) chunks (a .index .now) (a .tree .now) (a .from) _ (left-yes (a .s) (a .level) (a .head .now) (a .loans .now) chunks (a .index .now) (a .tree .now) _ (p .next-loan .ensures) (i .if1 .left)) (sym (pairs-are (a .s) (a .level) (a .head .now) (a .loans .now) chunks (a .index .now) (a .tree .now) _ _ _ (w .word .ensures) (r .has-pairs .ensures)) ∙ not-no _ (g .before .if2 .left)) (g .word2 .ensures) (c .if3 .taken), refl)
 
 returns-4 : tie.Need-returns-4
 returns-4 c =
@@ -52,9 +52,9 @@ returns-4 c =
     let i = r .before in
     let p = i .before .before .before in
     let w = p .before in
-    let b = w .before .before .before .before in
+    let b = w .before .before .before .before .before in
     let a = b .args in
-    (λ h objects. take-go (a .s) (a .level) (a .head .now) (a .index .now) (a .tree .now) (a .from) _ (left-yes (a .s) (a .level) (a .head .now) (a .index .now) (a .tree .now) _ (p .next-loan .ensures) (i .if1 .left)) (sym (pairs-are (a .s) (a .level) (a .head .now) (a .index .now) (a .tree .now) _ _ _ (w .word .ensures) (r .has-pairs .ensures)) ∙ not-no _ (g .before .if2 .left)) (g .word2 .ensures) (search needs), record { size = refl; level = refl; pair = b .pre .4; loan = p .next-loan .ensures })
+    λ chunks. (λ h objects. take-go (a .s) (a .level) (a .head .now) (a .loans .now) chunks (a .index .now) (a .tree .now) (a .from) _ (left-yes (a .s) (a .level) (a .head .now) (a .loans .now) chunks (a .index .now) (a .tree .now) _ (p .next-loan .ensures) (i .if1 .left)) (sym (pairs-are (a .s) (a .level) (a .head .now) (a .loans .now) chunks (a .index .now) (a .tree .now) _ _ _ (w .word .ensures) (r .has-pairs .ensures)) ∙ not-no _ (g .before .if2 .left)) (g .word2 .ensures) (search needs), record { size = refl; level = refl; pair = b .pre .4; loan = p .next-loan .ensures })
 
 pub try-take-spec : {M : Type 1} → statement M
 try-take-spec =

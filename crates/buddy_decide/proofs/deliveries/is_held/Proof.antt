@@ -9,7 +9,7 @@ use Rattle.buddy_decide.proofs.deliveries.is_held.Statement.{statement}
 use Rattle.buddy_decide.proofs.deliveries.is_held.Tie as tie
 
 abbrev Inv-loop : tie.InvT-loop
-Inv-loop chunks n memory held₀ c₀ held c = (c ≤ n) × (held ≡ holds memory (memories (seen n chunks) c))
+Inv-loop chunks n memory held₀ c₀ held c = (c ≤ n) × (held ≡ holds memory (memories (seen chunks) c))
 
 abbrev μ-loop : tie.MeasureT-loop
 μ-loop chunks n memory held₀ c₀ held c = n - c
@@ -33,15 +33,16 @@ loop-less c = omega arith
 loop-again : tie.Need-loop-again Inv-loop μ-loop
 loop-again c =
     let l = c .before .before .before in
-    let a = l .before .before .args in
-    (omega arith, held-next (a .n) (a .chunks .now) _ _ (omega arith) (c .before .cell .ensures) (a .memory) _ _ (l .loop .inv .1) (c .cell2 .ensures))
+    let o = l .before .before in
+    let a = o .args in
+    (omega arith, held-next (a .chunks .now) _ _ (omega (arith, o .pre)) (c .before .cell .ensures) (a .memory) _ _ (l .loop .inv .1) (c .cell2 .ensures))
 
 returns : tie.Need-returns Inv-loop μ-loop
 returns c =
     let l = c .before in
     let a = l .before .before .args in
     let e : l .loop .c ≡ a .n = omega (arith, l .loop .inv .0) in
-    l .loop .inv .1 ∙ ap (λ (i : ℕ). holds (a .memory) (memories (seen (a .n) (a .chunks .now)) i)) e
+    l .loop .inv .1 ∙ ap (λ (i : ℕ). holds (a .memory) (memories (seen (a .chunks .now)) i)) e
 
 pub is-held-spec : {M : Type 1} → statement M
 is-held-spec =

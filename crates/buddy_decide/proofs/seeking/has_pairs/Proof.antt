@@ -12,7 +12,7 @@ use Rattle.buddy_decide.proofs.seeking.has_pairs.Statement.{statement}
 use Rattle.buddy_decide.proofs.seeking.has_pairs.Tie as tie
 
 abbrev Inv-loop : tie.InvT-loop
-Inv-loop pairs level n levels tree i₀ i = (i ≤ n) × (pairsRoom (partSettings 0 pairs 0) (levelPart levels 0 [] tree) level n ≡ pairsRoom (partSettings 0 pairs 0) (levelPart levels 0 [] tree) (level + i) (n - i))
+Inv-loop pairs level n levels tree i₀ i = (i ≤ n) × (pairsRoom (partSettings 0 pairs 0) (levelPart levels [] tree) level n ≡ pairsRoom (partSettings 0 pairs 0) (levelPart levels [] tree) (level + i) (n - i))
 
 abbrev μ-loop : tie.MeasureT-loop
 μ-loop pairs level n levels tree i₀ i = n - i
@@ -60,7 +60,7 @@ returns-2 : tie.Need-returns-2 Inv-loop μ-loop
 returns-2 c =
     let b = c .before in
     let a = b .before .before .args in
-    sym (b .loop .inv .1 ∙ pairs-done (partSettings 0 (a .pairs) 0) (levelPart (a .levels) 0 [] (a .tree .now)) (a .level) (a .n) (b .loop .i) (c .loop-test .left))
+    sym (b .loop .inv .1 ∙ pairs-done (partSettings 0 (a .pairs) 0) (levelPart (a .levels) [] (a .tree .now)) (a .level) (a .n) (b .loop .i) (c .loop-test .left))
 
 pub has-pairs-spec : {M : Type 1} → statement M
 has-pairs-spec =

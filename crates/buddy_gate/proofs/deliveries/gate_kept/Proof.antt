@@ -1,10 +1,8 @@
 use borrow.Author.Needs.{needs}
 use mathlib.Core.Path.{sym, ap, subst, _∙_}
-use mathlib.Core.List.{[]}
 use Rattle.lists.proofs.Bools.{not-yes, not-no}
 use Rattle.buddy_rules.specs.Tables.{tables}
 use Rattle.buddy_rules.proofs.Decides.{tables-yes}
-use Rattle.buddy_decide.proofs.Fewer.{buys-more}
 use Rattle.buddy_gate.specs.Gates.{stillOf, StillBuys}
 use Rattle.buddy_gate.proofs.Gates.{places-few, sizes-low}
 use Rattle.buddy_gate.proofs.Kept.{kept-torn, kept-other, kept-short, kept-go}
@@ -51,7 +49,7 @@ returns-2 c =
     let n = v .before .before in
     let a = n .before .before .before .before .before .before .args in (
       kept-go (a .s) (a .h) (a .objects) (a .k) (tables (a .head .now) (a .loans .now) (a .chunks .now) (a .index .now) (a .tree .now)) (sym (n .is-sound .ensures) ∙ not-no _ (v .before .if1 .left)) (sym (v .is-still .ensures .0) ∙ ap stillOf (y .still .given .1)) (sym (w .is-covered .ensures) ∙ c .if2 .taken),
-      buys-more (a .s) (tables (a .head .now) (a .loans .now) (a .chunks .now) (a .index .now) (a .tree .now)) _ _ _ (subst (StillBuys (a .s) (a .k) (tables (a .head .now) [] [] (a .index .now) (a .tree .now))) (y .still .given .1) (v .is-still .ensures .1)),
+      subst (StillBuys (a .s) (a .k) (tables (a .head .now) (a .loans .now) (a .chunks .now) (a .index .now) (a .tree .now))) (y .still .given .1) (v .is-still .ensures .1),
     )
 
 returns-3 : tie.Need-returns-3

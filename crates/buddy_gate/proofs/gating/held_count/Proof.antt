@@ -10,7 +10,7 @@ use Rattle.buddy_gate.proofs.gating.held_count.Statement.{statement}
 use Rattle.buddy_gate.proofs.gating.held_count.Tie as tie
 
 abbrev Inv-loop : tie.InvT-loop
-Inv-loop chunks n count₀ c₀ count c = (c ≤ n) × (count ≡ heldCount (seen n chunks) c)
+Inv-loop chunks n count₀ c₀ count c = (c ≤ n) × (count ≡ heldCount (seen chunks) c)
 
 abbrev μ-loop : tie.MeasureT-loop
 μ-loop chunks n count₀ c₀ count c = n - c
@@ -26,7 +26,7 @@ add-count : tie.Need-add-count Inv-loop μ-loop
 add-count c =
     let l = c .before .before .before in
     let a = l .before .before .args in
-    omega (arith, l .loop .inv .1, count-low (seen (a .n) (a .chunks .now)) (l .loop .c))
+    omega (arith, l .loop .inv .1, count-low (seen (a .chunks .now)) (l .loop .c))
 
 add-c : tie.Need-add-c Inv-loop μ-loop
 add-c c = search needs
@@ -37,12 +37,13 @@ loop-less c = omega arith
 loop-again : tie.Need-loop-again Inv-loop μ-loop
 loop-again c =
     let l = c .before .before .before in
-    let a = l .before .before .args in
+    let o = l .before .before in
+    let a = o .args in
     let read = c .before .cell .ensures in (
       omega arith,
       ⊎-elim
-          (λ x. x .1 ∙ count-more (a .n) (a .chunks .now) _ _ (omega arith) read _ (l .loop .inv .1) (x .0 .taken))
-          (λ x. x .1 ∙ count-none (a .n) (a .chunks .now) _ _ (omega arith) read _ (l .loop .inv .1) (x .0 .left))
+          (λ x. x .1 ∙ count-more (a .chunks .now) _ _ (omega (arith, o .pre)) read _ (l .loop .inv .1) (x .0 .taken))
+          (λ x. x .1 ∙ count-none (a .chunks .now) _ _ (omega (arith, o .pre)) read _ (l .loop .inv .1) (x .0 .left))
           (c .if1 .came),
     )
 
@@ -51,7 +52,7 @@ returns c =
     let l = c .before in
     let a = l .before .before .args in
     let e : l .loop .c ≡ a .n = omega (arith, l .loop .inv .0) in
-    l .loop .inv .1 ∙ ap (heldCount (seen (a .n) (a .chunks .now))) e
+    l .loop .inv .1 ∙ ap (heldCount (seen (a .chunks .now))) e
 
 pub held-count-spec : {M : Type 1} → statement M
 held-count-spec =

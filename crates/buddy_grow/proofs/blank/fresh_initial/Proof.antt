@@ -42,7 +42,7 @@ returns c =
     let h = f .before .before .before .before in
     let l = h .before .before in
     let o = l .before .before .before in (
-      h .fresh-head .ensures ∙ ap (λ (n : ℕ). marks .head ∷ 0 ∷ n ∷ 0 ∷ 0 ∷ []) (l .level .ensures),
+      h .fresh-head .ensures ∙ ap (λ (n : ℕ). marks .head ∷ n ∷ []) (l .level .ensures),
       f .fresh-tree .ensures ∙ ap (λ (n : ℕ). set (freshLevels (o .args .s) 0 n (blank (treeWords (o .args .s)) (marks .room) 0)) (chunksFrom (o .args .s)) nowhere) (l .level .ensures),
     )
 

@@ -23,12 +23,9 @@ put-top-requires c κs =
     let o = c .before .before .before .before .before in
     let f = c .before .before .before .before .before .before in
     let w = c .before .before .before .before .before .before .before .before .before in
-    let b = c .before .before .before .before .before .before .before .before .before .before .before .before .before .before in
+    let b = c .before .before .before .before .before .before .before .before .before .before .before .before .before in
     let a = b .args in
     (b .pre .0 .pairs-most, top-low (a .s) (a .head .now) (a .tree .now) _ (w .word .ensures) _ (f .level-from .ensures .0) _ (o .pair-taken .ensures) (b .pre .3))
-
-put-requires : tie.Need-put-requires
-put-requires c κs = search needs
 
 same-length : tie.Need-same-length
 same-length c = search needs
@@ -36,20 +33,16 @@ same-length c = search needs
 same-length-2 : tie.Need-same-length-2
 same-length-2 c = search needs
 
-same-length-3 : tie.Need-same-length-3
-same-length-3 c = search needs
-
 returns : tie.Need-returns
 returns c =
-    let g = c .before .before in
-    let p = c .before .before .before .before .before .before in
-    let q = c .before .before .before .before .before .before .before .before .before .before in
-    let o = c .before .before .before .before .before .before .before .before .before .before .before .before in
-    let f = c .before .before .before .before .before .before .before .before .before .before .before .before .before in
-    let w = c .before .before .before .before .before .before .before .before .before .before .before .before .before .before .before .before in
-    let b = c .before .before .before .before .before .before .before .before .before .before .before .before .before .before .before .before .before .before .before .before .before in
+    let p = c .before .before in
+    let q = c .before .before .before .before .before .before in
+    let o = c .before .before .before .before .before .before .before .before in
+    let f = c .before .before .before .before .before .before .before .before .before in
+    let w = c .before .before .before .before .before .before .before .before .before .before .before .before in
+    let b = c .before .before .before .before .before .before .before .before .before .before .before .before .before .before .before .before in
     let a = b .args in
-    chunk-done (a .s) (a .head .now) (a .tree .now) _ (w .word .ensures) _ (f .level-from .ensures .0) _ (o .pair-taken .ensures) _ (b .pre .4) (a .memory) (a .bytes) (a .chunks .now) _ _ _ (q .put-chunk .ensures) (p .put-top .ensures) (g .put .ensures)
+    chunk-done (a .s) (a .head .now) (a .tree .now) _ (w .word .ensures) _ (f .level-from .ensures .0) _ (o .pair-taken .ensures) _ (a .chunks .now) (b .pre .4) (a .memory) (a .bytes) _ _ (q .put-chunk .ensures) (p .put-top .ensures)
 
 pub add-chunk-spec : {M : Type 1} → statement M
 add-chunk-spec =
@@ -61,8 +54,6 @@ add-chunk-spec =
     pair-taken-requires
     put-chunk-requires
     put-top-requires
-    put-requires
     same-length
     same-length-2
-    same-length-3
     returns)

@@ -14,7 +14,7 @@ use Rattle.buddy_rules.specs.Moves.{leftNext}
 use Rattle.buddy_rules.specs.Tables.{levelFrom}
 use Rattle.buddy_moves.specs.Roomy.{Roomy}
 use Rattle.buddy_lend.proofs.Booked.{place-in, booked-done}
-use Rattle.buddy_lend.proofs.Served.{same-given, still-next, still, loan-done, served-done}
+use Rattle.buddy_lend.proofs.Served.{still, loan-done, served-done}
 use Rattle.buddy_lend.proofs.serving.serve.Statement.{statement}
 use Rattle.buddy_lend.proofs.serving.serve.Tie as tie
 
@@ -22,38 +22,34 @@ word-requires : tie.Need-word-requires
 word-requires c κs = search needs
 
 add-chunk-requires : tie.Need-add-chunk-requires
-add-chunk-requires c κs = let p = c .before .before .before .before .before .before .before .before .before .before .pre in (p .0 .enters .fit, omega (arith, p .0 .below), p .0 .low, p .0 .pair, p .2)
+add-chunk-requires c κs = let p = c .before .before .before .before .before .before .before .before .pre in (p .0 .enters .fit, omega (arith, p .0 .below), p .0 .low, p .0 .pair, p .2)
 
 word-requires-2 : tie.Need-word-requires-2
 word-requires-2 c κs = search needs
 
-add-t30 : tie.Need-add-t30
-add-t30 c =
-    let m = c .before .before .before .before .before .before .before .before in
-    let b = c .before .before .before .before .before .before .before .before .before .before .before .before .before .before .before .before .before .before .before in
-    let a = b .args in
-    omega (arith, c .word2 .ensures, same-given (a .s) (a .memory) (a .bytes) (a .head .now) (a .loans .now) (a .chunks .now) (a .index .now) (a .tree .now) _ _ _ (m .add-chunk .ensures), b .pre .0 .enters .serial)
+add-t26 : tie.Need-add-t26
+add-t26 c = omega (arith, c .word2 .ensures, c .before .before .before .before .before .before .before .before .before .before .before .before .before .before .before .pre .0 .enters .serial)
 
 sub-above : tie.Need-sub-above
 sub-above c =
-    let w = c .before .before .before .before .before .before .before .before .before .before .before .before in
-    let b = c .before .before .before .before .before .before .before .before .before .before .before .before .before .before .before .before .before .before .before in
+    let w = c .before .before .before .before .before .before .before .before .before in
+    let b = c .before .before .before .before .before .before .before .before .before .before .before .before .before .before .before in
     omega (arith, w .word .ensures, b .pre .0 .below)
 
 sub-above-2 : tie.Need-sub-above-2
 sub-above-2 c =
-    let w = c .before .before .before .before .before .before .before .before .before .before .before .before in
-    let b = c .before .before .before .before .before .before .before .before .before .before .before .before .before .before .before .before .before .before .before in
+    let w = c .before .before .before .before .before .before .before .before .before in
+    let b = c .before .before .before .before .before .before .before .before .before .before .before .before .before .before .before in
     omega (arith, w .word .ensures, b .pre .0 .below)
 
 split-chunk-requires : tie.Need-split-chunk-requires
 split-chunk-requires c κs =
-    let m = c .before .before .before .before .before .before .before .before .before in
-    let w = c .before .before .before .before .before .before .before .before .before .before .before .before .before in
-    let b = c .before .before .before .before .before .before .before .before .before .before .before .before .before .before .before .before .before .before .before .before in
+    let m = c .before .before .before .before .before .before .before in
+    let w = c .before .before .before .before .before .before .before .before .before .before in
+    let b = c .before .before .before .before .before .before .before .before .before .before .before .before .before .before .before .before in
     let a = b .args in
-    let place = place-in (a .s) (a .head .now) (a .index .now) _ (b .pre .1) (b .pre .0 .enters .opens .place) in
-    let now = still (a .s) (a .memory) (a .bytes) (a .head .now) (a .loans .now) (a .chunks .now) (a .index .now) (a .tree .now) _ _ _ (m .add-chunk .ensures) _ (w .word .ensures) _ (ap (λ (x : Taken). x .place) (b .pre .2)) (a .level) in (
+    let place = place-in (a .s) (a .loans .now) (a .index .now) _ (b .pre .1) (b .pre .0 .enters .opens .place) in
+    let now = still (a .s) (a .memory) (a .bytes) (a .head .now) (a .loans .now) (a .chunks .now) (a .index .now) (a .tree .now) _ _ (m .add-chunk .ensures) _ (w .word .ensures) _ (ap (λ (x : Taken). x .place) (b .pre .2)) (a .level) in (
       (
         b .pre .0 .enters .fit .pairs-most,
         omega (arith, w .word .ensures, b .pre .0 .below, b .pre .0 .low),
@@ -65,14 +61,14 @@ split-chunk-requires c κs =
 
 put-node-requires : tie.Need-put-node-requires
 put-node-requires c κs =
-    let b = c .before .before .before .before .before .before .before .before .before .before .before .before .before .before .before .before .before .before .before .before .before .before .before .before .before in
+    let b = c .before .before .before .before .before .before .before .before .before .before .before .before .before .before .before .before .before .before .before .before .before in
     let a = b .args in
-    let place = place-in (a .s) (a .head .now) (a .index .now) _ (b .pre .1) (b .pre .0 .enters .opens .place) in
+    let place = place-in (a .s) (a .loans .now) (a .index .now) _ (b .pre .1) (b .pre .0 .enters .opens .place) in
     (b .pre .0 .enters .fit, omega (arith, place, b .pre .0 .enters .fit .store .loans-most))
 
-book-loan-requires : tie.Need-book-loan-requires
-book-loan-requires c κs =
-    let b = c .before .before .before .before .before .before .before .before .before .before .before .before .before .before .before .before .before .before .before .before .before .before .before .before .before .before .before .before .before .before .before in
+enter-at-requires : tie.Need-enter-at-requires
+enter-at-requires c κs =
+    let b = c .before .before .before .before .before .before .before .before .before .before .before .before .before .before .before .before .before .before .before .before .before .before .before .before .before .before in
     let a = b .args in
     subst (λ (x : Taken). Opens (a .s .store .loans) (x .place) (a .loans .now) (a .index .now)) (sym (b .pre .1)) (b .pre .0 .enters .opens)
 
@@ -88,23 +84,19 @@ same-length-3 c = search needs
 same-length-4 : tie.Need-same-length-4
 same-length-4 c = search needs
 
-same-length-5 : tie.Need-same-length-5
-same-length-5 c = search needs
-
 returns : tie.Need-returns
 returns c =
-    let d = c .before .before .before .before .before .before in
-    let q = c .before .before .before .before .before .before .before .before .before .before .before .before in
-    let n = c .before .before .before .before .before .before .before .before .before .before .before .before .before .before .before .before .before in
-    let g = c .before .before .before .before .before .before .before .before .before .before .before .before .before .before .before .before .before .before .before in
-    let m = c .before .before .before .before .before .before .before .before .before .before .before .before .before .before .before .before .before .before .before .before .before .before .before .before .before .before .before in
-    let w = c .before .before .before .before .before .before .before .before .before .before .before .before .before .before .before .before .before .before .before .before .before .before .before .before .before .before .before .before .before .before .before in
-    let b = c .before .before .before .before .before .before .before .before .before .before .before .before .before .before .before .before .before .before .before .before .before .before .before .before .before .before .before .before .before .before .before .before .before .before .before .before .before .before in
+    let d = c .before .before .before .before in
+    let q = c .before .before .before .before .before .before .before .before .before in
+    let n = c .before .before .before .before .before .before .before .before .before .before .before .before .before .before in
+    let g = c .before .before .before .before .before .before .before .before .before .before .before .before .before .before .before .before in
+    let m = c .before .before .before .before .before .before .before .before .before .before .before .before .before .before .before .before .before .before .before .before .before .before in
+    let w = c .before .before .before .before .before .before .before .before .before .before .before .before .before .before .before .before .before .before .before .before .before .before .before .before .before in
+    let b = c .before .before .before .before .before .before .before .before .before .before .before .before .before .before .before .before .before .before .before .before .before .before .before .before .before .before .before .before .before .before .before in
     let a = b .args in
-    let after = still-next (a .s) (a .memory) (a .bytes) (a .head .now) (a .loans .now) (a .chunks .now) (a .index .now) (a .tree .now) _ _ _ (m .add-chunk .ensures) _ (b .pre .1) in
-    let booked = booked-done (a .s) _ (a .index .now) _ after _ (ap (λ (x : ℕ). x + 1) (g .word2 .ensures)) _ (a .loans .now) _ _ _ _ _ (q .put-node .ensures) (d .book-loan .ensures .0) (d .book-loan .ensures .1 .0) (d .book-loan .ensures .1 .1) in (
-      loan-done (a .s) (a .memory) (a .bytes) (a .head .now) (a .loans .now) (a .chunks .now) (a .index .now) (a .tree .now) _ _ _ (m .add-chunk .ensures) _ (w .word .ensures) _ (ap (λ (x : Taken). x .place) (b .pre .2)) (a .level) (a .size) _ (g .word2 .ensures),
-      served-done (a .s) (a .memory) (a .bytes) (a .head .now) (a .loans .now) (a .chunks .now) (a .index .now) (a .tree .now) _ _ _ (m .add-chunk .ensures) _ (w .word .ensures) _ (ap (λ (x : Taken). x .place) (b .pre .2)) (a .level) _ (b .pre .1) (a .size) _ _ _ _ _ _ (n .split-chunk .ensures .0) (n .split-chunk .ensures .1) booked,
+    let booked = booked-done (a .s) (a .loans .now) (a .index .now) _ (b .pre .1) _ (ap (λ (x : ℕ). x + 1) (g .word2 .ensures)) _ (a .head .now) _ _ _ _ (q .put-node .ensures) (d .enter-at .ensures .0) (d .enter-at .ensures .1) in (
+      loan-done (a .s) (a .memory) (a .bytes) (a .head .now) (a .loans .now) (a .chunks .now) (a .index .now) (a .tree .now) _ _ (m .add-chunk .ensures) _ (w .word .ensures) _ (ap (λ (x : Taken). x .place) (b .pre .2)) (a .level) (a .size) _ (g .word2 .ensures),
+      served-done (a .s) (a .memory) (a .bytes) (a .head .now) (a .loans .now) (a .chunks .now) (a .index .now) (a .tree .now) _ _ (m .add-chunk .ensures) _ (w .word .ensures) _ (ap (λ (x : Taken). x .place) (b .pre .2)) (a .level) _ (b .pre .1) (a .size) _ _ _ _ _ (n .split-chunk .ensures .0) (n .split-chunk .ensures .1) booked,
     )
 
 pub serve-spec : {M : Type 1} → statement M
@@ -114,15 +106,14 @@ serve-spec =
     word-requires
     add-chunk-requires
     word-requires-2
-    add-t30
+    add-t26
     sub-above
     sub-above-2
     split-chunk-requires
     put-node-requires
-    book-loan-requires
+    enter-at-requires
     same-length
     same-length-2
     same-length-3
     same-length-4
-    same-length-5
     returns)

@@ -22,8 +22,9 @@ returns : tie.Need-returns
 returns c =
     let v = c .before in
     let f = v .before in
-    let a = f .before .before .before .before .args in
-    places-told (a .s) (a .n) (f .chunks-from .result) (v .word .result) (a .chunks .now) (a .tree .now) (c .is-parted .result) (f .chunks-from .ensures .0) (v .word .ensures) (c .is-parted .ensures)
+    let o = f .before .before .before .before in
+    let a = o .args in
+    places-told (a .s) (a .n) (f .chunks-from .result) (v .word .result) (a .chunks .now) (a .tree .now) (c .is-parted .result) (o .pre .1) (f .chunks-from .ensures .0) (v .word .ensures) (c .is-parted .ensures)
 
 pub are-places-spec : {M : Type 1} → statement M
 are-places-spec =

@@ -20,7 +20,7 @@ returns c =
     let a = s .args in
     let found = g .gather-held .last .1 .1 .0 in
     let e = g .gather-held .ensures in
-    memories-told (a .n) (g .gather-held .result) (a .chunks .now) found (e .0) (omega (arith, s .pre .1, e .1 .0, e .1 .1)) (c .is-distinct .result) (c .is-distinct .ensures .0) (c .is-distinct .ensures .1)
+    memories-told (a .n) (g .gather-held .result) (a .chunks .now) found (s .pre .2) (e .0) (omega (arith, s .pre .1, e .1 .0, e .1 .1)) (c .is-distinct .result) (c .is-distinct .ensures .0) (c .is-distinct .ensures .1)
 
 pub are-apart-spec : {M : Type 1} → statement M
 are-apart-spec = tie.close (tie.spec gather-held-requires is-distinct-requires same-length returns)

@@ -10,7 +10,7 @@ slice-aggregate-are-apart c = search needs
 are-apart-requires : tie.Need-are-apart-requires
 are-apart-requires c κs =
     let s = c .before .before in
-    (s .pre, new-room (s .args .n) chunksMost 0 (s .pre))
+    (s .pre .0, new-room (s .args .n) chunksMost 0 (s .pre .0), s .pre .1)
 
 returns : tie.Need-returns
 returns c = c .before .are-apart .ensures

@@ -61,7 +61,7 @@ is-node-returns : (t : ℕ) → is-node-lts.Need-returns (
 ) (is-node-at t) is-node.Post
 is-node-returns t c =
     let a = c .before .before .before .args in
-    node-free (partSettings (a .minimal) (a .pairs) (a .chunks)) (loanPart (a .places) (a .loans .now) (a .tree .now)) (a .level) (a .chunk) (a .offset) (a .node) (a .word) (c .if1 .taken)
+    node-free (partSettings (a .minimal) (a .pairs) (a .chunks)) (loanPart (a .loans .now) (a .tree .now)) (a .level) (a .chunk) (a .offset) (a .node) (a .word) (c .if1 .taken)
 
 is-node-says-loan-requires : (t : ℕ) → is-node-lts.Need-says-loan-requires (
   says-loan-reads.Asked,
@@ -123,7 +123,7 @@ is-node-returns-2 t c =
     let q = i .before in
     let f = q .before in
     let a = f .before .before .before .args in
-    node-loan (partSettings (a .minimal) (a .pairs) (a .chunks)) (loanPart (a .places) (a .loans .now) (a .tree .now)) (a .chunk) (a .offset) (a .node) (a .word) (f .if1 .left) (q .says-loan .result) (q .says-loan .ensures)
+    node-loan (partSettings (a .minimal) (a .pairs) (a .chunks)) (loanPart (a .loans .now) (a .tree .now)) (a .chunk) (a .offset) (a .node) (a .word) (f .if1 .left) (q .says-loan .result) (q .says-loan .ensures)
     (a .level) (k .loan-said .result) (c .is-leaf .result) (i .if2 .taken) (k .loan-said .ensures) (c .is-leaf .ensures)
 
 is-node-returns-3 : (t : ℕ) → is-node-lts.Need-returns-3 (
@@ -143,7 +143,7 @@ is-node-returns-3 t c =
     let q = i .before in
     let f = q .before in
     let a = f .before .before .before .args in
-    node-low (partSettings (a .minimal) (a .pairs) (a .chunks)) (loanPart (a .places) (a .loans .now) (a .tree .now)) (a .chunk) (a .offset) (a .node) (a .word) (f .if1 .left) (q .says-loan .result) (q .says-loan .ensures) (a .level) (i .if2 .left) (c .if3 .taken)
+    node-low (partSettings (a .minimal) (a .pairs) (a .chunks)) (loanPart (a .loans .now) (a .tree .now)) (a .chunk) (a .offset) (a .node) (a .word) (f .if1 .left) (q .says-loan .result) (q .says-loan .ensures) (a .level) (i .if2 .left) (c .if3 .taken)
 
 is-node-sub-is-pair : (t : ℕ) → is-node-lts.Need-sub-is-pair (
   says-loan-reads.Asked,
@@ -215,7 +215,7 @@ is-node-returns-4 t c =
     let q = i .before in
     let f = q .before in
     let a = f .before .before .before .args in
-    node-split (partSettings (a .minimal) (a .pairs) (a .chunks)) (loanPart (a .places) (a .loans .now) (a .tree .now)) (a .chunk) (a .offset) (a .node) (a .word) (f .if1 .left) (q .says-loan .result) (q .says-loan .ensures)
+    node-split (partSettings (a .minimal) (a .pairs) (a .chunks)) (loanPart (a .loans .now) (a .tree .now)) (a .chunk) (a .offset) (a .node) (a .word) (f .if1 .left) (q .says-loan .result) (q .says-loan .ensures)
     (a .level) (m .pair-said .result) (c .is-pair .result) (i .if2 .left) (n .if3 .left) (m .pair-said .ensures) (c .is-pair .ensures)
 
 is-pair-level-from-requires : (t : ℕ) → is-pair-lts.Need-level-from-requires (
@@ -293,7 +293,7 @@ is-pair-returns t c =
     let p = i .before in
     let b = p .before in
     let a = b .before .before .before .args in
-    halves-entry (partSettings (a .minimal) (a .pairs) (a .chunks)) (loanPart (a .places) (a .loans .now) (a .tree .now)) (a .level) (a .chunk) (a .offset) (a .node) (a .p) (b .level-from .result) (entFrom (p .pair-in .result)) (i .is-entry .result)
+    halves-entry (partSettings (a .minimal) (a .pairs) (a .chunks)) (loanPart (a .loans .now) (a .tree .now)) (a .level) (a .chunk) (a .offset) (a .node) (a .p) (b .level-from .result) (entFrom (p .pair-in .result)) (i .is-entry .result)
     (b .level-from .ensures .0) (p .pair-in .ensures) (i .is-entry .ensures) (not-yes _ (c .if1 .taken))
 
 is-pair-left-node-requires : (t : ℕ) → is-pair-lts.Need-left-node-requires (
@@ -356,7 +356,7 @@ is-pair-returns-2 t c =
     let p = i .before in
     let b = p .before in
     let a = b .before .before .before .args in
-    halves-left (partSettings (a .minimal) (a .pairs) (a .chunks)) (loanPart (a .places) (a .loans .now) (a .tree .now)) (a .level) (a .chunk) (a .offset) (a .node) (a .p) (b .level-from .result) (entFrom (p .pair-in .result)) (i .is-entry .result)
+    halves-left (partSettings (a .minimal) (a .pairs) (a .chunks)) (loanPart (a .loans .now) (a .tree .now)) (a .level) (a .chunk) (a .offset) (a .node) (a .p) (b .level-from .result) (entFrom (p .pair-in .result)) (i .is-entry .result)
     (b .level-from .ensures .0) (p .pair-in .ensures) (i .is-entry .ensures)
     (l .left-node .result) (n .is-node .result) (not-no _ (f .if1 .left)) (l .left-node .ensures) (n .is-node .ensures) (not-yes _ (c .if2 .taken))
 
@@ -463,7 +463,7 @@ is-pair-returns-3 t c =
     let p = i .before in
     let b = p .before in
     let a = b .before .before .before .args in
-    halves-right (partSettings (a .minimal) (a .pairs) (a .chunks)) (loanPart (a .places) (a .loans .now) (a .tree .now)) (a .level) (a .chunk) (a .offset) (a .node) (a .p) (b .level-from .result) (entFrom (p .pair-in .result)) (i .is-entry .result)
+    halves-right (partSettings (a .minimal) (a .pairs) (a .chunks)) (loanPart (a .loans .now) (a .tree .now)) (a .level) (a .chunk) (a .offset) (a .node) (a .p) (b .level-from .result) (entFrom (p .pair-in .result)) (i .is-entry .result)
     (b .level-from .ensures .0) (p .pair-in .ensures) (i .is-entry .ensures)
     (l .left-node .result) (n .is-node .result) (not-no _ (f .if1 .left)) (l .left-node .ensures) (n .is-node .ensures)
     (r .right-node .result) (m .node-bytes .result) (c .is-node2 .result) (not-no _ (g .if2 .left)) (r .right-node .ensures) (m .node-bytes .ensures .0) (c .is-node2 .ensures)

@@ -9,8 +9,11 @@ Inv-loop image places held₀ i₀ held i = Unit {0}
 abbrev μ-loop : tie.MeasureT-loop
 μ-loop image places held₀ i₀ held i = 8 - i
 
-places-requires : tie.Need-places-requires Inv-loop μ-loop
-places-requires c κs = search needs
+add-word : tie.Need-add-word Inv-loop μ-loop
+add-word c = search needs
+
+word-requires : tie.Need-word-requires Inv-loop μ-loop
+word-requires c κs = search needs
 
 block-at-requires : tie.Need-block-at-requires Inv-loop μ-loop
 block-at-requires c κs = search needs
@@ -39,7 +42,8 @@ held-block-spec =
     (tie.spec
     Inv-loop
     μ-loop
-    places-requires
+    add-word
+    word-requires
     block-at-requires
     loop-holds
     block-at-requires-2

@@ -13,8 +13,8 @@ plan-clean-up-requires c κs = search needs
 
 carry-clean-up-requires : tie.Need-carry-clean-up-requires
 carry-clean-up-requires c κs =
-    let p = c .before .before .before .before in
-    let b = p .before .before .before .before .before .before .before .before .before .before .before in
+    let p = c .before .before .before in
+    let b = p .before .before .before .before .before .before .before .before .before .before in
     let a = b .args in
     let few : a .share .objects ≤ objectsMost = omega (arith, b .good .1) in
     clean-up-ready (a .s) (a .share) (tables (a .head .now) (a .loans .now) (a .chunks .now) (a .index .now) (a .regions .now)) (a .list .now) few (p .plan-clean-up .result) (p .plan-clean-up .ensures)
@@ -28,14 +28,11 @@ same-length-2 c = search needs
 same-length-3 : tie.Need-same-length-3
 same-length-3 c = search needs
 
-same-length-4 : tie.Need-same-length-4
-same-length-4 c = search needs
-
 returns : tie.Need-returns
 returns c =
-    let k = c .before .before .before .before .before .before .before .before in
-    let p = k .before .before .before .before .before in
-    let a = p .before .before .before .before .before .before .before .before .before .before .before .args in
+    let k = c .before .before .before .before .before .before in
+    let p = k .before .before .before .before in
+    let a = p .before .before .before .before .before .before .before .before .before .before .args in
     k .carry-clean-up .ensures ∙ clean-done (a .s) (a .share) (tables (a .head .now) (a .loans .now) (a .chunks .now) (a .index .now) (a .regions .now)) (a .list .now) (p .plan-clean-up .result) (p .plan-clean-up .ensures)
 
 pub clean-up-spec : {M : Type 1} → statement M
@@ -47,5 +44,4 @@ clean-up-spec =
     same-length
     same-length-2
     same-length-3
-    same-length-4
     returns)

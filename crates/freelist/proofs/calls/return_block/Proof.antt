@@ -13,8 +13,8 @@ plan-return-requires c κs = search needs
 
 carry-return-requires : tie.Need-carry-return-requires
 carry-return-requires c κs =
-    let p = c .before .before .before .before .before .before in
-    let b = p .before .before .before .before .before .before .before .before .before .before .before .before .before in
+    let p = c .before .before .before .before .before in
+    let b = p .before .before .before .before .before .before .before .before .before .before .before .before in
     let a = b .args in
     let few : a .share .objects ≤ objectsMost = omega (arith, b .good .1) in
     return-ready (a .s) (a .share) (tables (a .head .now) (a .loans .now) (a .chunks .now) (a .index .now) (a .regions .now)) (a .list .now) few (a .b) (p .plan-return .result) (p .plan-return .ensures)
@@ -34,14 +34,11 @@ same-length-4 c = search needs
 same-length-5 : tie.Need-same-length-5
 same-length-5 c = search needs
 
-same-length-6 : tie.Need-same-length-6
-same-length-6 c = search needs
-
 returns : tie.Need-returns
 returns c =
-    let k = c .before .before .before .before .before .before .before .before .before .before .before .before in
-    let p = k .before .before .before .before .before .before .before in
-    let a = p .before .before .before .before .before .before .before .before .before .before .before .before .before .args in
+    let k = c .before .before .before .before .before .before .before .before .before .before in
+    let p = k .before .before .before .before .before .before in
+    let a = p .before .before .before .before .before .before .before .before .before .before .before .before .args in
     k .carry-return .ensures ∙ return-done (a .s) (a .share) (tables (a .head .now) (a .loans .now) (a .chunks .now) (a .index .now) (a .regions .now)) (a .list .now) (a .b) (p .plan-return .result) (p .plan-return .ensures)
 
 pub return-block-spec : {M : Type 1} → statement M
@@ -55,5 +52,4 @@ return-block-spec =
     same-length-3
     same-length-4
     same-length-5
-    same-length-6
     returns)

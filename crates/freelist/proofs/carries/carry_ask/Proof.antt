@@ -20,7 +20,7 @@ enum-known-plan-2 c = search needs
 
 lend-requires : tie.Need-lend-requires
 lend-requires c κs =
-    let i = c .before .before .before .before .before .before in
+    let i = c .before .before .before .before .before in
     let b = i .before .before .before .before .before .before in
     let a = b .args in
     subst (λ (p : Plan). AskReady (a .s) (tables (a .head .now) (a .loans .now) [] (a .index .now) (a .regions .now)) p) (i .plan2 .given .1) (b .pre)
@@ -52,20 +52,17 @@ same-length-2 c = search needs
 same-length-3 : tie.Need-same-length-3
 same-length-3 c = search needs
 
-same-length-4 : tie.Need-same-length-4
-same-length-4 c = search needs
-
 returns-2 : tie.Need-returns-2
 returns-2 c =
-    let l = c .before .before .before .before .before .before .before .before .before in
-    let i = l .before .before .before .before .before .before .before in
+    let l = c .before .before .before .before .before .before .before in
+    let i = l .before .before .before .before .before .before in
     let a = i .before .before .before .before .before .before .args in
     λ account size mask chunks k.
     let e = subst (λ (p : Plan). Planned (a .s) size mask (tables (a .head .now) (a .loans .now) chunks (a .index .now) (a .regions .now)) p) (i .plan2 .given .1) k in
-    ask-taken (a .s) size mask (a .head .now) (a .loans .now) chunks (a .regions .now) (a .index .now) (planOf (a .plan)) account _ _ _ _ _ _ _ _ _ (ap planOf (i .plan2 .given .1)) (e .0) (e .1) (l .lend .ensures .0) (l .lend .ensures .1) (c .answer-block .ensures)
+    ask-taken (a .s) size mask (a .head .now) (a .loans .now) chunks (a .regions .now) (a .index .now) (planOf (a .plan)) account _ _ _ _ _ _ _ _ (ap planOf (i .plan2 .given .1)) (e .0) (e .1) (l .lend .ensures .0) (l .lend .ensures .1) (c .answer-block .ensures)
 
-same-length-5 : tie.Need-same-length-5
-same-length-5 c = search needs
+same-length-4 : tie.Need-same-length-4
+same-length-4 c = search needs
 
 returns-3 : tie.Need-returns-3
 returns-3 c =
@@ -90,7 +87,6 @@ carry-ask-spec =
     same-length
     same-length-2
     same-length-3
-    same-length-4
     returns-2
-    same-length-5
+    same-length-4
     returns-3)

@@ -20,7 +20,7 @@ enum-told c = search needs
 
 let-go-requires : tie.Need-let-go-requires
 let-go-requires c κs =
-    let e = c .before .before .before .before in
+    let e = c .before .before .before in
     let b = e .before .before .before .before .before .before .before .before in
     let a = b .args in
     releases-few (a .s) (a .share .objects) false (tables (a .head .now) (a .loans .now) (a .chunks .now) (a .index .now) (a .regions .now)) (a .list .now) (subst (λ (p : Gate). CleanUpReady (a .s) (a .share .objects) (tables (a .head .now) (a .loans .now) (a .chunks .now) (a .index .now) (a .regions .now)) (a .list .now) p) (e .enum-told .given .1) (b .pre))
@@ -40,16 +40,13 @@ same-length-2 c = search needs
 same-length-3 : tie.Need-same-length-3
 same-length-3 c = search needs
 
-same-length-4 : tie.Need-same-length-4
-same-length-4 c = search needs
-
 returns-2 : tie.Need-returns-2
 returns-2 c =
-    let l = c .before .before .before .before .before .before .before .before in
-    let e = l .before .before .before .before .before in
+    let l = c .before .before .before .before .before .before in
+    let e = l .before .before .before .before in
     let a = e .before .before .before .before .before .before .before .before .args in
     clean-went (a .s) (a .share) (tables (a .head .now) (a .loans .now) (a .chunks .now) (a .index .now) (a .regions .now)) (a .list .now) (a .plan) _ _ (e .enum-told .given .1) refl
-    (beside (a .s) (holder (a .s .store) (a .share)) false _ _ (a .head .now) (a .chunks .now) (a .regions .now) (a .list .now) _ _ _ _ (l .let-go .ensures) (a .loans .now) (a .index .now))
+    (beside (a .s) (holder (a .s .store) (a .share)) false _ _ (a .chunks .now) (a .regions .now) (a .list .now) _ _ _ (l .let-go .ensures) (a .head .now) (a .loans .now) (a .index .now))
 
 pub carry-clean-up-spec : {M : Type 1} → statement M
 carry-clean-up-spec =
@@ -63,5 +60,4 @@ carry-clean-up-spec =
     same-length
     same-length-2
     same-length-3
-    same-length-4
     returns-2)

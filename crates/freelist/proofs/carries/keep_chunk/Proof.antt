@@ -1,5 +1,4 @@
 use borrow.Author.Needs.{needs}
-use mathlib.Core.Path.{_∙_}
 use Rattle.freelist.proofs.Arriving.{lends-now, kept-done}
 use Rattle.freelist.proofs.carries.keep_chunk.Statement.{statement}
 use Rattle.freelist.proofs.carries.keep_chunk.Tie as tie
@@ -24,7 +23,7 @@ add-chunk-requires c κs =
 
 lend-requires : tie.Need-lend-requires
 lend-requires c κs =
-    let d = c .before .before .before .before .before .before .before .before .before .before in
+    let d = c .before .before .before .before .before .before .before .before .before in
     let u = d .before .before .before .before .before in
     let n = u .before .before .before in
     let b = n .before .before .before .before .before .before .before .before .before in
@@ -35,9 +34,7 @@ deliver-block-requires : tie.Need-deliver-block-requires
 deliver-block-requires c κs = search needs
 
 same-length : tie.Need-same-length
-same-length c =
-    let l = c .before .before .before .before .before .before .before .before in
-    l .head2 .given ∙ l .before .before .before .before .before .before .before .before .before .before .before .head .given
+same-length c = search needs
 
 same-length-2 : tie.Need-same-length-2
 same-length-2 c = search needs
@@ -53,14 +50,14 @@ same-length-5 c = search needs
 
 returns : tie.Need-returns
 returns c =
-    let l = c .before .before .before .before .before .before .before .before .before in
-    let d = l .before .before .before .before .before .before .before .before .before .before .before in
+    let l = c .before .before .before .before .before .before .before in
+    let d = l .before .before .before .before .before .before .before .before .before .before in
     let g = d .before .before .before .before in
     let u = g .before in
     let n = u .before .before .before in
     let b = n .before .before .before .before .before .before .before .before .before in
     let a = b .args in
-    kept-done (a .s) (a .share) (a .k) (a .memory) (a .b) (a .head .now) (a .loans .now) (a .chunks .now) (a .regions .now) (a .index .now) (b .pre) _ _ _ _ _ _ _ _ _ _ _ _ _ _ (n .region-count .ensures) (u .lower-to-unit .ensures) (g .charged .ensures) (d .add-chunk .ensures) (l .lend .ensures .0) (l .lend .ensures .1) (c .deliver-block .ensures .0) (c .deliver-block .ensures .1) (c .deliver-block .ensures .2)
+    kept-done (a .s) (a .share) (a .k) (a .memory) (a .b) (a .head .now) (a .loans .now) (a .chunks .now) (a .regions .now) (a .index .now) (b .pre) _ _ _ _ _ _ _ _ _ _ _ _ _ (n .region-count .ensures) (u .lower-to-unit .ensures) (g .charged .ensures) (d .add-chunk .ensures) (l .lend .ensures .0) (l .lend .ensures .1) (c .deliver-block .ensures .0) (c .deliver-block .ensures .1) (c .deliver-block .ensures .2)
 
 pub keep-chunk-spec : {M : Type 1} → statement M
 keep-chunk-spec =

@@ -18,15 +18,12 @@ same-length-2 c = search needs
 same-length-3 : tie.Need-same-length-3
 same-length-3 c = search needs
 
-same-length-4 : tie.Need-same-length-4
-same-length-4 c = search needs
-
 returns : tie.Need-returns
 returns c =
-    let r = c .before .before .before .before .before .before .before .before .before in
-    let a = r .before .before .before .before .before .before .before .before .before .args in
+    let r = c .before .before .before .before .before .before .before in
+    let a = r .before .before .before .before .before .before .before .args in
     let e = r .release .ensures in
-    let-go-done (a .s) (a .share) (a .spare) (a .head .now) (a .chunks .now) (a .regions .now) (a .list .now) _ _ _ _ _ _ _ _ (e .0) (e .1 .0) (e .1 .1 .0) (e .1 .1 .1) (c .settle .ensures .0) (c .settle .ensures .1)
+    let-go-done (a .s) (a .share) (a .spare) (a .chunks .now) (a .regions .now) (a .list .now) _ _ _ _ _ _ _ (e .0) (e .1 .0) (e .1 .1 .0) (e .1 .1 .1) (c .settle .ensures .0) (c .settle .ensures .1)
 
 pub let-go-spec : {M : Type 1} → statement M
 let-go-spec =
@@ -37,5 +34,4 @@ let-go-spec =
     same-length
     same-length-2
     same-length-3
-    same-length-4
     returns)

@@ -5,7 +5,6 @@ use Rattle.counter.specs.Gate.{verdictOf}
 use Rattle.store_rules.proofs.Holders.{holder}
 use Rattle.freelist_rules.specs.Tables.{tables}
 use Rattle.freelist_outcomes.proofs.Passing.{gate-passed}
-use Rattle.freelist_decide.proofs.Few.{planned-few}
 use Rattle.freelist.proofs.Planned.{ask-shut, ask-go}
 use Rattle.freelist.proofs.plans.plan_ask.Statement.{statement}
 use Rattle.freelist.proofs.plans.plan_ask.Tie as tie
@@ -38,7 +37,7 @@ returns-2 c =
     let g = e .before .before in
     let a = g .before .before .before .before .before .before .args in (
       ask-go (a .s) (a .size) (a .mask) (a .head .now) (a .loans .now) (a .chunks .now) (a .regions .now) (a .index .now) (a .share) _ (sym (ap verdictOf (e .enum-told .given .1)) ∙ g .gate .ensures) (c .decide .ensures .0),
-      planned-few (a .s) (a .size) (a .mask) (tables (a .head .now) (a .loans .now) (a .chunks .now) (a .index .now) (a .regions .now)) (c .decide .result) (c .decide .ensures .1),
+      c .decide .ensures .1,
     )
 
 pub plan-ask-spec : {M : Type 1} → statement M

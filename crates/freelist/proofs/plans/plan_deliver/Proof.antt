@@ -37,7 +37,7 @@ returns-2 c =
     let g = p .before .before in
     let a = g .before .before .before .before .before .before .args in (
       plan-go (a .s) (a .share) (a .order) (a .o) (tables (a .head .now) (a .loans .now) (a .chunks .now) (a .index .now) (a .regions .now)) (passOf (g .gate-delivery .result)) _ (ap passOf (p .g2 .given .1)) (g .gate-delivery .ensures .0) (c .decide-delivery .ensures),
-      coming-buys (a .s) (tables (a .head .now) (a .loans .now) (a .chunks .now) (a .index .now) (a .regions .now)) (a .o) (memories (rows chunkRow (getD (a .head .now) chunksAt 0) (a .chunks .now))) (a .order) (c .decide-delivery .result) (g .gate-delivery .result) _ (p .g2 .given .1) (c .decide-delivery .ensures) (g .gate-delivery .ensures .1),
+      coming-buys (a .s) (tables (a .head .now) (a .loans .now) (a .chunks .now) (a .index .now) (a .regions .now)) (a .o) (memories (rows chunkRow (getD (a .chunks .now) chunksAt 0) (a .chunks .now))) (a .order) (c .decide-delivery .result) (g .gate-delivery .result) _ (p .g2 .given .1) (c .decide-delivery .ensures) (g .gate-delivery .ensures .1),
     )
 
 pub plan-deliver-spec : {M : Type 1} → statement M

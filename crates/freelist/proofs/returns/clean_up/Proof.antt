@@ -22,13 +22,10 @@ same-length-2 c = search needs
 same-length-3 : tie.Need-same-length-3
 same-length-3 c = search needs
 
-same-length-4 : tie.Need-same-length-4
-same-length-4 c = search needs
-
 returns : tie.Need-returns
 returns c =
-    let l = c .before .before .before .before .before .before .before .before .before in
-    let h = l .before .before .before .before .before in
+    let l = c .before .before .before .before .before .before .before in
+    let h = l .before .before .before .before in
     let a = h .before .before .before .before .before .before .before .before .args in
     cleaned-whole (a .s) (a .a) _ (h .share-of .ensures) (tables (a .head .now) (a .loans .now) (a .chunks .now) (a .index .now) (a .regions .now)) _ (a .list .now) _ _ _ _ (c .released .ensures .0) (c .released .ensures .1) (l .clean-up .ensures)
 
@@ -42,5 +39,4 @@ clean-up-spec =
     same-length
     same-length-2
     same-length-3
-    same-length-4
     returns)

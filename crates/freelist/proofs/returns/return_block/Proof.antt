@@ -28,13 +28,10 @@ same-length-4 c = search needs
 same-length-5 : tie.Need-same-length-5
 same-length-5 c = search needs
 
-same-length-6 : tie.Need-same-length-6
-same-length-6 c = search needs
-
 returns : tie.Need-returns
 returns c =
-    let l = c .before .before .before .before .before .before .before .before .before .before .before .before .before in
-    let h = l .before .before .before .before .before .before .before in
+    let l = c .before .before .before .before .before .before .before .before .before .before .before in
+    let h = l .before .before .before .before .before .before in
     let a = h .before .before .before .before .before .before .before .before .args in
     returned-whole (a .s) (a .a) _ (h .share-of .ensures) (tables (a .head .now) (a .loans .now) (a .chunks .now) (a .index .now) (a .regions .now)) _ (a .list .now) _ _ _ _ (c .released .ensures .0) (c .released .ensures .1) (a .b) (l .return-block .ensures)
 
@@ -50,5 +47,4 @@ return-block-spec =
     same-length-3
     same-length-4
     same-length-5
-    same-length-6
     returns)

@@ -24,8 +24,8 @@ returns c =
     let k = p .before in
     let l = k .before in
     let w = l .before in
-    let a = w .before .before .before .before .args in
-    (λ asked e. buy-full (a .s) (a .head .now) (a .index .now) (a .h) (a .objects) asked (room-is (a .s) (a .head .now) (a .index .now) _ _ _ (left-is (a .s) (a .head .now) (a .index .now) _ _ (l .next-place .ensures) (w .word .ensures) _ (p .is-place .ensures)) (k .word2 .ensures) (not-yes _ (c .if1 .taken))), λ from. tt)
+    let a = w .before .before .before .before .before .before .args in
+    (λ asked e. buy-full (a .s) (a .head .now) (a .loans .now) (a .chunks .now) (a .index .now) (a .h) (a .objects) asked (room-is (a .s) (a .head .now) (a .loans .now) (a .chunks .now) (a .index .now) _ _ _ (left-is (a .s) (a .loans .now) (a .index .now) _ _ (l .next-place .ensures) (w .word .ensures) _ (p .is-place .ensures)) (k .word2 .ensures) (not-yes _ (c .if1 .taken))), λ from. tt)
 
 word-requires-3 : tie.Need-word-requires-3
 word-requires-3 c κs = search needs
@@ -53,9 +53,9 @@ returns-2 c =
     let k = p .before in
     let l = k .before in
     let w = l .before in
-    let a = w .before .before .before .before .args in
-    let room = room-is (a .s) (a .head .now) (a .index .now) _ _ _ (left-is (a .s) (a .head .now) (a .index .now) _ _ (l .next-place .ensures) (w .word .ensures) _ (p .is-place .ensures)) (k .word2 .ensures) (not-no _ (z .before .if1 .left)) in
-    (λ asked e. buy-spent (a .s) (a .head .now) (a .index .now) (a .h) (a .objects) asked room (counts-is (a .s) (a .head .now) (a .index .now) (a .h) (a .objects) asked _ _ _ _ _ _ _ e (z .word3 .ensures) (g .grow .ensures) (y .word4 .ensures) (x .word5 .ensures) (b .bears .ensures) (not-yes _ (c .if2 .taken))), λ from. tt)
+    let a = w .before .before .before .before .before .before .args in
+    let room = room-is (a .s) (a .head .now) (a .loans .now) (a .chunks .now) (a .index .now) _ _ _ (left-is (a .s) (a .loans .now) (a .index .now) _ _ (l .next-place .ensures) (w .word .ensures) _ (p .is-place .ensures)) (k .word2 .ensures) (not-no _ (z .before .if1 .left)) in
+    (λ asked e. buy-spent (a .s) (a .head .now) (a .loans .now) (a .chunks .now) (a .index .now) (a .h) (a .objects) asked room (counts-is (a .s) (a .head .now) (a .loans .now) (a .chunks .now) (a .index .now) (a .h) (a .objects) asked _ _ _ _ _ _ _ e (z .word3 .ensures) (g .grow .ensures) (y .word4 .ensures) (x .word5 .ensures) (b .bears .ensures) (not-yes _ (c .if2 .taken))), λ from. tt)
 
 returns-3 : tie.Need-returns-3
 returns-3 c =
@@ -68,9 +68,9 @@ returns-3 c =
     let k = p .before in
     let l = k .before in
     let w = l .before in
-    let a = w .before .before .before .before .args in
-    let room = room-is (a .s) (a .head .now) (a .index .now) _ _ _ (left-is (a .s) (a .head .now) (a .index .now) _ _ (l .next-place .ensures) (w .word .ensures) _ (p .is-place .ensures)) (k .word2 .ensures) (not-no _ (z .before .if1 .left)) in
-    (λ asked e. buy-none (a .s) (a .head .now) (a .index .now) (a .h) (a .objects) asked room (counts-is (a .s) (a .head .now) (a .index .now) (a .h) (a .objects) asked _ _ _ _ _ _ _ e (z .word3 .ensures) (g .grow .ensures) (y .word4 .ensures) (x .word5 .ensures) (b .bears .ensures) (not-no _ (c .before .if2 .left))) (c .if3 .taken), λ from. tt)
+    let a = w .before .before .before .before .before .before .args in
+    let room = room-is (a .s) (a .head .now) (a .loans .now) (a .chunks .now) (a .index .now) _ _ _ (left-is (a .s) (a .loans .now) (a .index .now) _ _ (l .next-place .ensures) (w .word .ensures) _ (p .is-place .ensures)) (k .word2 .ensures) (not-no _ (z .before .if1 .left)) in
+    (λ asked e. buy-none (a .s) (a .head .now) (a .loans .now) (a .chunks .now) (a .index .now) (a .h) (a .objects) asked room (counts-is (a .s) (a .head .now) (a .loans .now) (a .chunks .now) (a .index .now) (a .h) (a .objects) asked _ _ _ _ _ _ _ e (z .word3 .ensures) (g .grow .ensures) (y .word4 .ensures) (x .word5 .ensures) (b .bears .ensures) (not-no _ (c .before .if2 .left))) (c .if3 .taken), λ from. tt)
 
 returns-4 : tie.Need-returns-4
 returns-4 c =
@@ -83,12 +83,12 @@ returns-4 c =
     let k = p .before in
     let l = k .before in
     let w = l .before in
-    let a = w .before .before .before .before .args in
-    let room = room-is (a .s) (a .head .now) (a .index .now) _ _ _ (left-is (a .s) (a .head .now) (a .index .now) _ _ (l .next-place .ensures) (w .word .ensures) _ (p .is-place .ensures)) (k .word2 .ensures) (not-no _ (z .before .if1 .left)) in (
+    let a = w .before .before .before .before .before .before .args in
+    let room = room-is (a .s) (a .head .now) (a .loans .now) (a .chunks .now) (a .index .now) _ _ _ (left-is (a .s) (a .loans .now) (a .index .now) _ _ (l .next-place .ensures) (w .word .ensures) _ (p .is-place .ensures)) (k .word2 .ensures) (not-no _ (z .before .if1 .left)) in (
       λ asked e.
-          ap Orders.buy (raised-is (a .s) (a .head .now) (a .index .now) (a .h) (a .objects) asked _ _ _ e (z .word3 .ensures) (g .grow .ensures))
-          ∙ buy-go (a .s) (a .head .now) (a .index .now) (a .h) (a .objects) asked room (counts-is (a .s) (a .head .now) (a .index .now) (a .h) (a .objects) asked _ _ _ _ _ _ _ e (z .word3 .ensures) (g .grow .ensures) (y .word4 .ensures) (x .word5 .ensures) (b .bears .ensures) (not-no _ (c .before .if2 .left))) (search needs),
-      λ from. (refl, refl, loan-is (a .s) (a .head .now) (a .index .now) _ _ (l .next-place .ensures) (w .word .ensures)),
+          ap Orders.buy (raised-is (a .s) (a .head .now) (a .loans .now) (a .chunks .now) (a .index .now) (a .h) (a .objects) asked _ _ _ e (z .word3 .ensures) (g .grow .ensures))
+          ∙ buy-go (a .s) (a .head .now) (a .loans .now) (a .chunks .now) (a .index .now) (a .h) (a .objects) asked room (counts-is (a .s) (a .head .now) (a .loans .now) (a .chunks .now) (a .index .now) (a .h) (a .objects) asked _ _ _ _ _ _ _ e (z .word3 .ensures) (g .grow .ensures) (y .word4 .ensures) (x .word5 .ensures) (b .bears .ensures) (not-no _ (c .before .if2 .left))) (search needs),
+      λ from. (refl, refl, loan-is (a .s) (a .loans .now) (a .index .now) _ _ (l .next-place .ensures) (w .word .ensures)),
     )
 
 pub decide-buy-spec : {M : Type 1} → statement M

@@ -20,7 +20,7 @@ returns c =
     let k = p .before in
     let w = k .before in
     let a = w .before .before .before .args in
-    (take-full (a .s) (a .head .now) (a .index .now) (a .i) (sym (left-is (a .s) (a .head .now) (a .index .now) _ _ (k .next-place .ensures) (w .word .ensures) _ (p .is-place .ensures)) ∙ not-yes _ (c .if1 .taken)), λ from n m e. tt)
+    (take-full (a .s) (a .loans .now) (a .index .now) (a .i) (sym (left-is (a .s) (a .loans .now) (a .index .now) _ _ (k .next-place .ensures) (w .word .ensures) _ (p .is-place .ensures)) ∙ not-yes _ (c .if1 .taken)), λ from n m e. tt)
 
 word-requires-2 : tie.Need-word-requires-2
 word-requires-2 c κs = search needs
@@ -32,7 +32,7 @@ returns-2 c =
     let k = p .before in
     let w = k .before in
     let a = w .before .before .before .args in
-    (take-spent (a .s) (a .head .now) (a .index .now) (a .i) _ (sym (left-is (a .s) (a .head .now) (a .index .now) _ _ (k .next-place .ensures) (w .word .ensures) _ (p .is-place .ensures)) ∙ not-no _ (g .before .if1 .left)) (g .word2 .ensures) (c .if2 .taken), λ from n m e. tt)
+    (take-spent (a .s) (a .loans .now) (a .index .now) (a .i) _ (sym (left-is (a .s) (a .loans .now) (a .index .now) _ _ (k .next-place .ensures) (w .word .ensures) _ (p .is-place .ensures)) ∙ not-no _ (g .before .if1 .left)) (g .word2 .ensures) (c .if2 .taken), λ from n m e. tt)
 
 returns-3 : tie.Need-returns-3
 returns-3 c =
@@ -41,8 +41,8 @@ returns-3 c =
     let k = p .before in
     let w = k .before in
     let a = w .before .before .before .args in (
-      take-go (a .s) (a .head .now) (a .index .now) (a .i) _ (sym (left-is (a .s) (a .head .now) (a .index .now) _ _ (k .next-place .ensures) (w .word .ensures) _ (p .is-place .ensures)) ∙ not-no _ (g .before .if1 .left)) (g .word2 .ensures) (search needs),
-      λ from n m e. (e, loan-is (a .s) (a .head .now) (a .index .now) _ _ (k .next-place .ensures) (w .word .ensures)),
+      take-go (a .s) (a .loans .now) (a .index .now) (a .i) _ (sym (left-is (a .s) (a .loans .now) (a .index .now) _ _ (k .next-place .ensures) (w .word .ensures) _ (p .is-place .ensures)) ∙ not-no _ (g .before .if1 .left)) (g .word2 .ensures) (search needs),
+      λ from n m e. (e, loan-is (a .s) (a .loans .now) (a .index .now) _ _ (k .next-place .ensures) (w .word .ensures)),
     )
 
 pub decide-take-spec : {M : Type 1} → statement M

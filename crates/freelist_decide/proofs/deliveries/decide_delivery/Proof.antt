@@ -21,10 +21,10 @@ come-requires c κs = search needs
 returns : tie.Need-returns
 returns c =
     let k = c .before in
-    let a = k .before .before .before .args in
+    let a = k .before .before .args in
     c .come .ensures
     ∙ ap (λ (b : Bool). comes freeList (a .o) b (a .order)) (k .is-known .ensures)
-    ∙ comes-is freeList (a .o) (memories (rows chunkRow (getD (a .head .now) chunksAt 0) (a .chunks .now))) (a .order)
+    ∙ comes-is freeList (a .o) (memories (rows chunkRow (getD (a .chunks .now) chunksAt 0) (a .chunks .now))) (a .order)
 
 pub decide-delivery-spec : {M : Type 1} → statement M
 decide-delivery-spec = tie.close (tie.spec is-known-requires come-requires returns)

@@ -14,8 +14,8 @@ decide-requires c κs = search needs
 returns : tie.Need-returns
 returns c =
     let w = c .before in
-    let a = w .before .before .before .before .before .args in
-    return-is (a .s) (a .b) (tables (a .head .now) (a .loans .now) [] (a .index .now) []) _ _ (w .word .ensures) (c .decide .ensures)
+    let a = w .before .before .before .before .args in
+    return-is (a .s) (a .b) (tables [] (a .loans .now) [] (a .index .now) []) _ _ (w .word .ensures) (c .decide .ensures)
 
 pub decide-return-spec : {M : Type 1} → statement M
 decide-return-spec = tie.close (tie.spec word-requires decide-requires returns)

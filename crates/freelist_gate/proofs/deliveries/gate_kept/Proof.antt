@@ -1,12 +1,12 @@
 use borrow.Author.Needs.{needs}
-use mathlib.Core.Path.{refl, sym, ap, _∙_}
+use mathlib.Core.Path.{sym, ap, _∙_}
 use native.Mathlib.Omega.{arith}
 use Rattle.lists.proofs.Bools.{not-yes, not-no}
 use Rattle.freelist_rules.specs.Tables.{tables}
 use Rattle.freelist_rules.proofs.Tested.{tables-yes}
 use Rattle.freelist_rules.proofs.Summing.{chunks-low}
 use Rattle.freelist_decide.specs.Plans.{planOf}
-use Rattle.freelist_gate.proofs.Arrivals.{leads-not, leads-take, leads-buy, ordered-size, kept-torn, kept-other, kept-short, kept-go, bought-for}
+use Rattle.freelist_gate.proofs.Arrivals.{kept-torn, kept-refused, kept-taken, kept-bought, bought-for}
 use Rattle.freelist_gate.proofs.deliveries.gate_kept.Statement.{statement}
 use Rattle.freelist_gate.proofs.deliveries.gate_kept.Tie as tie
 
@@ -31,67 +31,40 @@ enum-told-2 c = search needs
 enum-known-plan : tie.Need-enum-known-plan
 enum-known-plan c = search needs
 
-is-still-requires : tie.Need-is-still-requires
-is-still-requires c κs = search needs
-
-returns-2 : tie.Need-returns-2
-returns-2 c =
-    let v = c .before in
-    let p = v .before .before in
-    let d = p .before .before in
-    let i = d .before .before .before in
-    let n = i .before in
-    let a = n .before .before .before .before .before .before .args in
-    (kept-other (a .s) (a .h) (a .objects) (a .k) (tables (a .head .now) (a .loans .now) (a .chunks .now) (a .index .now) (a .regions .now)) (sym (n .is-sound .ensures) ∙ not-no _ (i .if1 .left)) (sym (leads-buy (a .s) (a .k) (planOf (d .decide .result)) _ _ _ _ (ap planOf (p .plan .given .1)) (d .decide .ensures .0) refl (v .is-still .ensures)) ∙ not-yes _ (c .if2 .taken)), tt)
-
-is-covered-requires : tie.Need-is-covered-requires
-is-covered-requires c κs =
-    let i = c .before .before .before .before .before .before .before .before in
+gate-bought-requires : tie.Need-gate-bought-requires
+gate-bought-requires c κs =
+    let i = c .before .before .before .before .before in
     let n = i .before in
     let b = n .before .before .before .before .before .before in
     let a = b .args in
     let sound = tables-yes (a .s) (tables (a .head .now) (a .loans .now) (a .chunks .now) (a .index .now) (a .regions .now)) (b .pre .0) (sym (n .is-sound .ensures) ∙ not-no _ (i .if1 .left)) in
     (omega (arith, sound .chunks-fit, b .pre .0 .store .chunks-most), chunks-low (a .s) (tables (a .head .now) (a .loans .now) (a .chunks .now) (a .index .now) (a .regions .now)) (b .pre .0) sound)
 
-returns-3 : tie.Need-returns-3
-returns-3 c =
-    let w = c .before in
-    let v = w .before .before in
-    let p = v .before .before in
-    let d = p .before .before in
-    let i = d .before .before .before in
+returns-2 : tie.Need-returns-2
+returns-2 c =
+    let d = c .before .before in
+    let i = d .before .before in
     let n = i .before in
     let a = n .before .before .before .before .before .before .args in
-    (kept-short (a .s) (a .h) (a .objects) (a .k) (tables (a .head .now) (a .loans .now) (a .chunks .now) (a .index .now) (a .regions .now)) (sym (n .is-sound .ensures) ∙ not-no _ (i .if1 .left)) (sym (leads-buy (a .s) (a .k) (planOf (d .decide .result)) _ _ _ _ (ap planOf (p .plan .given .1)) (d .decide .ensures .0) refl (v .is-still .ensures)) ∙ not-no _ (w .before .if2 .left)) (sym (w .is-covered .ensures) ∙ not-yes _ (c .if3 .taken)), tt)
+    (kept-refused (a .s) (a .h) (a .objects) (a .k) (tables (a .head .now) (a .loans .now) (a .chunks .now) (a .index .now) (a .regions .now)) (planOf (d .decide .result)) _ (sym (n .is-sound .ensures) ∙ not-no _ (i .if1 .left)) (ap planOf (c .enum-told .given .1)) (d .decide .ensures .0), tt)
+
+returns-3 : tie.Need-returns-3
+returns-3 c =
+    let d = c .before .before in
+    let i = d .before .before in
+    let n = i .before in
+    let a = n .before .before .before .before .before .before .args in
+    (kept-taken (a .s) (a .h) (a .objects) (a .k) (tables (a .head .now) (a .loans .now) (a .chunks .now) (a .index .now) (a .regions .now)) (planOf (d .decide .result)) _ (sym (n .is-sound .ensures) ∙ not-no _ (i .if1 .left)) (ap planOf (c .enum-told2 .given .1)) (d .decide .ensures .0), tt)
 
 returns-4 : tie.Need-returns-4
 returns-4 c =
-    let d = c .before .before in
-    let i = d .before .before .before in
-    let n = i .before in
-    let a = n .before .before .before .before .before .before .args in
-    (kept-other (a .s) (a .h) (a .objects) (a .k) (tables (a .head .now) (a .loans .now) (a .chunks .now) (a .index .now) (a .regions .now)) (sym (n .is-sound .ensures) ∙ not-no _ (i .if1 .left)) (sym (leads-not (a .s) (a .k) (planOf (d .decide .result)) _ _ (ap planOf (c .enum-told .given .1)) (d .decide .ensures .0))), tt)
-
-returns-5 : tie.Need-returns-5
-returns-5 c =
-    let d = c .before .before in
-    let i = d .before .before .before in
-    let n = i .before in
-    let a = n .before .before .before .before .before .before .args in
-    (kept-other (a .s) (a .h) (a .objects) (a .k) (tables (a .head .now) (a .loans .now) (a .chunks .now) (a .index .now) (a .regions .now)) (sym (n .is-sound .ensures) ∙ not-no _ (i .if1 .left)) (sym (leads-take (a .s) (a .k) (planOf (d .decide .result)) _ _ (ap planOf (c .enum-told2 .given .1)) (d .decide .ensures .0))), tt)
-
-returns-6 : tie.Need-returns-6
-returns-6 c =
-    let w = c .before in
-    let v = w .before .before in
-    let p = v .before .before in
+    let p = c .before .before in
     let d = p .before .before in
-    let i = d .before .before .before in
+    let i = d .before .before in
     let n = i .before in
-    let a = n .before .before .before .before .before .before .args in
-    let size = ordered-size (a .s) (a .k) _ _ (v .is-still .ensures) (not-no _ (w .before .if2 .left)) in (
-      kept-go (a .s) (a .h) (a .objects) (a .k) (tables (a .head .now) (a .loans .now) (a .chunks .now) (a .index .now) (a .regions .now)) (sym (n .is-sound .ensures) ∙ not-no _ (i .if1 .left)) (sym (leads-buy (a .s) (a .k) (planOf (d .decide .result)) _ _ _ _ (ap planOf (p .plan .given .1)) (d .decide .ensures .0) refl (v .is-still .ensures)) ∙ not-no _ (w .before .if2 .left)) (sym (w .is-covered .ensures) ∙ not-no _ (c .if3 .left)),
-      bought-for (a .s) (a .k) (tables (a .head .now) (a .loans .now) (a .chunks .now) (a .index .now) (a .regions .now)) _ (d .decide .result) (p .plan .given .1) (d .decide .ensures .1) size,
+    let a = n .before .before .before .before .before .before .args in (
+      kept-bought (a .s) (a .h) (a .objects) (a .k) (tables (a .head .now) (a .loans .now) (a .chunks .now) (a .index .now) (a .regions .now)) (planOf (d .decide .result)) _ _ (sym (n .is-sound .ensures) ∙ not-no _ (i .if1 .left)) (ap planOf (p .plan .given .1)) (d .decide .ensures .0) (c .gate-bought .ensures .0),
+      bought-for (a .s) (a .k) (tables (a .head .now) (a .loans .now) (a .chunks .now) (a .index .now) (a .regions .now)) _ (d .decide .result) (c .gate-bought .result) (p .plan .given .1) (d .decide .ensures .1) (c .gate-bought .ensures .1),
     )
 
 pub gate-kept-spec : {M : Type 1} → statement M
@@ -104,10 +77,7 @@ gate-kept-spec =
     enum-told
     enum-told-2
     enum-known-plan
-    is-still-requires
+    gate-bought-requires
     returns-2
-    is-covered-requires
     returns-3
-    returns-4
-    returns-5
-    returns-6)
+    returns-4)

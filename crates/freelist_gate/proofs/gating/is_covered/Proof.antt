@@ -9,7 +9,7 @@ word-requires c κs = search needs
 
 chunk-bytes-requires : tie.Need-chunk-bytes-requires
 chunk-bytes-requires c κs =
-    let b = c .before .before .before in
+    let b = c .before .before in
     (omega (arith, c .word .ensures, b .pre .0), λ j h. b .pre .1 j (omega (arith, c .word .ensures)))
 
 covers-requires : tie.Need-covers-requires
@@ -18,8 +18,8 @@ covers-requires c κs = search needs
 returns : tie.Need-returns
 returns c =
     let w = c .before .before in
-    let a = w .before .before .before .args in
-    covered-is (a .h) (a .objects) _ _ _ (a .head .now) (a .chunks .now) (w .word .ensures) (c .before .chunk-bytes .ensures) (c .covers .ensures)
+    let a = w .before .before .args in
+    covered-is (a .h) (a .objects) _ _ _ (a .chunks .now) (w .word .ensures) (c .before .chunk-bytes .ensures) (c .covers .ensures)
 
 pub is-covered-spec : {M : Type 1} → statement M
 is-covered-spec = tie.close (tie.spec word-requires chunk-bytes-requires covers-requires returns)

@@ -1,7 +1,7 @@
 use borrow.Author.Needs.{needs}
-use Rattle.freelist_place.proofs.Writing.{added-done}
 use Rattle.freelist_place.proofs.adding.add_chunk.Statement.{statement}
 use Rattle.freelist_place.proofs.adding.add_chunk.Tie as tie
+use Rattle.freelist_place.proofs.Writing.{added-done}
 
 word-requires : tie.Need-word-requires
 word-requires c κs = search needs
@@ -18,14 +18,17 @@ double-requires c κs = search needs
 put-chunk-requires : tie.Need-put-chunk-requires
 put-chunk-requires c κs = search needs
 
-append-requires : tie.Need-append-requires
-append-requires c κs = search needs
-
 add-count-chunk : tie.Need-add-count-chunk
 add-count-chunk c = search needs
 
 count-chunk-requires : tie.Need-count-chunk-requires
 count-chunk-requires c κs = search needs
+
+append-requires : tie.Need-append-requires
+append-requires c κs = search needs
+
+raise-size-requires : tie.Need-raise-size-requires
+raise-size-requires c κs = search needs
 
 same-length : tie.Need-same-length
 same-length c = search needs
@@ -40,12 +43,13 @@ returns : tie.Need-returns
 returns c =
     let h = c .before .before in
     let r = h .before .before .before .before in
-    let p = r .before .before .before .before in
-    let d = p .before .before in
-    let m = d .before in
+    let d = r .before .before .before .before in
+    let p = d .before .before .before .before in
+    let z = p .before .before in
+    let m = z .before in
     let k = m .before .before in
     let b = k .before .before .before .before .before in
-    added-done (b .args .s) (b .args .memory) (b .args .size) (b .args .head .now) (b .args .chunks .now) (b .args .regions .now) (b .pre) _ _ _ _ _ _ (k .word .ensures) (m .word2 .ensures) (d .double .ensures) (p .put-chunk .ensures) (r .append .ensures) (h .count-chunk .ensures)
+    added-done (b .args .s) (b .args .memory) (b .args .size) (b .args .head .now) (b .args .chunks .now) (b .args .regions .now) (b .pre) _ _ _ _ _ _ _ (k .word .ensures) (m .word2 .ensures) (z .double .ensures) (p .put-chunk .ensures) (d .count-chunk .ensures) (r .append .ensures) (h .raise-size .ensures)
 
 pub add-chunk-spec : {M : Type 1} → statement M
 add-chunk-spec =
@@ -56,9 +60,10 @@ add-chunk-spec =
     add-number
     double-requires
     put-chunk-requires
-    append-requires
     add-count-chunk
     count-chunk-requires
+    append-requires
+    raise-size-requires
     same-length
     same-length-2
     same-length-3

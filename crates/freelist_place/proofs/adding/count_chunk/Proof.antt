@@ -1,8 +1,8 @@
 use borrow.Author.Needs.{needs}
-use Rattle.freelist_rules.specs.Tables.{madeAt, chunkSizeAt, chunksAt}
-use Rattle.freelist_place.proofs.Writing.{thrice-set}
 use Rattle.freelist_place.proofs.adding.count_chunk.Statement.{statement}
 use Rattle.freelist_place.proofs.adding.count_chunk.Tie as tie
+use Rattle.freelist_place.proofs.Writing.{twice-set}
+use Rattle.freelist_rules.specs.Tables.{madeAt, chunksAt}
 
 put-requires : tie.Need-put-requires
 put-requires c κs = search needs
@@ -10,19 +10,13 @@ put-requires c κs = search needs
 put-requires-2 : tie.Need-put-requires-2
 put-requires-2 c κs = search needs
 
-put-requires-3 : tie.Need-put-requires-3
-put-requires-3 c κs = search needs
-
 same-length : tie.Need-same-length
 same-length c = search needs
 
 returns : tie.Need-returns
 returns c =
-    let r = c .before .before in
-    let q = r .before .before .before .before in
-    let a = q .before .before .before .before .before .before .before .args in
-    thrice-set (a .head .now) _ _ _ madeAt chunkSizeAt chunksAt (a .number) (a .size) (a .chunks) (q .before .before .before .before .put .ensures) (q .put2 .ensures) (r .put3 .ensures)
+    let a = c .before .before .before .before .before .before .before .before .before .args in
+    twice-set (a .chunks .now) _ _ chunksAt madeAt (a .held) (a .number) (c .before .before .before .before .before .before .put .ensures) (c .before .before .put2 .ensures)
 
 pub count-chunk-spec : {M : Type 1} → statement M
-count-chunk-spec =
-    tie.close (tie.spec put-requires put-requires-2 put-requires-3 same-length returns)
+count-chunk-spec = tie.close (tie.spec put-requires put-requires-2 same-length returns)

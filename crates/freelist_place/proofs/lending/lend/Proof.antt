@@ -12,9 +12,6 @@ cut-requires c κs = search needs
 enter-at-requires : tie.Need-enter-at-requires
 enter-at-requires c κs = search needs
 
-count-loan-requires : tie.Need-count-loan-requires
-count-loan-requires c κs = search needs
-
 same-length : tie.Need-same-length
 same-length c = search needs
 
@@ -24,18 +21,14 @@ same-length-2 c = search needs
 same-length-3 : tie.Need-same-length-3
 same-length-3 c = search needs
 
-same-length-4 : tie.Need-same-length-4
-same-length-4 c = search needs
-
 returns : tie.Need-returns
 returns c =
-    let k = c .before .before in
-    let e = k .before .before .before .before .before .before in
+    let e = c .before .before .before .before in
     let t = e .before .before .before .before .before in
-    let l = t .before .before .before .before in
-    let a = l .before .before .before .before .before .before .before .before .before .args in
+    let l = t .before .before .before in
+    let a = l .before .before .before .before .before .before .before .args in
     let o = l .loan-of .ensures in
-    (o, lent-done (a .s) (a .i) (a .start) (a .head .now) (a .regions .now) (a .loans .now) (a .index .now) _ _ _ _ (a .loan) _ o (t .cut .ensures) (e .enter-at .ensures .0) (e .enter-at .ensures .1) (k .count-loan .ensures))
+    (o, lent-done (a .s) (a .i) (a .start) (a .loans .now) (a .regions .now) (a .index .now) _ _ _ (a .loan) _ o (t .cut .ensures) (e .enter-at .ensures .0) (e .enter-at .ensures .1))
 
 pub lend-spec : {M : Type 1} → statement M
 lend-spec =
@@ -44,9 +37,7 @@ lend-spec =
     loan-of-requires
     cut-requires
     enter-at-requires
-    count-loan-requires
     same-length
     same-length-2
     same-length-3
-    same-length-4
     returns)

@@ -19,8 +19,8 @@ returns c =
     let p = c .before in
     let v = p .before in
     let w = v .before in
-    let a = w .before .before .before .before .before .args in
-    book-torn (a .s) (a .head .now) (a .loans .now) (a .index .now) (p .is-parted .result) (w .word .result) (v .word2 .result) (w .word .ensures) (v .word2 .ensures) (p .is-parted .ensures) (not-yes _ (c .if1 .taken))
+    let a = w .before .before .before .before .args in
+    book-torn (a .s) (a .loans .now) (a .index .now) (p .is-parted .result) (w .word .result) (v .word2 .result) (w .word .ensures) (v .word2 .ensures) (p .is-parted .ensures) (not-yes _ (c .if1 .taken))
 
 word-requires-3 : tie.Need-word-requires-3
 word-requires-3 c κs = search needs
@@ -31,7 +31,7 @@ is-chained-requires c κs =
     let p = i .before in
     let v = p .before in
     let w = v .before in
-    let o = w .before .before .before .before .before in
+    let o = w .before .before .before .before in
     let a = o .args in
     let m = parted-most (a .s) (a .loans .now) (a .index .now) (p .is-parted .result) (w .word .result) (v .word2 .result) (p .is-parted .ensures) (not-no _ (i .if1 .left)) in
     (o .pre .store .loans-some, o .pre .store .loans-most, omega (arith, m, o .pre .store .loans-most))
@@ -43,8 +43,8 @@ returns-2 c =
     let p = i .before in
     let v = p .before in
     let w = v .before in
-    let a = w .before .before .before .before .before .args in
-    book-told (a .s) (a .head .now) (a .loans .now) (a .index .now) (p .is-parted .result) (w .word .result) (v .word2 .result) (w .word .ensures) (v .word2 .ensures) (p .is-parted .ensures) (not-no _ (i .if1 .left)) (g .word3 .result) (c .is-chained .result) (g .word3 .ensures) (c .is-chained .ensures)
+    let a = w .before .before .before .before .args in
+    book-told (a .s) (a .loans .now) (a .index .now) (p .is-parted .result) (w .word .result) (v .word2 .result) (w .word .ensures) (v .word2 .ensures) (p .is-parted .ensures) (not-no _ (i .if1 .left)) (g .word3 .result) (c .is-chained .result) (g .word3 .ensures) (c .is-chained .ensures)
 
 pub is-book-spec : {M : Type 1} → statement M
 is-book-spec =
