@@ -1,11 +1,10 @@
 // The test of a book's chains: each is followed once, so it is linear in the places ever used.
 ghost use mathlib.Core.Path.{_≡_};
 ghost use Prim.Native.Nat.{_≤_, _<_};
-ghost use lib.ListN.{getD};
 ghost use Rattle.counter.specs.Limits.{loansMost};
 ghost use Rattle.slab.specs.Slab.{vacantAt};
 ghost use Rattle.store_rules.specs.Loans.{loanWords, sizeAt};
-ghost use Rattle.book_rules.specs.Book.{nextOf, serialOf, firstIn};
+ghost use Rattle.book_rules.specs.Book.{serialOf, firstIn, nextIn};
 ghost use Rattle.book_rules.specs.Chains.{linkOk, leftAfter, leftOf, chainsOk};
 use crate::ENTRY_WORDS;
 use crate::FIRST_AT;
@@ -18,7 +17,7 @@ use store_rules::SIZE_AT;
 // Whether every chain has the loans of its serials, and all of them, the newest first.
 pub fn is_chained(loans: &[u64], index: &[u64], n: usize, places: u64, given: u64) -> bool
     requires { ⌜ (0 < n) × (n ≤ loansMost) × (places ≤ loansMost) ⌝ }
-    ensures { λ r. ⌜ r ≡ chainsOk (vacantAt (now (loans .entry)) sizeAt loanWords) (firstIn (now (index .entry))) (λ p. getD (now (index .entry)) (nextOf p) 0) (serialOf (now (loans .entry))) n places given ⌝ }
+    ensures { λ r. ⌜ r ≡ chainsOk (vacantAt (now (loans .entry)) sizeAt loanWords) (firstIn (now (index .entry))) (nextIn (now (index .entry))) (serialOf (now (loans .entry))) n places given ⌝ }
 {
     let vacant = slab::count_vacant(loans, SIZE_AT, LOAN_WORDS, places);
     left_of(loans, index, n, places, given, places - vacant) == 0
@@ -27,7 +26,7 @@ pub fn is_chained(loans: &[u64], index: &[u64], n: usize, places: u64, given: u6
 // How many of k loans are left when every chain has been followed, or NOWHERE.
 fn left_of(loans: &[u64], index: &[u64], n: usize, places: u64, given: u64, k: u64) -> u64
     requires { ⌜ (0 < n) × (n ≤ loansMost) ⌝ }
-    ensures { λ r. ⌜ r ≡ leftOf (vacantAt (now (loans .entry)) sizeAt loanWords) (firstIn (now (index .entry))) (λ p. getD (now (index .entry)) (nextOf p) 0) (serialOf (now (loans .entry))) n places given k n ⌝ }
+    ensures { λ r. ⌜ r ≡ leftOf (vacantAt (now (loans .entry)) sizeAt loanWords) (firstIn (now (index .entry))) (nextIn (now (index .entry))) (serialOf (now (loans .entry))) n places given k n ⌝ }
 {
     let mut left = k;
     let mut i = 0;
@@ -45,7 +44,7 @@ fn left_of(loans: &[u64], index: &[u64], n: usize, places: u64, given: u64, k: u
 fn first_of(index: &[u64], i: usize) -> u64
     ensures { λ r. ⌜ r ≡ firstIn (now (index .entry)) i ⌝ }
 {
-    words::cell(index, FIRST_AT, ENTRY_WORDS, i)
+    slab::link(index, FIRST_AT, ENTRY_WORDS, i as u64)
 }
 
 // How many of k loans are left when chain i has been followed from h on, or NOWHERE where it is torn.
@@ -60,7 +59,7 @@ fn left_after(
     k: u64,
 ) -> u64
     requires { ⌜ 0 < n ⌝ }
-    ensures { λ r. ⌜ r ≡ leftAfter (vacantAt (now (loans .entry)) sizeAt loanWords) (firstIn (now (index .entry))) (λ p. getD (now (index .entry)) (nextOf p) 0) (serialOf (now (loans .entry))) n places i given h k ⌝ }
+    ensures { λ r. ⌜ r ≡ leftAfter (vacantAt (now (loans .entry)) sizeAt loanWords) (firstIn (now (index .entry))) (nextIn (now (index .entry))) (serialOf (now (loans .entry))) n places i given h k ⌝ }
 {
     let mut p = h;
     let mut most = given;
@@ -71,7 +70,7 @@ fn left_after(
         }
         if is_link(loans, n, places, i, most, p) {
             most = words::cell(loans, SERIAL_AT, LOAN_WORDS, p as usize) - 1;
-            p = words::cell(index, NEXT_AT, ENTRY_WORDS, p as usize);
+            p = slab::link(index, NEXT_AT, ENTRY_WORDS, p);
             left -= 1;
         } else {
             return NOWHERE;

@@ -17,7 +17,7 @@ pub fn is_kept(loans: &[u64], index: &[u64], n: usize, places: u64, given: u64) 
 {
     let s = Slab {
         places: places,
-        vacant: words::word(index, VACATED_AT),
+        vacant: slab::led_to(index, VACATED_AT),
     };
     let parted = slab::is_parted(
         s,

@@ -6,13 +6,14 @@ pub use chains::is_chained;
 pub use kept::is_kept;
 ghost use mathlib.Core.Path.{_≡_};
 ghost use Prim.Native.Nat.{_%_, _≤_, _<_};
-ghost use lib.ListN.{length, set};
+ghost use lib.ListN.{length, getD, set};
 ghost use Rattle.counter.specs.Limits.{loansMost};
 ghost use Rattle.words.specs.Words.{cellOf};
 ghost use Rattle.words.specs.Rows.{row, written};
-ghost use Rattle.store_rules.specs.Loans.{placesAt, loanWords, sizeAt, loanRow};
+ghost use Rattle.slab.specs.Slab.{recordOf};
+ghost use Rattle.store_rules.specs.Loans.{placesAt, loanWords, serialAt, sizeAt, loanRow};
 ghost use Rattle.book_rules.specs.Ready.{Opens, Strikes};
-ghost use Rattle.book_rules.specs.Book.{entryWords, vacatedAt, vacantAfterAt, indexWords, firstOf, nextOf, freshIndex, takenOf, counted, firstIn, enteredIndex, wordTo, struck, struckIndex};
+ghost use Rattle.book_rules.specs.Book.{entryWords, vacatedAt, vacantAfterAt, indexWords, firstOf, nextOf, freshIndex, takenOf, counted, wordTo, struck, struckIndex};
 use slab::NOWHERE;
 use slab::Slab;
 use slab::Taken;
@@ -41,7 +42,7 @@ pub fn fresh_index(mark: u64, n: usize, index: &mut [u64])
     requires { ⌜ length (now index) ≡ indexWords n ⌝ }
     ensures { λ _. ⌜ now (index .exit) ≡ freshIndex mark n ⌝ }
 {
-    words::put_blank(index, mark, NOWHERE);
+    words::put_blank(index, mark, 0);
 }
 
 // The place that the next loan takes, and the slab from then on.
@@ -50,7 +51,7 @@ pub fn next_place(places: u64, index: &[u64]) -> Taken
 {
     let s = Slab {
         places: places,
-        vacant: words::word(index, VACATED_AT),
+        vacant: slab::led_to(index, VACATED_AT),
     };
     s.insert(index, VACANT_AFTER_AT, ENTRY_WORDS)
 }
@@ -110,36 +111,36 @@ fn count(loans: &mut [u64], given: u64, places: u64)
 pub fn enter_at(loans: &mut [u64], index: &mut [u64], n: usize, t: Taken, l: Loan)
     requires { ⌜ Opens n (t .place) (now loans) (now index) ⌝ }
     ensures { λ _. ⌜ now (loans .exit) ≡ written loanRow (t .place) l (counted (l .serial) (t .slab .places) (now (loans .entry))) ⌝ }
-    ensures { λ _. ⌜ now (index .exit) ≡ set (set (set (now (index .entry)) vacatedAt (t .slab .vacant)) (nextOf (t .place)) (firstIn (now (index .entry)) (l .serial % n))) (firstOf (l .serial % n)) (t .place) ⌝ }
+    ensures { λ _. ⌜ now (index .exit) ≡ set (set (set (now (index .entry)) vacatedAt (recordOf (t .slab .vacant))) (nextOf (t .place)) (getD (now (index .entry)) (firstOf (l .serial % n)) 0)) (firstOf (l .serial % n)) (recordOf (t .place)) ⌝ }
 {
     let s = t.slab;
     let i = l.serial % n as u64;
-    let first = first_before(index, n, l.serial);
+    let first = first_word(index, n, l.serial);
     count(loans, l.serial, s.places);
     write_loan(loans, t.place as usize, l);
     put_first(index, i as usize, t.place, first, s.vacant);
 }
 
-// The first of the chain that this serial comes into.
-fn first_before(index: &[u64], n: usize, serial: u64) -> u64
+// The word that leads to the first of the chain that this serial comes into, as it stands in the index.
+fn first_word(index: &[u64], n: usize, serial: u64) -> u64
     requires { ⌜ (0 < n) × (n ≤ loansMost) × (length (now index) ≡ indexWords n) ⌝ }
-    ensures { λ r. ⌜ r ≡ firstIn (now (index .entry)) (serial % n) ⌝ }
+    ensures { λ r. ⌜ r ≡ getD (now (index .entry)) (firstOf (serial % n)) 0 ⌝ }
 {
     let i = serial % n as u64;
     let at = FIRST_AT + ENTRY_WORDS * i as usize;
     index[at]
 }
 
-// The place p is the first of chain i from now on, before the one that was.
+// The place p is the first of chain i from now on, and leads on by the word `first`, which led to the one that was.
 fn put_first(index: &mut [u64], i: usize, p: u64, first: u64, vacated: u64)
     requires { ⌜ (firstOf i < length (now index)) × (nextOf p < length (now index)) ⌝ }
-    ensures { λ _. ⌜ now (index .exit) ≡ set (set (set (now (index .entry)) vacatedAt vacated) (nextOf p) first) (firstOf i) p ⌝ }
+    ensures { λ _. ⌜ now (index .exit) ≡ set (set (set (now (index .entry)) vacatedAt (recordOf vacated)) (nextOf p) first) (firstOf i) (recordOf p) ⌝ }
 {
     let next = NEXT_AT + ENTRY_WORDS * p as usize;
     let at = FIRST_AT + ENTRY_WORDS * i;
-    index[VACATED_AT] = vacated;
+    index[VACATED_AT] = slab::record_of(vacated);
     index[next] = first;
-    index[at] = p;
+    index[at] = slab::record_of(p);
 }
 
 // The word of the index that leads to the loan with this serial, or NOWHERE. At most `places` turns, so that links that lead round in
@@ -152,7 +153,7 @@ pub fn word_to(loans: &[u64], index: &[u64], n: usize, places: u64, serial: u64)
     let mut at = FIRST_AT + ENTRY_WORDS * i as usize;
     let mut left = places;
     while 0 < left {
-        let p = words::word(index, at);
+        let p = slab::led_to(index, at);
         if places <= p {
             return NOWHERE;
         }
@@ -174,18 +175,29 @@ pub fn strike(loans: &mut [u64], index: &mut [u64], at: usize, p: u64)
     let onward = NEXT_AT + ENTRY_WORDS * p as usize;
     let next = index[onward];
     let vacated = index[VACATED_AT];
-    let size = SIZE_AT + LOAN_WORDS * p as usize;
-    loans[size] = 0;
+    vacate(loans, p as usize);
     pass_over(index, at, p, next, vacated);
 }
 
-// The word at `at` leads past p from now on, and p is the place vacated last.
+// The record at p is that of a vacant place: size 0, and serial 0.
+fn vacate(loans: &mut [u64], p: usize)
+    requires { ⌜ cellOf sizeAt loanWords p < length (now loans) ⌝ }
+    ensures { λ _. ⌜ now (loans .exit) ≡ set (set (now (loans .entry)) (cellOf sizeAt loanWords p) 0) (cellOf serialAt loanWords p) 0 ⌝ }
+{
+    let size = SIZE_AT + LOAN_WORDS * p;
+    let serial = SERIAL_AT + LOAN_WORDS * p;
+    loans[size] = 0;
+    loans[serial] = 0;
+}
+
+// The word at `at`, which leads to p, leads past it from now on, and p is the place vacated last.
 fn pass_over(index: &mut [u64], at: usize, p: u64, next: u64, vacated: u64)
     requires { ⌜ (at < length (now index)) × (cellOf vacantAfterAt entryWords p < length (now index)) ⌝ }
-    ensures { λ _. ⌜ now (index .exit) ≡ set (set (set (now (index .entry)) at next) (cellOf vacantAfterAt entryWords p) vacated) vacatedAt p ⌝ }
+    ensures { λ _. ⌜ now (index .exit) ≡ set (set (set (now (index .entry)) at next) (cellOf vacantAfterAt entryWords p) vacated) vacatedAt (getD (now (index .entry)) at 0) ⌝ }
 {
     let after = VACANT_AFTER_AT + ENTRY_WORDS * p as usize;
+    let lead = index[at];
     index[at] = next;
     index[after] = vacated;
-    index[VACATED_AT] = p;
+    index[VACATED_AT] = lead;
 }

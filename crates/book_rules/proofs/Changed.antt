@@ -12,12 +12,13 @@ use lib.Seq.{getD-set-same, getD-set-other}
 use borrow.Author.Tests.{ne-eqb}
 use Rattle.words.specs.Words.{cellOf}
 use Rattle.words.specs.Rows.{written}
-use Rattle.slab.specs.Slab.{vacantAt, linkAt, changed}
+use Rattle.slab.specs.Slab.{placeOf, recordOf, vacantAt, linkAt, changed}
 use Rattle.lists.proofs.Bools.{same?}
+use Rattle.slab.proofs.Links.{place-record}
 use Rattle.slab.proofs.Places.{vacant-set, link-here, link-other}
 use Rattle.store_rules.specs.Loans.{loanWords, serialAt, sizeAt, loanRow, chunkAt, offsetAt}
 use Rattle.store_rules.specs.declared.Loan.{Loan}
-use Rattle.book_rules.specs.Book.{entryWords, vacatedAt, vacantAfterAt, indexWords, firstOf, nextOf, serialOf, struckIndex}
+use Rattle.book_rules.specs.Book.{entryWords, vacatedAt, vacantAfterAt, indexWords, firstOf, nextOf, ledTo, serialOf, firstIn, nextIn, struck, struckIndex}
 use Rattle.book_rules.proofs.Whole.{loan-written}
 
 -- ---- a loan written at p
@@ -69,7 +70,7 @@ module _ (loans : List ℕ) (n p : ℕ) (l : Loan) (long : length loans ≡ loan
       ap (λ (t : List ℕ). vacantAt t sizeAt loanWords x) by-words
       ∙ ap (λ (w : ℕ). eqb w 0) (getD-set-other three (cellOf sizeAt loanWords p) (cellOf sizeAt loanWords x) (l .size) 0 (λ e. o (omega arith)) ∙ size-three x)
 
--- ---- p put first in chain c, before f, and v the place vacated last
+-- ---- p put first in chain c, before the place that the word f leads to, and v the word that leads to the place vacated last
 
 module _ (index : List ℕ) (n c p f v : ℕ) (long : length index ≡ indexWords n) (own : c < n) (room : p < n) where
   abbrev begun : List ℕ
@@ -79,7 +80,7 @@ module _ (index : List ℕ) (n c p f v : ℕ) (long : length index ≡ indexWord
   linked = set begun (nextOf p) f
 
   abbrev pub firstPut : List ℕ
-  firstPut = set linked (firstOf c) p
+  firstPut = set linked (firstOf c) (recordOf p)
 
   begun-long : length begun ≡ length index
   begun-long = length-set index vacatedAt v
@@ -87,59 +88,89 @@ module _ (index : List ℕ) (n c p f v : ℕ) (long : length index ≡ indexWord
   linked-long : length linked ≡ length index
   linked-long = length-set begun (nextOf p) f ∙ begun-long
 
-  pub first-here : getD firstPut (firstOf c) 0 ≡ p
-  first-here = getD-set-same linked (firstOf c) p 0 (omega (arith, linked-long))
+  pub first-here : firstIn firstPut c ≡ p
+  first-here = ap placeOf (getD-set-same linked (firstOf c) (recordOf p) 0 (omega (arith, linked-long))) ∙ place-record p
 
-  pub first-other : (i : ℕ) → (i ≡ c → ⊥) → getD firstPut (firstOf i) 0 ≡ getD index (firstOf i) 0
+  pub first-other : (i : ℕ) → (i ≡ c → ⊥) → firstIn firstPut i ≡ firstIn index i
   first-other i o =
-      getD-set-other linked (firstOf c) (firstOf i) p 0 (λ e. o (omega arith))
+      ap placeOf
+      (getD-set-other linked (firstOf c) (firstOf i) (recordOf p) 0 (λ e. o (omega arith))
       ∙ getD-set-other begun (nextOf p) (firstOf i) f 0 (λ e. omega arith)
-      ∙ getD-set-other index vacatedAt (firstOf i) v 0 (λ e. omega arith)
+      ∙ getD-set-other index vacatedAt (firstOf i) v 0 (λ e. omega arith))
 
-  pub next-here : getD firstPut (nextOf p) 0 ≡ f
+  pub next-here : nextIn firstPut p ≡ placeOf f
   next-here =
-      getD-set-other linked (firstOf c) (nextOf p) p 0 (λ e. omega arith)
-      ∙ getD-set-same begun (nextOf p) f 0 (omega (arith, begun-long))
+      ap placeOf
+      (getD-set-other linked (firstOf c) (nextOf p) (recordOf p) 0 (λ e. omega arith)
+      ∙ getD-set-same begun (nextOf p) f 0 (omega (arith, begun-long)))
 
-  pub next-other : (x : ℕ) → (x ≡ p → ⊥) → getD firstPut (nextOf x) 0 ≡ getD index (nextOf x) 0
+  pub next-other : (x : ℕ) → (x ≡ p → ⊥) → nextIn firstPut x ≡ nextIn index x
   next-other x o =
-      getD-set-other linked (firstOf c) (nextOf x) p 0 (λ e. omega arith)
+      ap placeOf
+      (getD-set-other linked (firstOf c) (nextOf x) (recordOf p) 0 (λ e. omega arith)
       ∙ getD-set-other begun (nextOf p) (nextOf x) f 0 (λ e. o (omega arith))
-      ∙ getD-set-other index vacatedAt (nextOf x) v 0 (λ e. omega arith)
+      ∙ getD-set-other index vacatedAt (nextOf x) v 0 (λ e. omega arith))
 
-  pub vacated-put : getD firstPut vacatedAt 0 ≡ v
+  pub vacated-put : ledTo firstPut vacatedAt ≡ placeOf v
   vacated-put =
-      getD-set-other linked (firstOf c) vacatedAt p 0 (λ e. omega arith)
+      ap placeOf
+      (getD-set-other linked (firstOf c) vacatedAt (recordOf p) 0 (λ e. omega arith)
       ∙ getD-set-other begun (nextOf p) vacatedAt f 0 (λ e. omega arith)
-      ∙ getD-set-same index vacatedAt v 0 (omega arith)
+      ∙ getD-set-same index vacatedAt v 0 (omega arith))
 
   pub link-put : (x : ℕ) → linkAt firstPut vacantAfterAt entryWords x ≡ linkAt index vacantAfterAt entryWords x
   link-put x =
-      getD-set-other linked (firstOf c) (cellOf vacantAfterAt entryWords x) p 0 (λ e. omega arith)
+      ap placeOf
+      (getD-set-other linked (firstOf c) (cellOf vacantAfterAt entryWords x) (recordOf p) 0 (λ e. omega arith)
       ∙ getD-set-other begun (nextOf p) (cellOf vacantAfterAt entryWords x) f 0 (λ e. omega arith)
-      ∙ getD-set-other index vacatedAt (cellOf vacantAfterAt entryWords x) v 0 (λ e. omega arith)
+      ∙ getD-set-other index vacatedAt (cellOf vacantAfterAt entryWords x) v 0 (λ e. omega arith))
 
 -- ---- the loan at p struck out
 
-module _ (loans : List ℕ) (n p : ℕ) (long : length loans ≡ loanWords + loanWords * n) (room : p < n) where
-  pub serial-kept : (x : ℕ) → serialOf (set loans (cellOf sizeAt loanWords p) 0) x ≡ serialOf loans x
-  serial-kept x = getD-set-other loans (cellOf sizeAt loanWords p) (cellOf serialAt loanWords x) 0 0 (λ e. omega arith)
+-- its size and its serial are 0
+abbrev pub cleared : List ℕ → ℕ → List ℕ
+cleared loans p = set (set loans (cellOf sizeAt loanWords p) 0) (cellOf serialAt loanWords p) 0
 
-  pub vacant-now : (x : ℕ) → vacantAt (set loans (cellOf sizeAt loanWords p) 0) sizeAt loanWords x ≡ changed (vacantAt loans sizeAt loanWords) p true x
-  vacant-now x = vacant-set loans sizeAt loanWords p 0 x (omega arith) (omega arith)
+module _ (loans : List ℕ) (n p : ℕ) (long : length loans ≡ loanWords + loanWords * n) (room : p < n) where
+  abbrev unsized : List ℕ
+  unsized = set loans (cellOf sizeAt loanWords p) 0
+
+  pub serial-kept : (x : ℕ) → (x ≡ p → ⊥) → serialOf (cleared loans p) x ≡ serialOf loans x
+  serial-kept x o =
+      getD-set-other unsized (cellOf serialAt loanWords p) (cellOf serialAt loanWords x) 0 0 (λ e. o (omega arith))
+      ∙ getD-set-other loans (cellOf sizeAt loanWords p) (cellOf serialAt loanWords x) 0 0 (λ e. omega arith)
+
+  pub serial-gone : serialOf (cleared loans p) p ≡ 0
+  serial-gone = getD-set-same unsized (cellOf serialAt loanWords p) 0 0 (omega (arith, length-set loans (cellOf sizeAt loanWords p) 0))
+
+  pub size-gone : getD (cleared loans p) (cellOf sizeAt loanWords p) 0 ≡ 0
+  size-gone =
+      getD-set-other unsized (cellOf serialAt loanWords p) (cellOf sizeAt loanWords p) 0 0 (λ e. omega arith)
+      ∙ getD-set-same loans (cellOf sizeAt loanWords p) 0 0 (omega arith)
+
+  pub vacant-now : (x : ℕ) → vacantAt (cleared loans p) sizeAt loanWords x ≡ changed (vacantAt loans sizeAt loanWords) p true x
+  vacant-now x =
+      ap (λ (w : ℕ). eqb w 0) (getD-set-other unsized (cellOf serialAt loanWords p) (cellOf sizeAt loanWords x) 0 0 (λ e. omega arith))
+      ∙ vacant-set loans sizeAt loanWords p 0 x (omega arith) (omega arith)
+
+-- a record struck out says so by both words
+pub struck-gone : (at : ℕ) (index loans : List ℕ) (n : ℕ) → length loans ≡ loanWords + loanWords * n → ledTo index at < n
+    → (serialOf (struck at index loans) (ledTo index at) ≡ 0) × (getD (struck at index loans) (cellOf sizeAt loanWords (ledTo index at)) 0 ≡ 0)
+unfolding struck
+struck-gone at index loans n long room = (serial-gone loans n (ledTo index at) long room, size-gone loans n (ledTo index at) long room)
 
 -- the word at `at`, which leads to p, leads past it; `at` is no word that leads on among the vacant places
 module _ (index : List ℕ) (n at p : ℕ) (wide : length index ≡ indexWords n) (room : p < n) (inside : at < indexWords n)
-    (chained : at % 3 ≡ 2 → ⊥) (leads : getD index at 0 ≡ p) where
+    (chained : at % 3 ≡ 2 → ⊥) (leads : ledTo index at ≡ p) where
   abbrev cut : List ℕ
   cut = set index at (getD index (nextOf p) 0)
 
   abbrev freed : List ℕ
   freed = set cut (cellOf vacantAfterAt entryWords p) (getD index vacatedAt 0)
 
-  struck-as : struckIndex at index ≡ set freed vacatedAt p
+  struck-as : struckIndex at index ≡ set freed vacatedAt (getD index at 0)
   unfolding struckIndex
-  struck-as = ap (λ (q : ℕ). set (set (set index at (getD index (nextOf q) 0)) (cellOf vacantAfterAt entryWords q) (getD index vacatedAt 0)) vacatedAt q) leads
+  struck-as = ap (λ (q : ℕ). set (set (set index at (getD index (nextOf q) 0)) (cellOf vacantAfterAt entryWords q) (getD index vacatedAt 0)) vacatedAt (getD index at 0)) leads
 
   cut-long : length cut ≡ length index
   cut-long = length-set index at (getD index (nextOf p) 0)
@@ -147,41 +178,46 @@ module _ (index : List ℕ) (n at p : ℕ) (wide : length index ≡ indexWords n
   freed-long : length freed ≡ length index
   freed-long = length-set cut (cellOf vacantAfterAt entryWords p) (getD index vacatedAt 0) ∙ cut-long
 
-  pub struck-stays : (v : ℕ) → (v % 3 ≡ 2 → ⊥) → (v ≡ at → ⊥) → getD (struckIndex at index) v 0 ≡ getD index v 0
+  pub struck-stays : (v : ℕ) → (v % 3 ≡ 2 → ⊥) → (v ≡ at → ⊥) → ledTo (struckIndex at index) v ≡ ledTo index v
   struck-stays v o e =
-      ap (λ (t : List ℕ). getD t v 0) struck-as
-      ∙ getD-set-other freed vacatedAt v p 0 (λ z. o (omega arith))
+      ap (λ (t : List ℕ). ledTo t v) struck-as
+      ∙ ap placeOf
+      (getD-set-other freed vacatedAt v (getD index at 0) 0 (λ z. o (omega arith))
       ∙ getD-set-other cut (cellOf vacantAfterAt entryWords p) v (getD index vacatedAt 0) 0 (λ z. o (omega arith))
-      ∙ getD-set-other index at v (getD index (nextOf p) 0) 0 e
+      ∙ getD-set-other index at v (getD index (nextOf p) 0) 0 e)
 
-  pub struck-past : getD (struckIndex at index) at 0 ≡ getD index (nextOf p) 0
+  pub struck-past : ledTo (struckIndex at index) at ≡ nextIn index p
   struck-past =
-      ap (λ (t : List ℕ). getD t at 0) struck-as
-      ∙ getD-set-other freed vacatedAt at p 0 (λ z. chained (omega arith))
+      ap (λ (t : List ℕ). ledTo t at) struck-as
+      ∙ ap placeOf
+      (getD-set-other freed vacatedAt at (getD index at 0) 0 (λ z. chained (omega arith))
       ∙ getD-set-other cut (cellOf vacantAfterAt entryWords p) at (getD index vacatedAt 0) 0 (λ z. chained (omega arith))
-      ∙ getD-set-same index at (getD index (nextOf p) 0) 0 (omega arith)
+      ∙ getD-set-same index at (getD index (nextOf p) 0) 0 (omega arith))
 
-  pub struck-vacated : getD (struckIndex at index) vacatedAt 0 ≡ p
-  struck-vacated = ap (λ (t : List ℕ). getD t vacatedAt 0) struck-as ∙ getD-set-same freed vacatedAt p 0 (omega (arith, freed-long))
+  pub struck-vacated : ledTo (struckIndex at index) vacatedAt ≡ p
+  struck-vacated =
+      ap (λ (t : List ℕ). ledTo t vacatedAt) struck-as
+      ∙ ap placeOf (getD-set-same freed vacatedAt (getD index at 0) 0 (omega (arith, freed-long)))
+      ∙ leads
 
   -- the links of the vacant places are those of a removal from the slab
-  pub struck-link : (x : ℕ) → linkAt (struckIndex at index) vacantAfterAt entryWords x ≡ linkAt (set index (cellOf vacantAfterAt entryWords p) (getD index vacatedAt 0)) vacantAfterAt entryWords x
+  pub struck-link : (x : ℕ) → linkAt (struckIndex at index) vacantAfterAt entryWords x ≡ linkAt (set index (cellOf vacantAfterAt entryWords p) (recordOf (ledTo index vacatedAt))) vacantAfterAt entryWords x
   struck-link x =
       ap (λ (t : List ℕ). linkAt t vacantAfterAt entryWords x) struck-as
-      ∙ getD-set-other freed vacatedAt (cellOf vacantAfterAt entryWords x) p 0 (λ z. omega arith)
+      ∙ ap placeOf (getD-set-other freed vacatedAt (cellOf vacantAfterAt entryWords x) (getD index at 0) 0 (λ z. omega arith))
       ∙ ⊎-elim here other (same? x p)
     where
       v : ℕ
-      v = getD index vacatedAt 0
+      v = recordOf (ledTo index vacatedAt)
 
       here : x ≡ p → linkAt freed vacantAfterAt entryWords x ≡ linkAt (set index (cellOf vacantAfterAt entryWords p) v) vacantAfterAt entryWords x
       here e =
           ap (linkAt freed vacantAfterAt entryWords) e
-          ∙ link-here cut vacantAfterAt entryWords p v (omega (arith, cut-long))
-          ∙ sym (ap (linkAt (set index (cellOf vacantAfterAt entryWords p) v) vacantAfterAt entryWords) e ∙ link-here index vacantAfterAt entryWords p v (omega arith))
+          ∙ ap placeOf (getD-set-same cut (cellOf vacantAfterAt entryWords p) (getD index vacatedAt 0) 0 (omega (arith, cut-long)))
+          ∙ sym (ap (linkAt (set index (cellOf vacantAfterAt entryWords p) v) vacantAfterAt entryWords) e ∙ link-here index vacantAfterAt entryWords p (ledTo index vacatedAt) (omega arith))
 
       other : (x ≡ p → ⊥) → linkAt freed vacantAfterAt entryWords x ≡ linkAt (set index (cellOf vacantAfterAt entryWords p) v) vacantAfterAt entryWords x
       other o =
-          link-other cut vacantAfterAt entryWords p v x (omega arith) o
-          ∙ getD-set-other index at (cellOf vacantAfterAt entryWords x) (getD index (nextOf p) 0) 0 (λ z. chained (omega arith))
+          link-other cut vacantAfterAt entryWords p (getD index vacatedAt 0) x (omega arith) o
+          ∙ ap placeOf (getD-set-other index at (cellOf vacantAfterAt entryWords x) (getD index (nextOf p) 0) 0 (λ z. chained (omega arith)))
           ∙ sym (link-other index vacantAfterAt entryWords p v x (omega arith) o)

@@ -7,6 +7,7 @@ use lib.Dec.{eqb}
 use lib.ListN.{length, getD, set, length-set}
 use lib.Seq.{getD-set-same, getD-set-other}
 use Rattle.words.specs.Words.{cellOf, markAt}
+use Rattle.words.specs.Rows.{rows}
 use Rattle.words.proofs.Records.{rows-own, own-written}
 use Rattle.slab.specs.Slab.{vacantAt}
 use Rattle.store_rules.specs.Loans.{givenAt, placesAt, loanWords, serialAt, sizeAt, loanRow, onLoan, loansOf}

@@ -43,11 +43,11 @@ module _ (free : ℕ → Bool) (first next serial serial′ : ℕ → ℕ) where
       (omega arith, omega arith, falling-same (serial p - 1) (serial′ p - 1) l (omega arith) (λ x k. e x (inr k)) (f .2))
 
   -- and with one taken out
-  pub falling-cut : (most p : ℕ) (a b : List ℕ) → ((x : ℕ) → serial′ x ≡ serial x)
+  pub falling-cut : (most p : ℕ) (a b : List ℕ) → ((x : ℕ) → Mem x (a ++ b) → serial′ x ≡ serial x)
       → Falling free first next serial most (a ++ (p ∷ b)) → Falling free first next serial′ most (a ++ b)
-  falling-cut most p [] b e f = let m : serial p ≤ most = f .1 in falling-same (serial p - 1) most b (omega arith) (λ x k. e x) (f .2)
+  falling-cut most p [] b e f = let m : serial p ≤ most = f .1 in falling-same (serial p - 1) most b (omega arith) e (f .2)
   falling-cut most p (y ∷ a) b e f =
-      let q : serial′ y ≡ serial y = e y in
+      let q : serial′ y ≡ serial y = e y (inl refl) in
       let o : 0 < serial y = f .0 in
       let m : serial y ≤ most = f .1 in
-      (omega arith, omega arith, rw q (falling-cut (serial y - 1) p a b e (f .2)))
+      (omega arith, omega arith, rw q (falling-cut (serial y - 1) p a b (λ x k. e x (inr k)) (f .2)))

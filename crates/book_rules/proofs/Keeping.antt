@@ -4,13 +4,12 @@ use mathlib.Core.Bool.{Bool, true, false}
 use mathlib.Core.List.{List}
 use Prim.Native.Nat.{ℕ, _≤_}
 use lib.Dec.{leb}
-use lib.ListN.{getD}
 use borrow.Author.Tests.{leb-true}
 use Rattle.lists.proofs.Bools.{and-left}
 use Rattle.slab.specs.Slab.{vacantAt, linkAt}
 use Rattle.slab.specs.Test.{partedOk}
 use Rattle.store_rules.specs.Loans.{loanWords, sizeAt}
-use Rattle.book_rules.specs.Book.{entryWords, vacatedAt, vacantAfterAt, nextOf, serialOf, firstIn}
+use Rattle.book_rules.specs.Book.{entryWords, vacatedAt, vacantAfterAt, ledTo, serialOf, firstIn, nextIn}
 use Rattle.book_rules.specs.Chains.{chainsOk}
 use Rattle.book_rules.specs.Kept.{keptOk}
 
@@ -20,9 +19,9 @@ module _ (loans index : List ℕ) (n places given : ℕ) where
   kept-most e = leb-true _ _ (and-left (leb places n) _ (and-left _ _ e))
 
   -- p is what the test of the places said
-  module _ (v : ℕ) (p : Bool) (vs : v ≡ getD index vacatedAt 0)
+  module _ (v : ℕ) (p : Bool) (vs : v ≡ ledTo index vacatedAt)
       (told : p ≡ partedOk (vacantAt loans sizeAt loanWords) (linkAt index vacantAfterAt entryWords) (record { places = places; vacant = v }) n) where
-    parted : p ≡ partedOk (vacantAt loans sizeAt loanWords) (linkAt index vacantAfterAt entryWords) (record { places = places; vacant = getD index vacatedAt 0 }) n
+    parted : p ≡ partedOk (vacantAt loans sizeAt loanWords) (linkAt index vacantAfterAt entryWords) (record { places = places; vacant = ledTo index vacatedAt }) n
     parted = told ∙ (λ j. partedOk (vacantAt loans sizeAt loanWords) (linkAt index vacantAfterAt entryWords) (record { places = places; vacant = vs j }) n)
 
     pub kept-torn : p ≡ false → false ≡ keptOk loans index n places given
@@ -34,7 +33,7 @@ module _ (loans index : List ℕ) (n places given : ℕ) where
     kept-few e = leb-true _ _ (and-left (leb places n) _ (sym told ∙ e))
 
     pub kept-told : p ≡ true → (q : Bool)
-        → q ≡ chainsOk (vacantAt loans sizeAt loanWords) (firstIn index) (λ (p : ℕ). getD index (nextOf p) 0) (serialOf loans) n places given
+        → q ≡ chainsOk (vacantAt loans sizeAt loanWords) (firstIn index) (nextIn index) (serialOf loans) n places given
         → q ≡ keptOk loans index n places given
     unfolding keptOk
     kept-told e q f = f ∙ rw (sym parted ∙ e) refl

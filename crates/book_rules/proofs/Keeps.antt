@@ -3,7 +3,7 @@ use mathlib.Core.Path.{_≡_, refl, sym, ap, subst, _∙_}
 use mathlib.Core.Bool.{Bool, true, false}
 use mathlib.Core.Logic.{_⊎_, inl, inr, ⊎-elim}
 use mathlib.Core.List.{List, [], _∷_, _++_}
-use Prim.Native.Nat.{ℕ, _+_, _*_, _^_, _%_, _≤_, _<_, _-_}
+use Prim.Native.Nat.{ℕ, _+_, _-_, _*_, _^_, _%_, _≤_, _<_}
 use native.Mathlib.Nat.{mod-lt, mod-eq-of-lt}
 use native.Mathlib.Omega.{arith}
 use lib.ListN.{length, length-append, length-set, getD, set}
@@ -11,15 +11,16 @@ use Rattle.lists.specs.Members.{Mem, Distinct, Below, headOr}
 use Rattle.lists.proofs.Bools.{same?, true-false, lt-or-le}
 use Rattle.lists.proofs.Members.{below-mem, mem-left, split, mem-left-over, mem-of-left, distinct-out}
 use Rattle.words.specs.Words.{cellOf}
-use Rattle.slab.specs.Slab.{nowhere, vacantAt, linkAt, removed, removedLinks, Chain, Parted, changed}
+use Rattle.slab.specs.Slab.{nowhere, recordOf, vacantAt, linkAt, removed, removedLinks, Chain, Parted, changed}
 use Rattle.slab.specs.Test.{vacancies}
 use Rattle.slab.specs.declared.Slab.{Slab}
 use Rattle.slab.specs.declared.Taken.{Taken}
+use Rattle.slab.proofs.Links.{place-record}
 use Rattle.slab.proofs.Places.{insert-first, insert-next, insert-last, inserted-parted, parted-same, removed-parted, chain-distinct, chain-same, changed-here, changed-other}
 use Rattle.words.proofs.Records.{length-written}
 use Rattle.store_rules.specs.Loans.{loanWords, sizeAt, loanRow}
 use Rattle.store_rules.specs.declared.Loan.{Loan}
-use Rattle.book_rules.specs.Book.{entryWords, vacatedAt, vacantAfterAt, indexWords, firstOf, nextOf, serialOf, slabOf, firstIn, takenOf, entered, enteredIndex, wordTo, counted, struck, struckIndex}
+use Rattle.book_rules.specs.Book.{entryWords, vacatedAt, vacantAfterAt, indexWords, firstOf, nextOf, ledTo, serialOf, slabOf, firstIn, nextIn, takenOf, entered, enteredIndex, wordTo, counted, struck, struckIndex}
 use Rattle.book_rules.specs.Chains.{Falling, InChain, Chained}
 use Rattle.book_rules.proofs.Seeking.{word-is}
 use Rattle.book_rules.proofs.Used.{used-most}
@@ -28,14 +29,11 @@ use Rattle.book_rules.proofs.Falling.{falling-same, falling-cut}
 use Rattle.book_rules.proofs.Decides.{serial-once}
 use Rattle.book_rules.proofs.Cutting.{wordPast, After, word-past, word-leads, seek-found, chain-cut}
 use Rattle.book_rules.proofs.Putting.{put-chained}
-use Rattle.book_rules.proofs.Changed.{serial-here, serial-other, used-here, used-other, firstPut, first-here, first-other, next-here, next-other, vacated-put, link-put, serial-kept, vacant-now, struck-stays, struck-past, struck-vacated, struck-link}
+use Rattle.book_rules.proofs.Changed.{serial-here, serial-other, used-here, used-other, firstPut, first-here, first-other, next-here, next-other, vacated-put, link-put, cleared, serial-kept, vacant-now, struck-stays, struck-past, struck-vacated, struck-link}
 
 -- what the words of a book say: a place is vacant, the next in a chain, the next that is vacant
 abbrev pub freeIn : List ℕ → ℕ → Bool
 freeIn loans p = vacantAt loans sizeAt loanWords p
-
-abbrev pub nextIn : List ℕ → ℕ → ℕ
-nextIn index p = getD index (nextOf p) 0
 
 abbrev pub vacantIn : List ℕ → ℕ → ℕ
 vacantIn index p = linkAt index vacantAfterAt entryWords p
@@ -107,15 +105,15 @@ module _ (loans index : List ℕ) (n places : ℕ) (few : n < nowhere) (P : Book
     where
       by : (l : List ℕ) → P .chained ≡ l → Place (takenOf places index .place) (takenOf places index .slab .places)
       by [] e =
-          let v : getD index vacatedAt 0 ≡ nowhere = rw e at (P .chain) in
+          let v : ledTo index vacatedAt ≡ nowhere = rw e at (P .chain) in
           let q : places ≤ n = P .limit in
           let m : (places + 1) % 2 ^ 64 ≡ places + 1 = mod-eq-of-lt (omega arith) in
           let t = insert-next (slabOf places index) index vacantAfterAt entryWords (omega arith) in
           place-new _ _ (ap (λ (u : Taken). u .place) t) (ap (λ (u : Taken). u .slab .places) t ∙ m)
       by (x ∷ l) e =
-          let c : Chain (vacantIn index) (getD index vacatedAt 0) (x ∷ l) = rw e at (P .chain) in
+          let c : Chain (vacantIn index) (ledTo index vacatedAt) (x ∷ l) = rw e at (P .chain) in
           let b : Below places (x ∷ l) = rw e at (P .below) in
-          let v : getD index vacatedAt 0 ≡ x = c .0 in
+          let v : ledTo index vacatedAt ≡ x = c .0 in
           let h : x < places = b .0 in
           let t = insert-first (slabOf places index) index vacantAfterAt entryWords (omega arith) in
           place-again x _ _ (rw e (inl refl)) (ap (λ (u : Taken). u .place) t ∙ v) h (ap (λ (u : Taken). u .slab .places) t)
@@ -168,7 +166,7 @@ module _ (loans index : List ℕ) (n places : ℕ) (few : n < nowhere) (P : Book
     own = mod-lt (given + 1) (omega arith)
 
     abbrev index′ : List ℕ
-    index′ = firstPut index n ((given + 1) % n) taken (firstIn index ((given + 1) % n)) (takenOf places index .slab .vacant) wide own room
+    index′ = firstPut index n ((given + 1) % n) taken (getD index (firstOf ((given + 1) % n)) 0) (recordOf (takenOf places index .slab .vacant)) wide own room
 
     index-as : enteredIndex n places (l .serial) index ≡ index′
     unfolding enteredIndex
@@ -178,8 +176,8 @@ module _ (loans index : List ℕ) (n places : ℕ) (few : n < nowhere) (P : Book
         → BookChained (entered places index l loans) (enteredIndex n places (l .serial) index) n (takenOf places index .slab .places) (given + 1)
     entered-chained C =
         let t = place-taken in
-        let f = firstIn index ((given + 1) % n) in
-        let v = takenOf places index .slab .vacant in
+        let f = getD index (firstOf ((given + 1) % n)) 0 in
+        let v = recordOf (takenOf places index .slab .vacant) in
         subst (λ (i : List ℕ). BookChained (entered places index l loans) i n (takenOf places index .slab .places) (given + 1)) (sym index-as)
         (put-chained _ _ _ _ _ _ _ _ n places _ given taken (t .vacant) (t .below) (t .kept) (t .grown)
         here-used others-used (here-serial ∙ next) others-serial
@@ -190,8 +188,8 @@ module _ (loans index : List ℕ) (n places : ℕ) (few : n < nowhere) (P : Book
     pub entered-parted : BookParted (entered places index l loans) (enteredIndex n places (l .serial) index) n (takenOf places index .slab .places)
     entered-parted =
         let c = (given + 1) % n in
-        let f = firstIn index ((given + 1) % n) in
-        let v = takenOf places index .slab .vacant in
+        let f = getD index (firstOf ((given + 1) % n)) 0 in
+        let v = recordOf (takenOf places index .slab .vacant) in
         let free = freeIn loans in
         let h : headOr places (P .chained) < n = omega (arith, insert-last free index vacantAfterAt entryWords (slabOf places index) n P few, room) in
         let Q = inserted-parted free index vacantAfterAt entryWords (slabOf places index) n P few h in
@@ -201,7 +199,7 @@ module _ (loans index : List ℕ) (n places : ℕ) (few : n < nowhere) (P : Book
         let R = parted-same (changed free taken false) (freeIn (entered places index l loans)) (vacantIn index) (vacantIn index′) (takenOf places index .slab) n
         (λ x g. same x) (λ x g. link-put index n c taken f v wide own room x) Q in
         let s : slabOf (takenOf places index .slab .places) index′ ≡ takenOf places index .slab =
-        ap (λ (w : ℕ). record { places = takenOf places index .slab .places; vacant = w }) (vacated-put index n c taken f v wide own room) in
+        ap (λ (w : ℕ). record { places = takenOf places index .slab .places; vacant = w }) (vacated-put index n c taken f v wide own room ∙ place-record (takenOf places index .slab .vacant)) in
         subst (λ (i : List ℕ). BookParted (entered places index l loans) i n (takenOf places index .slab .places)) (sym index-as)
         (subst (λ (d : Slab). Parted (freeIn (entered places index l loans)) (vacantIn index′) d n) (sym s) R)
 
@@ -218,7 +216,7 @@ module _ (loans index : List ℕ) (n places given : ℕ) (some : 0 < n) (limit :
     inHome : InChain (freeIn loans) (firstIn index) (nextIn index) (serialOf loans) n places given home
     inHome = C home (mod-lt (serialOf loans p) some)
 
-    chain-home : Chain (nextIn index) (getD index (firstOf home) 0) (inHome .members)
+    chain-home : Chain (nextIn index) (firstIn index home) (inHome .members)
     chain-home = inHome .chain
 
     -- the way to it along its chain
@@ -233,7 +231,7 @@ module _ (loans index : List ℕ) (n places given : ℕ) (some : 0 < n) (limit :
     way =
         let c = inHome in
         let s = split p (c .members) (c .all p h u refl) in
-        let d = chain-distinct (nextIn index) places (getD index (firstOf home) 0) (c .members) (omega arith) chain-home (below-mem places (c .members) (λ x m. c .right x m .0)) in
+        let d = chain-distinct (nextIn index) places (firstIn index home) (c .members) (omega arith) chain-home (below-mem places (c .members) (λ x m. c .right x m .0)) in
         let d′ : Distinct (s .a ++ (p ∷ s .b)) = rw (s .is) at d in
         let most : length (c .members) ≤ places - vacancies (freeIn loans) places = used-most (freeIn loans) places (c .members) d (λ x m. let r = c .right x m in (r .0, r .1)) in
         let short : length (s .a) < places = omega (arith, ap length (s .is), length-append (s .a) (p ∷ s .b)) in
@@ -252,11 +250,11 @@ module _ (loans index : List ℕ) (n places given : ℕ) (some : 0 < n) (limit :
               ∙ seek-found index loans places (serialOf loans p) (firstOf home) places p (s .a) (s .b) (rw (s .is) at chain-home) (λ x m. c .right x (into x m) .0) other refl short;
         }
 
-    chain-way : Chain (nextIn index) (getD index (firstOf home) 0) (way .a ++ (p ∷ way .b))
+    chain-way : Chain (nextIn index) (firstIn index home) (way .a ++ (p ∷ way .b))
     chain-way = rw (way .is) at chain-home
 
-    found-leads : getD index (wordTo loans index n places (serialOf loans p)) 0 ≡ p
-    found-leads = ap (λ (w : ℕ). getD index w 0) (way .word) ∙ word-leads index (firstOf home) p (way .a) (way .b) chain-way
+    found-leads : ledTo index (wordTo loans index n places (serialOf loans p)) ≡ p
+    found-leads = ap (λ (w : ℕ). ledTo index w) (way .word) ∙ word-leads index (firstOf home) p (way .a) (way .b) chain-way
 
     -- the word that leads to it is the first of its chain or the one after another of its chain
     found-word : (at ≡ firstOf home) ⊎ After at (way .a)
@@ -271,7 +269,7 @@ module _ (loans index : List ℕ) (n places given : ℕ) (some : 0 < n) (limit :
         ⊎-elim (λ e. omega arith) (λ r. let k : r .place < places = before (r .place) (r .member) .0 in omega (arith, r .is)) found-word
 
     -- one that is there is found
-    pub found : (wordTo loans index n places (serialOf loans p) < indexWords n) × (getD index (wordTo loans index n places (serialOf loans p)) 0 ≡ p)
+    pub found : (wordTo loans index n places (serialOf loans p) < indexWords n) × (ledTo index (wordTo loans index n places (serialOf loans p)) ≡ p)
     found = (found-inside, found-leads)
 
     found-chained : at % 3 ≡ 2 → ⊥
@@ -283,18 +281,18 @@ module _ (loans index : List ℕ) (n places given : ℕ) (some : 0 < n) (limit :
       room : p < n
       room = omega arith
 
-      loans-as : struck at index loans ≡ set loans (cellOf sizeAt loanWords p) 0
+      loans-as : struck at index loans ≡ cleared loans p
       unfolding struck
-      loans-as = ap (λ (q : ℕ). set loans (cellOf sizeAt loanWords q) 0) found-leads
+      loans-as = ap (cleared loans) found-leads
 
-      stays : (v : ℕ) → (v % 3 ≡ 2 → ⊥) → (v ≡ at → ⊥) → getD (struckIndex at index) v 0 ≡ getD index v 0
+      stays : (v : ℕ) → (v % 3 ≡ 2 → ⊥) → (v ≡ at → ⊥) → ledTo (struckIndex at index) v ≡ ledTo index v
       stays = struck-stays index n at p wide room found-inside found-chained found-leads
 
-      past : getD (struckIndex at index) at 0 ≡ getD index (nextOf p) 0
+      past : ledTo (struckIndex at index) at ≡ nextIn index p
       past = struck-past index n at p wide room found-inside found-chained found-leads
 
-      serials : (x : ℕ) → serialOf (struck at index loans) x ≡ serialOf loans x
-      serials x = ap (λ (t : List ℕ). serialOf t x) loans-as ∙ serial-kept loans n p long room x
+      serials : (x : ℕ) → (x ≡ p → ⊥) → serialOf (struck at index loans) x ≡ serialOf loans x
+      serials x o = ap (λ (t : List ℕ). serialOf t x) loans-as ∙ serial-kept loans n p long room x o
 
       frees : (x : ℕ) → freeIn (struck at index loans) x ≡ changed (freeIn loans) p true x
       frees x = ap (λ (t : List ℕ). freeIn t x) loans-as ∙ vacant-now loans n p long room x
@@ -308,12 +306,12 @@ module _ (loans index : List ℕ) (n places given : ℕ) (some : 0 < n) (limit :
       -- a loan of a chain that is not p is still one, and those that still are were
       module _ (i : ℕ) (c : InChain (freeIn loans) (firstIn index) (nextIn index) (serialOf loans) n places given i) where
         right-still : (x : ℕ) → Mem x (c .members) → (x ≡ p → ⊥) → (x < places) × (freeIn (struck at index loans) x ≡ false) × (serialOf (struck at index loans) x % n ≡ i)
-        right-still x m o = let r = c .right x m in (r .0, free-other x o ∙ r .1, ap (λ (s : ℕ). s % n) (serials x) ∙ r .2)
+        right-still x m o = let r = c .right x m in (r .0, free-other x o ∙ r .1, ap (λ (s : ℕ). s % n) (serials x o) ∙ r .2)
 
         all-still : (x : ℕ) → x < places → freeIn (struck at index loans) x ≡ false → serialOf (struck at index loans) x % n ≡ i → (x ≡ p → ⊥) × Mem x (c .members)
         all-still x g f s =
             let o : x ≡ p → ⊥ = λ e. true-false _ (free-here x e) f in
-            (o, c .all x g (sym (free-other x o) ∙ f) (ap (λ (t : ℕ). t % n) (sym (serials x)) ∙ s))
+            (o, c .all x g (sym (free-other x o) ∙ f) (ap (λ (t : ℕ). t % n) (sym (serials x o)) ∙ s))
 
       abbrev StillIn : ℕ → Type 0
       StillIn i = InChain (freeIn (struck at index loans)) (firstIn (struckIndex at index)) (nextIn (struckIndex at index)) (serialOf (struck at index loans)) n places given i
@@ -323,13 +321,14 @@ module _ (loans index : List ℕ) (n places given : ℕ) (some : 0 < n) (limit :
       struck-own =
           let w = way in
           let into : (x : ℕ) → Mem x (w .a ++ w .b) → Mem x (inHome .members) = λ x m. rw (w .is) (mem-of-left p x (w .a) (w .b) m) in
+          let other : (x : ℕ) → Mem x (w .a ++ w .b) → x ≡ p → ⊥ = λ x m e. distinct-out p (w .a) (w .b) (w .distinct) (rw e at m) in
           let fall : Falling (freeIn loans) (firstIn index) (nextIn index) (serialOf loans) given (w .a ++ (p ∷ w .b)) = rw (w .is) at (inHome .falling) in
           record {
             members = w .a ++ w .b;
             chain =
                 (chain-cut index (struckIndex at index) at p stays past (firstOf home) (w .a) (w .b) (w .word) (λ z. omega arith) (λ x m z. omega arith) (w .distinct) chain-way);
-            falling = falling-cut (freeIn loans) (firstIn index) (nextIn index) (serialOf loans) (serialOf (struck at index loans)) given p (w .a) (w .b) serials fall;
-            right = λ x m. right-still home inHome x (into x m) (λ e. distinct-out p (w .a) (w .b) (w .distinct) (rw e at m));
+            falling = falling-cut (freeIn loans) (firstIn index) (nextIn index) (serialOf loans) (serialOf (struck at index loans)) given p (w .a) (w .b) (λ x m. serials x (other x m)) fall;
+            right = λ x m. right-still home inHome x (into x m) (other x m);
             all = λ x g f s. let r = all-still home inHome x g f s in mem-left-over p x (w .a) (w .b) (r .0) (rw (w .is) at (r .1));
           }
 
@@ -347,7 +346,7 @@ module _ (loans index : List ℕ) (n places given : ℕ) (some : 0 < n) (limit :
             chain =
                 rw (stays (firstOf i) (λ z. omega arith) first-out)
                 (chain-same (nextIn index) (nextIn (struckIndex at index)) (firstIn index i) (c .members) (λ x m. stays (nextOf x) (λ z. omega arith) (next-out x m)) (c .chain));
-            falling = falling-same (freeIn loans) (firstIn index) (nextIn index) (serialOf loans) (serialOf (struck at index loans)) given given (c .members) (omega arith) (λ x m. serials x) (c .falling);
+            falling = falling-same (freeIn loans) (firstIn index) (nextIn index) (serialOf loans) (serialOf (struck at index loans)) given given (c .members) (omega arith) (λ x m. serials x (out x m)) (c .falling);
             right = λ x m. right-still i c x m (out x m);
             all = λ x k f s. all-still i c x k f s .1;
           }
@@ -360,7 +359,7 @@ module _ (loans index : List ℕ) (n places given : ℕ) (some : 0 < n) (limit :
       struck-parted P =
           let free = freeIn loans in
           let Q = removed-parted free index vacantAfterAt entryWords (slabOf places index) n p P h u (omega arith) (omega arith) in
-          let R = parted-same (changed free p true) (freeIn (struck at index loans)) (linkAt (set index (cellOf vacantAfterAt entryWords p) (getD index vacatedAt 0)) vacantAfterAt entryWords) (vacantIn (struckIndex at index)) (record { places = places; vacant = p }) n
+          let R = parted-same (changed free p true) (freeIn (struck at index loans)) (linkAt (set index (cellOf vacantAfterAt entryWords p) (recordOf (ledTo index vacatedAt))) vacantAfterAt entryWords) (vacantIn (struckIndex at index)) (record { places = places; vacant = p }) n
           (λ x g. frees x) (λ x g. struck-link index n at p wide room found-inside found-chained found-leads x) Q in
           let s : slabOf places (struckIndex at index) ≡ record { places = places; vacant = p } =
           ap (λ (v : ℕ). record { places = places; vacant = v }) (struck-vacated index n at p wide room found-inside found-chained found-leads) in

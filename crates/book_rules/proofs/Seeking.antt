@@ -6,18 +6,17 @@ use Prim.Native.Nat.{ℕ, zero, suc, _-_, _%_, _≤_, _<_}
 use native.Mathlib.Omega.{arith}
 use native.Mathlib.Numerals.{sub-one}
 use lib.Dec.{eqb, ltb}
-use lib.ListN.{getD}
 use borrow.Author.Tests.{lt-ltb, le-ltb, eq-eqb, ne-eqb}
 use Rattle.slab.specs.Slab.{nowhere}
-use Rattle.book_rules.specs.Book.{firstOf, nextOf, serialOf, seekIn, wordTo}
+use Rattle.book_rules.specs.Book.{firstOf, nextOf, ledTo, serialOf, seekIn, wordTo}
 
 -- from the word at `at` on, which leads to p, with k places to go
-module _ (loans index : List ℕ) (places serial at k p : ℕ) (leads : p ≡ getD index at 0) where
+module _ (loans index : List ℕ) (places serial at k p : ℕ) (leads : p ≡ ledTo index at) where
   turn : 0 < k → seekIn loans index places serial at k ≡ cond (ltb p places) (cond (eqb (serialOf loans p) serial) at (seekIn loans index places serial (nextOf p) (k - 1))) nowhere
   unfolding seekIn
   turn o = rw leads (by k o)
     where
-      by : (k : ℕ) → 0 < k → seekIn loans index places serial at k ≡ cond (ltb (getD index at 0) places) (cond (eqb (serialOf loans (getD index at 0)) serial) at (seekIn loans index places serial (nextOf (getD index at 0)) (k - 1))) nowhere
+      by : (k : ℕ) → 0 < k → seekIn loans index places serial at k ≡ cond (ltb (ledTo index at) places) (cond (eqb (serialOf loans (ledTo index at)) serial) at (seekIn loans index places serial (nextOf (ledTo index at)) (k - 1))) nowhere
       by zero o = absurd (omega arith)
       by (suc k) o = simp sub-one
 

@@ -5,22 +5,20 @@ use mathlib.Core.Logic.{_⊎_, inl, inr, ⊎-elim}
 use mathlib.Core.List.{List, [], _∷_}
 use Prim.Native.Nat.{ℕ, _-_, _%_, _≤_, _<_}
 use native.Mathlib.Nat.{mod-lt}
-use native.Mathlib.Omega.{arith}
-use lib.ListN.{getD}
 use Rattle.lists.specs.Members.{Mem}
 use Rattle.lists.proofs.Bools.{same?, lt-or-le}
 use Rattle.slab.specs.Slab.{nowhere, Chain}
-use Rattle.book_rules.specs.Book.{firstOf, nextOf, serialOf, seekIn, wordTo}
-use Rattle.book_rules.proofs.Keeps.{freeIn, nextIn, BookChained}
+use Rattle.book_rules.specs.Book.{firstOf, nextOf, ledTo, serialOf, nextIn, seekIn, wordTo}
+use Rattle.book_rules.proofs.Keeps.{freeIn, BookChained}
 use Rattle.book_rules.proofs.Seeking.{seek-past, seek-here, seek-on, seek-none, word-is}
 
 module _ (loans index : List ℕ) (places serial : ℕ) where
   -- v leads to a member with the serial
   abbrev Leads : ℕ → List ℕ → Type 0
-  Leads v l = Mem (getD index v 0) l × (serialOf loans (getD index v 0) ≡ serial)
+  Leads v l = Mem (ledTo index v) l × (serialOf loans (ledTo index v) ≡ serial)
 
   -- along a chain, with k places to go
-  pub seek-leads : (w k : ℕ) (l : List ℕ) → places ≤ nowhere → Chain (nextIn index) (getD index w 0) l → ((x : ℕ) → Mem x l → x < places)
+  pub seek-leads : (w k : ℕ) (l : List ℕ) → places ≤ nowhere → Chain (nextIn index) (ledTo index w) l → ((x : ℕ) → Mem x l → x < places)
       → (seekIn loans index places serial w k ≡ nowhere → ⊥) → Leads (seekIn loans index places serial w k) l
   seek-leads w k [] u c h f =
       absurd (f (⊎-elim (λ o. seek-past loans index places serial w k nowhere (sym c) o u) (λ o. seek-none loans index places serial w k o) (lt-or-le 0 k)))
@@ -44,12 +42,12 @@ module _ (loans index : List ℕ) (places serial : ℕ) where
 
 pub leads-used : (loans index : List ℕ) (n places given serial : ℕ) → 0 < n → places ≤ nowhere → BookChained loans index n places given
     → (wordTo loans index n places serial ≡ nowhere → ⊥)
-    → (getD index (wordTo loans index n places serial) 0 < places)
-    × (freeIn loans (getD index (wordTo loans index n places serial) 0) ≡ false)
-    × (serialOf loans (getD index (wordTo loans index n places serial) 0) ≡ serial)
+    → (ledTo index (wordTo loans index n places serial) < places)
+    × (freeIn loans (ledTo index (wordTo loans index n places serial)) ≡ false)
+    × (serialOf loans (ledTo index (wordTo loans index n places serial)) ≡ serial)
 leads-used loans index n places given serial some low C f =
     let e = word-is loans index n places serial in
     let c = C (serial % n) (mod-lt serial some) in
     let w = seek-leads loans index places serial (firstOf (serial % n)) places (c .members) low (c .chain) (λ x m. c .right x m .0) (λ z. f (e ∙ z)) in
-    let r = c .right (getD index (seekIn loans index places serial (firstOf (serial % n)) places) 0) (w .0) in
+    let r = c .right (ledTo index (seekIn loans index places serial (firstOf (serial % n)) places)) (w .0) in
     rw e (r .0, r .1, w .1)

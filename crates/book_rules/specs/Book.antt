@@ -8,7 +8,7 @@ use lib.Dec.{eqb, ltb}
 use lib.ListN.{getD, set}
 use Rattle.words.specs.Words.{cellOf, blank}
 use Rattle.words.specs.Rows.{written}
-use Rattle.slab.specs.Slab.{nowhere, inserted}
+use Rattle.slab.specs.Slab.{nowhere, placeOf, recordOf, inserted}
 use Rattle.slab.specs.declared.Slab.{Slab}
 use Rattle.slab.specs.declared.Taken.{Taken}
 use Rattle.store_rules.specs.Loans.{givenAt, placesAt, loanWords, serialAt, sizeAt, loanRow}
@@ -44,22 +44,29 @@ firstOf i = cellOf firstAt entryWords i
 abbrev pub nextOf : ℕ → ℕ
 nextOf p = cellOf nextAt entryWords p
 
--- ---- what they say
+-- ---- what they say: a link is the number of a record, 0 for none
+
+-- the place that a word of the index leads to
+abbrev pub ledTo : List ℕ → ℕ → ℕ
+ledTo index at = placeOf (getD index at 0)
 
 abbrev pub serialOf : List ℕ → ℕ → ℕ
 serialOf loans p = getD loans (cellOf serialAt loanWords p) 0
 
 abbrev pub slabOf : ℕ → List ℕ → Slab
-slabOf places index = record { places = places; vacant = getD index vacatedAt 0 }
+slabOf places index = record { places = places; vacant = ledTo index vacatedAt }
 
--- the first place of chain i
+-- the first place of chain i, and the one after p in its chain
 abbrev pub firstIn : List ℕ → ℕ → ℕ
-firstIn index i = getD index (firstOf i) 0
+firstIn index i = ledTo index (firstOf i)
+
+abbrev pub nextIn : List ℕ → ℕ → ℕ
+nextIn index p = ledTo index (nextOf p)
 
 -- ---- no loan yet: behind the mark no word leads anywhere
 
 abbrev pub freshIndex : ℕ → ℕ → List ℕ
-freshIndex mark n = blank (indexWords n) mark nowhere
+freshIndex mark n = blank (indexWords n) mark 0
 
 -- ---- a loan is entered
 
@@ -81,11 +88,11 @@ unfoldable pub enteredIndex : ℕ → ℕ → ℕ → List ℕ → List ℕ
 enteredIndex n places serial index =
     set
     (set
-    (set index vacatedAt (takenOf places index .slab .vacant))
+    (set index vacatedAt (recordOf (takenOf places index .slab .vacant)))
     (nextOf (takenOf places index .place))
-    (firstIn index (serial % n)))
+    (getD index (firstOf (serial % n)) 0))
     (firstOf (serial % n))
-    (takenOf places index .place)
+    (recordOf (takenOf places index .place))
 
 -- ---- a loan is looked for by its serial
 
@@ -93,8 +100,8 @@ enteredIndex n places serial index =
 unfoldable pub seekIn : List ℕ → List ℕ → ℕ → ℕ → ℕ → ℕ → ℕ
 seekIn loans index places serial at zero = nowhere
 seekIn loans index places serial at (suc k) =
-    cond (ltb (getD index at 0) places)
-    (cond (eqb (serialOf loans (getD index at 0)) serial) at (seekIn loans index places serial (nextOf (getD index at 0)) k))
+    cond (ltb (ledTo index at) places)
+    (cond (eqb (serialOf loans (ledTo index at)) serial) at (seekIn loans index places serial (nextOf (ledTo index at)) k))
     nowhere
 
 -- in its chain
@@ -103,17 +110,18 @@ wordTo loans index n places serial = seekIn loans index places serial (firstOf (
 
 -- ---- the loan that a word leads to is struck out
 
--- its place is marked as vacant
+-- its place is marked as vacant: size 0, and serial 0
 unfoldable pub struck : ℕ → List ℕ → List ℕ → List ℕ
-struck at index loans = set loans (cellOf sizeAt loanWords (getD index at 0)) 0
+struck at index loans =
+    set (set loans (cellOf sizeAt loanWords (ledTo index at)) 0) (cellOf serialAt loanWords (ledTo index at)) 0
 
 -- the chain goes past it, and it is the place vacated last
 unfoldable pub struckIndex : ℕ → List ℕ → List ℕ
 struckIndex at index =
     set
     (set
-    (set index at (getD index (nextOf (getD index at 0)) 0))
-    (cellOf vacantAfterAt entryWords (getD index at 0))
+    (set index at (getD index (nextOf (ledTo index at)) 0))
+    (cellOf vacantAfterAt entryWords (ledTo index at))
     (getD index vacatedAt 0))
     vacatedAt
     (getD index at 0)

@@ -3,11 +3,11 @@
 use mathlib.Core.Path.{_≡_}
 use mathlib.Core.List.{List}
 use Prim.Native.Nat.{ℕ, _+_, _*_, _≤_, _<_}
-use lib.ListN.{length, getD}
+use lib.ListN.{length}
 use Rattle.counter.specs.Limits.{loansMost}
 use Rattle.words.specs.Words.{cellOf}
 use Rattle.store_rules.specs.Loans.{loanWords, sizeAt}
-use Rattle.book_rules.specs.Book.{entryWords, vacantAfterAt, indexWords}
+use Rattle.book_rules.specs.Book.{entryWords, vacantAfterAt, indexWords, ledTo}
 
 -- a loan can be entered at place p of a book of n
 pub record Opens (n p : ℕ) (loans index : List ℕ) : Type 0 where
@@ -19,7 +19,7 @@ pub record Opens (n p : ℕ) (loans index : List ℕ) : Type 0 where
 
 -- the loan at p, to which word `at` of the index leads, can be struck out
 pub record Strikes (at p : ℕ) (loans index : List ℕ) : Type 0 where
-  pub leads : p ≡ getD index at 0
+  pub leads : p ≡ ledTo index at
   pub word : at < length index
   pub size : cellOf sizeAt loanWords p < length loans
   pub after : cellOf vacantAfterAt entryWords p < length index

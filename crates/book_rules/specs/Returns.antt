@@ -3,13 +3,12 @@ use mathlib.Core.Bool.{Bool, cond, _&&_, not}
 use mathlib.Core.List.{List}
 use Prim.Native.Nat.{ℕ}
 use lib.Dec.{eqb}
-use lib.ListN.{getD}
 use Rattle.words.specs.Rows.{row}
 use Rattle.counter.specs.declared.answers.Block.{Block}
 use Rattle.slab.specs.Slab.{nowhere}
 use Rattle.store_rules.specs.Loans.{loanRow}
 use Rattle.store_rules.specs.Views.{sameLoan}
-use Rattle.book_rules.specs.Book.{wordTo}
+use Rattle.book_rules.specs.Book.{wordTo, ledTo}
 
 -- a refusal, or the word of the index that leads to the loan
 pub data Plan : Type 0 where
@@ -27,7 +26,7 @@ module _ (loans index : List ℕ) (n places : ℕ) (b : Block) where
 
   -- 7: "no loan has this serial, chunk, offset and size"
   abbrev pub onLoanOk : Bool
-  onLoanOk = not (eqb wordFor nowhere) && sameLoan b (row loanRow (getD index wordFor 0) loans)
+  onLoanOk = not (eqb wordFor nowhere) && sameLoan b (row loanRow (ledTo index wordFor) loans)
 
   abbrev pub decideReturn : Plan
   decideReturn = decided onLoanOk wordFor

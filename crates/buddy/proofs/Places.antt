@@ -9,7 +9,7 @@ use lib.ListN.{getD}
 use Rattle.words.specs.Words.{cellOf}
 use Rattle.counter.specs.Limits.{levelsMost}
 use Rattle.counter.specs.declared.settings.BuddySettings.{BuddySettings}
-use Rattle.slab.specs.Slab.{inserted, linkAt}
+use Rattle.slab.specs.Slab.{placeOf, inserted, linkAt}
 use Rattle.slab.specs.declared.Slab.{Slab}
 use Rattle.book_rules.specs.Book.{takenOf}
 use Rattle.buddy_rules.specs.Tables.{Tables, levelsIn, placesIn, chunkPlacesIn, chunksFrom, placeAt, afterAt, placeWords, chunkSlab}
@@ -33,5 +33,5 @@ module _ (s : BuddySettings) (t : Tables) (n : ℕ) where
       let made = freshened s (levelsIn t) (n - levelsIn t) (t .room) (omega arith) in
       let u : List ℕ = freshLevels s (levelsIn t) (n - levelsIn t) (t .room) in
       let b : getD u (chunksFrom s) 0 ≡ getD (t .room) (chunksFrom s) 0 = made .past (chunksFrom s) (omega arith) in
-      (λ j. inserted (record { places = chunkPlacesIn t; vacant = b j }) u (placeAt s afterAt) placeWords)
-      ∙ inserted-same (chunkSlab s t) u (t .room) (placeAt s afterAt) placeWords (made .past (cellOf (placeAt s afterAt) placeWords (chunkSlab s t .vacant)) (omega arith))
+      (λ j. inserted (record { places = chunkPlacesIn t; vacant = placeOf (b j) }) u (placeAt s afterAt) placeWords)
+      ∙ inserted-same (chunkSlab s t) u (t .room) (placeAt s afterAt) placeWords (ap placeOf (made .past (cellOf (placeAt s afterAt) placeWords (chunkSlab s t .vacant)) (omega arith)))

@@ -9,27 +9,28 @@ use Rattle.rounding_rules.specs.Raising.{levelOf}
 use Rattle.counter.specs.Limits.{levelsMost}
 use Rattle.counter.specs.declared.answers.Block.{Block}
 use Rattle.counter.specs.declared.settings.BuddySettings.{BuddySettings}
-use Rattle.book_rules.specs.Book.{struck, struckIndex}
+use Rattle.slab.specs.Slab.{recordOf}
+use Rattle.book_rules.specs.Book.{ledTo, struck, struckIndex}
 use Rattle.buddy_rules.specs.Level.{levelStart}
 use Rattle.buddy_rules.specs.Tables.{Tables, tables, levelsAt, chunkWords, chunkSizeAt, afterAt, placeWords, nodesFrom}
 use Rattle.buddy_rules.specs.Moves.{Climbed, climbed}
 use Rattle.buddy_outcomes.specs.Return.{climbFor, vacatedTree, givenTables}
 
 -- a chunk's place vacated
-pub vacated-done : (s : BuddySettings) (c at last : ℕ) (tree t₁ t′ : List ℕ) → at ≡ levelStart (s .pairs) levelsMost → last ≡ getD tree at 0
-    → t₁ ≡ set tree (cellOf (at + (placeWords + afterAt)) placeWords c) last → t′ ≡ set t₁ at c → t′ ≡ vacatedTree s c tree
+pub vacated-done : (s : BuddySettings) (c at last r : ℕ) (tree t₁ t′ : List ℕ) → at ≡ levelStart (s .pairs) levelsMost → last ≡ getD tree at 0
+    → t₁ ≡ set tree (cellOf (at + (placeWords + afterAt)) placeWords c) last → r ≡ recordOf c → t′ ≡ set t₁ at r → t′ ≡ vacatedTree s c tree
 unfolding vacatedTree
-vacated-done s c at last tree t₁ t′ e f g h =
+vacated-done s c at last r tree t₁ t′ e f g k h =
     h
-    ∙ ap (λ (t : List ℕ). set t at c) g
-    ∙ (λ j. set (set tree (cellOf (at + (placeWords + afterAt)) placeWords c) (f j)) at c)
-    ∙ (λ j. set (set tree (cellOf (e j + (placeWords + afterAt)) placeWords c) (getD tree (e j) 0)) (e j) c)
+    ∙ ap (λ (t : List ℕ). set t at r) g
+    ∙ (λ j. set (set tree (cellOf (at + (placeWords + afterAt)) placeWords c) (f j)) at (k j))
+    ∙ (λ j. set (set tree (cellOf (e j + (placeWords + afterAt)) placeWords c) (getD tree (e j) 0)) (e j) (recordOf c))
 
-module _ (s : BuddySettings) (b : Block) (w : ℕ) (head index tree : List ℕ) (levels level nodes k node : ℕ) (top : levels ≡ getD head levelsAt 0) (low : level ≡ levelOf (b .size) (s .minimal)) (beside : nodes ≡ levelStart (s .pairs) levelsMost + (placeWords + placeWords * s .store .chunks)) (leads : k ≡ getD index w 0) (reads : node ≡ getD tree (nodes + k) 0) where
+module _ (s : BuddySettings) (b : Block) (w : ℕ) (head index tree : List ℕ) (levels level nodes k node : ℕ) (top : levels ≡ getD head levelsAt 0) (low : level ≡ levelOf (b .size) (s .minimal)) (beside : nodes ≡ levelStart (s .pairs) levelsMost + (placeWords + placeWords * s .store .chunks)) (leads : k ≡ ledTo index w) (reads : node ≡ getD tree (nodes + k) 0) where
   -- the climb from the node that was read
   pub climb-is : climbed (s .pairs) (levels - level) level node tree ≡ climbFor s b w (tables head [] [] index tree)
   climb-is =
-      let e : node ≡ getD tree (nodesFrom s + getD index w 0) 0 = reads ∙ (λ j. getD tree (beside j + leads j) 0) in
+      let e : node ≡ getD tree (nodesFrom s + ledTo index w) 0 = reads ∙ (λ j. getD tree (beside j + leads j) 0) in
       (λ j. climbed (s .pairs) (top j - low j) (low j) (e j) tree)
 
 -- the tables when the block is taken back, by what the climb came to

@@ -32,7 +32,7 @@ pub fn vacate(s: BuddySettings, c: u64, chunks: &mut [u64], tree: &mut [u64])
         c as usize,
         last,
     );
-    words::put(tree, at, c);
+    words::put(tree, at, slab::record_of(c));
 }
 
 // The loan that the word at `at` of the index leads to goes, and its node climbs. Tells whether the chunk is wholly free then, and
@@ -55,7 +55,7 @@ pub fn strike_out(
     let levels = words::word(head, LEVELS_AT) as usize;
     let level = rounding::level(b.size, s.minimal) as usize;
     let nodes = buddy_levels::nodes_from(s.pairs, own.chunks);
-    let p = words::word(index, at);
+    let p = slab::led_to(index, at);
     let node = words::word(tree, nodes + p as usize);
     book::strike(loans, index, at, p);
     buddy_moves::climb(tree, s.pairs, level, levels - level, node)

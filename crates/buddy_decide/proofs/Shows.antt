@@ -10,13 +10,13 @@ use borrow.Author.Tests.{lt-ltb, le-ltb, lt-leb, le-leb, eq-eqb, ne-eqb}
 use Rattle.counter.specs.Limits.{levelsMost}
 use Rattle.counter.specs.declared.answers.Block.{Block}
 use Rattle.counter.specs.declared.settings.BuddySettings.{BuddySettings}
-use Rattle.slab.specs.Slab.{inserted}
+use Rattle.slab.specs.Slab.{placeOf, inserted}
 use Rattle.slab.specs.Slab as Slab
 use Rattle.slab.specs.declared.Taken.{Taken}
 use Rattle.store_rules.specs.Loans.{placesAt}
 use Rattle.book_rules.specs.Returns as Returns
 use Rattle.buddy_trees.specs.Trees.{bytes}
-use Rattle.buddy_rules.specs.Level.{ringAt, pairTaken, levelStart}
+use Rattle.buddy_rules.specs.Level.{ringHead, pairTaken, levelStart}
 use Rattle.buddy_levels.specs.Seen.{partSettings, levelPart}
 use Rattle.buddy_rules.specs.Tables.{Tables, tables, chunkPlacesAt, afterAt, placeWords}
 use Rattle.buddy_outcomes.specs.Ask.{at, pairRoom, pairsRoom, chunkTaken, searchFrom}
@@ -28,10 +28,10 @@ use Rattle.buddy_decide.specs.declared.seeking.Found.the-variants.{At, O
 
 -- ---- the chunk place that is taken next
 
-pub taken-is : (pairs : ℕ) (chunks tree : List ℕ) (places b v : ℕ) (r : Taken) → places ≡ getD chunks chunkPlacesAt 0 → b ≡ levelStart pairs levelsMost → v ≡ getD tree b 0
+pub taken-is : (pairs : ℕ) (chunks tree : List ℕ) (places b v : ℕ) (r : Taken) → places ≡ getD chunks chunkPlacesAt 0 → b ≡ levelStart pairs levelsMost → v ≡ placeOf (getD tree b 0)
     → r ≡ inserted (record { places = places; vacant = v }) tree (b + (placeWords + afterAt)) placeWords → r ≡ chunkTaken (partSettings 0 pairs 0) (levelPart 0 chunks tree)
 taken-is pairs chunks tree places b v r c d e f =
-    let g : v ≡ getD tree (levelStart pairs levelsMost) 0 = e ∙ ap (λ (x : ℕ). getD tree x 0) d in
+    let g : v ≡ placeOf (getD tree (levelStart pairs levelsMost) 0) = e ∙ ap (λ (x : ℕ). placeOf (getD tree x 0)) d in
     f ∙ (λ j. inserted (record { places = c j; vacant = g j }) tree (d j + (placeWords + afterAt)) placeWords)
 
 -- ---- places for the pairs of n levels from this one on, i of which are passed
@@ -86,21 +86,21 @@ module _ (minimal pairs level levels : ℕ) (tree : List ℕ) (l : ℕ) where
   seek-turn : l < levels → Onward ≡ searchFrom (partSettings minimal pairs 0) tree l (suc (levels - (l + 1)))
   seek-turn h = let e : levels - l ≡ suc (levels - (l + 1)) = omega arith in ap (searchFrom (partSettings minimal pairs 0) tree l) e
 
-  module _ (there : l < levels) (b w : ℕ) (d : b ≡ levelStart pairs l) (e : w ≡ getD tree (b + ringAt) 0) where
-    abbrev head : getD tree (levelStart pairs l + ringAt) 0 ≡ w
-    head = sym (e ∙ ap (λ (x : ℕ). getD tree (x + ringAt) 0) d)
+  module _ (there : l < levels) (b w : ℕ) (d : b ≡ levelStart pairs l) (e : w ≡ ringHead b tree) where
+    abbrev head : ringHead (levelStart pairs l) tree ≡ w
+    head = sym (e ∙ ap (λ (x : ℕ). ringHead x tree) d)
 
     pub seek-on : w ≡ Slab.nowhere → Onward ≡ searchFrom (partSettings minimal pairs 0) tree (l + 1) (levels - (l + 1))
     unfolding searchFrom
     seek-on h =
         let f : l + 1 ≡ suc l = omega arith in
-        let g : eqb (getD tree (levelStart pairs l + ringAt) 0) Slab.nowhere ≡ true = ap (λ (x : ℕ). eqb x Slab.nowhere) head ∙ eq-eqb w Slab.nowhere h in
+        let g : eqb (ringHead (levelStart pairs l) tree) Slab.nowhere ≡ true = ap (λ (x : ℕ). eqb x Slab.nowhere) head ∙ eq-eqb w Slab.nowhere h in
         seek-turn there ∙ rw (f, g) refl
 
     seek-here : (w ≡ Slab.nowhere → ⊥) → Onward ≡ at l
     unfolding searchFrom
     seek-here h =
-        let g : eqb (getD tree (levelStart pairs l + ringAt) 0) Slab.nowhere ≡ false = ap (λ (x : ℕ). eqb x Slab.nowhere) head ∙ ne-eqb w Slab.nowhere h in
+        let g : eqb (ringHead (levelStart pairs l) tree) Slab.nowhere ≡ false = ap (λ (x : ℕ). eqb x Slab.nowhere) head ∙ ne-eqb w Slab.nowhere h in
         seek-turn there ∙ rw g refl
 
     pub seek-at : searchFrom (partSettings minimal pairs 0) tree level (levels - level) ≡ Onward → (w ≡ Slab.nowhere → ⊥) → At w l ≡ sought minimal pairs level levels tree

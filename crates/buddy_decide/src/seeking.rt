@@ -44,7 +44,7 @@ pub fn seek(minimal: u64, pairs: usize, level: u64, levels: u64, tree: &[u64]) -
             let top = grown(level, levels);
             break Found::Order(buddy_levels::node_bytes(minimal, top), top);
         }
-        let head = words::word(tree, level_from(pairs, l as usize) + RING_AT);
+        let head = slab::led_to(tree, level_from(pairs, l as usize) + RING_AT);
         if head != NOWHERE {
             break Found::At(head, l);
         }
@@ -80,7 +80,7 @@ pub fn chunk_taken(pairs: usize, chunks: &[u64], tree: &[u64]) -> Taken
     let at = buddy_levels::chunks_from(pairs);
     let s = Slab {
         places: words::word(chunks, CHUNK_PLACES_AT),
-        vacant: words::word(tree, at),
+        vacant: slab::led_to(tree, at),
     };
     s.insert(tree, at + (PLACE_WORDS + AFTER_AT), PLACE_WORDS)
 }

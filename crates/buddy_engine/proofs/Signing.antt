@@ -27,15 +27,16 @@ use Rattle.engines.specs.Pools.{Slot, ofHead, ofLoans, ofChunks, ofIndex, ofRoo
 use Rattle.engines.proofs.Signs.{in-slot}
 use Rattle.engines.specs.Shapes.{Call, setsUp, asks, delivers, returns, others, does, lentList}
 use Rattle.buddy_rules.specs.Moves.{Cut}
-use Rattle.buddy_rules.specs.Tables.{Tables, marks, chunkWords, chunkSizeAt, givenIn, levelsIn, placesIn, levelFrom, chunksFrom, nodesFrom}
+use Rattle.buddy_rules.specs.Tables.{Tables, marks, chunkWords, chunkSizeAt, givenIn, levelsIn, placesIn, levelFrom, nodesFrom}
 use Rattle.buddy_rules.proofs.Owns.{acquired-own, climbed-own, split-down-own, split-chunk-own}
-use Rattle.buddy_outcomes.specs.Ask.{grownTo, levelFor, sizeFor, chunkTaken, grownTables, bookedTables, takenTables, deniedTables, carryAsk, planAsk, askOf}
+use Rattle.buddy_outcomes.specs.Ask.{grownTo, levelFor, sizeFor, grownTables, bookedTables, takenTables, deniedTables, carryAsk, planAsk, askOf}
 use Rattle.buddy_outcomes.specs.Deliver.{asOrdered, chunkTables, servedTables, carryFate, planDeliver, carryDeliver, deliverOf}
 use Rattle.buddy_outcomes.specs.Return.{wordFor, climbFor, vacatedTree, givenTables, returnOf}
 use Rattle.buddy_outcomes.specs.SetUp.{setUpOf}
 use Rattle.buddy_outcomes.proofs.Changed.{fresh-levels-own}
-use Rattle.buddy_outcomes.proofs.Heads.{grown-word, chunk-mark}
+use Rattle.buddy_outcomes.proofs.Heads.{grown-word, chunk-mark, chunk-room-mark}
 use Rattle.buddy_outcomes.proofs.Returned.{ReturnComes, denied, takes, return-comes, given-tables}
+use Rattle.buddy_outcomes.proofs.Vacated.{tree-mark-by}
 use Rattle.buddy_outcomes.proofs.Sounds.{is-begun, set-up-sound}
 use Rattle.buddy_engine.specs.Shape.{buddyShape}
 use Rattle.buddy_engine.proofs.Refusing.{unsigned-refused}
@@ -82,9 +83,7 @@ module _ (s : BuddySettings) where
   chunk-stays memory z t ofLoans = refl
   chunk-stays memory z t ofChunks = chunk-mark s memory z t
   chunk-stays memory z t ofIndex = refl
-  chunk-stays memory z t ofRoom =
-      getD-set-other (set (t .room) (chunksFrom s) (chunkTaken s t .slab .vacant)) _ markAt _ 0 (λ e. omega arith)
-      ∙ getD-set-other (t .room) (chunksFrom s) markAt (chunkTaken s t .slab .vacant) 0 (λ e. omega arith)
+  chunk-stays memory z t ofRoom = chunk-room-mark s memory z t
 
   served-stays : (z l memory bytes : ℕ) (t : Tables) → Stays t (servedTables s z l memory bytes t)
   unfolding servedTables
@@ -101,16 +100,8 @@ module _ (s : BuddySettings) where
       by true = getD-set-other (t .chunks) (cellOf chunkSizeAt chunkWords (b .chunk)) markAt 0 0 (λ e. omega arith)
       by false = refl
   given-stays b w t h ofIndex = struck-index-mark w (t .index) h
-  given-stays b w t h ofRoom = by (climbFor s b w t .freed) ∙ climbed-own (s .pairs) markAt (omega arith) _ _ _ (t .room)
-    where
-      tree : List ℕ
-      tree = climbFor s b w t .room
-
-      by : (f : Bool) → getD (cond f (vacatedTree s (b .chunk) (climbFor s b w t .room)) (climbFor s b w t .room)) markAt 0 ≡ getD (climbFor s b w t .room) markAt 0
-      by true =
-          getD-set-other (set tree _ (getD tree (chunksFrom s) 0)) (chunksFrom s) markAt (b .chunk) 0 (λ e. omega arith)
-          ∙ getD-set-other tree _ markAt (getD tree (chunksFrom s) 0) 0 (λ e. omega arith)
-      by false = refl
+  given-stays b w t h ofRoom =
+      tree-mark-by s t (b .chunk) (climbFor s b w t .room) [] [] (climbFor s b w t .freed) ∙ climbed-own (s .pairs) markAt (omega arith) _ _ _ (t .room)
 
 -- ---- the calls
 

@@ -1,16 +1,12 @@
 // The words of a store with nothing in it.
 ghost use mathlib.Core.Path.{_≡_};
-ghost use mathlib.Core.List.{[], _∷_};
-ghost use Prim.Native.Nat.{_*_, _≤_, _+_};
-ghost use lib.ListN.{length, set};
+ghost use Prim.Native.Nat.{_*_, _+_};
+ghost use lib.ListN.{length};
 ghost use Rattle.words.specs.Words.{blank};
 ghost use Rattle.counter.specs.InTable.{BuddyIn};
-ghost use Rattle.counter.specs.Limits.{levelsMost};
-ghost use Rattle.slab.specs.Slab.{nowhere};
 ghost use Rattle.store_rules.specs.Loans.{loanWords};
 ghost use Rattle.book_rules.specs.Book.{indexWords, freshIndex};
-ghost use Rattle.buddy_rules.specs.Tables.{tables, Lengths, marks, headWords, chunkWords, chunksFrom, treeWords, initialLevels};
-ghost use Rattle.buddy_outcomes.specs.Ask.{freshLevels};
+ghost use Rattle.buddy_rules.specs.Tables.{tables, Lengths, marks, headWords, chunkWords};
 ghost use Rattle.buddy_outcomes.specs.SetUp.{freshHead, freshTables};
 use buddy_rules::CHUNKS_MARK;
 use buddy_rules::HEAD_MARK;
@@ -19,37 +15,16 @@ use buddy_rules::LEVELS_AT;
 use buddy_rules::LOANS_MARK;
 use buddy_rules::ROOM_MARK;
 use counter::BuddySettings;
-use slab::NOWHERE;
 use words::MARK_AT;
 
-// The mark, and so many levels.
-fn fresh_head(levels: u64, head: &mut [u64])
-    requires { ⌜ length (now head) ≡ headWords ⌝ }
-    ensures { λ _. ⌜ now (head .exit) ≡ marks .head ∷ levels ∷ [] ⌝ }
-{
-    words::put(head, MARK_AT, HEAD_MARK);
-    words::put(head, LEVELS_AT, levels);
-}
-
-// So many levels are there and empty, and no chunk place is vacated; every other word behind the mark is 0.
-fn fresh_tree(s: BuddySettings, levels: usize, tree: &mut [u64])
-    requires { ⌜ BuddyIn s × (levels ≤ levelsMost) × (length (now tree) ≡ treeWords s) ⌝ }
-    ensures { λ _. ⌜ now (tree .exit) ≡ set (freshLevels s 0 levels (blank (treeWords s) (marks .room) 0)) (chunksFrom s) nowhere ⌝ }
-{
-    words::put_blank(tree, ROOM_MARK, 0);
-    crate::growing::fresh_levels(s, 0, levels, tree);
-    words::put(tree, buddy_levels::chunks_from(s.pairs), NOWHERE);
-}
-
-// The initial levels.
-fn fresh_initial(s: BuddySettings, head: &mut [u64], tree: &mut [u64])
-    requires { ⌜ BuddyIn s × (length (now head) ≡ headWords) × (length (now tree) ≡ treeWords s) ⌝ }
+// The mark, and the initial levels.
+fn fresh_head(s: BuddySettings, head: &mut [u64])
+    requires { ⌜ BuddyIn s × (length (now head) ≡ headWords) ⌝ }
     ensures { λ _. ⌜ now (head .exit) ≡ freshHead s ⌝ }
-    ensures { λ _. ⌜ now (tree .exit) ≡ set (freshLevels s 0 (initialLevels s) (blank (treeWords s) (marks .room) 0)) (chunksFrom s) nowhere ⌝ }
 {
     let levels = rounding::level(s.initial, s.minimal);
-    fresh_head(levels as u64, head);
-    fresh_tree(s, levels as usize, tree);
+    words::put(head, MARK_AT, HEAD_MARK);
+    words::put(head, LEVELS_AT, levels as u64);
 }
 
 // Behind the marks no loan, no chunk, and no link from loan to loan.
@@ -65,7 +40,7 @@ fn fresh_rows(s: BuddySettings, loans: &mut [u64], chunks: &mut [u64], index: &m
     book::fresh_index(INDEX_MARK, own.loans, index);
 }
 
-// Every word of every table, so that nothing of what was lent is left.
+// Every word of every table, so that nothing of what was lent is left. A level of which all words are 0 is an empty one.
 pub fn fresh(
     s: BuddySettings,
     head: &mut [u64],
@@ -77,6 +52,7 @@ pub fn fresh(
     requires { ⌜ BuddyIn s × Lengths s (tables (now head) (now loans) (now chunks) (now index) (now tree)) ⌝ }
     ensures { λ _. ⌜ tables (now (head .exit)) (now (loans .exit)) (now (chunks .exit)) (now (index .exit)) (now (tree .exit)) ≡ freshTables s ⌝ }
 {
+    fresh_head(s, head);
     fresh_rows(s, loans, chunks, index);
-    fresh_initial(s, head, tree);
+    words::put_blank(tree, ROOM_MARK, 0);
 }

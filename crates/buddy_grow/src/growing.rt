@@ -11,7 +11,7 @@ use buddy_rules::LEVELS_AT;
 use counter::BuddySettings;
 
 // Those from a level on, n of them.
-pub fn fresh_levels(s: BuddySettings, level: usize, n: usize, tree: &mut [u64])
+fn fresh_levels(s: BuddySettings, level: usize, n: usize, tree: &mut [u64])
     requires { ⌜ BuddyIn s × (level + n ≤ levelsMost) ⌝ }
     ensures { λ _. ⌜ now (tree .exit) ≡ freshLevels s level n (now (tree .entry)) ⌝ }
 {

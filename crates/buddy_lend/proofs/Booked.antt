@@ -6,10 +6,11 @@ use lib.ListN.{getD, set}
 use Rattle.words.specs.Rows.{written}
 use Rattle.counter.specs.Limits.{levelsMost}
 use Rattle.counter.specs.declared.settings.BuddySettings.{BuddySettings}
+use Rattle.slab.specs.Slab.{recordOf}
 use Rattle.slab.specs.declared.Taken.{Taken}
 use Rattle.store_rules.specs.Loans.{givenAt, placesAt, loan, loanRow}
 use Rattle.store_rules.specs.declared.Loan.{Loan}
-use Rattle.book_rules.specs.Book.{vacatedAt, firstOf, nextOf, takenOf, counted, entered, firstIn, enteredIndex}
+use Rattle.book_rules.specs.Book.{vacatedAt, firstOf, nextOf, takenOf, counted, entered, enteredIndex}
 use Rattle.book.proofs.Entering.{entered-loans, entered-index}
 use Rattle.buddy_rules.specs.Level.{levelStart}
 use Rattle.buddy_rules.specs.Tables.{Tables, tables, placeWords, nodesFrom}
@@ -36,7 +37,7 @@ module _ (s : BuddySettings) (loans index : List ℕ) (taken : Taken) (next : ta
 
     pub booked-done : (l′ i′ t′ : List ℕ) → t′ ≡ set tree (nodesFrom s + taken .place) node
         → l′ ≡ written loanRow (taken .place) l (counted (l .serial) (taken .slab .places) loans)
-        → i′ ≡ set (set (set index vacatedAt (taken .slab .vacant)) (nextOf (taken .place)) (firstIn index (l .serial % s .store .loans))) (firstOf (l .serial % s .store .loans)) (taken .place)
+        → i′ ≡ set (set (set index vacatedAt (recordOf (taken .slab .vacant))) (nextOf (taken .place)) (getD index (firstOf (l .serial % s .store .loans)) 0)) (firstOf (l .serial % s .store .loans)) (recordOf (taken .place))
         → tables head l′ [] i′ t′ ≡ bookedTables s (l .chunk) (l .offset) (l .size) (record { node = node; room = tree }) (tables head loans [] index [])
     unfolding bookedTables
     booked-done l′ i′ t′ t ls is =

@@ -6,6 +6,7 @@ use lib.ListN.{getD, set}
 use Rattle.words.specs.Words.{cellOf}
 use Rattle.counter.specs.Limits.{levelsMost, pairsMost}
 use Rattle.counter.specs.declared.settings.BuddySettings.{BuddySettings}
+use Rattle.slab.specs.Slab.{recordOf}
 use Rattle.slab.specs.declared.Taken.{Taken}
 use Rattle.store_rules.specs.Loans.{givenAt, placesAt, loan}
 use Rattle.book_rules.specs.Book.{takenOf}
@@ -19,10 +20,10 @@ use Rattle.buddy_outcomes.specs.Deliver.{chunkTables, servedTables}
 
 module _ (pairs at : ℕ) (e : at ≡ levelStart pairs levelsMost) (tree : List ℕ) where
   -- the words of a chunk place in the tree
-  pub top-done : (c p w vacant : ℕ) (t₁ t′ : List ℕ) → t₁ ≡ set tree at vacant → w ≡ splitWord p → t′ ≡ set t₁ (cellOf (at + (placeWords + topAt)) placeWords c) w
-      → t′ ≡ set (set tree (chunksFrom (partSettings 0 pairs 0)) vacant) (cellOf (placeAt (partSettings 0 pairs 0) topAt) placeWords c) (splitWord p)
-  top-done c p w vacant t₁ t′ f h g =
-      g ∙ (λ j. set (f j) (cellOf (at + (placeWords + topAt)) placeWords c) (h j)) ∙ (λ j. set (set tree (e j) vacant) (cellOf (e j + (placeWords + topAt)) placeWords c) (splitWord p))
+  pub top-done : (c p w vacant v : ℕ) (t₁ t′ : List ℕ) → v ≡ recordOf vacant → t₁ ≡ set tree at v → w ≡ splitWord p → t′ ≡ set t₁ (cellOf (at + (placeWords + topAt)) placeWords c) w
+      → t′ ≡ set (set tree (chunksFrom (partSettings 0 pairs 0)) (recordOf vacant)) (cellOf (placeAt (partSettings 0 pairs 0) topAt) placeWords c) (splitWord p)
+  top-done c p w vacant v t₁ t′ k f h g =
+      g ∙ (λ j. set (f j) (cellOf (at + (placeWords + topAt)) placeWords c) (h j)) ∙ (λ j. set (set tree (e j) (k j)) (cellOf (e j + (placeWords + topAt)) placeWords c) (splitWord p))
 
 module _ (s : BuddySettings) (head tree : List ℕ) where
   module _ (levels : ℕ) (top : levels ≡ getD head levelsAt 0) (b : ℕ) (at : b ≡ levelStart (s .pairs) (levels - 1)) (p : Taken) (next : p ≡ pairTaken b tree) where
@@ -40,11 +41,11 @@ module _ (s : BuddySettings) (head tree : List ℕ) where
           []
           (set (set (set chunks chunkPlacesAt (c .slab .places)) (cellOf memoryAt chunkWords (c .place)) memory) (cellOf chunkSizeAt chunkWords (c .place)) bytes)
           []
-          (set (set tree (chunksFrom s) (c .slab .vacant)) (cellOf (placeAt s topAt) placeWords (c .place)) (splitWord (p .place)))
+          (set (set tree (chunksFrom s) (recordOf (c .slab .vacant))) (cellOf (placeAt s topAt) placeWords (c .place)) (splitWord (p .place)))
 
       pub chunk-done : (memory bytes : ℕ) (c′ t′ : List ℕ)
           → c′ ≡ set (set (set chunks chunkPlacesAt (c .slab .places)) (cellOf memoryAt chunkWords (c .place)) memory) (cellOf chunkSizeAt chunkWords (c .place)) bytes
-          → t′ ≡ set (set tree (chunksFrom (partSettings 0 (s .pairs) 0)) (c .slab .vacant)) (cellOf (placeAt (partSettings 0 (s .pairs) 0) topAt) placeWords (c .place)) (splitWord (p .place))
+          → t′ ≡ set (set tree (chunksFrom (partSettings 0 (s .pairs) 0)) (recordOf (c .slab .vacant))) (cellOf (placeAt (partSettings 0 (s .pairs) 0) topAt) placeWords (c .place)) (splitWord (p .place))
           → tables head [] c′ [] t′ ≡ chunkTables s memory bytes (tables head [] chunks [] tree)
       unfolding chunkTables
       chunk-done memory bytes c′ t′ f g = (λ j. tables head [] (f j) [] (g j)) ∙ (λ j. after memory bytes (taken j) (top-is j))

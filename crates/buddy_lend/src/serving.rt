@@ -6,6 +6,7 @@ ghost use lib.ListN.{getD, set};
 ghost use Rattle.counter.specs.InTable.{BuddyIn};
 ghost use Rattle.counter.specs.Limits.{levelsMost, pairsMost};
 ghost use Rattle.words.specs.Words.{cellOf};
+ghost use Rattle.slab.specs.Slab.{recordOf};
 ghost use Rattle.store_rules.specs.Loans.{givenAt, placesAt};
 ghost use Rattle.buddy_rules.specs.Nodes.{splitWord};
 ghost use Rattle.buddy_rules.specs.Level.{pairTaken};
@@ -40,10 +41,10 @@ fn put_chunk(chunks: &mut [u64], places: u64, c: u64, memory: u64, bytes: u64)
 // The top node of the chunk at c is split into the pair p from now on, and the place vacated last is this.
 fn put_top(pairs: usize, c: u64, p: u64, vacant: u64, tree: &mut [u64])
     requires { ⌜ (pairs ≤ pairsMost) × (p < pairsMost) ⌝ }
-    ensures { λ _. ⌜ now (tree .exit) ≡ set (set (now (tree .entry)) (chunksFrom (partSettings 0 pairs 0)) vacant) (cellOf (placeAt (partSettings 0 pairs 0) topAt) placeWords c) (splitWord p) ⌝ }
+    ensures { λ _. ⌜ now (tree .exit) ≡ set (set (now (tree .entry)) (chunksFrom (partSettings 0 pairs 0)) (recordOf vacant)) (cellOf (placeAt (partSettings 0 pairs 0) topAt) placeWords c) (splitWord p) ⌝ }
 {
     let at = buddy_levels::chunks_from(pairs);
-    words::put(tree, at, vacant);
+    words::put(tree, at, slab::record_of(vacant));
     words::put_cell(
         tree,
         at + (PLACE_WORDS + TOP_AT),

@@ -4,7 +4,7 @@ use mathlib.Core.Bool.{Bool, true, false}
 use mathlib.Core.List.{List}
 use Prim.Native.Nat.{ℕ, _+_}
 use lib.ListN.{getD, set}
-use Rattle.slab.specs.Slab.{nowhere, inserted}
+use Rattle.slab.specs.Slab.{placeOf, recordOf, inserted}
 use Rattle.slab.specs.declared.Taken.{Taken}
 use Rattle.ring_rules.specs.Ring.{alone}
 use Rattle.buddy_rules.specs.Nodes.{freeWord, vacant, exhausted, leftReady, rightReady}
@@ -40,13 +40,13 @@ use Rattle.buddy_rules.specs.Level.{
 -- ---- what the stores, one after the other, have made of a level that begins at b of t
 
 module _ (b : ℕ) (t : List ℕ) where
-  pub level-fresh : (x y z : List ℕ) → x ≡ set t (b + ringAt) nowhere → y ≡ set x (b + usedAt) 0 → z ≡ set y (b + vacatedAt) nowhere → z ≡ freshLevel b t
+  pub level-fresh : (x y z : List ℕ) → x ≡ set t (b + ringAt) 0 → y ≡ set x (b + usedAt) 0 → z ≡ set y (b + vacatedAt) 0 → z ≡ freshLevel b t
   unfolding freshLevel
   level-fresh x y z e f g = g ∙ rw (f, e)
 
-  pub pair-dropped : (p v : ℕ) (w x y z : List ℕ) → v ≡ getD t (b + vacatedAt) 0 → w ≡ leaves b p t → x ≡ set w (pairCell b tagAt p) vacant → y ≡ set x (pairCell b offAt p) v → z ≡ set y (b + vacatedAt) p → z ≡ dropped b p t
+  pub pair-dropped : (p v r : ℕ) (w x y z : List ℕ) → v ≡ getD t (b + vacatedAt) 0 → w ≡ leaves b p t → x ≡ set w (pairCell b tagAt p) vacant → y ≡ set x (pairCell b offAt p) v → r ≡ recordOf p → z ≡ set y (b + vacatedAt) r → z ≡ dropped b p t
   unfolding dropped
-  pair-dropped p v w x y z d e f g h = h ∙ rw (g, f, e, d)
+  pair-dropped p v r w x y z d e f g k h = h ∙ rw (g, f, e, d, k)
 
   module _ (p : ℕ) (x y z : List ℕ) (s : Bool) (e : x ≡ joins b p t) where
     pub left-backed : s ≡ true → y ≡ set x (pairCell b tagAt p) leftReady → z ≡ set y (pairCell b leftAt p) freeWord → z ≡ backed b p (sideBy s) t
@@ -68,8 +68,8 @@ module _ (b : ℕ) (t : List ℕ) where
     pub right-acquired : l ≡ false → z ≡ set y (pairCell b rightAt h) w → z ≡ acquired b w t
     right-acquired d g = head-acquired (rw d g)
 
-  pub alone-stood : (p : ℕ) (x y z : List ℕ) → x ≡ set t (pairCell b nextAt p) p → y ≡ set x (pairCell b prevAt p) p → z ≡ set y (b + ringAt) p → z ≡ alone (b + ringAt) (fieldAt b nextAt) (fieldAt b prevAt) pairWords p t
-  alone-stood p x y z e f g = g ∙ rw (f, e)
+  pub alone-stood : (p r : ℕ) (x y z : List ℕ) → r ≡ recordOf p → x ≡ set t (pairCell b nextAt p) r → y ≡ set x (pairCell b prevAt p) r → z ≡ set y (b + ringAt) r → z ≡ alone (b + ringAt) (fieldAt b nextAt) (fieldAt b prevAt) pairWords p t
+  alone-stood p r x y z d e f g = g ∙ rw (f, e, d)
 
   module _ (p c o n w : ℕ) where
     pub pair-written : (u v x y z r : List ℕ) → u ≡ set t (pairCell b tagAt p) rightReady → v ≡ set u (pairCell b chunkAt p) c → x ≡ set v (pairCell b offAt p) o → y ≡ set x (pairCell b leftAt p) w → z ≡ set y (pairCell b rightAt p) freeWord → r ≡ set z (pairCell b upAt p) n
@@ -83,14 +83,14 @@ module _ (b : ℕ) (t : List ℕ) where
 
   -- ---- the place that a new pair takes
 
-  pub taken-read : (u v : ℕ) (k : Taken) → u ≡ getD t (b + usedAt) 0 → v ≡ getD t (b + vacatedAt) 0 → k ≡ inserted (record { places = u; vacant = v }) t (fieldAt b offAt) pairWords → k ≡ pairTaken b t
+  pub taken-read : (u v : ℕ) (k : Taken) → u ≡ getD t (b + usedAt) 0 → v ≡ placeOf (getD t (b + vacatedAt) 0) → k ≡ inserted (record { places = u; vacant = v }) t (fieldAt b offAt) pairWords → k ≡ pairTaken b t
   taken-read u v k d e f = f ∙ (λ j. inserted (record { places = d j; vacant = e j }) t (fieldAt b offAt) pairWords)
 
   module _ (k : Taken) (s : k ≡ pairTaken b t) where
     pub taken-place : k .place ≡ pairTaken b t .place
     taken-place = ap (λ (u : Taken). u .place) s
 
-    pub pair-added : (c o n w : ℕ) (x y z : List ℕ) → x ≡ set t (b + usedAt) (k .slab .places) → y ≡ set x (b + vacatedAt) (k .slab .vacant) → z ≡ entered b (k .place) c o n w y → z ≡ added b c o n w t
+    pub pair-added : (c o n w r : ℕ) (x y z : List ℕ) → x ≡ set t (b + usedAt) (k .slab .places) → r ≡ recordOf (k .slab .vacant) → y ≡ set x (b + vacatedAt) r → z ≡ entered b (k .place) c o n w y → z ≡ added b c o n w t
     unfolding added
-    pair-added c o n w x y z e f g =
-        g ∙ rw (f, e) (ap (λ (u : Taken). entered b (u .place) c o n w (set (set t (b + usedAt) (u .slab .places)) (b + vacatedAt) (u .slab .vacant))) s)
+    pair-added c o n w r x y z e d f g =
+        g ∙ rw (f, e, d) (ap (λ (u : Taken). entered b (u .place) c o n w (set (set t (b + usedAt) (u .slab .places)) (b + vacatedAt) (recordOf (u .slab .vacant)))) s)

@@ -7,6 +7,7 @@ use native.Mathlib.Omega.{arith}
 use native.Mathlib.Numerals.{sub-one}
 use lib.ListN.{getD}
 use borrow.Author.Tests.{eq-eqb, ne-eqb}
+use Rattle.slab.specs.Slab.{placeOf}
 use Rattle.slab.specs.Test.{partedOk}
 use Rattle.ring_rules.specs.Test.{ringLength}
 use Rattle.buddy_rules.specs.Level.{
@@ -17,6 +18,7 @@ use Rattle.buddy_rules.specs.Level.{
   prevAt,
   pairWords,
   fieldAt,
+  ringHead,
   slabIn,
   vacantIn,
   vacantAfter,
@@ -44,7 +46,7 @@ module _ (f : ℕ → Bool) (next : ℕ → ℕ) (p k : ℕ) where
   along-done o = let z : k ≡ 0 = omega arith in rw z refl
 
 -- the whole test: u places were ever used and v was vacated last, and q says whether they part
-module _ (b pairs : ℕ) (t : List ℕ) (u v : ℕ) (q : Bool) (d : u ≡ getD t (b + usedAt) 0) (e : v ≡ getD t (b + vacatedAt) 0)
+module _ (b pairs : ℕ) (t : List ℕ) (u v : ℕ) (q : Bool) (d : u ≡ getD t (b + usedAt) 0) (e : v ≡ placeOf (getD t (b + vacatedAt) 0))
     (parts : q ≡ partedOk (vacantIn b t) (vacantAfter b t) (record { places = u; vacant = v }) pairs) where
   told : (a : Bool) → q ≡ a → partedOk (vacantIn b t) (vacantAfter b t) (slabIn b t) pairs ≡ a
   told a h = sym (λ j. partedOk (vacantIn b t) (vacantAfter b t) (record { places = d j; vacant = e j }) pairs) ∙ sym parts ∙ h
@@ -65,6 +67,6 @@ module _ (b pairs : ℕ) (t : List ℕ) (u v : ℕ) (q : Bool) (d : u ≡ getD t
     unfolding goodOk
     good-lost o = sym (rw (told true h, rung, some, ne-eqb n k o))
 
-    pub good-all : n ≡ k → (x : ℕ) (r : Bool) → x ≡ getD t (b + ringAt) 0 → r ≡ along (readyIn b t) (readyAfter b t) x n → r ≡ goodOk b pairs t
+    pub good-all : n ≡ k → (x : ℕ) (r : Bool) → x ≡ ringHead b t → r ≡ along (readyIn b t) (readyAfter b t) x n → r ≡ goodOk b pairs t
     unfolding goodOk
     good-all o x r i j = j ∙ sym (rw (told true h, rung, some, eq-eqb n k o, i))

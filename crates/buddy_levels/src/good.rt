@@ -25,14 +25,14 @@ pub fn is_good(tree: &[u64], base: usize, pairs: u64) -> bool
     let used = words::word(tree, base + USED_AT);
     let s = Slab {
         places: used,
-        vacant: words::word(tree, base + VACATED_AT),
+        vacant: slab::led_to(tree, base + VACATED_AT),
     };
     let mark = base + (HEADER_WORDS + TAG_AT);
     let after = base + (HEADER_WORDS + OFF_AT);
     if slab::is_parted(s, pairs, tree, mark, PAIR_WORDS, tree, after, PAIR_WORDS) {
         let n = ring_size(tree, base, used);
         if n == count_ready(tree, base, used) {
-            return all_ready(tree, base, words::word(tree, base + RING_AT), n);
+            return all_ready(tree, base, slab::led_to(tree, base + RING_AT), n);
         }
     }
     false
@@ -76,13 +76,14 @@ fn all_ready(tree: &[u64], base: usize, h: u64, k: u64) -> bool
     requires { ⌜ base ≤ baseMost ⌝ }
     ensures { λ r. ⌜ r ≡ along (readyIn base (now (tree .entry))) (readyAfter base (now (tree .entry))) h k ⌝ }
 {
+    let next = base + (HEADER_WORDS + NEXT_AT);
     let mut p = h;
     let mut left = k;
     while 0 < left {
         if field(tree, base, TAG_AT, p) <= EXHAUSTED {
             return false;
         }
-        p = field(tree, base, NEXT_AT, p);
+        p = slab::link(tree, next, PAIR_WORDS, p);
         left -= 1;
     }
     true

@@ -34,7 +34,6 @@ use buddy_rules::FREE_WORD;
 use buddy_rules::LEFT_READY;
 use buddy_rules::RIGHT_READY;
 use buddy_rules::VACANT;
-use slab::NOWHERE;
 use slab::Slab;
 use slab::Taken;
 
@@ -126,7 +125,7 @@ pub fn drop_pair(tree: &mut [u64], base: usize, p: u64)
     leave(tree, base, p);
     put_field(tree, base, TAG_AT, p, VACANT);
     put_field(tree, base, OFF_AT, p, vacated);
-    words::put(tree, base + VACATED_AT, p);
+    words::put(tree, base + VACATED_AT, slab::record_of(p));
 }
 
 // The pair p joins the ring before the head, ready at its left or its right, where the node is free.
@@ -166,7 +165,7 @@ pub fn pair_taken(tree: &[u64], base: usize) -> Taken
 {
     let s = Slab {
         places: words::word(tree, base + USED_AT),
-        vacant: words::word(tree, base + VACATED_AT),
+        vacant: slab::led_to(tree, base + VACATED_AT),
     };
     s.insert(tree, base + (HEADER_WORDS + OFF_AT), PAIR_WORDS)
 }
@@ -180,7 +179,7 @@ pub fn add_pair(tree: &mut [u64], base: usize, chunk: u64, offset: u64, node: u6
     let taken = pair_taken(tree, base);
     let s = taken.slab;
     words::put(tree, base + USED_AT, s.places);
-    words::put(tree, base + VACATED_AT, s.vacant);
+    words::put(tree, base + VACATED_AT, slab::record_of(s.vacant));
     enter_pair(tree, base, taken.place, chunk, offset, node, left);
     taken.place
 }
@@ -212,9 +211,10 @@ fn stand_alone(tree: &mut [u64], base: usize, p: u64)
     requires { ⌜ base ≤ baseMost ⌝ }
     ensures { λ _. ⌜ now (tree .exit) ≡ alone (base + ringAt) (fieldAt base nextAt) (fieldAt base prevAt) pairWords p (now (tree .entry)) ⌝ }
 {
-    put_field(tree, base, NEXT_AT, p, p);
-    put_field(tree, base, PREV_AT, p, p);
-    words::put(tree, base + RING_AT, p);
+    let r = slab::record_of(p);
+    put_field(tree, base, NEXT_AT, p, r);
+    put_field(tree, base, PREV_AT, p, r);
+    words::put(tree, base + RING_AT, r);
 }
 
 // A level with no pair.
@@ -222,7 +222,7 @@ pub fn fresh_level(tree: &mut [u64], base: usize)
     requires { ⌜ base ≤ baseMost ⌝ }
     ensures { λ _. ⌜ now (tree .exit) ≡ freshLevel base (now (tree .entry)) ⌝ }
 {
-    words::put(tree, base + RING_AT, NOWHERE);
+    words::put(tree, base + RING_AT, 0);
     words::put(tree, base + USED_AT, 0);
-    words::put(tree, base + VACATED_AT, NOWHERE);
+    words::put(tree, base + VACATED_AT, 0);
 }

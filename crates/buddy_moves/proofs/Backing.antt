@@ -6,7 +6,6 @@ use mathlib.Core.List.{List}
 use Prim.Native.Nat.{ℕ, zero, suc, _+_, _≤_, _<_}
 use native.Mathlib.Omega.{arith}
 use lib.Dec.{leb}
-use lib.ListN.{getD}
 use borrow.Author.Tests.{leb-true}
 use Rattle.lists.proofs.Bools.{and-right, same?}
 use Rattle.rounding_rules.specs.Raising.{levelOf}
@@ -19,6 +18,7 @@ use Rattle.counter.specs.declared.answers.Block.{Block}
 use Rattle.counter.specs.declared.settings.BuddySettings.{BuddySettings}
 use Rattle.heap.specs.Heap.{agreesOk}
 use Rattle.store_rules.specs.Tests.{coversOk}
+use Rattle.book_rules.specs.Book.{ledTo}
 use Rattle.buddy_trees.proofs.Fills.{has-in}
 use Rattle.buddy_rules.specs.Stores.{piece}
 use Rattle.buddy_rules.specs.Tables.{Tables, tables, Lengths, levelsIn, chunkPlacesIn, loanIn, heldIn, highIn}
@@ -31,7 +31,7 @@ use Rattle.buddy_moves.specs.Ready.{Backs}
 
 module _ (s : BuddySettings) (b : Block) (t : Tables) (fit : BuddyIn s) (lengths : Lengths s t) (sound : Sound s t) (on : onLoanOk s b t ≡ true) where
   abbrev k : ℕ
-  k = getD (t .index) (wordFor s b t) 0
+  k = ledTo (t .index) (wordFor s b t)
 
   -- a loan lies in its chunk, which is no higher than the levels are
   level-in : loanIn s t k .lev ≤ levelsIn t

@@ -1,14 +1,13 @@
 -- What the code that writes a buddy store's tables asks of them, so that no number it makes overflows and the words of the book are
 -- there; proofs/ shows that a passed gate and a decided call give it.
 use Prim.Native.Nat.{ℕ, _-_, _^_, _≤_, _<_}
-use lib.ListN.{getD}
 use Rattle.rounding_rules.specs.Raising.{levelOf}
 use Rattle.counter.specs.InTable.{BuddyIn}
 use Rattle.counter.specs.Limits.{levelsMost, pairsMost, loansMost, chunksMost, spent}
 use Rattle.counter.specs.declared.answers.Block.{Block}
 use Rattle.counter.specs.declared.settings.BuddySettings.{BuddySettings}
 use Rattle.slab.specs.Slab.{nowhere}
-use Rattle.book_rules.specs.Book.{takenOf}
+use Rattle.book_rules.specs.Book.{ledTo, takenOf}
 use Rattle.book_rules.specs.Ready.{Opens, Strikes}
 use Rattle.buddy_trees.specs.Trees.{up}
 use Rattle.buddy_rules.specs.Nodes.{freeWord}
@@ -51,5 +50,5 @@ pub record Backs (s : BuddySettings) (b : Block) (w : ℕ) (t : Tables) : Type 0
   pub fit : BuddyIn s
   pub below : levelOf (b .size) (s .minimal) ≤ levelsIn t
   pub low : levelsIn t ≤ levelsMost
-  pub place : getD (t .index) w 0 < loansMost
-  pub strikes : Strikes w (getD (t .index) w 0) (t .loans) (t .index)
+  pub place : ledTo (t .index) w < loansMost
+  pub strikes : Strikes w (ledTo (t .index) w) (t .loans) (t .index)

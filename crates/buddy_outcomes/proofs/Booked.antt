@@ -15,7 +15,7 @@ use Rattle.rounding_rules.specs.Raising.{levelOf}
 use Rattle.counter.specs.InTable.{BuddyIn}
 use Rattle.counter.specs.Limits.{levelsMost}
 use Rattle.counter.specs.declared.settings.BuddySettings.{BuddySettings}
-use Rattle.slab.specs.Slab.{nowhere, Parted}
+use Rattle.slab.specs.Slab.{nowhere, Parted, placeOf}
 use Rattle.slab.specs.declared.Slab.{Slab}
 use Rattle.slab.proofs.Places.{parted-same}
 use Rattle.store_rules.specs.Loans as Loans
@@ -199,13 +199,13 @@ module _ (s : BuddySettings) (t : Tables) (fit : BuddyIn s) (lengths : Lengths s
     slab : chunkSlab s t ≡ chunkSlab s booked
     slab =
         let b = sym (tree-other (chunksFrom s) (omega arith) (λ e. omega arith)) in
-        (λ j. record { places = chunkPlacesIn t; vacant = b j })
+        (λ j. record { places = chunkPlacesIn t; vacant = ap placeOf b j })
 
     chunks-parted : Parted (vacantChunk t) (chunkAfter s booked) (chunkSlab s booked) (s .store .chunks)
     chunks-parted =
         subst (λ (z : Slab). Parted (vacantChunk t) (chunkAfter s booked) z (s .store .chunks)) slab
         (parted-same (vacantChunk t) (vacantChunk t) (chunkAfter s t) (chunkAfter s booked) (chunkSlab s t) (s .store .chunks) (λ x h. refl)
-        (λ x h. tree-other (cellOf (placeAt s afterAt) placeWords x) (omega arith) (λ e. omega (arith, K .chunks-parted .limit))) (K .chunks-parted))
+        (λ x h. ap placeOf (tree-other (cellOf (placeAt s afterAt) placeWords x) (omega arith) (λ e. omega (arith, K .chunks-parted .limit)))) (K .chunks-parted))
 
     -- ---- what the bytes say
 

@@ -11,13 +11,14 @@ use lib.Seq.{getD-set-same, getD-set-other, drop-set-add, take-set-le}
 use borrow.Author.Tests.{le-ltb}
 use Rattle.lists.proofs.Bools.{true-false, lt-or-le}
 use Rattle.words.specs.Words.{cellOf, markAt, blank}
-use Rattle.words.proofs.Filled.{blank-long, blank-mark}
+use Rattle.words.proofs.Filled.{blank-long, blank-mark, blank-other}
 use Rattle.counter.specs.InTable.{BuddyIn}
 use Rattle.counter.specs.Limits.{levelsMost}
 use Rattle.counter.specs.declared.settings.BuddySettings.{BuddySettings}
-use Rattle.slab.specs.Slab.{nowhere, Parted}
+use Rattle.slab.specs.Slab.{nowhere, placeOf, Parted}
 use Rattle.slab.specs.declared.Slab.{Slab}
 use Rattle.slab.specs.declared.Taken.{Taken}
+use Rattle.slab.proofs.Links.{place-none}
 use Rattle.slab.proofs.Places.{parted-fresh, parted-same}
 use Rattle.store_rules.specs.Loans.{loanWords}
 use Rattle.book_rules.proofs.Firsts.{fresh-wide, fresh-vacated, fresh-first}
@@ -27,10 +28,10 @@ use Rattle.buddy_rules.specs.Nodes.{Ent}
 use Rattle.buddy_rules.specs.Stores.{Store, grownTo}
 use Rattle.buddy_rules.specs.Stores as Stores
 use Rattle.buddy_rules.proofs.Made.{empty-sound, grown-sound}
-use Rattle.buddy_rules.specs.Level.{levelWords, ringHead, pairTaken, freshLevel, part, pairIn, levelStart, ownWords}
-use Rattle.buddy_rules.proofs.Fresh.{fresh-length, fresh-head, fresh-taken, fresh-none, fresh-good}
+use Rattle.buddy_rules.specs.Level.{levelWords, headerWords, ringAt, usedAt, vacatedAt, ringHead, pairTaken, freshLevel, part, pairIn, levelStart, ownWords}
+use Rattle.buddy_rules.proofs.Fresh.{empty-none, empty-good, fresh-length, fresh-head, fresh-taken, fresh-none, fresh-good}
 use Rattle.buddy_rules.proofs.Ops.{levelOps}
-use Rattle.buddy_rules.proofs.Parts.{part-length, part-head, part-taken}
+use Rattle.buddy_rules.proofs.Parts.{part-length, part-word, part-head, part-taken}
 use Rattle.buddy_rules.specs.Tables.{Tables, tables, Lengths, chunkWords, treeWords, levelsAt, givenIn, levelsIn, chunkPlacesIn, levelFrom, chunksFrom, placeAt, topAt, placeWords, nodesFrom, loanIn, liveIn, heldIn, highIn, topIn, vacantChunk, chunkAfter, chunkSlab, vacantLoan, loanAfter, initialLevels, marks}
 use Rattle.buddy_rules.specs.Sound.{Sound}
 use Rattle.buddy_rules.proofs.Abstract.{storeOf, levels-in, sound-store, Sizes, store-trees}
@@ -80,9 +81,25 @@ module _ (s : BuddySettings) (t : Tables) (fit : BuddyIn s) (lengths : Lengths s
       let l : length (part (s .pairs) i r) ≡ levelWords (s .pairs) = fresh-part r i long h in
       ap (λ (w : List ℕ). pairIn 0 w p .tag) e ∙ ap (λ (x : Ent). x .tag) (fresh-none 0 (part (s .pairs) i r) (omega arith) p)
 
-  -- the tree with its mark alone
+  -- the tree with its mark alone: each of its levels is good, and has no pair
   abbrev blankTree : List ℕ
   blankTree = blank (treeWords s) (marks .room) 0
+
+  blank-word : (i k : ℕ) → i < levelsMost → k < headerWords → getD (part (s .pairs) i blankTree) k 0 ≡ 0
+  blank-word i k h j =
+      part-word (s .pairs) i blankTree k (omega arith)
+      ∙ blank-other (treeWords s) (marks .room) 0 (levelStart (s .pairs) i + k) (omega arith) (omega (arith, mul-suc (levelWords (s .pairs)) i, levels-in s i h))
+
+  blank-good : (i : ℕ) → i < levelsMost → levelOps (s .pairs) (few-pairs s fit) .Good (part (s .pairs) i blankTree)
+  blank-good i h = (
+    fresh-part blankTree i (blank-long (treeWords s) (marks .room) 0) h,
+    empty-good 0 (part (s .pairs) i blankTree) (blank-word i ringAt h (omega arith)) (blank-word i usedAt h (omega arith)) (blank-word i vacatedAt h (omega arith)) (s .pairs),
+  )
+
+  blank-none : (i p : ℕ) → i < levelsMost → pairIn 0 (part (s .pairs) i blankTree) p .tag ≡ 0
+  blank-none i p h =
+      ap (λ (x : Ent). x .tag)
+      (empty-none 0 (part (s .pairs) i blankTree) (blank-word i ringAt h (omega arith)) (blank-word i usedAt h (omega arith)) (blank-word i vacatedAt h (omega arith)) p)
 
   -- ---- set-up
 
@@ -94,7 +111,7 @@ module _ (s : BuddySettings) (t : Tables) (fit : BuddyIn s) (lengths : Lengths s
         loans = blank-long (loanWords + loanWords * s .store .loans) (marks .loans) 0;
         chunks = blank-long (chunkWords + chunkWords * s .store .chunks) (marks .chunks) 0;
         index = fresh-wide (marks .index) (s .store .loans);
-        room = length-set (freshLevels s 0 (initialLevels s) blankTree) (chunksFrom s) nowhere ∙ freshened-long s 0 (initialLevels s) blankTree ∙ blank-long (treeWords s) (marks .room) 0;
+        room = blank-long (treeWords s) (marks .room) 0;
       }
 
   fresh-held : (c : ℕ) → heldIn (freshTables s) c ≡ false
@@ -103,19 +120,11 @@ module _ (s : BuddySettings) (t : Tables) (fit : BuddyIn s) (lengths : Lengths s
   fresh-live : (k : ℕ) → liveIn (freshTables s) k ≡ false
   fresh-live k = rw (fresh-places s, le-ltb k 0 (omega arith))
 
-  none-vacated : getD (freshTables s .room) (chunksFrom s) 0 ≡ nowhere
+  none-vacated : chunkSlab s (freshTables s) .vacant ≡ nowhere
   unfolding freshTables
-  none-vacated =
-      getD-set-same (freshLevels s 0 (initialLevels s) blankTree) (chunksFrom s) nowhere 0
-      (omega (arith, freshened-long s 0 (initialLevels s) blankTree, blank-long (treeWords s) (marks .room) 0))
+  none-vacated = ap placeOf (blank-other (treeWords s) (marks .room) 0 (chunksFrom s) (omega arith) (omega arith)) ∙ place-none
 
   module _ (few : initialLevels s ≤ levelsMost) where
-    fresh-level : (i : ℕ) → i < initialLevels s → part (s .pairs) i (freshTables s .room) ≡ freshLevel 0 (part (s .pairs) i blankTree)
-    unfolding freshTables
-    fresh-level i h =
-        part-set s i (chunksFrom s) nowhere (freshLevels s 0 (initialLevels s) blankTree) (omega arith) (omega arith)
-        ∙ freshened s 0 (initialLevels s) blankTree (omega arith) .inside i (omega arith) (omega arith)
-
     fresh-store : Stores.Sound (s .minimal) (levelOps (s .pairs) small) (storeOf s small (freshTables s)) (λ (c : ℕ). free)
     unfolding freshTables
     fresh-store =
@@ -125,7 +134,7 @@ module _ (s : BuddySettings) (t : Tables) (fit : BuddyIn s) (lengths : Lengths s
         (record { count = initialLevels s; levels = W; loans = loanIn s u; live = λ k. false; high = λ c. 0; top = λ c. 0 })
         (storeOf s small u) (λ (c : ℕ). free)
         (empty-sound (s .minimal) (levelOps (s .pairs) small) (minimal-pos s fit) (initialLevels s) W (loanIn s u)
-        (λ i h. level-good blankTree i (W i) (blank-long (treeWords s) (marks .room) 0) (omega arith) (fresh-level i h)) (λ i p h. level-none blankTree i p (W i) (blank-long (treeWords s) (marks .room) 0) (omega arith) (fresh-level i h)))
+        (λ i h. blank-good i (omega arith)) (λ i p h. blank-none i p (omega arith)))
         refl (λ i h. refl) (λ k. refl) fresh-live (λ c. rw (fresh-held c)) (λ c. rw (fresh-held c))
 
   pub fresh-sound : initialLevels s ≤ levelsMost → Sound s (freshTables s)
@@ -142,11 +151,8 @@ module _ (s : BuddySettings) (t : Tables) (fit : BuddyIn s) (lengths : Lengths s
               head = refl;
               loans = blank-mark _ (marks .loans) 0 (omega arith);
               chunks = blank-mark _ (marks .chunks) 0 (omega arith);
-              index = blank-mark _ (marks .index) nowhere (omega arith);
-              room =
-                  getD-set-other (freshLevels s 0 (initialLevels s) blankTree) (chunksFrom s) markAt nowhere 0 (λ e. omega arith)
-                  ∙ fresh-levels-own s markAt (omega arith) 0 (initialLevels s) blankTree
-                  ∙ blank-mark (treeWords s) (marks .room) 0 (omega arith);
+              index = blank-mark _ (marks .index) 0 (omega arith);
+              room = blank-mark (treeWords s) (marks .room) 0 (omega arith);
             };
         levels-least = omega arith;
         levels-most = few;
@@ -157,7 +163,7 @@ module _ (s : BuddySettings) (t : Tables) (fit : BuddyIn s) (lengths : Lengths s
             subst (λ (p : ℕ). BookChained (u .loans) (u .index) (s .store .loans) p (givenIn u)) (sym (fresh-places s))
             (fresh-chained (u .loans) (u .index) (s .store .loans) (givenIn u) (fresh-first (marks .index) (s .store .loans)));
         chunks-parted =
-            subst (λ (p : ℕ). Parted (vacantChunk u) (chunkAfter s u) (record { places = p; vacant = getD (u .room) (chunksFrom s) 0 }) (s .store .chunks)) (sym (fresh-chunk-places s))
+            subst (λ (p : ℕ). Parted (vacantChunk u) (chunkAfter s u) (record { places = p; vacant = chunkSlab s u .vacant }) (s .store .chunks)) (sym (fresh-chunk-places s))
             (subst (λ (v : ℕ). Parted (vacantChunk u) (chunkAfter s u) (record { places = 0; vacant = v }) (s .store .chunks)) (sym none-vacated) (parted-fresh (vacantChunk u) (chunkAfter s u) (s .store .chunks)));
         memories-differ = λ c d h. absurd (never c h);
         good = X .1;
@@ -215,7 +221,7 @@ module _ (s : BuddySettings) (t : Tables) (fit : BuddyIn s) (lengths : Lengths s
       sizes = record { chunks = λ c h. let r = sound .standing .sized c h in (r .0, r .1, r .2); loans = sound .standing .loans-sized }
 
       slab : chunkSlab s t ≡ chunkSlab s grown
-      slab = let b = sym (made .past (chunksFrom s) (omega arith)) in (λ j. record { places = chunkPlacesIn t; vacant = b j })
+      slab = let b = sym (made .past (chunksFrom s) (omega arith)) in (λ j. record { places = chunkPlacesIn t; vacant = ap placeOf b j })
 
       grown-is-sound : Lengths s grown → Sound s grown
       grown-is-sound len =
@@ -236,7 +242,7 @@ module _ (s : BuddySettings) (t : Tables) (fit : BuddyIn s) (lengths : Lengths s
             chunks-parted =
                 subst (λ (z : Slab). Parted (vacantChunk t) (chunkAfter s grown) z (s .store .chunks)) slab
                 (parted-same (vacantChunk t) (vacantChunk t) (chunkAfter s t) (chunkAfter s grown) (chunkSlab s t) (s .store .chunks) (λ x h. refl)
-                (λ x h. made .past (cellOf (placeAt s 1) placeWords x) (omega arith)) (sound .chunks-parted));
+                (λ x h. ap placeOf (made .past (cellOf (placeAt s 1) placeWords x) (omega arith))) (sound .chunks-parted));
             memories-differ = sound .memories-differ;
             good = X .1;
             standing = X .0;

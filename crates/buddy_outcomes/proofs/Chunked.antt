@@ -17,9 +17,10 @@ use Rattle.rounding_rules.specs.Raising.{levelOf}
 use Rattle.counter.specs.InTable.{BuddyIn}
 use Rattle.counter.specs.Limits.{levelsMost}
 use Rattle.counter.specs.declared.settings.BuddySettings.{BuddySettings}
-use Rattle.slab.specs.Slab.{nowhere, linkAt, inserted, Chain, Parted, changed}
+use Rattle.slab.specs.Slab.{nowhere, linkAt, inserted, Chain, Parted, changed, recordOf, placeOf}
 use Rattle.slab.specs.declared.Slab.{Slab}
 use Rattle.slab.specs.declared.Taken.{Taken}
+use Rattle.slab.proofs.Links.{place-record}
 use Rattle.slab.proofs.Places.{parted-same, insert-first, insert-next, insert-last, inserted-parted, changed-here, changed-other}
 use Rattle.buddy_trees.specs.Trees.{bytes}
 use Rattle.buddy_trees.proofs.Bytes.{bytes-pos}
@@ -68,6 +69,10 @@ module _ (s : BuddySettings) (t : Tables) (fit : BuddyIn s) (lengths : Lengths s
   abbrev topCell : ℕ
   topCell = cellOf (placeAt s topAt) placeWords p
 
+  -- what leads to the chunk place vacated last from then on
+  abbrev link : ℕ
+  link = recordOf (chunkTaken s t .slab .vacant)
+
   abbrev topWord : ℕ
   topWord = 2 * pairTaken (levelFrom s (levelsIn t - 1)) (t .room) .place + 2
 
@@ -76,7 +81,7 @@ module _ (s : BuddySettings) (t : Tables) (fit : BuddyIn s) (lengths : Lengths s
       tables (t .head) (t .loans)
       (set (set (set (t .chunks) chunkPlacesAt q) (cellOf memoryAt chunkWords p) memory) (cellOf chunkSizeAt chunkWords p) z)
       (t .index)
-      (set (set (t .room) (chunksFrom s) (chunkTaken s t .slab .vacant)) topCell topWord)
+      (set (set (t .room) (chunksFrom s) link) topCell topWord)
 
   -- the chunks with their places counted, and then with the memory number
   abbrev counted : List ℕ
@@ -97,7 +102,7 @@ module _ (s : BuddySettings) (t : Tables) (fit : BuddyIn s) (lengths : Lengths s
     loans = lengths .loans;
     chunks = length-set first (cellOf chunkSizeAt chunkWords p) z ∙ first-long;
     index = lengths .index;
-    room = length-set (set (t .room) (chunksFrom s) (chunkTaken s t .slab .vacant)) topCell topWord ∙ length-set (t .room) (chunksFrom s) (chunkTaken s t .slab .vacant) ∙ lengths .room;
+    room = length-set (set (t .room) (chunksFrom s) link) topCell topWord ∙ length-set (t .room) (chunksFrom s) link ∙ lengths .room;
   }
 
   -- ---- the counts
@@ -107,7 +112,7 @@ module _ (s : BuddySettings) (t : Tables) (fit : BuddyIn s) (lengths : Lengths s
   places-now = chunk-counted s memory z t (omega (arith, lengths .chunks))
 
   pub chunked-level : (i : ℕ) → i < levelsMost → part (s .pairs) i (chunked .room) ≡ part (s .pairs) i (t .room)
-  chunked-level i h = part-set s i topCell topWord (set (t .room) (chunksFrom s) (chunkTaken s t .slab .vacant)) h (omega arith) ∙ part-set s i (chunksFrom s) (chunkTaken s t .slab .vacant) (t .room) h (omega arith)
+  chunked-level i h = part-set s i topCell topWord (set (t .room) (chunksFrom s) link) h (omega arith) ∙ part-set s i (chunksFrom s) link (t .room) h (omega arith)
 
   -- the chunks' mark stays
   chunks-mark : getD (chunked .chunks) markAt 0 ≡ getD (t .chunks) markAt 0
@@ -117,16 +122,18 @@ module _ (s : BuddySettings) (t : Tables) (fit : BuddyIn s) (lengths : Lengths s
   -- ---- words of the tree
 
   tree-other : (i : ℕ) → (i ≡ chunksFrom s → ⊥) → (i ≡ topCell → ⊥) → getD (chunked .room) i 0 ≡ getD (t .room) i 0
-  tree-other i a b = getD-set-other (set (t .room) (chunksFrom s) (chunkTaken s t .slab .vacant)) topCell i topWord 0 b ∙ getD-set-other (t .room) (chunksFrom s) i (chunkTaken s t .slab .vacant) 0 a
+  tree-other i a b = getD-set-other (set (t .room) (chunksFrom s) link) topCell i topWord 0 b ∙ getD-set-other (t .room) (chunksFrom s) i link 0 a
 
   module _ (room : chunkTaken s t .place < s .store .chunks) where
-    tree-vacated : getD (chunked .room) (chunksFrom s) 0 ≡ chunkTaken s t .slab .vacant
+    tree-vacated : chunkSlab s chunked .vacant ≡ chunkTaken s t .slab .vacant
     tree-vacated =
-        getD-set-other (set (t .room) (chunksFrom s) (chunkTaken s t .slab .vacant)) topCell (chunksFrom s) topWord 0 (λ e. omega arith)
-        ∙ getD-set-same (t .room) (chunksFrom s) (chunkTaken s t .slab .vacant) 0 (omega (arith, lengths .room))
+        ap placeOf
+        (getD-set-other (set (t .room) (chunksFrom s) link) topCell (chunksFrom s) topWord 0 (λ e. omega arith)
+        ∙ getD-set-same (t .room) (chunksFrom s) link 0 (omega (arith, lengths .room)))
+        ∙ place-record (chunkTaken s t .slab .vacant)
 
     tree-top : getD (chunked .room) (cellOf (placeAt s topAt) placeWords (chunkTaken s t .place)) 0 ≡ topWord
-    tree-top = getD-set-same (set (t .room) (chunksFrom s) (chunkTaken s t .slab .vacant)) topCell topWord 0 (omega (arith, length-set (t .room) (chunksFrom s) (chunkTaken s t .slab .vacant), lengths .room))
+    tree-top = getD-set-same (set (t .room) (chunksFrom s) link) topCell topWord 0 (omega (arith, length-set (t .room) (chunksFrom s) link, lengths .room))
 
     -- ---- the loans are the same
 
@@ -224,7 +231,7 @@ module _ (s : BuddySettings) (t : Tables) (fit : BuddyIn s) (lengths : Lengths s
           let h : headOr (chunkPlacesIn t) (sound .chunks-parted .chained) < s .store .chunks = omega (arith, insert-last (vacantChunk t) (t .room) (placeAt s afterAt) placeWords (chunkSlab s t) (s .store .chunks) (sound .chunks-parted) few, room) in
           subst (λ (y : Slab). Parted (vacantChunk chunked) (chunkAfter s chunked) y (s .store .chunks)) slab
           (parted-same (changed (vacantChunk t) p false) (vacantChunk chunked) (chunkAfter s t) (chunkAfter s chunked) (chunkTaken s t .slab) (s .store .chunks) (λ x g. vacant-now x)
-          (λ x g. tree-other (cellOf (placeAt s afterAt) placeWords x) (λ e. omega arith) (λ e. omega arith))
+          (λ x g. ap placeOf (tree-other (cellOf (placeAt s afterAt) placeWords x) (λ e. omega arith) (λ e. omega arith)))
           (inserted-parted (vacantChunk t) (t .room) (placeAt s afterAt) placeWords (chunkSlab s t) (s .store .chunks) (sound .chunks-parted) few h))
 
       -- ---- all but the trees

@@ -26,7 +26,7 @@ use Rattle.store_rules.specs.declared.Chunk.{Chunk}
 use Rattle.store_rules.specs.declared.Loan.{Loan}
 use Rattle.store_rules.proofs.Going.{none-go}
 use Rattle.store_rules.proofs.Placed.{earlier, later, loans-with, loans-less}
-use Rattle.book_rules.specs.Book.{struck}
+use Rattle.book_rules.specs.Book.{struck, ledTo}
 use Rattle.buddy_trees.specs.Chunks.{viewFrom, lies, stay, atOnce}
 use Rattle.buddy_trees.proofs.Ending.{lies-mem}
 use Rattle.buddy_trees.proofs.Onces.{Once}
@@ -55,7 +55,7 @@ module _ (s : BuddySettings) (t : Tables) (fit : BuddyIn s) (lengths : Lengths s
   v = givenTables s b (wordFor s b t) t
 
   abbrev k : ℕ
-  k = getD (t .index) (wordFor s b t) 0
+  k = ledTo (t .index) (wordFor s b t)
 
   -- the other loans
   pub back-loans : loansIn (givenTables s b (wordFor s b t) t) ≡ loansLess (b ∷ []) (loansIn t)

@@ -6,7 +6,7 @@ use mathlib.Core.List.{List}
 use Prim.Native.Nat.{ℕ, _+_, _-_, _^_, _%_, _≤_, _<_}
 use native.Mathlib.Omega.{arith}
 use lib.Dec.{eqb, ltb}
-use lib.ListN.{length, getD}
+use lib.ListN.{length, getD, set}
 use lib.Seq.{getD-set-other}
 use borrow.Author.Tests.{eq-eqb, ne-eqb, ltb-true}
 use Rattle.lists.proofs.Bools.{same?, true-false, and-left, and-right, not-yes}
@@ -21,7 +21,7 @@ use Rattle.slab.specs.Slab.{nowhere}
 use Rattle.store_rules.specs.Loans as Loans
 use Rattle.store_rules.specs.Loans.{loanWords, serialAt, sizeAt, offsetAt}
 use Rattle.store_rules.specs.declared.Loan.{Loan}
-use Rattle.book_rules.specs.Book.{indexWords, serialOf, wordTo, struck, struckIndex}
+use Rattle.book_rules.specs.Book.{indexWords, ledTo, serialOf, wordTo, struck, struckIndex}
 use Rattle.book_rules.proofs.Changed.{vacant-now}
 use Rattle.book_rules.proofs.Keeps.{BookChained, BookParted, freeIn, found, struck-long, struck-wide, struck-chained, struck-parted}
 use Rattle.book_rules.proofs.Owns.{struck-mark, struck-index-mark, word-past-mark}
@@ -52,7 +52,7 @@ module _ (s : BuddySettings) (t : Tables) (fit : BuddyIn s) (lengths : Lengths s
   w = wordFor s b t
 
   abbrev k : ℕ
-  k = getD (t .index) w 0
+  k = ledTo (t .index) w
 
   abbrev n : ℕ
   n = s .store .loans
@@ -149,7 +149,9 @@ module _ (s : BuddySettings) (t : Tables) (fit : BuddyIn s) (lengths : Lengths s
 
   cell-left : (g : Bool) (f j : ℕ) → OfLoan f → (j ≡ k → ⊥) → loanCell (after g) f j ≡ loanCell t f j
   unfolding struck
-  cell-left g f j h o = getD-set-other (t .loans) (cellOf sizeAt loanWords k) (cellOf f loanWords j) 0 0 (λ e. o (omega (arith, h .0, h .1)))
+  cell-left g f j h o =
+      getD-set-other (set (t .loans) (cellOf sizeAt loanWords k) 0) (cellOf serialAt loanWords k) (cellOf f loanWords j) 0 0 (λ e. o (omega (arith, h .0, h .1)))
+      ∙ getD-set-other (t .loans) (cellOf sizeAt loanWords k) (cellOf f loanWords j) 0 0 (λ e. o (omega (arith, h .0, h .1)))
 
   after-chained : BookChained loans′ index′ n (placesIn t) (givenIn t)
   after-chained =
@@ -289,6 +291,15 @@ module _ (s : BuddySettings) (t : Tables) (fit : BuddyIn s) (lengths : Lengths s
   pub given-held : (x : ℕ) → heldIn (givenTables s b (wordFor s b t) t) x ≡ true → (heldIn t x ≡ true) × (chunkSizeIn (givenTables s b (wordFor s b t) t) x ≡ chunkSizeIn t x)
   unfolding givenTables
   given-held x h = let z = still-held s t c (r .room) loans′ index′ lengths (past few-pairs) (r .freed) x h in (z .0, z .1)
+
+  -- a loan that is left is another, and was on loan, and its words are as they were
+  pub given-live : (j : ℕ) → liveIn (givenTables s b (wordFor s b t) t) j ≡ true → (j ≡ ledTo (t .index) (wordFor s b t) → ⊥) × (liveIn t j ≡ true)
+  unfolding givenTables
+  given-live j h = still-live (r .freed) j h
+
+  pub given-cell : (f j : ℕ) → OfLoan f → (j ≡ ledTo (t .index) (wordFor s b t) → ⊥) → loanCell (givenTables s b (wordFor s b t) t) f j ≡ loanCell t f j
+  unfolding givenTables
+  given-cell f j h o = cell-left (r .freed) f j h o
 
   -- memory numbers stay as they were
   pub given-memory : (x : ℕ) → memoryIn (givenTables s b (wordFor s b t) t) x ≡ memoryIn t x

@@ -1,16 +1,15 @@
 -- A serial that was given and that no loan has: over one call of a buddy store, with any settings, account and arguments, it
 -- stays so; a return that is taken makes it so; and where it is so the return of its block is refused.
 use mathlib.Core.Path.{_≡_, refl, sym, ap, subst, _∙_}
-use mathlib.Core.Bool.{Bool, true, false, not, _&&_, and-false}
+use mathlib.Core.Bool.{Bool, true, not, _&&_}
 use mathlib.Core.Logic.{_⊎_, inl, inr, ⊎-elim}
 use mathlib.Core.List.{List, []}
 use Prim.Native.Nat.{ℕ, _+_, _*_, _≤_, _<_}
 use native.Mathlib.Omega.{arith}
 use lib.Dec.{eqb, ltb}
 use lib.ListN.{length, getD}
-use lib.Seq.{getD-set-same, getD-set-other}
-use Rattle.lists.proofs.Bools.{told, true-false, same?}
-use Rattle.words.specs.Words.{cellOf, markAt}
+use Rattle.lists.proofs.Bools.{told, same?}
+use Rattle.words.specs.Words.{markAt}
 use Rattle.counter.specs.Account.{heapAt}
 use Rattle.counter.specs.Gate.{Verdict, refuse, pass, gated}
 use Rattle.counter.specs.InTable.{BuddyIn}
@@ -30,7 +29,7 @@ use Rattle.store_rules.specs.Loans.{loan, loanWords, sizeAt, serialAt}
 use Rattle.store_rules.specs.Orders.{Plan, deny, take, buy}
 use Rattle.store_rules.specs.Outcomes.{Listed, listed, listOk}
 use Rattle.store_rules.specs.declared.Loan.{Loan}
-use Rattle.book_rules.specs.Book.{takenOf, serialOf, struck}
+use Rattle.book_rules.specs.Book.{takenOf, serialOf, ledTo}
 use Rattle.book_rules.proofs.Decides.{serial-once}
 use Rattle.book_rules.proofs.Keeps.{BookParted, freeIn, taken-where}
 use Rattle.buddy_rules.specs.Tables.{Tables, Lengths, givenIn, placesIn, chunkPlacesIn, loanCell, liveIn, chainStart, chainNext, memories, marks}
@@ -48,7 +47,7 @@ use Rattle.buddy_outcomes.proofs.Booked.{lower}
 use Rattle.buddy_outcomes.proofs.Changed.{grown-lengths}
 use Rattle.buddy_outcomes.proofs.Delivered.{grown-sound, place, gate-sound, opened}
 use Rattle.buddy_outcomes.proofs.Given as Back
-use Rattle.buddy_outcomes.proofs.Heads.{grown-word, booked-given, booked-places, back-given, back-places}
+use Rattle.buddy_outcomes.proofs.Heads.{grown-word, booked-given, booked-places, back-given}
 use Rattle.buddy_outcomes.proofs.Loaned.{live-used, live-given}
 use Rattle.buddy_outcomes.proofs.Passing.{Passed, gate-passed}
 use Rattle.buddy_outcomes.proofs.Plans.{Takes, takes, Buys}
@@ -201,37 +200,21 @@ module _ (k : ℕ) (s : BuddySettings) (a : Account) (o : Outcome) (t : Tables) 
 module _ (s : BuddySettings) (b : Block) (t : Tables) (fit : BuddyIn s) (lengths : Lengths s t) (sound : Sound s t) (on : onLoanOk s b t ≡ true) where
   -- the place of the loan that comes back
   abbrev back : ℕ
-  back = getD (t .index) (wordFor s b t) 0
+  back = ledTo (t .index) (wordFor s b t)
 
   abbrev given : Tables
   given = givenTables s b (wordFor s b t) t
 
-  given-serial : (j : ℕ) → loanCell given serialAt j ≡ loanCell t serialAt j
-  unfolding givenTables struck
-  given-serial j = getD-set-other (t .loans) (cellOf sizeAt loanWords back) (cellOf serialAt loanWords j) 0 0 (λ e. omega arith)
+  -- a loan that is left was there, and has the serial that it had
+  left : (j : ℕ) → liveIn given j ≡ true → (j ≡ back → ⊥) × (liveIn t j ≡ true)
+  left j h = Back.given-live s t fit lengths sound b on j h
 
-  -- a loan that is left was there
-  given-was : (j : ℕ) → liveIn given j ≡ true → liveIn t j ≡ true
-  unfolding givenTables struck
-  given-was j h = ⊎-elim
-      (λ e. ap (liveIn t) e ∙ Back.live s t fit lengths sound b on)
-      (λ n.
-      let y = getD-set-other (t .loans) (cellOf sizeAt loanWords back) (cellOf sizeAt loanWords j) 0 0 (λ e. n (omega arith)) in
-      let p = back-places s b (wordFor s b t) t in
-      sym (λ i. ltb j (p i) && not (eqb (y i) 0)) ∙ h)
-      (same? j back)
-
-  -- and the one that comes back is not
-  given-left : liveIn given back ≡ false
-  unfolding givenTables struck
-  given-left =
-      ap (λ (y : ℕ). ltb back (placesIn given) && not (eqb y 0))
-      (getD-set-same (t .loans) (cellOf sizeAt loanWords back) 0 0 (omega (arith, lengths .loans, Back.room s t fit lengths sound b on)))
-      ∙ and-false (ltb back (placesIn given))
+  left-serial : (j : ℕ) → liveIn given j ≡ true → loanCell given serialAt j ≡ loanCell t serialAt j
+  left-serial j h = Back.given-cell s t fit lengths sound b on serialAt j (omega arith) (left j h .0)
 
   given-gone : (k : ℕ) → Gone k t → Gone k given
   unfolding givenTables
-  given-gone k g = record { old = omega (arith, g .old, back-given s b (wordFor s b t) t); away = λ j h e. g .away j (given-was j h) (sym (given-serial j) ∙ e); marked = g .marked }
+  given-gone k g = record { old = omega (arith, g .old, back-given s b (wordFor s b t) t); away = λ j h e. g .away j (left j h .1) (sym (left-serial j h) ∙ e); marked = g .marked }
 
   -- the serial that comes back was given
   back-old : b .serial ≤ givenIn t
@@ -247,9 +230,7 @@ module _ (s : BuddySettings) (b : Block) (t : Tables) (fit : BuddyIn s) (lengths
       (e ∙ sym (Back.says s t fit lengths sound b on .serial))
 
   back-away : (j : ℕ) → liveIn given j ≡ true → loanCell given serialAt j ≡ b .serial → ⊥
-  back-away j h e =
-      let i : j ≡ back = back-once j (given-was j h) (sym (given-serial j) ∙ e) in
-      true-false (liveIn given j) h (ap (liveIn given) i ∙ given-left)
+  back-away j h e = left j h .0 (back-once j (left j h .1) (sym (left-serial j h) ∙ e))
 
   back-gone : Gone (b .serial) given
   unfolding givenTables
@@ -287,7 +268,7 @@ module _ (s : BuddySettings) (a : Account) (b : Block) (t : Tables) (list : List
       by _ (ReturnComes.takes p on) =
           let fit = p .lent .settings in
           let lengths = p .lent .lengths in
-          absurd (g .away (getD (t .index) (wordFor s b t) 0) (Back.live s t fit lengths (p .sound) b on) (Back.says s t fit lengths (p .sound) b on .serial))
+          absurd (g .away (ledTo (t .index) (wordFor s b t)) (Back.live s t fit lengths (p .sound) b on) (Back.says s t fit lengths (p .sound) b on .serial))
 
   -- with nothing changed: as 7, or as one of the earlier rows 1 to 4
   pub gone-refused : Gone (b .serial) t → (n : ℕ) × (returnOf s a b t list ≡ listed (Paper.refusal n []) a t list) × ((n ≡ 7) ⊎ Given (listRows buddyWords s a t list) n)

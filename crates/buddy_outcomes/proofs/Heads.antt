@@ -2,7 +2,7 @@
 use mathlib.Core.Path.{_≡_, refl, _∙_}
 use mathlib.Core.Bool.{Bool, true, false, cond}
 use mathlib.Core.List.{List}
-use Prim.Native.Nat.{ℕ, _+_, _*_, _≤_}
+use Prim.Native.Nat.{ℕ, _+_, _-_, _*_, _≤_}
 use native.Mathlib.Omega.{arith}
 use lib.ListN.{length, getD, set}
 use lib.Seq.{getD-set-same, getD-set-other}
@@ -10,10 +10,14 @@ use Rattle.words.specs.Words.{cellOf, markAt}
 use Rattle.words.proofs.Filled.{blank-other}
 use Rattle.counter.specs.declared.answers.Block.{Block}
 use Rattle.counter.specs.declared.settings.BuddySettings.{BuddySettings}
-use Rattle.store_rules.specs.Loans.{givenAt, placesAt, loanWords, sizeAt, loan}
+use Rattle.store_rules.specs.Loans.{givenAt, placesAt, loanWords, loan}
+use Rattle.slab.specs.Slab.{recordOf}
 use Rattle.book_rules.specs.Book.{takenOf, struck}
 use Rattle.book_rules.proofs.Counted.{entered-given, entered-places}
-use Rattle.buddy_rules.specs.Tables.{Tables, levelsAt, chunkPlacesAt, chunkWords, memoryAt, chunkSizeAt, givenIn, placesIn, chunkPlacesIn, marks}
+use Rattle.book_rules.proofs.Owns.{struck-own}
+use Rattle.buddy_rules.specs.Tables.{Tables, levelsAt, chunkPlacesAt, chunkWords, memoryAt, chunkSizeAt, givenIn, levelsIn, placesIn, chunkPlacesIn, levelFrom, chunksFrom, placeAt, topAt, placeWords, marks}
+use Rattle.buddy_rules.specs.Nodes.{splitWord}
+use Rattle.buddy_rules.specs.Level.{pairTaken}
 use Rattle.buddy_rules.specs.Moves.{Cut}
 use Rattle.buddy_outcomes.specs.Ask.{chunkTaken, grownTables, bookedTables}
 use Rattle.buddy_outcomes.specs.Deliver.{chunkTables}
@@ -63,6 +67,14 @@ module _ (s : BuddySettings) (memory z : ℕ) (t : Tables) where
       ∙ getD-set-other one (cellOf memoryAt chunkWords c) markAt memory 0 (λ e. omega arith)
       ∙ getD-set-other (t .chunks) chunkPlacesAt markAt (chunkTaken s t .slab .places) 0 (λ e. omega arith)
 
+  -- and so does that of the tree
+  pub chunk-room-mark : getD (chunkTables s memory z t .room) markAt 0 ≡ getD (t .room) markAt 0
+  unfolding chunkTables
+  chunk-room-mark =
+      let link = recordOf (chunkTaken s t .slab .vacant) in
+      getD-set-other (set (t .room) (chunksFrom s) link) (cellOf (placeAt s topAt) placeWords (chunkTaken s t .place)) markAt (splitWord (pairTaken (levelFrom s (levelsIn t - 1)) (t .room) .place)) 0 (λ e. omega arith)
+      ∙ getD-set-other (t .room) (chunksFrom s) markAt link 0 (λ e. omega arith)
+
   pub chunk-counted : chunkWords ≤ length (t .chunks) → chunkPlacesIn (chunkTables s memory z t) ≡ chunkTaken s t .slab .places
   unfolding chunkTables
   chunk-counted h =
@@ -87,12 +99,10 @@ module _ (s : BuddySettings) (t : Tables) (c o size : ℕ) (cut : Cut) (some : l
 -- ---- a loan that is struck out, and the chunk that may go with it, leave every count
 
 pub struck-given : (at : ℕ) (index loans : List ℕ) → getD (struck at index loans) givenAt 0 ≡ getD loans givenAt 0
-unfolding struck
-struck-given at index loans = getD-set-other loans (cellOf sizeAt loanWords (getD index at 0)) givenAt 0 0 (λ e. omega arith)
+struck-given at index loans = struck-own at givenAt index loans (omega arith)
 
 pub struck-places : (at : ℕ) (index loans : List ℕ) → getD (struck at index loans) placesAt 0 ≡ getD loans placesAt 0
-unfolding struck
-struck-places at index loans = getD-set-other loans (cellOf sizeAt loanWords (getD index at 0)) placesAt 0 0 (λ e. omega arith)
+struck-places at index loans = struck-own at placesAt index loans (omega arith)
 
 -- the chunk at place c gone, or not
 pub left-chunk-places : (c : ℕ) (chunks : List ℕ) (f : Bool) → getD (cond f (set chunks (cellOf chunkSizeAt chunkWords c) 0) chunks) chunkPlacesAt 0 ≡ getD chunks chunkPlacesAt 0

@@ -6,7 +6,6 @@ use Prim.Native.Nat.{ℕ, _%_, _≤_, _<_}
 use native.Mathlib.Nat.{mod-lt}
 use native.Mathlib.Omega.{arith}
 use lib.Dec.{eqb, ltb}
-use lib.ListN.{getD}
 use borrow.Author.Tests.{eqb-false, ne-eqb, lt-ltb, ltb-true}
 use Rattle.lists.proofs.Bools.{and-left, and-right, and-both, not-yes}
 use Rattle.words.specs.Rows.{row}
@@ -18,7 +17,7 @@ use Rattle.slab.specs.Slab.{nowhere}
 use Rattle.store_rules.specs.Loans.{loanWords, serialAt, sizeAt, loanRow}
 use Rattle.store_rules.specs.Views.{Matches, OnLoan, sameLoan}
 use Rattle.store_rules.proofs.Loaned.{same-loan, loan-same}
-use Rattle.book_rules.specs.Book.{indexWords, serialOf, wordTo}
+use Rattle.book_rules.specs.Book.{indexWords, ledTo, serialOf, wordTo}
 use Rattle.book_rules.proofs.Falling.{falling-most}
 use Rattle.book_rules.proofs.Keeps.{freeIn, found}
 use Rattle.book_rules.proofs.Uses.{leads-used}
@@ -51,12 +50,12 @@ lent-live t b w = let v = loan-live t (w .0) (w .1) in (v .0, v .1, subst (Match
 
 module _ (s : BuddySettings) (t : Tables) (fit : BuddyIn s) (lengths : Lengths s t) (sound : Sound s t) (b : Block) where
   pub on-loan-is : onLoanOk s b t ≡ true
-      → (liveIn t (getD (t .index) (wordFor s b t) 0) ≡ true)
-      × Matches b (row loanRow (getD (t .index) (wordFor s b t) 0) (t .loans))
+      → (liveIn t (ledTo (t .index) (wordFor s b t)) ≡ true)
+      × Matches b (row loanRow (ledTo (t .index) (wordFor s b t)) (t .loans))
   unfolding onLoanOk
   on-loan-is e =
       let w = wordFor s b t in
-      let k = getD (t .index) w 0 in
+      let k = ledTo (t .index) w in
       let l = row loanRow k (t .loans) in
       let there = eqb-false w nowhere (not-yes (eqb w nowhere) (and-left (not (eqb w nowhere)) (sameLoan b l) e)) in
       let u = leads-used (t .loans) (t .index) (s .store .loans) (placesIn t) (givenIn t) (b .serial) (fit .store .loans-some) (omega (arith, sound .loans-parted .limit, fit .store .loans-most)) (sound .chained) there in
@@ -69,9 +68,9 @@ module _ (s : BuddySettings) (t : Tables) (fit : BuddyIn s) (lengths : Lengths s
       let u = live-used t k h in
       let serial : serialOf (t .loans) k ≡ b .serial = cell-row (t .loans) serialAt loanWords k ∙ r .serial in
       let f = found (t .loans) (t .index) n (placesIn t) (givenIn t) (fit .store .loans-some) (sound .loans-parted .limit) (omega (arith, fit .store .loans-most)) (sound .chained) k (u .0) (u .1) in
-      let g : (wordFor s b t < indexWords n) × (getD (t .index) (wordFor s b t) 0 ≡ k) =
-      subst (λ (x : ℕ). (wordTo (t .loans) (t .index) n (placesIn t) x < indexWords n) × (getD (t .index) (wordTo (t .loans) (t .index) n (placesIn t) x) 0 ≡ k)) serial f in
+      let g : (wordFor s b t < indexWords n) × (ledTo (t .index) (wordFor s b t) ≡ k) =
+      subst (λ (x : ℕ). (wordTo (t .loans) (t .index) n (placesIn t) x < indexWords n) × (ledTo (t .index) (wordTo (t .loans) (t .index) n (placesIn t) x) ≡ k)) serial f in
       let there : not (eqb (wordFor s b t) nowhere) ≡ true = ap not (ne-eqb (wordFor s b t) nowhere (λ e. omega (arith, g .0, fit .store .loans-most))) in
-      let same : sameLoan b (row loanRow (getD (t .index) (wordFor s b t) 0) (t .loans)) ≡ true =
+      let same : sameLoan b (row loanRow (ledTo (t .index) (wordFor s b t)) (t .loans)) ≡ true =
       ap (λ (p : ℕ). sameLoan b (row loanRow p (t .loans))) (g .1) ∙ loan-same b (row loanRow k (t .loans)) r in
       and-both _ _ there same

@@ -4,7 +4,6 @@ use mathlib.Core.Bool.{Bool, true, false, cond, _&&_}
 use mathlib.Core.Logic.{⊎-elim, _↔_, Iff·trans}
 use mathlib.Core.List.{List, [], _∷_, _++_}
 use Prim.Native.Nat.{ℕ}
-use lib.ListN.{getD}
 use lib.Seq.{sets}
 use borrow.Author.Tests.{ne-eqb}
 use Rattle.lists.proofs.Bools.{and-left, and-right, and-both}
@@ -50,6 +49,7 @@ use Rattle.buddy_outcomes.proofs.Passing.{Passed, lengths-are, are-leng
 use Rattle.buddy_rules.specs.Views.{loansIn}
 use Rattle.store_rules.specs.Views.{OnLoan}
 use Rattle.buddy_rules.proofs.Viewed.{live-loan}
+use Rattle.book_rules.specs.Book.{ledTo}
 
 -- ---- set-up
 
@@ -107,7 +107,7 @@ stale-is : (s : BuddySettings) (b : Block) (t : Tables) → BuddyIn s → Length
 stale-is s b t fit lengths sound = fails (onLoanOk s b t) there back
   where
     there : onLoanOk s b t ≡ true → OnLoan b (loansIn t)
-    there e = let w = on-loan-is s t fit lengths sound b e in (_, live-loan t (getD (t .index) (wordFor s b t) 0) (w .0), w .1)
+    there e = let w = on-loan-is s t fit lengths sound b e in (_, live-loan t (ledTo (t .index) (wordFor s b t)) (w .0), w .1)
 
     back : OnLoan b (loansIn t) → onLoanOk s b t ≡ true
     back v = let w = lent-live t b v in is-on-loan s t fit lengths sound b (w .0) (w .1) (w .2)

@@ -20,7 +20,7 @@ use Rattle.counter.specs.declared.settings.BuddySettings.{BuddySettings}
 use Rattle.slab.specs.Slab.{nowhere}
 use Rattle.store_rules.specs.Outcomes.{Out, Listed, listOk}
 use Rattle.store_rules.proofs.Said.{not-refused}
-use Rattle.book_rules.specs.Book.{takenOf}
+use Rattle.book_rules.specs.Book.{takenOf, ledTo}
 use Rattle.buddy_trees.specs.Trees.{up}
 use Rattle.buddy_rules.specs.Nodes.{other, word}
 use Rattle.buddy_rules.specs.Levels.{baseOf}
@@ -158,7 +158,7 @@ module _ (s : BuddySettings) (a : Account) (size mask : ℕ) (t : Tables) (seria
 
 -- the node of the block that comes back, and its level
 abbrev pub nodeBack : BuddySettings → Block → Tables → ℕ
-nodeBack s b t = getD (t .room) (nodesFrom s + getD (t .index) (wordFor s b t) 0) 0
+nodeBack s b t = getD (t .room) (nodesFrom s + ledTo (t .index) (wordFor s b t)) 0
 
 abbrev pub levelBack : BuddySettings → Block → ℕ
 levelBack s b = levelOf (b .size) (s .minimal)
@@ -168,7 +168,7 @@ module _ (s : BuddySettings) (t : Tables) (fit : BuddyIn s) (lengths : Lengths s
   Q = ringsBack (pairsIn s t) (levelsIn t - levelBack s b) (levelBack s b) (nodeBack s b t) W
 
   abbrev k : ℕ
-  k = getD (t .index) (wordFor s b t) 0
+  k = ledTo (t .index) (wordFor s b t)
 
   -- the rings of the climb
   climb-left : (l : ℕ) → l < levelsIn t → Ringed (levelFrom s l) (s .pairs) (climbFor s b (wordFor s b t) t .room) (Q l)
@@ -243,8 +243,8 @@ module _ (s : BuddySettings) (a : Account) (b : Block) (t : Tables) (list : List
         let fit = v .0 .lent .settings in
         let len = v .0 .lent .lengths in
         let S = v .0 .sound in
-        let e : loanIn s t (getD (t .index) (wordFor s b t) 0) .lev ≡ high = ap (λ (z : ℕ). levelOf z (s .minimal)) (Given.says s t fit len S b (v .1) .size) in
-        omega (arith, e, loan-under s t S (getD (t .index) (wordFor s b t) 0) (Given.live s t fit len S b (v .1)) side)
+        let e : loanIn s t (ledTo (t .index) (wordFor s b t)) .lev ≡ high = ap (λ (z : ℕ). levelOf z (s .minimal)) (Given.says s t fit len S b (v .1) .size) in
+        omega (arith, e, loan-under s t S (ledTo (t .index) (wordFor s b t)) (Given.live s t fit len S b (v .1)) side)
 
     one-more : levelsIn t - levelBack s b ≡ suc (levelsIn t - levelBack s b - 1)
     one-more = omega (arith, under)

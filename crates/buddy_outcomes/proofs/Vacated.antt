@@ -15,9 +15,10 @@ use Rattle.words.specs.Words.{cellOf, markAt}
 use Rattle.rounding_rules.specs.Raising.{levelOf}
 use Rattle.counter.specs.Limits.{levelsMost}
 use Rattle.counter.specs.declared.settings.BuddySettings.{BuddySettings}
-use Rattle.slab.specs.Slab.{linkAt, removed, removedLinks, Parted, changed}
+use Rattle.slab.specs.Slab.{placeOf, recordOf, linkAt, removed, removedLinks, Parted, changed}
 use Rattle.slab.specs.declared.Slab.{Slab}
-use Rattle.slab.proofs.Places.{parted-same, removed-parted, vacant-set}
+use Rattle.slab.proofs.Links.{place-record}
+use Rattle.slab.proofs.Places.{link-here, link-other, parted-same, removed-parted, vacant-set}
 use Rattle.buddy_rules.specs.Stores.{with}
 use Rattle.buddy_rules.specs.Level.{levelWords, part, levelStart}
 use Rattle.buddy_rules.specs.Tables.{Tables, tables, Lengths, chunkWords, memoryAt, chunkSizeAt, chunkPlacesIn, memoryIn, chunkSizeIn, chunksFrom, placeAt, topAt, afterAt, placeWords, heldIn, highIn, topIn, vacantChunk, chunkAfter, chunkSlab}
@@ -62,7 +63,7 @@ module _ (s : BuddySettings) (t : Tables) (c : ℕ) (tree loans index : List ℕ
 
   pub tree-mark-by : (f : Bool) → getD (tablesBy f .room) markAt 0 ≡ getD tree markAt 0
   unfolding vacatedTree
-  tree-mark-by true = getD-set-other linked (chunksFrom s) markAt c 0 (λ e. omega arith) ∙ getD-set-other tree after markAt (getD tree (chunksFrom s) 0) 0 (λ e. omega arith)
+  tree-mark-by true = getD-set-other linked (chunksFrom s) markAt (recordOf c) 0 (λ e. omega arith) ∙ getD-set-other tree after markAt (getD tree (chunksFrom s) 0) 0 (λ e. omega arith)
   tree-mark-by false = refl
 
   module _ (lengths : Lengths s t) (p : Past s t c tree) where
@@ -72,20 +73,20 @@ module _ (s : BuddySettings) (t : Tables) (c : ℕ) (tree loans index : List ℕ
     unfolding vacatedTree
     part-by true i h =
         let k : levelStart (s .pairs) (i + 1) ≤ chunksFrom s = levels-in s i h in
-        part-past (s .pairs) i (chunksFrom s) c linked k ∙ part-past (s .pairs) i after (getD tree (chunksFrom s) 0) tree (omega arith)
+        part-past (s .pairs) i (chunksFrom s) (recordOf c) linked k ∙ part-past (s .pairs) i after (getD tree (chunksFrom s) 0) tree (omega arith)
     part-by false i h = refl
 
     pub word-by : (f : Bool) (j : ℕ) → chunksFrom s < j → (j ≡ cellOf (placeAt s afterAt) placeWords c → ⊥) → getD (tablesBy f .room) j 0 ≡ getD (t .room) j 0
     unfolding vacatedTree
     word-by true j h n =
-        getD-set-other linked (chunksFrom s) j c 0 (λ e. omega arith)
+        getD-set-other linked (chunksFrom s) j (recordOf c) 0 (λ e. omega arith)
         ∙ getD-set-other tree after j (getD tree (chunksFrom s) 0) 0 n
         ∙ p .same j (omega arith)
     word-by false j h n = p .same j (omega arith)
 
     pub tree-by : (f : Bool) → length (tablesBy f .room) ≡ length (t .room)
     unfolding vacatedTree
-    tree-by true = length-set linked (chunksFrom s) c ∙ length-set tree after (getD tree (chunksFrom s) 0) ∙ p .long
+    tree-by true = length-set linked (chunksFrom s) (recordOf c) ∙ length-set tree after (getD tree (chunksFrom s) 0) ∙ p .long
     tree-by false = p .long
 
     -- ---- the chunks
@@ -154,6 +155,20 @@ module _ (s : BuddySettings) (t : Tables) (c : ℕ) (tree loans index : List ℕ
 
     -- ---- their places
 
+    -- it leads to the place vacated last until now, as when a slab loses it
+    relinked : (x : ℕ) → chunkAfter s (tablesBy true) x ≡ linkAt (set tree after (recordOf (chunkSlab s t .vacant))) (placeAt s afterAt) placeWords x
+    unfolding vacatedTree
+    relinked x =
+        let at = placeAt s afterAt in
+        let old = getD tree (chunksFrom s) 0 in
+        let v = chunkSlab s t .vacant in
+        let there : cellOf at placeWords c < length tree = omega (arith, p .long, p .inside, lengths .room) in
+        ap placeOf (getD-set-other linked (chunksFrom s) (cellOf at placeWords x) (recordOf c) 0 (λ e. omega arith))
+        ∙ ⊎-elim
+        (λ e. rw e (ap placeOf (getD-set-same tree after old 0 there ∙ p .same (chunksFrom s) (omega arith)) ∙ sym (link-here tree at placeWords c v there)))
+        (λ n. link-other tree at placeWords c old x (omega arith) n ∙ sym (link-other tree at placeWords c (recordOf v) x (omega arith) n))
+        (same? x c)
+
     pub parted-by : (f : Bool) → c < chunkPlacesIn t → vacantChunk t c ≡ false → Parted (vacantChunk t) (chunkAfter s t) (chunkSlab s t) (s .store .chunks)
         → Parted (vacantChunk (tablesBy f)) (chunkAfter s (tablesBy f)) (chunkSlab s (tablesBy f)) (s .store .chunks)
     unfolding vacatedTree removed removedLinks
@@ -162,19 +177,16 @@ module _ (s : BuddySettings) (t : Tables) (c : ℕ) (tree loans index : List ℕ
         let at = placeAt s afterAt in
         let free = vacantChunk t in
         let t′ = tablesBy true in
-        let v = getD (t .room) (chunksFrom s) 0 in
-        let Q = parted-same free free (chunkAfter s t) (linkAt tree at placeWords) (chunkSlab s t) m (λ x i. refl) (λ x i. p .same (cellOf at placeWords x) (omega arith)) P in
+        let v = recordOf (chunkSlab s t .vacant) in
+        let Q = parted-same free free (chunkAfter s t) (linkAt tree at placeWords) (chunkSlab s t) m (λ x i. refl) (λ x i. ap placeOf (p .same (cellOf at placeWords x) (omega arith))) P in
         let R = removed-parted free tree at placeWords (chunkSlab s t) m c Q h u (omega (arith, p .long, p .inside, lengths .room)) (omega arith) in
-        let link : (x : ℕ) → chunkAfter s t′ x ≡ linkAt (set tree after v) at placeWords x = λ x.
-        getD-set-other linked (chunksFrom s) (cellOf at placeWords x) c 0 (λ e. omega arith)
-        ∙ ap (λ (y : ℕ). linkAt (set tree after y) at placeWords x) (p .same (chunksFrom s) (omega arith)) in
-        let first : getD (t′ .room) (chunksFrom s) 0 ≡ c = getD-set-same linked (chunksFrom s) c 0 (omega (arith, length-set tree after (getD tree (chunksFrom s) 0), p .long, lengths .room)) in
+        let first : chunkSlab s t′ .vacant ≡ c = ap placeOf (getD-set-same linked (chunksFrom s) (recordOf c) 0 (omega (arith, length-set tree after (getD tree (chunksFrom s) 0), p .long, lengths .room))) ∙ place-record c in
         let n = places-by true in
         subst (λ (y : Slab). Parted (vacantChunk t′) (chunkAfter s t′) y m) (λ j. record { places = sym n j; vacant = sym first j })
         (parted-same (changed free c true) (vacantChunk t′) (linkAt (set tree after v) at placeWords) (chunkAfter s t′) (record { places = chunkPlacesIn t; vacant = c }) m
-        (λ x i. vacant-set (t .chunks) chunkSizeAt chunkWords c 0 x (omega arith) cell-in) (λ x i. link x) R)
+        (λ x i. vacant-set (t .chunks) chunkSizeAt chunkWords c 0 x (omega arith) cell-in) (λ x i. relinked x) R)
     parted-by false h u P =
         let m = s .store .chunks in
         let at = placeAt s afterAt in
-        subst (λ (y : ℕ). Parted (vacantChunk t) (linkAt tree at placeWords) (record { places = chunkPlacesIn t; vacant = y }) m) (sym (p .same (chunksFrom s) (omega arith)))
-        (parted-same (vacantChunk t) (vacantChunk t) (chunkAfter s t) (linkAt tree at placeWords) (chunkSlab s t) m (λ x i. refl) (λ x i. p .same (cellOf at placeWords x) (omega arith)) P)
+        subst (λ (y : ℕ). Parted (vacantChunk t) (linkAt tree at placeWords) (record { places = chunkPlacesIn t; vacant = y }) m) (ap placeOf (sym (p .same (chunksFrom s) (omega arith))))
+        (parted-same (vacantChunk t) (vacantChunk t) (chunkAfter s t) (linkAt tree at placeWords) (chunkSlab s t) m (λ x i. refl) (λ x i. ap placeOf (p .same (cellOf at placeWords x) (omega arith))) P)

@@ -4,6 +4,7 @@ use mathlib.Core.List.{List, []}
 use Prim.Native.Nat.{ℕ, _+_, _-_}
 use lib.ListN.{set}
 use Rattle.words.specs.Words.{cellOf}
+use Rattle.slab.specs.Slab.{recordOf}
 use Rattle.counter.specs.Account.{heapAt}
 use Rattle.counter.specs.Gate.{Verdict, first, gated}
 use Rattle.counter.specs.Paper as Paper
@@ -48,7 +49,7 @@ chunkTables s memory z t =
     (t .loans)
     (set (set (set (t .chunks) chunkPlacesAt (chunkTaken s t .slab .places)) (cellOf memoryAt chunkWords (chunkTaken s t .place)) memory) (cellOf chunkSizeAt chunkWords (chunkTaken s t .place)) z)
     (t .index)
-    (set (set (t .room) (chunksFrom s) (chunkTaken s t .slab .vacant)) (cellOf (placeAt s topAt) placeWords (chunkTaken s t .place))
+    (set (set (t .room) (chunksFrom s) (recordOf (chunkTaken s t .slab .vacant))) (cellOf (placeAt s topAt) placeWords (chunkTaken s t .place))
     (splitWord (pairTaken (levelFrom s (levelsIn t - 1)) (t .room) .place)))
 
 abbrev pub loanIn : BuddySettings → ℕ → ℕ → Tables → Loan

@@ -5,6 +5,7 @@ use Prim.Native.Nat.{ℕ, _+_, _-_}
 use lib.ListN.{getD, set}
 use lib.Seq.{sets}
 use Rattle.words.specs.Words.{cellOf}
+use Rattle.slab.specs.Slab.{recordOf}
 use Rattle.rounding_rules.specs.Raising.{levelOf}
 use Rattle.counter.specs.Gate.{gated}
 use Rattle.counter.specs.Paper as Paper
@@ -12,7 +13,7 @@ use Rattle.counter.specs.declared.account.Account.{Account}
 use Rattle.counter.specs.declared.answers.Block.{Block}
 use Rattle.counter.specs.declared.settings.BuddySettings.{BuddySettings}
 use Rattle.store_rules.specs.Outcomes.{Listed, listed, listOk, releasedAccount}
-use Rattle.book_rules.specs.Book.{struck, struckIndex}
+use Rattle.book_rules.specs.Book.{ledTo, struck, struckIndex}
 use Rattle.book_rules.specs.Returns as Returns
 pub use Rattle.book_rules.specs.Returns.{Plan, deny, back, decided}
 use Rattle.buddy_rules.specs.Tables.{Tables, tables, givenIn, chunkWords, chunkSizeAt, levelsIn, placesIn, memoryIn, chunkSizeIn, chunksFrom, placeAt, afterAt, placeWords, nodeOfLoan}
@@ -33,11 +34,11 @@ climbFrom s l n t = climbed (s .pairs) (levelsIn t - l) l n (t .room)
 
 -- and that from the node of the block's loan, to which the word w leads
 abbrev pub climbFor : BuddySettings → Block → ℕ → Tables → Climbed
-climbFor s b w t = climbFrom s (levelOf (b .size) (s .minimal)) (nodeOfLoan s t (getD (t .index) w 0)) t
+climbFor s b w t = climbFrom s (levelOf (b .size) (s .minimal)) (nodeOfLoan s t (ledTo (t .index) w)) t
 
 -- "above the top the chunk is released": its place is vacant, and the next to be taken
 unfoldable pub vacatedTree : BuddySettings → ℕ → List ℕ → List ℕ
-vacatedTree s c t = set (set t (cellOf (placeAt s afterAt) placeWords c) (getD t (chunksFrom s) 0)) (chunksFrom s) c
+vacatedTree s c t = set (set t (cellOf (placeAt s afterAt) placeWords c) (getD t (chunksFrom s) 0)) (chunksFrom s) (recordOf c)
 
 unfoldable pub givenTables : BuddySettings → Block → ℕ → Tables → Tables
 givenTables s b w t =

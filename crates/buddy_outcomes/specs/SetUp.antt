@@ -2,25 +2,21 @@
 use mathlib.Core.Bool.{Bool, _&&_}
 use mathlib.Core.List.{List, [], _∷_}
 use Prim.Native.Nat.{ℕ, _*_, _+_}
-use lib.ListN.{set}
 use Rattle.words.specs.Words.{blank}
 use Rattle.counter.specs.Gate.{Verdict, pass, refuse, first}
 use Rattle.counter.specs.Paper as Paper
 use Rattle.counter.specs.Table.{buddyOk}
 use Rattle.counter.specs.declared.settings.BuddySettings.{BuddySettings}
-use Rattle.slab.specs.Slab.{nowhere}
 use Rattle.store_rules.specs.Loans.{loanWords}
 use Rattle.book_rules.specs.Book.{freshIndex}
 pub use Rattle.store_rules.specs.Tables.{Begun, begun}
-use Rattle.buddy_rules.specs.Tables.{Tables, tables, marks, lengthsOk, chunkWords, chunksFrom, treeWords, initialLevels}
-use Rattle.buddy_outcomes.specs.Ask.{freshLevels}
+use Rattle.buddy_rules.specs.Tables.{Tables, tables, marks, lengthsOk, chunkWords, treeWords, initialLevels}
 
 -- the mark, and "Initial levels"
 abbrev pub freshHead : BuddySettings → List ℕ
 freshHead s = marks .head ∷ initialLevels s ∷ []
 
--- every word of every table is written, whatever was lent: the marks; no loan, no chunk, no link; the initial levels are there and empty, and
--- no chunk place is vacated
+-- every word of every table is written, whatever was lent: the marks; no loan, no chunk, no link, no pair
 unfoldable pub freshTables : BuddySettings → Tables
 freshTables s =
     tables
@@ -28,7 +24,7 @@ freshTables s =
     (blank (loanWords + loanWords * s .store .loans) (marks .loans) 0)
     (blank (chunkWords + chunkWords * s .store .chunks) (marks .chunks) 0)
     (freshIndex (marks .index) (s .store .loans))
-    (set (freshLevels s 0 (initialLevels s) (blank (treeWords s) (marks .room) 0)) (chunksFrom s) nowhere)
+    (blank (treeWords s) (marks .room) 0)
 
 -- 1, but for the account, which set-up does not take
 unfoldable pub fitOk : BuddySettings → Tables → Bool

@@ -9,8 +9,9 @@ use lib.Dec.{eqb, ltb}
 use lib.ListN.{length, getD}
 use borrow.Author.Tests.{lt-ltb, le-ltb}
 use Rattle.lists.proofs.Bools.{same?, lt-or-le}
-use Rattle.slab.specs.Slab.{nowhere, changed, Parted}
+use Rattle.slab.specs.Slab.{nowhere, placeOf, recordOf, changed, Parted}
 use Rattle.slab.specs.declared.Slab.{Slab}
+use Rattle.slab.proofs.Links.{place-record}
 use Rattle.slab.proofs.Places.{chain-same, changed-here, changed-other, still-free, insert-last, inserted-parted}
 use Rattle.ring_rules.specs.Ring.{RingOf}
 use Rattle.buddy_rules.specs.Level.{ringAt, usedAt, pairWords, tagAt, chunkAt, offAt, leftAt, rightAt, nextAt, prevAt, upAt, levelWords, fieldAt, pairCell, entOf, pairIn, ringHead, slabIn, pairTaken, added, vacantIn, vacantAfter, Good}
@@ -63,16 +64,16 @@ module _ (b c o n w : ℕ) (t : List ℕ) where
   abbrev numbered : List (ℕ × ℕ)
   numbered =
       (1, pairTaken b t .slab .places)
-      ∷ (2, pairTaken b t .slab .vacant)
+      ∷ (2, recordOf (pairTaken b t .slab .vacant))
       ∷ (8, 3)
       ∷ (9, c)
       ∷ (10, o)
       ∷ (11, w)
       ∷ (12, 0)
       ∷ (15, n)
-      ∷ (13, p)
-      ∷ (14, p)
-      ∷ (0, p)
+      ∷ (13, recordOf p)
+      ∷ (14, recordOf p)
+      ∷ (0, recordOf p)
       ∷ []
 
   at-one : (j k : ℕ) → j < 16 → k < 16 → at j ≡ at k → j ≡ k
@@ -99,6 +100,10 @@ module _ (b c o n w : ℕ) (t : List ℕ) where
     used : getD t′ (b + usedAt) 0 ≡ pairTaken b t .slab .places
     used = now 1 (omega arith)
 
+    -- and what the links of p lead to
+    led : (k : ℕ) → k < 16 → latest numbered k (getD t (at k) 0) ≡ recordOf p → placeOf (getD t′ (at k) 0) ≡ p
+    led k h e = ap placeOf (now k h ∙ e) ∙ place-record p
+
     here : entOf b t′ p ≡ record { tag = 3; chunk = c; off = o; left = w; right = 0; up = n }
     here = λ j. record {
       tag = now 8 (omega arith) j;
@@ -110,7 +115,7 @@ module _ (b c o n w : ℕ) (t : List ℕ) where
     }
 
     slab : pairTaken b t .slab ≡ slabIn b t′
-    slab = λ j. record { places = sym (now 1 (omega arith)) j; vacant = sym (now 2 (omega arith)) j }
+    slab = λ j. record { places = sym (now 1 (omega arith)) j; vacant = sym (ap placeOf (now 2 (omega arith)) ∙ place-record (pairTaken b t .slab .vacant)) j }
 
   module _ (pairs : ℕ) (few : pairs ≤ 2 ^ 32) (fits : b + levelWords pairs ≤ length t) (G : Good b pairs t) (room : p < pairs) where
     inside : pairCell b pairWords p ≤ length t
@@ -131,7 +136,7 @@ module _ (b c o n w : ℕ) (t : List ℕ) where
         let P = inserted-parted (vacantIn b t) t (fieldAt b offAt) pairWords (slabIn b t) pairs (G .parted) most (rw e at room) in
         subst (λ (s : Slab). Parted (vacantIn b t′) (vacantAfter b t′) s pairs) (slab inside)
         (parted-vacant _ (vacantIn b t′) _ (vacantAfter b t′) (pairTaken b t .slab) pairs vacant
-        (λ x f. other x (still-free (vacantIn b t) p x f .0) offAt (omega arith)) P)
+        (λ x f. ap placeOf (other x (still-free (vacantIn b t) p x f .0) offAt (omega arith))) P)
 
     none : ringHead b t ≡ nowhere → (x : ℕ) → (x ≡ p → ⊥) → x < getD t′ (b + usedAt) 0 → entOf b t′ x .tag ≤ 1
     none e x ne h =
@@ -142,8 +147,8 @@ module _ (b c o n w : ℕ) (t : List ℕ) where
     readies e = record {
       ring = p ∷ [];
       rings = record {
-        ring = record { closed = ((now inside 13 (omega arith), now inside 14 (omega arith)), tt); distinct = (tt, tt) };
-        first = now inside 0 (omega arith);
+        ring = record { closed = ((led inside 13 (omega arith) refl, led inside 14 (omega arith) refl), tt); distinct = (tt, tt) };
+        first = led inside 0 (omega arith) refl;
       };
       below = λ x m. ⊎-elim (λ q. omega (arith, q, used inside, taken-used b pairs t few G)) (λ i. absurd i) m;
       ready = λ x m. ⊎-elim (λ q. rw (q, now inside 8 (omega arith)) (omega arith)) (λ i. absurd i) m;
@@ -153,8 +158,8 @@ module _ (b c o n w : ℕ) (t : List ℕ) where
     -- the new pair is linked to itself, and is the head
     pub added-alone : RingOf (b + ringAt) (fieldAt b nextAt) (fieldAt b prevAt) pairWords (added b c o n w t) (p ∷ [])
     added-alone = rw (added-puts b c o n w t) (record {
-      ring = record { closed = ((now inside 13 (omega arith), now inside 14 (omega arith)), tt); distinct = (tt, tt) };
-      first = now inside 0 (omega arith);
+      ring = record { closed = ((led inside 13 (omega arith) refl, led inside 14 (omega arith) refl), tt); distinct = (tt, tt) };
+      first = led inside 0 (omega arith) refl;
     })
 
     pub added-good : ringHead b t ≡ nowhere → Good b pairs (added b c o n w t)

@@ -34,6 +34,7 @@ use Rattle.buddy_rules.specs.Level.{
   pairCell,
   entOf,
   pairIn,
+  ringHead,
   leaves,
   joins,
 }
@@ -88,7 +89,7 @@ module _ (b : ℕ) where
   joins-off p i t o = linked-keeps (b + ringAt) (fieldAt b nextAt) (fieldAt b prevAt) pairWords p i t (by (eqb h nowhere))
     where
       h : ℕ
-      h = getD t (b + ringAt) 0
+      h = ringHead b t
 
       q : ℕ
       q = prev (b + ringAt) (fieldAt b nextAt) (fieldAt b prevAt) pairWords t h

@@ -11,8 +11,9 @@ use lib.ListN.{length, getD}
 use borrow.Author.Tests.{eq-eqb, ne-eqb}
 use Rattle.lists.specs.Members.{NotIn}
 use Rattle.lists.proofs.Bools.{same?}
-use Rattle.slab.specs.Slab.{linkAt, removed, removedLinks, changed, Parted}
+use Rattle.slab.specs.Slab.{placeOf, linkAt, removed, removedLinks, changed, Parted, recordOf}
 use Rattle.slab.specs.declared.Slab.{Slab}
+use Rattle.slab.proofs.Links.{place-record}
 use Rattle.slab.proofs.Places.{changed-here, changed-other, link-here, link-other, parted-same, removed-parted}
 use Rattle.buddy_rules.specs.Nodes.{Ent}
 use Rattle.buddy_rules.specs.Level.{
@@ -84,17 +85,17 @@ module _ (b p : ℕ) (t : List ℕ) where
     tag : entOf b (dropped b p t) p .tag ≡ 0
     tag =
         ap (λ u. entOf b u p .tag) (dropped-puts b p t)
-        ∙ found (leaves b p t) [] (pairCell b tagAt p) 0 ((pairCell b offAt p, getD t (b + vacatedAt) 0) ∷ (b + vacatedAt, p) ∷ []) (rw (leaves-length b p t) (omega arith)) ((λ e. omega arith), ((λ e. omega arith), tt))
+        ∙ found (leaves b p t) [] (pairCell b tagAt p) 0 ((pairCell b offAt p, getD t (b + vacatedAt) 0) ∷ (b + vacatedAt, recordOf p) ∷ []) (rw (leaves-length b p t) (omega arith)) ((λ e. omega arith), ((λ e. omega arith), tt))
 
     after : entOf b (dropped b p t) p .off ≡ getD t (b + vacatedAt) 0
     after =
         ap (λ u. entOf b u p .off) (dropped-puts b p t)
-        ∙ found (leaves b p t) ((pairCell b tagAt p, 0) ∷ []) (pairCell b offAt p) (getD t (b + vacatedAt) 0) ((b + vacatedAt, p) ∷ []) (rw (leaves-length b p t) (omega arith)) ((λ e. omega arith), tt)
+        ∙ found (leaves b p t) ((pairCell b tagAt p, 0) ∷ []) (pairCell b offAt p) (getD t (b + vacatedAt) 0) ((b + vacatedAt, recordOf p) ∷ []) (rw (leaves-length b p t) (omega arith)) ((λ e. omega arith), tt)
 
-    first : getD (dropped b p t) (b + vacatedAt) 0 ≡ p
+    first : getD (dropped b p t) (b + vacatedAt) 0 ≡ recordOf p
     first =
         ap (λ u. getD u (b + vacatedAt) 0) (dropped-puts b p t)
-        ∙ found (leaves b p t) ((pairCell b tagAt p, 0) ∷ (pairCell b offAt p, getD t (b + vacatedAt) 0) ∷ []) (b + vacatedAt) p [] (rw (leaves-length b p t) (omega arith)) tt
+        ∙ found (leaves b p t) ((pairCell b tagAt p, 0) ∷ (pairCell b offAt p, getD t (b + vacatedAt) 0) ∷ []) (b + vacatedAt) (recordOf p) [] (rw (leaves-length b p t) (omega arith)) tt
 
 -- ---- the level stays good
 
@@ -116,13 +117,13 @@ module _ (b pairs : ℕ) (t : List ℕ) (few : pairs ≤ 2 ^ 32) (fits : b + lev
   chain : (x : ℕ) → vacantAfter b (dropped b p t) x ≡ linkAt (removedLinks (slabIn b t) t (fieldAt b offAt) pairWords p) (fieldAt b offAt) pairWords x
   unfolding removedLinks
   chain x = ⊎-elim
-      (λ e. rw e (after b p t inside ∙ sym (link-here t (fieldAt b offAt) pairWords p (getD t (b + vacatedAt) 0) (omega (arith, inside)))))
-      (λ ne. other b p t x ne offAt (inl (omega arith)) ∙ sym (link-other t (fieldAt b offAt) pairWords p (getD t (b + vacatedAt) 0) x (omega arith) ne))
+      (λ e. rw e (ap placeOf (after b p t inside) ∙ sym (link-here t (fieldAt b offAt) pairWords p (slabIn b t .vacant) (omega (arith, inside)))))
+      (λ ne. ap placeOf (other b p t x ne offAt (inl (omega arith))) ∙ sym (link-other t (fieldAt b offAt) pairWords p (recordOf (slabIn b t .vacant)) x (omega arith) ne))
       (same? x p)
 
   places : removed (slabIn b t) p ≡ slabIn b (dropped b p t)
   unfolding removed
-  places = λ j. record { places = sym (used b p t) j; vacant = sym (first b p t inside) j }
+  places = λ j. record { places = sym (used b p t) j; vacant = sym (ap placeOf (first b p t inside) ∙ place-record p) j }
 
   parted : Parted (vacantIn b (dropped b p t)) (vacantAfter b (dropped b p t)) (slabIn b (dropped b p t)) pairs
   parted =

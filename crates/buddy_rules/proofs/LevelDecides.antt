@@ -12,6 +12,7 @@ use Rattle.lists.specs.Members.{Mem, picked}
 use Rattle.lists.proofs.Bools.{and-left, and-right, and-both}
 use Rattle.lists.proofs.Members.{mem-below, below-mem, no-more, fills}
 use Rattle.lists.proofs.Picked.{picked-all, picked-only, picked-once}
+use Rattle.slab.specs.Slab.{linkAt}
 use Rattle.slab.specs.Test.{vacancies, partedOk}
 use Rattle.slab.proofs.Decides.{counted-long, decides-yes, decides-all}
 use Rattle.ring_rules.specs.Ring.{Run, RingOf}
@@ -68,14 +69,14 @@ module _ (b : ℕ) (t : List ℕ) where
   ring-each [] r e y m = absurd m
   ring-each (x ∷ l) r e y m =
       let h : ringHead b t ≡ x = r .first in
-      along-each (readyIn b t) (readyAfter b t) (λ z. getD t (pairCell b prevAt z) 0) x l (run-cut _ _ x l (x ∷ []) (r .ring .closed) .0) (rw h at e) y m
+      along-each (readyIn b t) (readyAfter b t) (linkAt t (fieldAt b prevAt) pairWords) x l (run-cut _ _ x l (x ∷ []) (r .ring .closed) .0) (rw h at e) y m
 
   each-ring : (R : List ℕ) → Rings R → ((y : ℕ) → Mem y R → readyIn b t y ≡ true) → along (readyIn b t) (readyAfter b t) (ringHead b t) (length R) ≡ true
   unfolding along
   each-ring [] r h = refl
   each-ring (x ∷ l) r h =
       let e : ringHead b t ≡ x = r .first in
-      rw e (each-along (readyIn b t) (readyAfter b t) (λ z. getD t (pairCell b prevAt z) 0) x l (run-cut _ _ x l (x ∷ []) (r .ring .closed) .0) h)
+      rw e (each-along (readyIn b t) (readyAfter b t) (linkAt t (fieldAt b prevAt) pairWords) x l (run-cut _ _ x l (x ∷ []) (r .ring .closed) .0) h)
 
 module _ (b pairs : ℕ) (t : List ℕ) (few : pairs ≤ 2 ^ 32) where
   abbrev used : ℕ

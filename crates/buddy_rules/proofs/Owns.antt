@@ -8,8 +8,8 @@ use lib.Dec.{eqb}
 use lib.ListN.{getD, set}
 use lib.Seq.{getD-set-other}
 use Rattle.words.specs.Words.{cellOf}
-use Rattle.slab.specs.Slab.{nowhere}
-use Rattle.ring_rules.specs.Ring.{next, prev, joined, unlinked, alone, between, linked}
+use Rattle.slab.specs.Slab.{nowhere, recordOf}
+use Rattle.ring_rules.specs.Ring.{next, prev, headIn, joined, unlinked, alone, between, linked}
 use Rattle.buddy_trees.specs.Trees.{up}
 use Rattle.buddy_rules.specs.Nodes.{freeWord, vacant, exhausted, rightReady, Side, other, word, pairOf, splitWord, loanWord}
 use Rattle.buddy_rules.specs.Levels.{sideOf, sideIn}
@@ -31,25 +31,25 @@ module _ (head nextAt prevAt step i : ℕ) (h : i < head) (n : i < nextAt) (p : 
       y : ℕ
       y = next head nextAt prevAt step t x
 
-      by : (b : Bool) → getD (cond b (set t head nowhere) (joined head nextAt prevAt step q y t)) i 0 ≡ getD t i 0
-      by true = past t head nowhere i h
+      by : (b : Bool) → getD (cond b (set t head (recordOf nowhere)) (joined head nextAt prevAt step q y t)) i 0 ≡ getD t i 0
+      by true = past t head (recordOf nowhere) i h
       by false =
-          past (set (set t (cellOf nextAt step q) y) (cellOf prevAt step y) q) head y i h
-          ∙ past (set t (cellOf nextAt step q) y) (cellOf prevAt step y) q i (omega arith)
-          ∙ past t (cellOf nextAt step q) y i (omega arith)
+          past (set (set t (cellOf nextAt step q) (recordOf y)) (cellOf prevAt step y) (recordOf q)) head (recordOf y) i h
+          ∙ past (set t (cellOf nextAt step q) (recordOf y)) (cellOf prevAt step y) (recordOf q) i (omega arith)
+          ∙ past t (cellOf nextAt step q) (recordOf y) i (omega arith)
 
   alone-own : (x : ℕ) (t : List ℕ) → getD (alone head nextAt prevAt step x t) i 0 ≡ getD t i 0
   alone-own x t =
-      past (set (set t (cellOf nextAt step x) x) (cellOf prevAt step x) x) head x i h
-      ∙ past (set t (cellOf nextAt step x) x) (cellOf prevAt step x) x i (omega arith)
-      ∙ past t (cellOf nextAt step x) x i (omega arith)
+      past (set (set t (cellOf nextAt step x) (recordOf x)) (cellOf prevAt step x) (recordOf x)) head (recordOf x) i h
+      ∙ past (set t (cellOf nextAt step x) (recordOf x)) (cellOf prevAt step x) (recordOf x) i (omega arith)
+      ∙ past t (cellOf nextAt step x) (recordOf x) i (omega arith)
 
   linked-own : (x : ℕ) (t : List ℕ) → getD (linked head nextAt prevAt step x t) i 0 ≡ getD t i 0
   unfolding linked
-  linked-own x t = by (eqb (getD t head 0) nowhere)
+  linked-own x t = by (eqb (headIn head nextAt prevAt step t) nowhere)
     where
       y : ℕ
-      y = getD t head 0
+      y = headIn head nextAt prevAt step t
 
       q : ℕ
       q = prev head nextAt prevAt step t y
@@ -57,10 +57,10 @@ module _ (head nextAt prevAt step i : ℕ) (h : i < head) (n : i < nextAt) (p : 
       by : (b : Bool) → getD (cond b (alone head nextAt prevAt step x t) (between head nextAt prevAt step q x y t)) i 0 ≡ getD t i 0
       by true = alone-own x t
       by false =
-          past (set (set (set t (cellOf prevAt step y) x) (cellOf nextAt step q) x) (cellOf nextAt step x) y) (cellOf prevAt step x) q i (omega arith)
-          ∙ past (set (set t (cellOf prevAt step y) x) (cellOf nextAt step q) x) (cellOf nextAt step x) y i (omega arith)
-          ∙ past (set t (cellOf prevAt step y) x) (cellOf nextAt step q) x i (omega arith)
-          ∙ past t (cellOf prevAt step y) x i (omega arith)
+          past (set (set (set t (cellOf prevAt step y) (recordOf x)) (cellOf nextAt step q) (recordOf x)) (cellOf nextAt step x) (recordOf y)) (cellOf prevAt step x) (recordOf q) i (omega arith)
+          ∙ past (set (set t (cellOf prevAt step y) (recordOf x)) (cellOf nextAt step q) (recordOf x)) (cellOf nextAt step x) (recordOf y) i (omega arith)
+          ∙ past (set t (cellOf prevAt step y) (recordOf x)) (cellOf nextAt step q) (recordOf x) i (omega arith)
+          ∙ past t (cellOf prevAt step y) (recordOf x) i (omega arith)
 
 -- ---- a level that begins at b, past word i
 
@@ -68,7 +68,7 @@ module _ (b i : ℕ) (h : i < b) where
   dropped-own : (p : ℕ) (t : List ℕ) → getD (dropped b p t) i 0 ≡ getD t i 0
   unfolding dropped
   dropped-own p t =
-      past (set (set (leaves b p t) (pairCell b tagAt p) vacant) (pairCell b offAt p) (getD t (b + vacatedAt) 0)) (b + vacatedAt) p i (omega arith)
+      past (set (set (leaves b p t) (pairCell b tagAt p) vacant) (pairCell b offAt p) (getD t (b + vacatedAt) 0)) (b + vacatedAt) (recordOf p) i (omega arith)
       ∙ past (set (leaves b p t) (pairCell b tagAt p) vacant) (pairCell b offAt p) (getD t (b + vacatedAt) 0) i (omega arith)
       ∙ past (leaves b p t) (pairCell b tagAt p) vacant i (omega arith)
       ∙ unlinked-own (b + ringAt) (fieldAt b nextAt) (fieldAt b prevAt) pairWords i (omega arith) (omega arith) (omega arith) p t
@@ -108,16 +108,16 @@ module _ (b i : ℕ) (h : i < b) where
   added-own c o n w t =
       let k = pairTaken b t in
       let u = set t (b + usedAt) (k .slab .places) in
-      entered-own (k .place) c o n w (set u (b + vacatedAt) (k .slab .vacant))
-      ∙ past u (b + vacatedAt) (k .slab .vacant) i (omega arith)
+      entered-own (k .place) c o n w (set u (b + vacatedAt) (recordOf (k .slab .vacant)))
+      ∙ past u (b + vacatedAt) (recordOf (k .slab .vacant)) i (omega arith)
       ∙ past t (b + usedAt) (k .slab .places) i (omega arith)
 
   pub fresh-own : (t : List ℕ) → getD (freshLevel b t) i 0 ≡ getD t i 0
   unfolding freshLevel
   fresh-own t =
-      past (set (set t (b + ringAt) nowhere) (b + usedAt) 0) (b + vacatedAt) nowhere i (omega arith)
-      ∙ past (set t (b + ringAt) nowhere) (b + usedAt) 0 i (omega arith)
-      ∙ past t (b + ringAt) nowhere i (omega arith)
+      past (set (set t (b + ringAt) 0) (b + usedAt) 0) (b + vacatedAt) 0 i (omega arith)
+      ∙ past (set t (b + ringAt) 0) (b + usedAt) 0 i (omega arith)
+      ∙ past t (b + ringAt) 0 i (omega arith)
 
 -- ---- over the levels
 

@@ -13,7 +13,7 @@ use lib.Seq.{length-take-le, getD-take, getD-drop}
 use borrow.Author.Tests.{eqb-false}
 use Rattle.lists.specs.Members.{Mem}
 use Rattle.lists.proofs.Bools.{lt-or-le}
-use Rattle.slab.specs.Slab.{nowhere, Parted}
+use Rattle.slab.specs.Slab.{nowhere, placeOf, recordOf, linkAt, Parted}
 use Rattle.slab.specs.declared.Slab.{Slab}
 use Rattle.slab.proofs.Places.{parted-same, insert-first, insert-next}
 use Rattle.ring_rules.proofs.Rings.{ring-same, ring-near}
@@ -23,6 +23,8 @@ use Rattle.buddy_rules.specs.Level.{headerWords, ringAt, usedAt, vacated
 use Rattle.buddy_rules.proofs.Cells.{plain-in, ent-same, pair-same, tagged-used}
 use Rattle.buddy_rules.proofs.Rings.{used-below, ready-mem, head-mem}
 use Rattle.buddy_rules.proofs.Rows.{
+  before,
+  after,
   joinedRow,
   leavesRow,
   betweenRow,
@@ -50,6 +52,9 @@ module _ (b b′ pairs : ℕ) (t t′ : List ℕ) (same : (i : ℕ) → i < leve
       ∙ same (headerWords + f + pairWords * p) (omega arith)
       ∙ ap (λ i. getD t i 0) (omega arith)
 
+  link-as : (f p : ℕ) → f < pairWords → p < pairs → linkAt t′ (fieldAt b′ f) pairWords p ≡ linkAt t (fieldAt b f) pairWords p
+  link-as f p h k = ap placeOf (cell-as f p h k)
+
   ent-as : (p : ℕ) → p < pairs → entOf b′ t′ p ≡ entOf b t p
   ent-as p h = ent-same b b′ t t′ p (λ f k. cell-as f p (plain-in f k) h)
 
@@ -57,7 +62,7 @@ module _ (b b′ pairs : ℕ) (t t′ : List ℕ) (same : (i : ℕ) → i < leve
   used-as = same usedAt (omega arith)
 
   slab-as : slabIn b t ≡ slabIn b′ t′
-  slab-as = λ j. record { places = sym used-as j; vacant = sym (same vacatedAt (omega arith)) j }
+  slab-as = λ j. record { places = sym used-as j; vacant = ap placeOf (sym (same vacatedAt (omega arith))) j }
 
   good-as : Good b pairs t → Good b′ pairs t′
   good-as G =
@@ -68,16 +73,16 @@ module _ (b b′ pairs : ℕ) (t t′ : List ℕ) (same : (i : ℕ) → i < leve
         rings = record {
           ring =
               ring-same _ _ _ _ (G .ring)
-              (λ x m. (cell-as nextAt x (omega arith) (under x (G .below x m)), cell-as prevAt x (omega arith) (under x (G .below x m))))
+              (λ x m. (link-as nextAt x (omega arith) (under x (G .below x m)), link-as prevAt x (omega arith) (under x (G .below x m))))
               (G .rings .ring);
-          first = same ringAt (omega arith) ∙ G .rings .first;
+          first = ap placeOf (same ringAt (omega arith)) ∙ G .rings .first;
         };
         below = λ x m. rw used-as (G .below x m);
         ready = λ x m. rw (tag x (G .below x m)) (G .ready x m);
         all = λ x h k. let i : x < getD t (b + usedAt) 0 = rw used-as at h in G .all x i (rw (tag x i) at k);
         parted =
             subst (λ (s : Slab). Parted (vacantIn b′ t′) (vacantAfter b′ t′) s pairs) slab-as
-            (parted-same (vacantIn b t) (vacantIn b′ t′) (vacantAfter b t) (vacantAfter b′ t′) (slabIn b t) pairs (λ x h. ap (λ n. eqb n 0) (tag x h)) (λ x h. cell-as offAt x (omega arith) (under x h)) (G .parted));
+            (parted-same (vacantIn b t) (vacantIn b′ t′) (vacantAfter b t) (vacantAfter b′ t′) (slabIn b t) pairs (λ x h. ap (λ n. eqb n 0) (tag x h)) (λ x h. link-as offAt x (omega arith) (under x h)) (G .parted));
       }
 
 -- ---- level l of a table
@@ -108,14 +113,14 @@ module _ (pairs l : ℕ) (t : List ℕ) where
   part-good = (good-as b 0 pairs t v word-out, good-as 0 b pairs v t (λ i h. sym (word-out i h)))
 
   pub part-head : ringHead (levelStart pairs l) t ≡ ringHead 0 (part pairs l t)
-  part-head = sym (word-out ringAt (omega arith))
+  part-head = ap placeOf (sym (word-out ringAt (omega arith)))
 
   pub part-taken : Good (levelStart pairs l) pairs t → pairTaken (levelStart pairs l) t ≡ pairTaken 0 (part pairs l t)
   part-taken G = by (lt-or-le (slabIn b t .vacant) (slabIn b t .places))
     where
       by : (slabIn b t .vacant < slabIn b t .places) ⊎ (slabIn b t .places ≤ slabIn b t .vacant) → pairTaken b t ≡ pairTaken 0 v
       by (inl h) =
-          let e : vacantAfter 0 v (slabIn b t .vacant) ≡ vacantAfter b t (slabIn b t .vacant) = cell-as b 0 pairs t v word-out offAt (slabIn b t .vacant) (omega arith) (used-below b pairs t G (slabIn b t .vacant) h) in
+          let e : vacantAfter 0 v (slabIn b t .vacant) ≡ vacantAfter b t (slabIn b t .vacant) = link-as b 0 pairs t v word-out offAt (slabIn b t .vacant) (omega arith) (used-below b pairs t G (slabIn b t .vacant) h) in
           rw (← slab-as b 0 pairs t v word-out) (insert-first (slabIn b t) t (fieldAt b offAt) pairWords h ∙ rw (← e) (sym (insert-first (slabIn b t) v (fieldAt 0 offAt) pairWords h)))
       by (inr h) =
           rw (← slab-as b 0 pairs t v word-out) (insert-next (slabIn b t) t (fieldAt b offAt) pairWords h ∙ sym (insert-next (slabIn b t) v (fieldAt 0 offAt) pairWords h))
@@ -127,26 +132,26 @@ module _ (pairs l : ℕ) (t : List ℕ) where
   cell-moved f q x y h k e = (omega arith, omega arith, e)
 
   joined-moved : (q n : ℕ) → q < pairs → n < pairs → Moved b (levelWords pairs) (joinedRow b q n) (joinedRow 0 q n)
-  joined-moved q n h k = (cell-moved nextAt q n n (omega arith) h refl, (cell-moved prevAt n q q (omega arith) k refl, ((refl, omega arith, refl), tt)))
+  joined-moved q n h k = (cell-moved nextAt q _ _ (omega arith) h refl, (cell-moved prevAt n _ _ (omega arith) k refl, ((refl, omega arith, refl), tt)))
 
-  leaves-moved : (p : ℕ) → p < pairs → getD t (pairCell b prevAt p) 0 < pairs → getD t (pairCell b nextAt p) 0 < pairs → Moved b (levelWords pairs) (leavesRow b p t) (leavesRow 0 p v)
+  leaves-moved : (p : ℕ) → p < pairs → before b t p < pairs → after b t p < pairs → Moved b (levelWords pairs) (leavesRow b p t) (leavesRow 0 p v)
   leaves-moved p h q n =
-      rw (cell-as b 0 pairs t v word-out prevAt p (omega arith) h, cell-as b 0 pairs t v word-out nextAt p (omega arith) h)
-      (moved-either b (levelWords pairs) (eqb (getD t (pairCell b prevAt p) 0) p) _ _ _ _ (λ e. ((refl, omega arith, refl), tt)) (λ e. joined-moved (getD t (pairCell b prevAt p) 0) (getD t (pairCell b nextAt p) 0) q n))
+      rw (link-as b 0 pairs t v word-out prevAt p (omega arith) h, link-as b 0 pairs t v word-out nextAt p (omega arith) h)
+      (moved-either b (levelWords pairs) (eqb (before b t p) p) _ _ _ _ (λ e. ((refl, omega arith, refl), tt)) (λ e. joined-moved (before b t p) (after b t p) q n))
 
-  joins-moved : (p : ℕ) → p < pairs → ((ringHead b t ≡ nowhere → ⊥) → (ringHead b t < pairs) × (getD t (pairCell b prevAt (ringHead b t)) 0 < pairs)) → Moved b (levelWords pairs) (joinsRow b p t) (joinsRow 0 p v)
+  joins-moved : (p : ℕ) → p < pairs → ((ringHead b t ≡ nowhere → ⊥) → (ringHead b t < pairs) × (before b t (ringHead b t) < pairs)) → Moved b (levelWords pairs) (joinsRow b p t) (joinsRow 0 p v)
   joins-moved p h near =
-      rw (word-out ringAt (omega arith))
+      rw (sym part-head)
       (moved-either b (levelWords pairs) (eqb (ringHead b t) nowhere) _ _ _ _
-      (λ e. (cell-moved nextAt p p p (omega arith) h refl, (cell-moved prevAt p p p (omega arith) h refl, ((refl, omega arith, refl), tt)))) some)
+      (λ e. (cell-moved nextAt p _ _ (omega arith) h refl, (cell-moved prevAt p _ _ (omega arith) h refl, ((refl, omega arith, refl), tt)))) some)
     where
-      some : eqb (ringHead b t) nowhere ≡ false → Moved b (levelWords pairs) (betweenRow b (getD t (pairCell b prevAt (ringHead b t)) 0) p (ringHead b t)) (betweenRow 0 (getD v (pairCell 0 prevAt (ringHead b t)) 0) p (ringHead b t))
+      some : eqb (ringHead b t) nowhere ≡ false → Moved b (levelWords pairs) (betweenRow b (before b t (ringHead b t)) p (ringHead b t)) (betweenRow 0 (before 0 v (ringHead b t)) p (ringHead b t))
       some e =
           let n = near (eqb-false (ringHead b t) nowhere e) in
-          let q = getD t (pairCell b prevAt (ringHead b t)) 0 in
-          rw (cell-as b 0 pairs t v word-out prevAt (ringHead b t) (omega arith) (n .0)) (
-            cell-moved prevAt (ringHead b t) p p (omega arith) (n .0) refl,
-            (cell-moved nextAt q p p (omega arith) (n .1) refl, (cell-moved nextAt p (ringHead b t) (ringHead b t) (omega arith) h refl, (cell-moved prevAt p q q (omega arith) h refl, tt))),
+          let q = before b t (ringHead b t) in
+          rw (link-as b 0 pairs t v word-out prevAt (ringHead b t) (omega arith) (n .0)) (
+            cell-moved prevAt (ringHead b t) _ _ (omega arith) (n .0) refl,
+            (cell-moved nextAt q _ _ (omega arith) (n .1) refl, (cell-moved nextAt p _ _ (omega arith) h refl, (cell-moved prevAt p _ _ (omega arith) h refl, tt))),
           )
 
   tag-moved : (p n : ℕ) (s : Side) (w : ℕ) → p < pairs → Moved b (levelWords pairs) (tagRow b p n s w) (tagRow 0 p n s w)
@@ -162,10 +167,10 @@ module _ (pairs l : ℕ) (t : List ℕ) where
     mem-in p m = used-below b pairs t G p (G .below p m)
 
     -- a place of the ring, and its neighbours
-    near-in : (p : ℕ) → Mem p (G .ring) → (getD t (pairCell b prevAt p) 0 < pairs) × (getD t (pairCell b nextAt p) 0 < pairs)
+    near-in : (p : ℕ) → Mem p (G .ring) → (before b t p < pairs) × (after b t p < pairs)
     near-in p m =
         let n = ring-near _ _ p (G .ring) (G .rings .ring) m in
-        (mem-in (getD t (pairCell b prevAt p) 0) (n .1), mem-in (getD t (pairCell b nextAt p) 0) (n .0))
+        (mem-in (before b t p) (n .1), mem-in (after b t p) (n .0))
 
     member-moved : (p : ℕ) → Mem p (G .ring) → Moved b (levelWords pairs) (leavesRow b p t) (leavesRow 0 p v)
     member-moved p m = leaves-moved p (mem-in p m) (near-in p m .0) (near-in p m .1)
@@ -182,7 +187,7 @@ module _ (pairs l : ℕ) (t : List ℕ) where
     pub part-backed : (p : ℕ) (s : Side) → pairIn (levelStart pairs l) t p .tag ≡ 1 → Within pairs l t (backed (levelStart pairs l) p s t) (backed 0 p s (part pairs l t))
     part-backed p s e =
         let h : p < pairs = used-below b pairs t G p (tagged-used b t p (omega arith)) in
-        let near : (ringHead b t ≡ nowhere → ⊥) → (ringHead b t < pairs) × (getD t (pairCell b prevAt (ringHead b t)) 0 < pairs) = λ some. (mem-in (ringHead b t) (head-mem b pairs t G some), near-in (ringHead b t) (head-mem b pairs t G some) .0) in
+        let near : (ringHead b t ≡ nowhere → ⊥) → (ringHead b t < pairs) × (before b t (ringHead b t) < pairs) = λ some. (mem-in (ringHead b t) (head-mem b pairs t G some), near-in (ringHead b t) (head-mem b pairs t G some) .0) in
         rw (backed-row b p s t, backed-row 0 p s v)
         (within pairs l t (joinsRow b p t ++ tagRow b p (readyTag s) s 0) (joinsRow 0 p v ++ tagRow 0 p (readyTag s) s 0)
         (moved-append b (levelWords pairs) (joinsRow b p t) (joinsRow 0 p v) (tagRow b p (readyTag s) s 0) (tagRow 0 p (readyTag s) s 0) (joins-moved p h near) (tag-moved p (readyTag s) s 0 h)))
@@ -199,13 +204,13 @@ module _ (pairs l : ℕ) (t : List ℕ) where
     pub part-added : (c o n w : ℕ) → pairTaken (levelStart pairs l) t .place < pairs → Within pairs l t (added (levelStart pairs l) c o n w t) (added 0 c o n w (part pairs l t))
     part-added c o n w h =
         rw (added-puts b c o n w t, added-puts 0 c o n w v, ← part-taken G)
-        (within pairs l t (addedRow b c o n w t) ((0 + usedAt, pairTaken b t .slab .places) ∷ (0 + vacatedAt, pairTaken b t .slab .vacant) ∷ enteredRow 0 p c o n w) (
+        (within pairs l t (addedRow b c o n w t) ((0 + usedAt, pairTaken b t .slab .places) ∷ (0 + vacatedAt, recordOf (pairTaken b t .slab .vacant)) ∷ enteredRow 0 p c o n w) (
           (refl, omega arith, refl),
           (
             (refl, omega arith, refl),
             (
               cell tagAt 3 (omega arith),
-              (cell chunkAt c (omega arith), (cell offAt o (omega arith), (cell leftAt w (omega arith), (cell rightAt 0 (omega arith), (cell upAt n (omega arith), (cell nextAt p (omega arith), (cell prevAt p (omega arith), ((refl, omega arith, refl), tt)))))))),
+              (cell chunkAt c (omega arith), (cell offAt o (omega arith), (cell leftAt w (omega arith), (cell rightAt 0 (omega arith), (cell upAt n (omega arith), (cell nextAt (recordOf p) (omega arith), (cell prevAt (recordOf p) (omega arith), ((refl, omega arith, refl), tt)))))))),
             ),
           ),
         ))

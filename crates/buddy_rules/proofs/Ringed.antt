@@ -9,7 +9,7 @@ use lib.ListN.{length, getD}
 use borrow.Author.Tests.{eq-eqb, ne-eqb}
 use Rattle.lists.specs.Members.{Mem, NotIn}
 use Rattle.lists.proofs.Members.{mem-below, below-mem, mem-swap, mem-cases, mem-of-left, mem-left, mem-not, split, distinct-out}
-use Rattle.slab.specs.Slab.{nowhere}
+use Rattle.slab.specs.Slab.{nowhere, placeOf}
 use Rattle.ring_rules.specs.Ring.{next, prev, Run, RingOf}
 use Rattle.ring_rules.proofs.Rings.{ring-same}
 use Rattle.ring_rules.proofs.Keeps.{ring-frame}
@@ -21,7 +21,7 @@ use Rattle.buddy_rules.specs.Ringed.{Ringed, beforeIn, pastIn, outOf, ta
 use Rattle.buddy_rules.proofs.Stores.{puts}
 use Rattle.buddy_rules.proofs.Rows.{tagRow, acquired-puts, backed-puts}
 use Rattle.buddy_rules.proofs.Cells.{leaves-off, leaves-length, joins-off, joins-length, links-apart, pair-used, tagged-used}
-use Rattle.buddy_rules.proofs.Rings.{SameLinks, used-below, ring-below, ready-mem, exhausted-out}
+use Rattle.buddy_rules.proofs.Rings.{SameLinks, same-led, used-below, ring-below, ready-mem, exhausted-out}
 use Rattle.buddy_rules.proofs.Stored as Sides
 use Rattle.buddy_rules.proofs.Dropped as Dropped
 use Rattle.buddy_rules.proofs.Added.{added-alone}
@@ -83,7 +83,7 @@ module _ (b pairs : ℕ) (t : List ℕ) (few : pairs ≤ 2 ^ 32) (fits : b + lev
       subst (λ (k : ℕ). RingOf (b + ringAt) (fieldAt b nextAt) (fieldAt b prevAt) pairWords (leaves b k t) R) (sym e)
       (unlinked-first (b + ringAt) (fieldAt b nextAt) (fieldAt b prevAt) pairWords pairs t (links-apart b pairs (length t) few fits) p R (r .below) (r .rings .ring)) in
       record {
-        rings = rw (acquired-puts b w t) (ring-frame (b + ringAt) (fieldAt b nextAt) (fieldAt b prevAt) pairWords u (puts u (tagRow b q 1 s w)) R (same .0) (λ x i. same .1 x) out);
+        rings = rw (acquired-puts b w t) (ring-frame (b + ringAt) (fieldAt b nextAt) (fieldAt b prevAt) pairWords u (puts u (tagRow b q 1 s w)) R (same .0) (λ x i. same-led b u (puts u (tagRow b q 1 s w)) same x) out);
         below = r .below .1;
       }
 
@@ -93,7 +93,7 @@ module _ (b pairs : ℕ) (t : List ℕ) (few : pairs ≤ 2 ^ 32) (fits : b + lev
       let same = Dropped.links b p t in
       record {
         rings =
-            ring-frame (b + ringAt) (fieldAt b nextAt) (fieldAt b prevAt) pairWords (leaves b p t) (dropped b p t) (c ++ a) (same .0) (λ x i. same .1 x)
+            ring-frame (b + ringAt) (fieldAt b nextAt) (fieldAt b prevAt) pairWords (leaves b p t) (dropped b p t) (c ++ a) (same .0) (λ x i. same-led b (leaves b p t) (dropped b p t) same x)
             (unlinked-ring (b + ringAt) (fieldAt b nextAt) (fieldAt b prevAt) pairWords pairs t (links-apart b pairs (length t) few fits) p a c (r .below) (r .rings .ring));
         below = below-mem pairs (c ++ a) (λ x m. mem-below pairs x (a ++ (p ∷ c)) (r .below) (mem-of-left p x a c (mem-swap x c a m)));
       }
@@ -124,7 +124,7 @@ module _ (b pairs : ℕ) (t : List ℕ) (few : pairs ≤ 2 ^ 32) (fits : b + lev
       let n = used-below b pairs t G p k in
       record {
         rings = rw (backed-puts b p s t)
-            (ring-frame (b + ringAt) (fieldAt b nextAt) (fieldAt b prevAt) pairWords u (puts u (tagRow b p (readyTag s) s 0)) (R ++ (p ∷ [])) (same .0) (λ x i. same .1 x)
+            (ring-frame (b + ringAt) (fieldAt b nextAt) (fieldAt b prevAt) pairWords u (puts u (tagRow b p (readyTag s) s 0)) (R ++ (p ∷ [])) (same .0) (λ x i. same-led b u (puts u (tagRow b p (readyTag s) s 0)) same x)
             (linked-ring (b + ringAt) (fieldAt b nextAt) (fieldAt b prevAt) pairWords pairs t (links-apart b pairs (length t) few fits) p R n out (r .below) (r .rings)));
         below = below-mem pairs (R ++ (p ∷ [])) (λ x m. ⊎-elim (λ i. mem-below pairs x R (r .below) i) (⊎-elim (λ e. omega (arith, e, n)) (λ i. absurd i)) (mem-cases x R (p ∷ []) m));
       }
@@ -138,8 +138,8 @@ module _ (b pairs : ℕ) (t : List ℕ) (few : pairs ≤ 2 ^ 32) (fits : b + lev
 ringed-as : (b b′ pairs : ℕ) (t t′ R : List ℕ) → ((i : ℕ) → i < levelWords pairs → getD t′ (b′ + i) 0 ≡ getD t (b + i) 0) → Ringed b pairs t R → Ringed b′ pairs t′ R
 ringed-as b b′ pairs t t′ R same r = record {
   rings = record {
-    ring = ring-same _ _ _ _ R (λ x m. let k = mem-below pairs x R (r .below) m in (cell nextAt x (omega arith) k, cell prevAt x (omega arith) k)) (r .rings .ring);
-    first = same ringAt (omega arith) ∙ r .rings .first;
+    ring = ring-same _ _ _ _ R (λ x m. let k = mem-below pairs x R (r .below) m in (ap placeOf (cell nextAt x (omega arith) k), ap placeOf (cell prevAt x (omega arith) k))) (r .rings .ring);
+    first = ap placeOf (same ringAt (omega arith)) ∙ r .rings .first;
   };
   below = r .below;
 }

@@ -21,7 +21,7 @@ use Rattle.lists.proofs.Members.{
   mem-of-left,
   distinct-out,
 }
-use Rattle.slab.specs.Slab.{nowhere, Parted}
+use Rattle.slab.specs.Slab.{nowhere, placeOf, linkAt, Parted}
 use Rattle.ring_rules.specs.Ring.{RingOf}
 use Rattle.ring_rules.proofs.Keeps.{ring-frame}
 use Rattle.ring_rules.proofs.Linking.{unlinked-member, linked-ring}
@@ -51,6 +51,10 @@ abbrev pub SameLinks : ℕ → List ℕ → List ℕ → Type 0
 SameLinks b t t′ =
     (getD t′ (b + ringAt) 0 ≡ getD t (b + ringAt) 0)
     × ((x : ℕ) → (getD t′ (pairCell b nextAt x) 0 ≡ getD t (pairCell b nextAt x) 0) × (getD t′ (pairCell b prevAt x) 0 ≡ getD t (pairCell b prevAt x) 0))
+
+-- so the links lead to the same places
+pub same-led : (b : ℕ) (t t′ : List ℕ) → SameLinks b t t′ → (x : ℕ) → (linkAt t′ (fieldAt b nextAt) pairWords x ≡ linkAt t (fieldAt b nextAt) pairWords x) × (linkAt t′ (fieldAt b prevAt) pairWords x ≡ linkAt t (fieldAt b prevAt) pairWords x)
+same-led b t t′ same x = (ap placeOf (same .1 x .0), ap placeOf (same .1 x .1))
 
 module _ (b pairs : ℕ) (t : List ℕ) (G : Good b pairs t) where
   -- a pair ever used is one of the level's
@@ -104,7 +108,7 @@ module _ (b pairs : ℕ) (t : List ℕ) (G : Good b pairs t) where
           record {
             ring = s .b ++ s .a;
             rings =
-                ring-frame (b + ringAt) (fieldAt b nextAt) (fieldAt b prevAt) pairWords (leaves b p t) t′ (s .b ++ s .a) (same .0) (λ x i. same .1 x)
+                ring-frame (b + ringAt) (fieldAt b nextAt) (fieldAt b prevAt) pairWords (leaves b p t) t′ (s .b ++ s .a) (same .0) (λ x i. same-led b (leaves b p t) t′ same x)
                 (unlinked-member (b + ringAt) (fieldAt b nextAt) (fieldAt b prevAt) pairWords pairs t (links-apart b pairs (length t) few fits) p (G .ring) m ring-below (G .rings .ring));
             below = λ x i. rw e (G .below x (was x i));
             ready = λ x i. rw (other x (out x i)) (G .ready x (was x i));
@@ -121,7 +125,7 @@ module _ (b pairs : ℕ) (t : List ℕ) (G : Good b pairs t) where
           record {
             ring = G .ring ++ (p ∷ []);
             rings =
-                ring-frame (b + ringAt) (fieldAt b nextAt) (fieldAt b prevAt) pairWords (joins b p t) t′ (G .ring ++ (p ∷ [])) (same .0) (λ x i. same .1 x)
+                ring-frame (b + ringAt) (fieldAt b nextAt) (fieldAt b prevAt) pairWords (joins b p t) t′ (G .ring ++ (p ∷ [])) (same .0) (λ x i. same-led b (joins b p t) t′ same x)
                 (linked-ring (b + ringAt) (fieldAt b nextAt) (fieldAt b prevAt) pairWords pairs t (links-apart b pairs (length t) few fits) p (G .ring) (used-below p u) o ring-below (G .rings));
             below = λ x i. rw e (⊎-elim (G .below x) (⊎-elim (λ q. rw q u) (λ k. absurd k)) (mem-cases x (G .ring) (p ∷ []) i));
             ready = λ x i. ⊎-elim

@@ -5,11 +5,11 @@ use mathlib.Core.List.{List, [], _∷_, _++_}
 use Prim.Native.Nat.{ℕ, _+_}
 use lib.Dec.{eqb}
 use lib.ListN.{getD}
-use Rattle.slab.specs.Slab.{nowhere}
+use Rattle.slab.specs.Slab.{nowhere, recordOf, linkAt}
 use Rattle.ring_rules.specs.Ring.{unlinked, linked}
 use Rattle.buddy_rules.specs.Nodes.{Side}
 use Rattle.buddy_rules.specs.Levels.{sideOf}
-use Rattle.buddy_rules.specs.Level.{ringAt, usedAt, vacatedAt, tagAt, chunkAt, offAt, leftAt, rightAt, nextAt, prevAt, upAt, sideAt, readyTag, pairCell, entOf, ringHead, pairTaken, leaves, joins, dropped, backed, acquired, entered, added, freshLevel}
+use Rattle.buddy_rules.specs.Level.{ringAt, usedAt, vacatedAt, tagAt, chunkAt, offAt, leftAt, rightAt, nextAt, prevAt, upAt, pairWords, sideAt, readyTag, fieldAt, pairCell, entOf, ringHead, pairTaken, leaves, joins, dropped, backed, acquired, entered, added, freshLevel}
 use Rattle.buddy_rules.proofs.Stores.{puts, puts-append}
 
 either : (c : Bool) (t x y : List ℕ) (l m : List (ℕ × ℕ)) → x ≡ puts t l → y ≡ puts t m → cond c x y ≡ puts t (cond c l m)
@@ -23,29 +23,35 @@ then t u l k e = ap (λ x. puts x k) e ∙ sym (puts-append t l k)
 module _ (b : ℕ) where
   -- ---- the ring
 
+  -- the pair after p, and the one before it
+  abbrev pub after : List ℕ → ℕ → ℕ
+  after t = linkAt t (fieldAt b nextAt) pairWords
+
+  abbrev pub before : List ℕ → ℕ → ℕ
+  before t = linkAt t (fieldAt b prevAt) pairWords
+
   -- q and n are joined, and n is the head
   abbrev pub joinedRow : ℕ → ℕ → List (ℕ × ℕ)
-  joinedRow q n = (pairCell b nextAt q, n) ∷ (pairCell b prevAt n, q) ∷ (b + ringAt, n) ∷ []
+  joinedRow q n = (pairCell b nextAt q, recordOf n) ∷ (pairCell b prevAt n, recordOf q) ∷ (b + ringAt, recordOf n) ∷ []
 
   abbrev pub leavesRow : ℕ → List ℕ → List (ℕ × ℕ)
   leavesRow p t =
-      cond (eqb (getD t (pairCell b prevAt p) 0) p) ((b + ringAt, nowhere) ∷ [])
-      (joinedRow (getD t (pairCell b prevAt p) 0) (getD t (pairCell b nextAt p) 0))
+      cond (eqb (before t p) p) ((b + ringAt, recordOf nowhere) ∷ []) (joinedRow (before t p) (after t p))
 
   pub leaves-puts : (p : ℕ) (t : List ℕ) → leaves b p t ≡ puts t (leavesRow p t)
   unfolding unlinked
-  leaves-puts p t = either (eqb (getD t (pairCell b prevAt p) 0) p) t _ _ _ _ refl refl
+  leaves-puts p t = either (eqb (before t p) p) t _ _ _ _ refl refl
 
   -- p alone is the ring, or stands between q and h
   abbrev pub aloneRow : ℕ → List (ℕ × ℕ)
-  aloneRow p = (pairCell b nextAt p, p) ∷ (pairCell b prevAt p, p) ∷ (b + ringAt, p) ∷ []
+  aloneRow p = (pairCell b nextAt p, recordOf p) ∷ (pairCell b prevAt p, recordOf p) ∷ (b + ringAt, recordOf p) ∷ []
 
   abbrev pub betweenRow : ℕ → ℕ → ℕ → List (ℕ × ℕ)
-  betweenRow q p h = (pairCell b prevAt h, p) ∷ (pairCell b nextAt q, p) ∷ (pairCell b nextAt p, h) ∷ (pairCell b prevAt p, q) ∷ []
+  betweenRow q p h = (pairCell b prevAt h, recordOf p) ∷ (pairCell b nextAt q, recordOf p) ∷ (pairCell b nextAt p, recordOf h) ∷ (pairCell b prevAt p, recordOf q) ∷ []
 
   abbrev pub joinsRow : ℕ → List ℕ → List (ℕ × ℕ)
   joinsRow p t =
-      cond (eqb (ringHead b t) nowhere) (aloneRow p) (betweenRow (getD t (pairCell b prevAt (ringHead b t)) 0) p (ringHead b t))
+      cond (eqb (ringHead b t) nowhere) (aloneRow p) (betweenRow (before t (ringHead b t)) p (ringHead b t))
 
   pub joins-puts : (p : ℕ) (t : List ℕ) → joins b p t ≡ puts t (joinsRow p t)
   unfolding linked
@@ -54,7 +60,7 @@ module _ (b : ℕ) where
   -- ---- and what is stored when a pair has left it, or joined it
 
   abbrev pub droppedRow : ℕ → List ℕ → List (ℕ × ℕ)
-  droppedRow p t = (pairCell b tagAt p, 0) ∷ (pairCell b offAt p, getD t (b + vacatedAt) 0) ∷ (b + vacatedAt, p) ∷ []
+  droppedRow p t = (pairCell b tagAt p, 0) ∷ (pairCell b offAt p, getD t (b + vacatedAt) 0) ∷ (b + vacatedAt, recordOf p) ∷ []
 
   pub dropped-puts : (p : ℕ) (t : List ℕ) → dropped b p t ≡ puts (leaves b p t) (droppedRow p t)
   unfolding dropped
@@ -94,14 +100,14 @@ module _ (b : ℕ) where
 
   abbrev pub addedRow : ℕ → ℕ → ℕ → ℕ → List ℕ → List (ℕ × ℕ)
   addedRow c o n w t =
-      (b + usedAt, pairTaken b t .slab .places) ∷ (b + vacatedAt, pairTaken b t .slab .vacant) ∷ enteredRow (pairTaken b t .place) c o n w
+      (b + usedAt, pairTaken b t .slab .places) ∷ (b + vacatedAt, recordOf (pairTaken b t .slab .vacant)) ∷ enteredRow (pairTaken b t .place) c o n w
 
   pub added-puts : (c o n w : ℕ) (t : List ℕ) → added b c o n w t ≡ puts t (addedRow c o n w t)
   unfolding added entered
   added-puts c o n w t = refl
 
   abbrev pub freshRow : List (ℕ × ℕ)
-  freshRow = (b + ringAt, nowhere) ∷ (b + usedAt, 0) ∷ (b + vacatedAt, nowhere) ∷ []
+  freshRow = (b + ringAt, 0) ∷ (b + usedAt, 0) ∷ (b + vacatedAt, 0) ∷ []
 
   pub fresh-puts : (t : List ℕ) → freshLevel b t ≡ puts t freshRow
   unfolding freshLevel

@@ -8,7 +8,7 @@ use lib.Dec.{eqb}
 use lib.ListN.{length, getD}
 use borrow.Author.Tests.{ne-eqb}
 use Rattle.lists.proofs.Bools.{same?}
-use Rattle.slab.specs.Slab.{Parted}
+use Rattle.slab.specs.Slab.{placeOf, Parted}
 use Rattle.slab.specs.declared.Slab.{Slab}
 use Rattle.slab.proofs.Places.{parted-same}
 use Rattle.buddy_rules.specs.Nodes.{Ent, Side, L, R}
@@ -80,7 +80,7 @@ module _ (b p n : ℕ) (s : Side) (w : ℕ) (t u : List ℕ) (same : (i : ℕ) �
   -- nothing changes for the vacant places where p was in use and is
   pub parted : (pairs : ℕ) → pairCell b pairWords p ≤ length t → 0 < n → 0 < entOf b t p .tag → Parted (vacantIn b t) (vacantAfter b t) (slabIn b t) pairs → Parted (vacantIn b t′) (vacantAfter b t′) (slabIn b t′) pairs
   parted pairs h k l P =
-      subst (λ (z : Slab). Parted (vacantIn b t′) (vacantAfter b t′) z pairs) (λ j. record { places = sym used j; vacant = sym vacated j })
+      subst (λ (z : Slab). Parted (vacantIn b t′) (vacantAfter b t′) z pairs) (λ j. record { places = sym used j; vacant = ap placeOf (sym vacated) j })
       (parted-same (vacantIn b t) (vacantIn b t′) (vacantAfter b t) (vacantAfter b t′) (slabIn b t) pairs (λ x i. vacant x) (λ x i. chain x) P)
     where
       vacant : (x : ℕ) → vacantIn b t′ x ≡ vacantIn b t x
@@ -92,7 +92,7 @@ module _ (b p n : ℕ) (s : Side) (w : ℕ) (t u : List ℕ) (same : (i : ℕ) �
       chain : (x : ℕ) → vacantAfter b t′ x ≡ vacantAfter b t x
       chain x =
           let k : 2 < sideAt s = side-in s .0 in
-          ⊎-elim (λ e. rw e (low h offAt (omega arith) (λ q. omega arith) (λ q. omega arith))) (λ ne. other x ne offAt (inl (omega arith))) (same? x p)
+          ⊎-elim (λ e. rw e (ap placeOf (low h offAt (omega arith) (λ q. omega arith) (λ q. omega arith)))) (λ ne. ap placeOf (other x ne offAt (inl (omega arith)))) (same? x p)
 
   pub others : (x : ℕ) → (x ≡ p → ⊥) → pairIn b t′ x ≡ pairIn b t x
   others x ne = pair-same b b t t′ x used (λ h. ent-same b b t t′ x (other x ne))

@@ -13,7 +13,7 @@ use Rattle.lists.proofs.Bools.{lt-or-le}
 use Rattle.slab.specs.Slab.{Chain}
 use Rattle.slab.specs.declared.Taken.{Taken}
 use Rattle.slab.proofs.Places.{insert-first, insert-next}
-use Rattle.buddy_rules.specs.Level.{usedAt, vacatedAt, pairWords, offAt, fieldAt, entOf, pairIn, slabIn, pairTaken, vacantIn, vacantAfter, Good}
+use Rattle.buddy_rules.specs.Level.{usedAt, pairWords, offAt, fieldAt, entOf, pairIn, slabIn, pairTaken, vacantIn, vacantAfter, Good}
 use Rattle.buddy_rules.proofs.Cells.{pair-used, pair-unused}
 
 module _ (b pairs : ℕ) (t : List ℕ) (few : pairs ≤ 2 ^ 32) (G : Good b pairs t) where
@@ -21,7 +21,7 @@ module _ (b pairs : ℕ) (t : List ℕ) (few : pairs ≤ 2 ^ 32) (G : Good b pai
   used = getD t (b + usedAt) 0
 
   abbrev last : ℕ
-  last = getD t (b + vacatedAt) 0
+  last = slabIn b t .vacant
 
   -- the one vacated last, or the next new one
   abbrev Again : Type 0

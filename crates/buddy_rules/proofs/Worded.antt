@@ -10,7 +10,7 @@ use lib.Seq.{set-out, set-set, set-comm}
 use Rattle.lists.specs.Members.{NotIn}
 use Rattle.counter.specs.Limits.{levelsMost}
 use Rattle.counter.specs.declared.settings.BuddySettings.{BuddySettings}
-use Rattle.slab.specs.Slab.{nowhere}
+use Rattle.slab.specs.Slab.{nowhere, recordOf}
 use Rattle.buddy_rules.specs.Levels.{sideOf}
 use Rattle.buddy_rules.specs.Level.{ringAt, usedAt, vacatedAt, tagAt, chunkAt, offAt, leftAt, rightAt, nextAt, prevAt, upAt, sideAt, pairCell, entOf, ringHead, pairTaken, leaves, acquired, added, part}
 use Rattle.buddy_rules.proofs.Stores.{puts, stored}
@@ -37,9 +37,9 @@ module _ (b : ℕ) (w : ℕ) (t : List ℕ) where
       let p = pairTaken b t .place in
       rw (added-puts b c o n 0 t, added-puts b c o n w t)
       (again t
-      ((b + usedAt, pairTaken b t .slab .places) ∷ (b + vacatedAt, pairTaken b t .slab .vacant) ∷ (pairCell b tagAt p, 3) ∷ (pairCell b chunkAt p, c) ∷ (pairCell b offAt p, o) ∷ [])
+      ((b + usedAt, pairTaken b t .slab .places) ∷ (b + vacatedAt, recordOf (pairTaken b t .slab .vacant)) ∷ (pairCell b tagAt p, 3) ∷ (pairCell b chunkAt p, c) ∷ (pairCell b offAt p, o) ∷ [])
       (pairCell b leftAt p) 0 w
-      ((pairCell b rightAt p, 0) ∷ (pairCell b upAt p, n) ∷ (pairCell b nextAt p, p) ∷ (pairCell b prevAt p, p) ∷ (b + ringAt, p) ∷ [])
+      ((pairCell b rightAt p, 0) ∷ (pairCell b upAt p, n) ∷ (pairCell b nextAt p, recordOf p) ∷ (pairCell b prevAt p, recordOf p) ∷ (b + ringAt, recordOf p) ∷ [])
       ((λ e. omega arith), ((λ e. omega arith), ((λ e. omega arith), ((λ e. omega arith), ((λ e. omega arith), tt))))))
 
   pub acquired-again : set (acquired b 0 t) (pairCell b (sideAt (sideOf (entOf b t (ringHead b t) .tag))) (ringHead b t)) w ≡ acquired b w t

@@ -7,7 +7,7 @@ use lib.Dec.{ltb}
 use lib.ListN.{getD, set, take, drop}
 use Rattle.lists.specs.Members.{Mem}
 use Rattle.words.specs.Words.{cellOf}
-use Rattle.slab.specs.Slab.{nowhere, vacantAt, linkAt, inserted, Parted}
+use Rattle.slab.specs.Slab.{placeOf, recordOf, vacantAt, linkAt, inserted, Parted}
 use Rattle.slab.specs.declared.Slab.{Slab}
 use Rattle.slab.specs.declared.Taken.{Taken}
 use Rattle.ring_rules.specs.Ring.{unlinked, linked, alone, RingOf}
@@ -113,11 +113,11 @@ module _ (b : ℕ) where
   pairIn t p = cond (ltb p (getD t (b + usedAt) 0)) (entOf t p) noPair
 
   abbrev pub ringHead : List ℕ → ℕ
-  ringHead t = getD t (b + ringAt) 0
+  ringHead t = placeOf (getD t (b + ringAt) 0)
 
   -- its places: how many were ever used, and the one vacated last
   abbrev pub slabIn : List ℕ → Slab
-  slabIn t = record { places = getD t (b + usedAt) 0; vacant = getD t (b + vacatedAt) 0 }
+  slabIn t = record { places = getD t (b + usedAt) 0; vacant = placeOf (getD t (b + vacatedAt) 0) }
 
   -- the place that a new pair takes, and the slab from then on
   abbrev pub pairTaken : List ℕ → Taken
@@ -133,7 +133,7 @@ module _ (b : ℕ) where
   -- "the pair goes": p leaves the ring, and its place is the one vacated last
   unfoldable pub dropped : ℕ → List ℕ → List ℕ
   dropped p t =
-      set (set (set (leaves p t) (pairCell tagAt p) vacant) (pairCell offAt p) (getD t (b + vacatedAt) 0)) (b + vacatedAt) p
+      set (set (set (leaves p t) (pairCell tagAt p) vacant) (pairCell offAt p) (getD t (b + vacatedAt) 0)) (b + vacatedAt) (recordOf p)
 
   -- "A returned side of an exhausted pair joins the ring before the head, or as head if the ring is empty"
   unfoldable pub backed : ℕ → Side → List ℕ → List ℕ
@@ -152,11 +152,11 @@ module _ (b : ℕ) where
 
   unfoldable pub added : ℕ → ℕ → ℕ → ℕ → List ℕ → List ℕ
   added c o n w t =
-      entered (pairTaken t .place) c o n w (set (set t (b + usedAt) (pairTaken t .slab .places)) (b + vacatedAt) (pairTaken t .slab .vacant))
+      entered (pairTaken t .place) c o n w (set (set t (b + usedAt) (pairTaken t .slab .places)) (b + vacatedAt) (recordOf (pairTaken t .slab .vacant)))
 
   -- a level with no pair
   unfoldable pub freshLevel : List ℕ → List ℕ
-  freshLevel t = set (set (set t (b + ringAt) nowhere) (b + usedAt) 0) (b + vacatedAt) nowhere
+  freshLevel t = set (set (set t (b + ringAt) 0) (b + usedAt) 0) (b + vacatedAt) 0
 
   -- a pair place is vacant: its tag says so, and it links to the next
   abbrev pub vacantIn : List ℕ → ℕ → Bool

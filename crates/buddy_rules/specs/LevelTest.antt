@@ -5,6 +5,7 @@ use mathlib.Core.List.{List}
 use Prim.Native.Nat.{ℕ, zero, suc, _+_}
 use lib.Dec.{eqb, ltb}
 use lib.ListN.{getD}
+use Rattle.slab.specs.Slab.{linkAt}
 use Rattle.slab.specs.Test.{vacancies, partedOk}
 use Rattle.ring_rules.specs.Test.{ringLength}
 use Rattle.buddy_rules.specs.Nodes.{exhausted}
@@ -36,7 +37,7 @@ module _ (b : ℕ) where
 
   -- the pair after p in the ring
   abbrev pub readyAfter : List ℕ → ℕ → ℕ
-  readyAfter t p = getD t (pairCell b nextAt p) 0
+  readyAfter t = linkAt t (fieldAt b nextAt) pairWords
 
   -- how many of the first k pairs are ready, counted as vacant places are
   abbrev pub readies : List ℕ → ℕ → ℕ

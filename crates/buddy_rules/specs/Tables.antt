@@ -11,11 +11,11 @@ use Rattle.words.specs.Words.{cellOf}
 use Rattle.rounding_rules.specs.Raising.{levelOf}
 use Rattle.counter.specs.Limits.{levelsMost}
 use Rattle.counter.specs.declared.settings.BuddySettings.{BuddySettings}
-use Rattle.slab.specs.Slab.{vacantAt, linkAt}
+use Rattle.slab.specs.Slab.{placeOf, vacantAt, linkAt}
 use Rattle.slab.specs.declared.Slab.{Slab}
 use Rattle.store_rules.specs.Loans.{givenAt, placesAt, loanWords, chunkAt, offsetAt, sizeAt}
 pub use Rattle.store_rules.specs.Tables.{Tables, tables, Marks, Signed, signedOk}
-use Rattle.book_rules.specs.Book.{indexWords, entryWords, vacantAfterAt, nextOf, slabOf, firstIn}
+use Rattle.book_rules.specs.Book.{indexWords, entryWords, vacantAfterAt, slabOf, firstIn, nextIn}
 use Rattle.buddy_rules.specs.Nodes.{Ent, Loan}
 use Rattle.buddy_rules.specs.Level.{levelStart, pairIn}
 
@@ -171,7 +171,7 @@ abbrev pub chunkAfter : BuddySettings → Tables → ℕ → ℕ
 chunkAfter s t = linkAt (t .room) (placeAt s afterAt) placeWords
 
 abbrev pub chunkSlab : BuddySettings → Tables → Slab
-chunkSlab s t = record { places = chunkPlacesIn t; vacant = getD (t .room) (chunksFrom s) 0 }
+chunkSlab s t = record { places = chunkPlacesIn t; vacant = placeOf (getD (t .room) (chunksFrom s) 0) }
 
 -- the book of loans
 abbrev pub vacantLoan : Tables → ℕ → Bool
@@ -187,7 +187,7 @@ abbrev pub chainStart : Tables → ℕ → ℕ
 chainStart t = firstIn (t .index)
 
 abbrev pub chainNext : Tables → ℕ → ℕ
-chainNext t p = getD (t .index) (nextOf p) 0
+chainNext t = nextIn (t .index)
 
 -- 01: "Initial levels: zeros of the initial size less those of minimal, not below 0"
 abbrev pub initialLevels : BuddySettings → ℕ

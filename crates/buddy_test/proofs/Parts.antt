@@ -14,7 +14,7 @@ use Rattle.rounding_rules.proofs.Masks.{masked}
 use Rattle.counter.specs.InTable.{BuddyIn}
 use Rattle.counter.specs.Limits.{levelsMost}
 use Rattle.counter.specs.declared.settings.BuddySettings.{BuddySettings}
-use Rattle.slab.specs.Slab.{vacantAt, linkAt}
+use Rattle.slab.specs.Slab.{placeOf, vacantAt, linkAt}
 use Rattle.slab.specs.Test.{partedOk}
 use Rattle.store_rules.specs.Loans.{placesAt, loanWords, sizeAt, loanRow, offsetAt}
 use Rattle.store_rules.specs.declared.Loan.{Loan}
@@ -29,13 +29,13 @@ module _ (s : BuddySettings) where
       → (m && (leb f l && leb l levelsMost)) ≡ (signedOk marks t && (leb (initialLevels s) (getD (t .head) levelsAt 0) && leb (getD (t .head) levelsAt 0) levelsMost))
   head-told t m l f e g h = λ j. e j && (leb (h j) (g j) && leb (g j) levelsMost)
 
-  pub places-told : (n at v : ℕ) (chunks tree : List ℕ) (r : Bool) → n ≡ getD chunks chunkPlacesAt 0 → at ≡ levelStart (s .pairs) levelsMost → v ≡ getD tree at 0
+  pub places-told : (n at v : ℕ) (chunks tree : List ℕ) (r : Bool) → n ≡ getD chunks chunkPlacesAt 0 → at ≡ levelStart (s .pairs) levelsMost → v ≡ placeOf (getD tree at 0)
       → r ≡ partedOk (vacantAt chunks chunkSizeAt chunkWords) (linkAt tree (at + (placeWords + afterAt)) placeWords) (record { places = n; vacant = v }) (s .store .chunks)
       → r ≡ partedOk (vacantChunk (levelPart 0 chunks tree)) (chunkAfter s (levelPart 0 chunks tree)) (chunkSlab s (levelPart 0 chunks tree)) (s .store .chunks)
   places-told n at v chunks tree r c e f g =
       g
       ∙ (λ j. partedOk (vacantAt chunks chunkSizeAt chunkWords) (linkAt tree (at + (placeWords + afterAt)) placeWords) (record { places = c j; vacant = f j }) (s .store .chunks))
-      ∙ (λ j. partedOk (vacantAt chunks chunkSizeAt chunkWords) (linkAt tree (e j + (placeWords + afterAt)) placeWords) (record { places = getD chunks chunkPlacesAt 0; vacant = getD tree (e j) 0 }) (s .store .chunks))
+      ∙ (λ j. partedOk (vacantAt chunks chunkSizeAt chunkWords) (linkAt tree (e j + (placeWords + afterAt)) placeWords) (record { places = getD chunks chunkPlacesAt 0; vacant = placeOf (getD tree (e j) 0) }) (s .store .chunks))
 
 pub good-told : (pairs l base : ℕ) (tree : List ℕ) (r : Bool) → base ≡ levelStart pairs l → r ≡ goodOk base pairs tree → r ≡ goodOk (levelStart pairs l) pairs tree
 good-told pairs l base tree r e f = f ∙ ap (λ (b : ℕ). goodOk b pairs tree) e

@@ -67,7 +67,7 @@ pub fn are_places(s: BuddySettings, n: u64, chunks: &[u64], tree: &[u64]) -> boo
     let at = buddy_levels::chunks_from(s.pairs);
     let places = Slab {
         places: n,
-        vacant: words::word(tree, at),
+        vacant: slab::led_to(tree, at),
     };
     let after = at + (PLACE_WORDS + AFTER_AT);
     slab::is_parted(

@@ -13,7 +13,7 @@ use Rattle.counter.specs.declared.account.OpenOrder.the-variants.{Nothing}
 use Rattle.counter.specs.declared.settings.FreeListSettings.{FreeListSettings}
 use Rattle.heap.specs.Heap.{plusOf, chargedOf, releasedOf, bearsOk, agreesOk}
 use Rattle.words.specs.Words.{blank}
-use Rattle.slab.specs.Slab.{nowhere, inserted}
+use Rattle.slab.specs.Slab.{inserted}
 use Rattle.store_rules.specs.Tables.{signedOk}
 use Rattle.slab.specs.Test.{vacancies, leads, partedOk}
 use Rattle.store_rules.specs.Delivery.{deliveryOk}
@@ -77,7 +77,7 @@ opening =
     (marks .head ∷ 4096 ∷ [])
     (marks .loans ∷ 0 ∷ 0 ∷ 0 ∷ 0 ∷ 0 ∷ 0 ∷ 0 ∷ 0 ∷ 0 ∷ 0 ∷ 0 ∷ 0 ∷ 0 ∷ 0 ∷ 0 ∷ [])
     (marks .chunks ∷ 0 ∷ 0 ∷ 0 ∷ 0 ∷ 0 ∷ 0 ∷ 0 ∷ 0 ∷ [])
-    (marks .index ∷ nowhere ∷ nowhere ∷ nowhere ∷ nowhere ∷ nowhere ∷ nowhere ∷ nowhere ∷ nowhere ∷ nowhere ∷ nowhere ∷ nowhere ∷ [])
+    (marks .index ∷ 0 ∷ 0 ∷ 0 ∷ 0 ∷ 0 ∷ 0 ∷ 0 ∷ 0 ∷ 0 ∷ 0 ∷ 0 ∷ [])
     (marks .room ∷ 0 ∷ 0 ∷ 0 ∷ 0 ∷ 0 ∷ 0 ∷ 0 ∷ 0 ∷ 0 ∷ 0 ∷ 0 ∷ 0 ∷ 0 ∷ 0 ∷ 0 ∷ 0 ∷ 0 ∷ [])
 
 -- the 128 is on loan
@@ -87,7 +87,7 @@ withOne =
     (marks .head ∷ 8192 ∷ [])
     (marks .loans ∷ 1 ∷ 1 ∷ 0 ∷ 1 ∷ 1 ∷ 3968 ∷ 128 ∷ 0 ∷ 0 ∷ 0 ∷ 0 ∷ 0 ∷ 0 ∷ 0 ∷ 0 ∷ [])
     (marks .chunks ∷ 1 ∷ 1 ∷ 1 ∷ 50 ∷ 4096 ∷ 0 ∷ 0 ∷ 0 ∷ [])
-    (marks .index ∷ nowhere ∷ nowhere ∷ nowhere ∷ nowhere ∷ nowhere ∷ 0 ∷ nowhere ∷ nowhere ∷ nowhere ∷ nowhere ∷ nowhere ∷ [])
+    (marks .index ∷ 0 ∷ 0 ∷ 0 ∷ 0 ∷ 0 ∷ 1 ∷ 0 ∷ 0 ∷ 0 ∷ 0 ∷ 0 ∷ [])
     (marks .room ∷ 1 ∷ 0 ∷ 1 ∷ 0 ∷ 3968 ∷ 0 ∷ 0 ∷ 0 ∷ 0 ∷ 0 ∷ 0 ∷ 0 ∷ 0 ∷ 0 ∷ 0 ∷ 0 ∷ 0 ∷ [])
 
 -- and the 896; the next order raises nothing: 8,192 it is already
@@ -97,7 +97,7 @@ withTwo =
     (marks .head ∷ 8192 ∷ [])
     (marks .loans ∷ 2 ∷ 2 ∷ 0 ∷ 1 ∷ 1 ∷ 3968 ∷ 128 ∷ 2 ∷ 1 ∷ 3072 ∷ 896 ∷ 0 ∷ 0 ∷ 0 ∷ 0 ∷ [])
     (marks .chunks ∷ 1 ∷ 1 ∷ 1 ∷ 50 ∷ 4096 ∷ 0 ∷ 0 ∷ 0 ∷ [])
-    (marks .index ∷ nowhere ∷ nowhere ∷ nowhere ∷ nowhere ∷ nowhere ∷ 0 ∷ nowhere ∷ nowhere ∷ 1 ∷ nowhere ∷ nowhere ∷ [])
+    (marks .index ∷ 0 ∷ 0 ∷ 0 ∷ 0 ∷ 0 ∷ 1 ∷ 0 ∷ 0 ∷ 2 ∷ 0 ∷ 0 ∷ [])
     (marks .room ∷ 1 ∷ 0 ∷ 1 ∷ 0 ∷ 3072 ∷ 0 ∷ 0 ∷ 0 ∷ 0 ∷ 0 ∷ 0 ∷ 0 ∷ 0 ∷ 0 ∷ 0 ∷ 0 ∷ 0 ∷ [])
 
 -- and the 5,056, of chunk 2
@@ -107,7 +107,7 @@ withThree =
     (marks .head ∷ 16384 ∷ [])
     (marks .loans ∷ 3 ∷ 3 ∷ 0 ∷ 1 ∷ 1 ∷ 3968 ∷ 128 ∷ 2 ∷ 1 ∷ 3072 ∷ 896 ∷ 3 ∷ 2 ∷ 3136 ∷ 5056 ∷ [])
     (marks .chunks ∷ 2 ∷ 2 ∷ 1 ∷ 50 ∷ 4096 ∷ 2 ∷ 51 ∷ 8192 ∷ [])
-    (marks .index ∷ nowhere ∷ nowhere ∷ 2 ∷ nowhere ∷ nowhere ∷ 0 ∷ nowhere ∷ nowhere ∷ 1 ∷ nowhere ∷ nowhere ∷ [])
+    (marks .index ∷ 0 ∷ 0 ∷ 3 ∷ 0 ∷ 0 ∷ 1 ∷ 0 ∷ 0 ∷ 2 ∷ 0 ∷ 0 ∷ [])
     (marks .room ∷ 2 ∷ 0 ∷ 1 ∷ 0 ∷ 3072 ∷ 2 ∷ 0 ∷ 3136 ∷ 0 ∷ 0 ∷ 0 ∷ 0 ∷ 0 ∷ 0 ∷ 0 ∷ 0 ∷ 0 ∷ [])
 
 -- the 128 is back
@@ -115,9 +115,9 @@ abbrev pub lessOne : Tables
 lessOne =
     tables
     (marks .head ∷ 16384 ∷ [])
-    (marks .loans ∷ 3 ∷ 3 ∷ 0 ∷ 1 ∷ 1 ∷ 3968 ∷ 0 ∷ 2 ∷ 1 ∷ 3072 ∷ 896 ∷ 3 ∷ 2 ∷ 3136 ∷ 5056 ∷ [])
+    (marks .loans ∷ 3 ∷ 3 ∷ 0 ∷ 0 ∷ 1 ∷ 3968 ∷ 0 ∷ 2 ∷ 1 ∷ 3072 ∷ 896 ∷ 3 ∷ 2 ∷ 3136 ∷ 5056 ∷ [])
     (marks .chunks ∷ 2 ∷ 2 ∷ 1 ∷ 50 ∷ 4096 ∷ 2 ∷ 51 ∷ 8192 ∷ [])
-    (marks .index ∷ nowhere ∷ 0 ∷ 2 ∷ nowhere ∷ nowhere ∷ nowhere ∷ nowhere ∷ nowhere ∷ 1 ∷ nowhere ∷ nowhere ∷ [])
+    (marks .index ∷ 0 ∷ 1 ∷ 3 ∷ 0 ∷ 0 ∷ 0 ∷ 0 ∷ 0 ∷ 2 ∷ 0 ∷ 0 ∷ [])
     (marks .room ∷ 3 ∷ 0 ∷ 1 ∷ 0 ∷ 3072 ∷ 1 ∷ 3968 ∷ 4096 ∷ 2 ∷ 0 ∷ 3136 ∷ 0 ∷ 0 ∷ 0 ∷ 0 ∷ 0 ∷ 0 ∷ [])
 
 -- and the 896: chunk 1 is gone
@@ -125,9 +125,9 @@ abbrev pub lessTwo : Tables
 lessTwo =
     tables
     (marks .head ∷ 16384 ∷ [])
-    (marks .loans ∷ 3 ∷ 3 ∷ 0 ∷ 1 ∷ 1 ∷ 3968 ∷ 0 ∷ 2 ∷ 1 ∷ 3072 ∷ 0 ∷ 3 ∷ 2 ∷ 3136 ∷ 5056 ∷ [])
+    (marks .loans ∷ 3 ∷ 3 ∷ 0 ∷ 0 ∷ 1 ∷ 3968 ∷ 0 ∷ 0 ∷ 1 ∷ 3072 ∷ 0 ∷ 3 ∷ 2 ∷ 3136 ∷ 5056 ∷ [])
     (marks .chunks ∷ 2 ∷ 1 ∷ 2 ∷ 51 ∷ 8192 ∷ 2 ∷ 51 ∷ 8192 ∷ [])
-    (marks .index ∷ nowhere ∷ 1 ∷ 2 ∷ nowhere ∷ nowhere ∷ nowhere ∷ nowhere ∷ 0 ∷ nowhere ∷ nowhere ∷ nowhere ∷ [])
+    (marks .index ∷ 0 ∷ 2 ∷ 3 ∷ 0 ∷ 0 ∷ 0 ∷ 0 ∷ 1 ∷ 0 ∷ 0 ∷ 0 ∷ [])
     (marks .room ∷ 1 ∷ 0 ∷ 2 ∷ 0 ∷ 3136 ∷ 2 ∷ 0 ∷ 3136 ∷ 2 ∷ 0 ∷ 3136 ∷ 0 ∷ 0 ∷ 0 ∷ 0 ∷ 0 ∷ 0 ∷ [])
 
 -- ---- the day

@@ -5,7 +5,9 @@ use mathlib.Core.Bool.{true}
 use mathlib.Core.List.{List, [], _∷_, _++_}
 use Prim.Native.Nat.{ℕ, _+_, _-_, _≤_, _<_}
 use native.Mathlib.Omega.{arith}
-use lib.ListN.{length, getD, length-append}
+use lib.ListN.{length, getD, set, length-append}
+use lib.Seq.{getD-set-other}
+use Rattle.rounding_rules.specs.Growth.{doubled}
 use Rattle.rounding_rules.proofs.Raising.{down-enough}
 use Rattle.slab.specs.declared.Taken.{Taken}
 use Rattle.counter.specs.declared.account.KeptOrder.{KeptOrder}
@@ -14,12 +16,13 @@ use Rattle.counter.specs.declared.account.Heap.{Heap}
 use Rattle.counter.specs.declared.settings.FreeListSettings.{FreeListSettings}
 use Rattle.counter.proofs.Tables.{alignment-yes}
 use Rattle.store_rules.specs.Orders.{buy}
+use Rattle.store_rules.specs.Loans.{givenAt, placesAt}
 use Rattle.book_rules.specs.Book.{takenOf}
 use Rattle.book_rules.specs.Ready.{Opens}
 use Rattle.freelist_rules.specs.Records.{region}
 use Rattle.freelist_rules.specs.Place.{nowhere, cut}
 use Rattle.freelist_rules.specs.Steps.{noRegion}
-use Rattle.freelist_rules.specs.Tables.{Tables, regionsMost, regionCountAt, lengthsOk, placesIn, chunksIn, regionsIn, storeOf, SoundTables, laidRegions, regionsOf}
+use Rattle.freelist_rules.specs.Tables.{Tables, madeAt, chunkSizeAt, chunksAt, regionsMost, regionCountAt, lengthsOk, placesIn, chunksIn, regionsIn, storeOf, SoundTables, laidRegions, regionsOf}
 use Rattle.store_rules.specs.declared.Region.{Region}
 use Rattle.freelist_rules.proofs.Fits.{lengths-are, regions-fit, regions-length, chunks-length, loans-few, laid-fit, laid-count, laid-regions}
 use Rattle.freelist_rules.proofs.Meaning.{room-enough}

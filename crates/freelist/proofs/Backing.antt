@@ -9,7 +9,7 @@ use Rattle.counter.specs.InTable.{FreeListIn}
 use Rattle.counter.specs.declared.answers.Block.{Block}
 use Rattle.counter.specs.declared.settings.FreeListSettings.{FreeListSettings}
 use Rattle.slab.specs.Slab.{nowhere}
-use Rattle.book_rules.specs.Book.{indexWords, wordTo}
+use Rattle.book_rules.specs.Book.{indexWords, ledTo, wordTo}
 use Rattle.book_rules.specs.Ready.{Strikes}
 use Rattle.book_rules.proofs.Keeps.{found}
 use Rattle.freelist_rules.specs.Pieces.{lo, hi, Rising}
@@ -61,11 +61,11 @@ module _ (s : FreeListSettings) (t : Tables) (fit : FreeListIn s) (sound : Sound
       let given = givenIn t in
       let at = block-leads s t fit sound b lent in
       let few : n < nowhere = omega (arith, fit .store .loans-most) in
-      let f = found (t .loans) (t .index) n (placesIn t) given (fit .store .loans-some) (sound .parted .limit) few (sound .chained) (getD (t .index) (wordFor s b t) 0) (at .0) (at .1) in
+      let f = found (t .loans) (t .index) n (placesIn t) given (fit .store .loans-some) (sound .parted .limit) few (sound .chained) (ledTo (t .index) (wordFor s b t)) (at .0) (at .1) in
       subst (λ (k : ℕ). wordTo (t .loans) (t .index) n (placesIn t) k < indexWords n) (at .2) (f .0)
 
   -- and leads to a place below the limit
-  pub strikes-ready : lengthsOk s t ≡ true → Strikes (wordFor s b t) (getD (t .index) (wordFor s b t) 0) (t .loans) (t .index)
+  pub strikes-ready : lengthsOk s t ≡ true → Strikes (wordFor s b t) (ledTo (t .index) (wordFor s b t)) (t .loans) (t .index)
   strikes-ready lengths =
       let long = lengths-are s t lengths in
       let at = block-leads s t fit sound b lent in

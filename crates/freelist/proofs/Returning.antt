@@ -5,7 +5,7 @@ use mathlib.Core.Logic.{⊎-elim}
 use mathlib.Core.List.{List, []}
 use Prim.Native.Nat.{ℕ, _≤_}
 use native.Mathlib.Omega.{arith}
-use lib.ListN.{length, getD}
+use lib.ListN.{length}
 use lib.Seq.{sets}
 use borrow.Author.Tests.{leb-true}
 use Rattle.lists.proofs.Bools.{told, true-false}
@@ -26,6 +26,7 @@ use Rattle.store_rules.specs.Shares.{releasedShare}
 use Rattle.store_rules.proofs.Holders.{holding, orderBy, holder}
 use Rattle.store_rules.proofs.Shares.{held-released}
 use Rattle.freelist_rules.specs.Release.{memoriesOf, bytesOf}
+use Rattle.book_rules.specs.Book.{ledTo}
 use Rattle.book_rules.specs.Ready.{Strikes}
 use Rattle.freelist_rules.specs.Pieces.{total}
 use Rattle.freelist_rules.specs.Tables.{Tables, tables, chunksIn, storeOf}
@@ -116,9 +117,9 @@ module _ (s : FreeListSettings) (share : Share) (t : Tables) (list : List ℕ) (
     returned-backs : Backs s b (t .room)
     returned-backs = backs-ready s t (gate .settings) (gate .sound) b lent (gate .lengths)
 
-    returned-strikes : Strikes w (getD (t .index) w 0) (t .loans) (t .index)
+    returned-strikes : Strikes w (ledTo (t .index) w) (t .loans) (t .index)
     returned-strikes =
-        subst (λ (v : ℕ). Strikes v (getD (t .index) v 0) (t .loans) (t .index)) (sym (word-is s held b t (listOk (s .store) list) w e))
+        subst (λ (v : ℕ). Strikes v (ledTo (t .index) v) (t .loans) (t .index)) (sym (word-is s held b t (listOk (s .store) list) w e))
         (strikes-ready s t (gate .settings) (gate .sound) b lent (gate .lengths))
 
     returned-releases : Releases s (share .objects) true (tables (t .head) (t .loans) (t .chunks) (t .index) (joined s b (t .room))) list

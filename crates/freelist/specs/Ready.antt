@@ -3,7 +3,7 @@ use mathlib.Core.Path.{_≡_}
 use mathlib.Core.Bool.{Bool, true, false}
 use mathlib.Core.List.{List}
 use Prim.Native.Nat.{ℕ, _+_, _≤_}
-use lib.ListN.{length, getD}
+use lib.ListN.{length}
 use Rattle.rounding_rules.specs.Masks.{Ones}
 use Rattle.counter.specs.InTable.{FreeListIn}
 use Rattle.counter.specs.Limits.{objectsMost}
@@ -31,6 +31,7 @@ use Rattle.store.specs.declared.comings.Coming.{Coming}
 use Rattle.store.specs.declared.comings.Coming.the-variants as Coming
 use Rattle.freelist.specs.declared.plans.Delivery.{Delivery}
 use Rattle.freelist.specs.declared.plans.Delivery.the-variants as Delivery
+use Rattle.book_rules.specs.Book.{ledTo}
 
 -- ---- set-up
 
@@ -87,7 +88,7 @@ joined s b regions = laidRegions (insert (region (b .chunk) (b .offset) (b .offs
 -- the loan that word w leads to can be struck out, its block go back, and then wholly free chunks go
 pub record TakesBack (s : FreeListSettings) (objects : ℕ) (b : Block) (w : ℕ) (t : Tables) (list : List ℕ) : Type 0 where
   pub backs : Backs s b (t .room)
-  pub strikes : Strikes w (getD (t .index) w 0) (t .loans) (t .index)
+  pub strikes : Strikes w (ledTo (t .index) w) (t .loans) (t .index)
   pub releases : Releases s objects true (tables (t .head) (t .loans) (t .chunks) (t .index) (joined s b (t .room))) list
 
 abbrev pub ReturnReady : FreeListSettings → ℕ → Block → Tables → List ℕ → Back → Type 0

@@ -11,7 +11,7 @@ use Rattle.words.specs.Words.{markAt}
 use Rattle.words.proofs.Filled.{blank-mark, blank-other}
 use Rattle.counter.specs.InTable.{FreeListIn}
 use Rattle.counter.specs.declared.settings.FreeListSettings.{FreeListSettings}
-use Rattle.slab.specs.Slab.{Parted, nowhere}
+use Rattle.slab.specs.Slab.{Parted}
 use Rattle.slab.proofs.Places.{parted-fresh}
 use Rattle.slab.specs.declared.Slab.{Slab}
 use Rattle.store_rules.specs.Loans.{givenAt, placesAt, loanWords, loansOf}
@@ -96,7 +96,7 @@ module _ (s : FreeListSettings) (t : Tables) (fit : FreeListIn s) (lengths : Len
               head = refl;
               loans = blank-mark _ (marks .loans) 0 (omega arith);
               chunks = blank-mark _ (marks .chunks) 0 (omega arith);
-              index = blank-mark _ (marks .index) nowhere (omega arith);
+              index = blank-mark _ (marks .index) 0 (omega arith);
               room = blank-mark _ (marks .room) 0 (omega arith);
             };
         chunks-fit = omega (arith, fresh-held s);

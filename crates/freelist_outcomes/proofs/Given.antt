@@ -6,10 +6,9 @@ use mathlib.Core.List.{List, _∷_, _++_, List·Memᴰ}
 use Prim.Native.Nat.{ℕ, _+_, _*_, _≤_, _<_}
 use native.Mathlib.Omega.{arith}
 use lib.Dec.{eqb}
-use lib.ListN.{length, getD, set}
+use lib.ListN.{length, getD}
 use borrow.Author.Tests.{ne-eqb}
 use Rattle.lists.proofs.Bools.{true-false, and-both, same?}
-use Rattle.words.specs.Words.{cellOf}
 use Rattle.words.specs.Rows.{row}
 use Rattle.words.proofs.Records.{cell-row}
 use Rattle.counter.specs.InTable.{FreeListIn}
@@ -21,10 +20,10 @@ use Rattle.store_rules.specs.Loans.{givenAt, loanWords, serialAt, sizeAt, loanR
 use Rattle.store_rules.specs.Views.{OnLoan}
 use Rattle.store_rules.specs.declared.Loan.{Loan}
 use Rattle.store_rules.proofs.Loaned.{loan-same}
-use Rattle.book_rules.specs.Book.{indexWords, serialOf, firstIn, wordTo, struck, struckIndex}
-use Rattle.book_rules.proofs.Changed.{serial-kept, vacant-now}
+use Rattle.book_rules.specs.Book.{indexWords, ledTo, serialOf, firstIn, nextIn, wordTo, struck, struckIndex}
+use Rattle.book_rules.proofs.Changed.{cleared, serial-kept, vacant-now}
 use Rattle.book_rules.proofs.Decides.{serial-once}
-use Rattle.book_rules.proofs.Keeps.{BookChained, BookParted, freeIn, nextIn, found, struck-long, struck-wide, struck-chained, struck-parted}
+use Rattle.book_rules.proofs.Keeps.{BookChained, BookParted, freeIn, found, struck-long, struck-wide, struck-chained, struck-parted}
 use Rattle.book_rules.proofs.Owns.{struck-mark, struck-own, struck-index-mark, word-past-mark}
 use Rattle.freelist_rules.specs.Join.{insert}
 use Rattle.freelist_rules.specs.Pieces.{All, piece}
@@ -80,10 +79,10 @@ module _ (s : FreeListSettings) (t : Tables) (fit : FreeListIn s) (sound : Sound
       let n = s .store .loans in
       let w = place-of (placesIn t) (t .loans) (v .0) (ordered-out (v .0) (loansOf (placesIn t) (t .loans)) (v .1)) in
       let f = found (t .loans) (t .index) n (placesIn t) (givenIn t) (fit .store .loans-some) (sound .parted .limit) (omega (arith, fit .store .loans-most)) (sound .chained) (w .loanPlace) (w .below) (w .used) in
-      let g : (wordFor s b t < indexWords n) × (getD (t .index) (wordFor s b t) 0 ≡ w .loanPlace) =
-      subst (λ (k : ℕ). (wordTo (t .loans) (t .index) n (placesIn t) k < indexWords n) × (getD (t .index) (wordTo (t .loans) (t .index) n (placesIn t) k) 0 ≡ w .loanPlace)) (w .serial ∙ v .2 .serial) f in
+      let g : (wordFor s b t < indexWords n) × (ledTo (t .index) (wordFor s b t) ≡ w .loanPlace) =
+      subst (λ (k : ℕ). (wordTo (t .loans) (t .index) n (placesIn t) k < indexWords n) × (ledTo (t .index) (wordTo (t .loans) (t .index) n (placesIn t) k) ≡ w .loanPlace)) (w .serial ∙ v .2 .serial) f in
       let there : not (eqb (wordFor s b t) nowhere) ≡ true = ap not (ne-eqb (wordFor s b t) nowhere (λ e. omega (arith, g .0, fit .store .loans-most))) in
-      let same : sameLoan b (row loanRow (getD (t .index) (wordFor s b t) 0) (t .loans)) ≡ true =
+      let same : sameLoan b (row loanRow (ledTo (t .index) (wordFor s b t)) (t .loans)) ≡ true =
       ap (λ (p : ℕ). sameLoan b (row loanRow p (t .loans))) (g .1) ∙ ap (sameLoan b) (w .is) ∙ loan-same b (v .0) (v .2) in
       and-both _ _ there same
 
@@ -94,7 +93,7 @@ module _ (s : FreeListSettings) (t : Tables) (fit : FreeListIn s) (lengths : Len
   word = wordFor s b t
 
   abbrev place : ℕ
-  place = getD (t .index) word 0
+  place = ledTo (t .index) word
 
   abbrev n : ℕ
   n = s .store .loans
@@ -136,7 +135,7 @@ module _ (s : FreeListSettings) (t : Tables) (fit : FreeListIn s) (lengths : Len
   -- ---- the loans
 
   abbrev after : List ℕ
-  after = set (t .loans) (cellOf sizeAt loanWords place) 0
+  after = cleared (t .loans) place
 
   inside : place < n
   inside = omega (arith, leads .0, limit)
@@ -146,9 +145,9 @@ module _ (s : FreeListSettings) (t : Tables) (fit : FreeListIn s) (lengths : Len
   others d m e =
       let w = place-of (placesIn t) after d m in
       let v : changed (freeIn (t .loans)) place true (w .loanPlace) ≡ false = sym (vacant-now (t .loans) n place (lengths .loans) inside (w .loanPlace)) ∙ w .used in
-      let k : serialOf (t .loans) (w .loanPlace) ≡ serialOf (t .loans) place = sym (serial-kept (t .loans) n place (lengths .loans) inside (w .loanPlace)) ∙ w .serial ∙ e in
+      let k : (w .loanPlace ≡ place → ⊥) → serialOf (t .loans) (w .loanPlace) ≡ serialOf (t .loans) place = λ q. sym (serial-kept (t .loans) n place (lengths .loans) inside (w .loanPlace) q) ∙ w .serial ∙ e in
       ⊎-elim (λ q. true-false _ (changed-here (freeIn (t .loans)) place true (w .loanPlace) q) v)
-      (λ q. q (serial-once (freeIn (t .loans)) (firstIn (t .index)) (nextIn (t .index)) (serialOf (t .loans)) n (placesIn t) given (w .loanPlace) place (fit .store .loans-some) (sound .chained) (w .below) (leads .0) (sym (changed-other (freeIn (t .loans)) place true (w .loanPlace) q) ∙ v) (leads .1) k))
+      (λ q. q (serial-once (freeIn (t .loans)) (firstIn (t .index)) (nextIn (t .index)) (serialOf (t .loans)) n (placesIn t) given (w .loanPlace) place (fit .store .loans-some) (sound .chained) (w .below) (leads .0) (sym (changed-other (freeIn (t .loans)) place true (w .loanPlace) q) ∙ v) (leads .1) (k q)))
       (same? (w .loanPlace) place)
 
   given-loans : ordered (loansOf (placesIn t) after) ≡ without (b .serial) (storeOf s t .loans)

@@ -16,7 +16,7 @@ use Rattle.counter.specs.declared.settings.FreeListSettings.{FreeListSettings}
 use Rattle.slab.specs.Slab.{nowhere}
 use Rattle.store_rules.specs.Loans.{loanWords, sizeAt, loanRow, onLoan, loansOf}
 use Rattle.store_rules.specs.declared.Loan.{Loan}
-use Rattle.book_rules.specs.Book.{serialOf}
+use Rattle.book_rules.specs.Book.{ledTo, serialOf}
 use Rattle.freelist_rules.specs.Records.{region}
 use Rattle.freelist_rules.specs.Pieces.{piece}
 use Rattle.freelist_rules.specs.Seek.{sameLoan}
@@ -51,13 +51,13 @@ module _ (s : FreeListSettings) (t : Tables) where
 
   -- the word that leads to its serial leads to a place in use that has it
   pub block-leads : FreeListIn s → SoundTables s t → (b : Block) → onLoanOk s b t ≡ true
-      → (getD (t .index) (wordFor s b t) 0 < placesIn t)
-      × (vacantIn t (getD (t .index) (wordFor s b t) 0) ≡ false)
-      × (serialOf (t .loans) (getD (t .index) (wordFor s b t) 0) ≡ b .serial)
+      → (ledTo (t .index) (wordFor s b t) < placesIn t)
+      × (vacantIn t (ledTo (t .index) (wordFor s b t)) ≡ false)
+      × (serialOf (t .loans) (ledTo (t .index) (wordFor s b t)) ≡ b .serial)
   unfolding onLoanOk
   block-leads fit sound b e =
       let w = wordFor s b t in
-      let l = row loanRow (getD (t .index) w 0) (t .loans) in
+      let l = row loanRow (ledTo (t .index) w) (t .loans) in
       let there = eqb-false w nowhere (not-yes (eqb w nowhere) (and-left (not (eqb w nowhere)) (sameLoan b l) e)) in
       leads-used (t .loans) (t .index) (s .store .loans) (placesIn t) (givenIn t) (b .serial) (fit .store .loans-some) (omega (arith, sound .parted .limit, fit .store .loans-most)) (sound .chained) there
 
@@ -65,7 +65,7 @@ module _ (s : FreeListSettings) (t : Tables) where
   unfolding onLoanOk
   block-stands fit sound b e =
       let w = wordFor s b t in
-      let p = getD (t .index) w 0 in
+      let p = ledTo (t .index) w in
       let l = row loanRow p (t .loans) in
       let u = block-leads fit sound b e in
       let m = mem-at l (storeOf s t .loans) noLoan (used-loan p (u .0) (u .1)) in

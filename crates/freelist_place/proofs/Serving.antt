@@ -7,11 +7,12 @@ use lib.ListN.{getD, set}
 use Rattle.counter.specs.declared.settings.FreeListSettings.{FreeListSettings}
 use Rattle.words.specs.Rows.{row, written}
 use Rattle.words.proofs.Records.{getD-rows}
+use Rattle.slab.specs.Slab.{recordOf}
 use Rattle.slab.specs.declared.Taken.{Taken}
 use Rattle.store_rules.specs.Loans.{givenAt, loanRow}
 use Rattle.store_rules.specs.declared.Loan.{Loan}
 use Rattle.store_rules.specs.declared.Region.{Region}
-use Rattle.book_rules.specs.Book.{vacatedAt, firstOf, nextOf, firstIn, takenOf, counted, entered, enteredIndex}
+use Rattle.book_rules.specs.Book.{vacatedAt, firstOf, nextOf, takenOf, counted, entered, enteredIndex}
 use Rattle.freelist_rules.specs.Records.{region, regionRow}
 use Rattle.freelist_rules.specs.Place.{cutOff, lentLoan}
 use Rattle.freelist_rules.specs.Steps.{noRegion}
@@ -43,15 +44,15 @@ module _ (s : FreeListSettings) (i start : ℕ) (loans regions : List ℕ) where
       (written loanRow (k .place) l (counted (l .serial) (k .slab .places) loans))
       []
       (set
-      (set (set index vacatedAt (k .slab .vacant)) (nextOf (k .place)) (firstIn index (l .serial % s .store .loans)))
+      (set (set index vacatedAt (recordOf (k .slab .vacant))) (nextOf (k .place)) (getD index (firstOf (l .serial % s .store .loans)) 0))
       (firstOf (l .serial % s .store .loans))
-      (k .place))
+      (recordOf (k .place)))
       (laidRegions (cutOff start i (regionsOf regions)) regions)
 
   pub lent-done : (index l′ r′ i′ : List ℕ) (k : Taken) (l : Loan) → l ≡ Served
       → r′ ≡ laidRegions (cutOff start i (regionsOf regions)) regions
       → l′ ≡ written loanRow (k .place) l (counted (l .serial) (k .slab .places) loans)
-      → i′ ≡ set (set (set index vacatedAt (k .slab .vacant)) (nextOf (k .place)) (firstIn index (l .serial % s .store .loans))) (firstOf (l .serial % s .store .loans)) (k .place)
+      → i′ ≡ set (set (set index vacatedAt (recordOf (k .slab .vacant))) (nextOf (k .place)) (getD index (firstOf (l .serial % s .store .loans)) 0)) (firstOf (l .serial % s .store .loans)) (recordOf (k .place))
       → tables [] l′ [] i′ r′ ≡ lentTables s start k (tables [] loans [] index regions) i
   unfolding storeOf lentTables enteredAt
   lent-done index l′ r′ i′ k l e r a b =

@@ -4,11 +4,12 @@ use Prim.Native.Nat.{ℕ, _+_, _%_}
 use lib.ListN.{getD, set}
 use Rattle.words.specs.Rows.{written}
 use Rattle.counter.specs.declared.settings.FreeListSettings.{FreeListSettings}
+use Rattle.slab.specs.Slab.{recordOf}
 use Rattle.slab.specs.declared.Taken.{Taken}
 use Rattle.store_rules.specs.Loans.{loanRow}
 use Rattle.store_rules.specs.declared.Loan.{Loan}
 use Rattle.store_rules.specs.declared.Region.{Region}
-use Rattle.book_rules.specs.Book.{vacatedAt, firstOf, nextOf, firstIn, counted}
+use Rattle.book_rules.specs.Book.{vacatedAt, firstOf, nextOf, counted}
 use Rattle.freelist_rules.specs.Records.{region}
 use Rattle.freelist_rules.specs.Place.{cutOff, lentLoan}
 use Rattle.freelist_rules.specs.Steps.{noRegion}
@@ -26,9 +27,9 @@ lentFrom s start t i = lentLoan (storeOf s t .given + 1) (blockFrom s start t i)
 unfoldable pub enteredAt : ℕ → Taken → ℕ → List ℕ → List ℕ
 enteredAt n k serial index =
     set
-    (set (set index vacatedAt (k .slab .vacant)) (nextOf (k .place)) (firstIn index (serial % n)))
+    (set (set index vacatedAt (recordOf (k .slab .vacant))) (nextOf (k .place)) (getD index (firstOf (serial % n)) 0))
     (firstOf (serial % n))
-    (k .place)
+    (recordOf (k .place))
 
 -- the tables that region i's block on loan leaves
 unfoldable pub lentTables : FreeListSettings → ℕ → Taken → Tables → ℕ → Tables

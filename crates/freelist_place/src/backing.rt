@@ -1,7 +1,7 @@
 // A block taken back: struck out of the book, and its bytes put among the free regions.
 ghost use mathlib.Core.Path.{_≡_};
 ghost use mathlib.Core.List.{[]};
-ghost use lib.ListN.{getD};
+ghost use Rattle.book_rules.specs.Book.{ledTo};
 ghost use Rattle.book_rules.specs.Ready.{Strikes};
 ghost use Rattle.freelist_rules.specs.Tables.{tables};
 ghost use Rattle.freelist_outcomes.specs.Return.{givenTables};
@@ -20,7 +20,7 @@ pub fn take_back(
     regions: &mut [u64],
 )
     requires { ⌜ Backs s b (now regions) ⌝ }
-    requires { ⌜ Strikes at (getD (now index) at 0) (now loans) (now index) ⌝ }
+    requires { ⌜ Strikes at (ledTo (now index) at) (now loans) (now index) ⌝ }
     ensures { λ _. ⌜ tables [] (now (loans .exit)) [] (now (index .exit)) (now (regions .exit)) ≡ givenTables s b at (tables [] (now (loans .entry)) [] (now (index .entry)) (now (regions .entry))) ⌝ }
 {
     let free = Region {
@@ -29,5 +29,5 @@ pub fn take_back(
         end: b.offset + b.size,
     };
     crate::counted::join(s, regions, free);
-    book::strike(loans, index, at, words::word(index, at));
+    book::strike(loans, index, at, slab::led_to(index, at));
 }

@@ -15,7 +15,7 @@ use Rattle.slab.specs.Test.{partedOk}
 use Rattle.store_rules.specs.Loans.{givenAt, placesAt, loanWords, sizeAt, loansOf}
 pub use Rattle.store_rules.specs.Tables.{Tables, tables, Marks, Signed, signedOk}
 use Rattle.store_rules.specs.declared.Loan.{Loan}
-use Rattle.book_rules.specs.Book.{entryWords, indexWords, vacantAfterAt, nextOf, serialOf, slabOf, firstIn}
+use Rattle.book_rules.specs.Book.{entryWords, indexWords, vacantAfterAt, serialOf, slabOf, firstIn, nextIn}
 use Rattle.book_rules.specs.Chains.{Chained, chainsOk}
 use Rattle.freelist_rules.specs.Records.{Store, chunkWords, regionWords, chunkRow, regionRow}
 use Rattle.freelist_rules.specs.Sound.{Sound}
@@ -133,7 +133,7 @@ abbrev pub chainStart : Tables → ℕ → ℕ
 chainStart t = firstIn (t .index)
 
 abbrev pub chainNext : Tables → ℕ → ℕ
-chainNext t p = getD (t .index) (nextOf p) 0
+chainNext t = nextIn (t .index)
 
 -- the marks; the counts within the limits; "vacant chains agree": the loans' places are parted into used and vacant ones,
 -- and the index leads to each loan by its serial; and the store is sound

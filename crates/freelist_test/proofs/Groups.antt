@@ -22,7 +22,7 @@ use Rattle.distinct.specs.Column.{column, columnFrom}
 use Rattle.store_rules.specs.Loans.{givenAt, placesAt, loanWords, sizeAt}
 use Rattle.store_rules.specs.declared.Loan.{Loan}
 use Rattle.rounding_rules.proofs.Masks.{masked}
-use Rattle.book_rules.specs.Book.{entryWords, vacatedAt, vacantAfterAt, nextOf, serialOf, firstIn}
+use Rattle.book_rules.specs.Book.{entryWords, vacatedAt, vacantAfterAt, ledTo, nextIn, serialOf, firstIn}
 use Rattle.book_rules.specs.Chains.{chainsOk}
 use Rattle.freelist_rules.specs.Records.{chunkRow, chunkMemoryAt, chunkWords}
 use Rattle.freelist_rules.specs.Pieces.{All}
@@ -117,13 +117,13 @@ partedBy s loans index n v =
 
 abbrev chainedBy : FreeListSettings → List ℕ → List ℕ → ℕ → ℕ → Bool
 chainedBy s loans index n given =
-    chainsOk (vacantAt loans sizeAt loanWords) (firstIn index) (λ p. getD index (nextOf p) 0) (serialOf loans) (s .store .loans) n given
+    chainsOk (vacantAt loans sizeAt loanWords) (firstIn index) (nextIn index) (serialOf loans) (s .store .loans) n given
 
 pub parted-most : (s : FreeListSettings) (loans index : List ℕ) (r : Bool) (n v : ℕ) → r ≡ partedBy s loans index n v → r ≡ true → n ≤ s .store .loans
 unfolding partedOk
 parted-most s loans index r n v e t = leb-true _ _ (and-left (leb n (s .store .loans)) _ (sym e ∙ t))
 
-module _ (s : FreeListSettings) (loans index : List ℕ) (r : Bool) (n v : ℕ) (ns : n ≡ getD loans placesAt 0) (vs : v ≡ getD index vacatedAt 0) (told : r ≡ partedBy s loans index n v) where
+module _ (s : FreeListSettings) (loans index : List ℕ) (r : Bool) (n v : ℕ) (ns : n ≡ getD loans placesAt 0) (vs : v ≡ ledTo index vacatedAt) (told : r ≡ partedBy s loans index n v) where
   book-parted : r ≡ partedIn s (tables [] loans [] index [])
   book-parted = told ∙ (λ j. partedBy s loans index (ns j) (vs j))
 
@@ -139,4 +139,4 @@ module _ (s : FreeListSettings) (loans index : List ℕ) (r : Bool) (n v : ℕ) 
 -- its places are within their limit
 pub book-most : (s : FreeListSettings) (loans index : List ℕ) → bookOk s loans index ≡ true → getD loans placesAt 0 ≤ s .store .loans
 unfolding bookOk
-book-most s loans index e = parted-most s loans index true (getD loans placesAt 0) (getD index vacatedAt 0) (sym (and-left _ _ e)) refl
+book-most s loans index e = parted-most s loans index true (getD loans placesAt 0) (ledTo index vacatedAt) (sym (and-left _ _ e)) refl

@@ -59,7 +59,7 @@ pub fn is_book(s: FreeListSettings, loans: &[u64], index: &[u64]) -> bool
     let store = s.store;
     let most = store.loans;
     let n = words::word(loans, PLACES_AT);
-    let last = words::word(index, VACATED_AT);
+    let last = slab::led_to(index, VACATED_AT);
     let places = Slab {
         places: n,
         vacant: last,

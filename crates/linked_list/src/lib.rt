@@ -107,7 +107,7 @@ pub extern "C" fn tibrezkam_list_return(
     chunk: u64,
     offset: u64,
     size: u64,
-    head: &[u64],
+    head: &mut [u64],
     loans: &mut [u64],
     chunks: &mut [u64],
     index: &mut [u64],
@@ -116,7 +116,7 @@ pub extern "C" fn tibrezkam_list_return(
     answer: &mut [u64],
 )
     ensures { λ _. ⌜ now (account .exit) ≡ linkedReturn (now (settings .entry)) (now (account .entry)) (record { serial = serial; chunk = chunk; offset = offset; size = size }) (tables (now (head .entry)) (now (loans .entry)) (now (chunks .entry)) (now (index .entry)) (now (regions .entry))) (now (list .entry)) .account ⌝ }
-    ensures { λ _. ⌜ listing (tables (now (head .entry)) (now (loans .exit)) (now (chunks .exit)) (now (index .exit)) (now (regions .exit))) (now (list .exit)) ≡ linkedReturn (now (settings .entry)) (now (account .entry)) (record { serial = serial; chunk = chunk; offset = offset; size = size }) (tables (now (head .entry)) (now (loans .entry)) (now (chunks .entry)) (now (index .entry)) (now (regions .entry))) (now (list .entry)) .tables ⌝ }
+    ensures { λ _. ⌜ listing (tables (now (head .exit)) (now (loans .exit)) (now (chunks .exit)) (now (index .exit)) (now (regions .exit))) (now (list .exit)) ≡ linkedReturn (now (settings .entry)) (now (account .entry)) (record { serial = serial; chunk = chunk; offset = offset; size = size }) (tables (now (head .entry)) (now (loans .entry)) (now (chunks .entry)) (now (index .entry)) (now (regions .entry))) (now (list .entry)) .tables ⌝ }
     ensures { λ _. ⌜ now (answer .exit) ≡ saidOut (linkedReturn (now (settings .entry)) (now (account .entry)) (record { serial = serial; chunk = chunk; offset = offset; size = size }) (tables (now (head .entry)) (now (loans .entry)) (now (chunks .entry)) (now (index .entry)) (now (regions .entry))) (now (list .entry)) .said) (now (answer .entry)) ⌝ }
 {
     if wire::is_settings(settings, LIST_WORDS) & wire_account::is_account(account) {
@@ -154,7 +154,7 @@ pub extern "C" fn tibrezkam_list_return(
 pub extern "C" fn tibrezkam_list_clean_up(
     settings: &[u64],
     account: &mut [u64],
-    head: &[u64],
+    head: &mut [u64],
     loans: &[u64],
     chunks: &mut [u64],
     index: &[u64],
@@ -163,7 +163,7 @@ pub extern "C" fn tibrezkam_list_clean_up(
     answer: &mut [u64],
 )
     ensures { λ _. ⌜ now (account .exit) ≡ linkedCleanUp (now (settings .entry)) (now (account .entry)) (tables (now (head .entry)) (now (loans .entry)) (now (chunks .entry)) (now (index .entry)) (now (regions .entry))) (now (list .entry)) .account ⌝ }
-    ensures { λ _. ⌜ listing (tables (now (head .entry)) (now (loans .entry)) (now (chunks .exit)) (now (index .entry)) (now (regions .exit))) (now (list .exit)) ≡ linkedCleanUp (now (settings .entry)) (now (account .entry)) (tables (now (head .entry)) (now (loans .entry)) (now (chunks .entry)) (now (index .entry)) (now (regions .entry))) (now (list .entry)) .tables ⌝ }
+    ensures { λ _. ⌜ listing (tables (now (head .exit)) (now (loans .entry)) (now (chunks .exit)) (now (index .entry)) (now (regions .exit))) (now (list .exit)) ≡ linkedCleanUp (now (settings .entry)) (now (account .entry)) (tables (now (head .entry)) (now (loans .entry)) (now (chunks .entry)) (now (index .entry)) (now (regions .entry))) (now (list .entry)) .tables ⌝ }
     ensures { λ _. ⌜ now (answer .exit) ≡ saidOut (linkedCleanUp (now (settings .entry)) (now (account .entry)) (tables (now (head .entry)) (now (loans .entry)) (now (chunks .entry)) (now (index .entry)) (now (regions .entry))) (now (list .entry)) .said) (now (answer .entry)) ⌝ }
 {
     if wire::is_settings(settings, LIST_WORDS) & wire_account::is_account(account) {

@@ -4,7 +4,6 @@ use mathlib.Core.Bool.{Bool, true, false, _&&_, not}
 use mathlib.Core.List.{List}
 use Prim.Native.Nat.{ℕ}
 use lib.Dec.{eqb}
-use lib.ListN.{getD}
 use borrow.Author.Tests.{ne-eqb}
 use Rattle.words.specs.Rows.{row}
 use Rattle.counter.specs.declared.answers.Block.{Block}
@@ -12,6 +11,7 @@ use Rattle.slab.specs.Slab.{nowhere}
 use Rattle.store_rules.specs.Loans.{loanRow}
 use Rattle.store_rules.specs.Views.{sameLoan}
 use Rattle.store_rules.specs.declared.Loan.{Loan}
+use Rattle.book_rules.specs.Book.{ledTo}
 use Rattle.book_rules.specs.Returns.{deny, back, wordFor, onLoanOk, decideReturn}
 
 module _ (loans index : List ℕ) (n places : ℕ) (b : Block) (w : ℕ) (found : w ≡ wordFor loans index n places b) where
@@ -19,13 +19,13 @@ module _ (loans index : List ℕ) (n places : ℕ) (b : Block) (w : ℕ) (found 
   return-none e = rw (sym found, e) refl
 
   -- the loan that the code read
-  module _ (at : ℕ) (l : Loan) (same : Bool) (other : w ≡ nowhere → ⊥) (a : at ≡ getD index w 0) (e : l ≡ row loanRow at loans) (t : same ≡ sameLoan b l) where
+  module _ (at : ℕ) (l : Loan) (same : Bool) (other : w ≡ nowhere → ⊥) (a : at ≡ ledTo index w) (e : l ≡ row loanRow at loans) (t : same ≡ sameLoan b l) where
     told : same ≡ onLoanOk loans index n places b
     told =
         t
         ∙ ap (sameLoan b) (e ∙ ap (λ (i : ℕ). row loanRow i loans) a)
-        ∙ ap (λ (x : Bool). not x && sameLoan b (row loanRow (getD index w 0) loans)) (sym (ne-eqb w nowhere other))
-        ∙ ap (λ (v : ℕ). not (eqb v nowhere) && sameLoan b (row loanRow (getD index v 0) loans)) found
+        ∙ ap (λ (x : Bool). not x && sameLoan b (row loanRow (ledTo index w) loans)) (sym (ne-eqb w nowhere other))
+        ∙ ap (λ (v : ℕ). not (eqb v nowhere) && sameLoan b (row loanRow (ledTo index v) loans)) found
 
     pub return-back : same ≡ true → back w ≡ decideReturn loans index n places b
     return-back y = rw (sym told, y, found) refl

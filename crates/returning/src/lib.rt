@@ -32,7 +32,7 @@ pub fn decide(b: Block, n: usize, places: u64, loans: &[u64], index: &[u64]) -> 
     if at == NOWHERE {
         return Back::Refuse(Refusal::Stale);
     }
-    let p = words::word(index, at as usize);
+    let p = slab::led_to(index, at as usize);
     let l = book::loan_at(loans, p as usize);
     if is_same(b, l) {
         return Back::From(at as usize);

@@ -1,9 +1,10 @@
-// Places linked into a ring in a lent table. The head stands in the word `head`, NOWHERE where the ring is empty; a place's
-// links stand `next_at` and `prev_at` words into the table, and `step` words on for each place before it.
+// Places linked into a ring in a lent table. The word `head` leads to the head, 0 where the ring is empty; a place's links
+// stand `next_at` and `prev_at` words into the table, and `step` words on for each place before it.
 ghost use mathlib.Core.Path.{_≡_};
 ghost use Prim.Native.Nat.{_≤_, _<_};
 ghost use lib.ListN.{set};
 ghost use Rattle.words.specs.Words.{widest, atMost, cellOf};
+ghost use Rattle.slab.specs.Slab.{recordOf};
 ghost use Rattle.ring_rules.specs.Ring.{unlinked, linked};
 ghost use Rattle.ring_rules.specs.Test.{ringLength};
 use slab::NOWHERE;
@@ -13,22 +14,22 @@ pub fn unlink(t: &mut [u64], head: u64, next_at: u64, prev_at: u64, step: u64, p
     requires { ⌜ (0 < step) × (step ≤ widest) × («next_at» ≤ atMost) × («prev_at» ≤ atMost) ⌝ }
     ensures { λ _. ⌜ now (t .exit) ≡ unlinked head «next_at» «prev_at» step p (now (t .entry)) ⌝ }
 {
-    let n = words::cell(t, next_at as usize, step as usize, p as usize);
-    let q = words::cell(t, prev_at as usize, step as usize, p as usize);
+    let n = slab::link(t, next_at as usize, step as usize, p);
+    let q = slab::link(t, prev_at as usize, step as usize, p);
     if q == p {
-        words::put(t, head as usize, NOWHERE);
+        words::put(t, head as usize, 0);
     } else {
-        words::put_cell(t, next_at as usize, step as usize, q as usize, n);
-        words::put_cell(t, prev_at as usize, step as usize, n as usize, q);
-        move_head(t, head, n);
+        slab::put_link(t, next_at as usize, step as usize, q, n);
+        slab::put_link(t, prev_at as usize, step as usize, n, q);
+        move_head(t, head, slab::record_of(n));
     }
 }
 
-// The head moves on to n, whichever place it was.
-fn move_head(t: &mut [u64], head: u64, n: u64)
-    ensures { λ _. ⌜ now (t .exit) ≡ set (now (t .entry)) head n ⌝ }
+// The head is where w leads from now on, whichever place it was.
+fn move_head(t: &mut [u64], head: u64, w: u64)
+    ensures { λ _. ⌜ now (t .exit) ≡ set (now (t .entry)) head w ⌝ }
 {
-    words::put(t, head as usize, n);
+    words::put(t, head as usize, w);
 }
 
 // The place p joins before the head, or as the head of a ring that was empty.
@@ -36,14 +37,14 @@ pub fn link(t: &mut [u64], head: u64, next_at: u64, prev_at: u64, step: u64, p: 
     requires { ⌜ (0 < step) × (step ≤ widest) × («next_at» ≤ atMost) × («prev_at» ≤ atMost) ⌝ }
     ensures { λ _. ⌜ now (t .exit) ≡ linked head «next_at» «prev_at» step p (now (t .entry)) ⌝ }
 {
-    let h = words::word(t, head as usize);
+    let h = slab::led_to(t, head as usize);
     if h == NOWHERE {
         put_links(t, next_at, prev_at, step, p, p, p);
-        words::put(t, head as usize, p);
+        words::put(t, head as usize, slab::record_of(p));
     } else {
-        let q = words::cell(t, prev_at as usize, step as usize, h as usize);
-        words::put_cell(t, prev_at as usize, step as usize, h as usize, p);
-        words::put_cell(t, next_at as usize, step as usize, q as usize, p);
+        let q = slab::link(t, prev_at as usize, step as usize, h);
+        slab::put_link(t, prev_at as usize, step as usize, h, p);
+        slab::put_link(t, next_at as usize, step as usize, q, p);
         put_links(t, next_at, prev_at, step, p, h, q);
     }
 }
@@ -51,7 +52,7 @@ pub fn link(t: &mut [u64], head: u64, next_at: u64, prev_at: u64, step: u64, p: 
 // The links of p: the place after it and the one before it.
 fn put_links(t: &mut [u64], next_at: u64, prev_at: u64, step: u64, p: u64, next: u64, prev: u64)
     requires { ⌜ (0 < step) × (step ≤ widest) × («next_at» ≤ atMost) × («prev_at» ≤ atMost) ⌝ }
-    ensures { λ _. ⌜ now (t .exit) ≡ set (set (now (t .entry)) (cellOf «next_at» step p) next) (cellOf «prev_at» step p) prev ⌝ }
+    ensures { λ _. ⌜ now (t .exit) ≡ set (set (now (t .entry)) (cellOf «next_at» step p) (recordOf next)) (cellOf «prev_at» step p) (recordOf prev) ⌝ }
 {
     let i = p as usize;
     if i < t.len() {
@@ -60,8 +61,8 @@ fn put_links(t: &mut [u64], next_at: u64, prev_at: u64, step: u64, p: u64, next:
             t,
             next_at as usize + from,
             prev_at as usize + from,
-            next,
-            prev,
+            slab::record_of(next),
+            slab::record_of(prev),
         );
     }
 }
@@ -84,7 +85,7 @@ pub fn ring_length(t: &[u64], head: u64, next_at: u64, prev_at: u64, step: u64, 
     requires { ⌜ (0 < step) × (step ≤ widest) × («next_at» ≤ atMost) × («prev_at» ≤ atMost) ⌝ }
     ensures { λ r. ⌜ r ≡ ringLength head «next_at» «prev_at» step places (now (t .entry)) ⌝ }
 {
-    let h = words::word(t, head as usize);
+    let h = slab::led_to(t, head as usize);
     if h == NOWHERE {
         return 0;
     }
@@ -94,11 +95,11 @@ pub fn ring_length(t: &[u64], head: u64, next_at: u64, prev_at: u64, step: u64, 
     let mut p = h;
     let mut left = places;
     while 0 < left {
-        let n = words::cell(t, next_at as usize, step as usize, p as usize);
+        let n = slab::link(t, next_at as usize, step as usize, p);
         if places <= n {
             return NOWHERE;
         }
-        if words::cell(t, prev_at as usize, step as usize, n as usize) != p {
+        if slab::link(t, prev_at as usize, step as usize, n) != p {
             return NOWHERE;
         }
         left -= 1;

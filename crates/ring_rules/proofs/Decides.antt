@@ -11,7 +11,7 @@ use Rattle.lists.proofs.Bools.{same?, lt-or-le}
 use Rattle.lists.proofs.Members.{mem-below, no-more}
 use Rattle.lists.proofs.Picked.{picked-all}
 use Rattle.slab.specs.Slab.{nowhere}
-use Rattle.ring_rules.specs.Ring.{Run, next, prev, RingOf, HasRing}
+use Rattle.ring_rules.specs.Ring.{headIn, Run, next, prev, RingOf, HasRing}
 use Rattle.ring_rules.specs.Test.{metAfter, ringLength}
 use Rattle.ring_rules.proofs.Rings.{run-cut}
 use Rattle.ring_rules.proofs.Steps.{met-done, met-far, met-torn, met-back, met-on, length-none, length-far, length-walk}
@@ -101,7 +101,7 @@ module _ (head nextAt prevAt step n : ℕ) (t : List ℕ) where
   ring-length-yes k e o = by (same? h nowhere) (lt-or-le h n)
     where
       h : ℕ
-      h = getD t head 0
+      h = headIn head nextAt prevAt step t
 
       by : (h ≡ nowhere) ⊎ (h ≡ nowhere → ⊥) → (h < n) ⊎ (n ≤ h) → HasRing head nextAt prevAt step n k t
       by (inl s) f = record {

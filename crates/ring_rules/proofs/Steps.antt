@@ -9,30 +9,30 @@ use lib.Dec.{eqb, ltb}
 use lib.ListN.{getD, set}
 use borrow.Author.Tests.{eq-eqb, ne-eqb, lt-ltb, le-ltb}
 use Rattle.words.specs.Words.{cellOf}
-use Rattle.slab.specs.Slab.{nowhere}
-use Rattle.ring_rules.specs.Ring.{next, prev, unlinked, linked}
+use Rattle.slab.specs.Slab.{nowhere, recordOf}
+use Rattle.ring_rules.specs.Ring.{next, prev, headIn, unlinked, linked}
 use Rattle.ring_rules.specs.Test.{metAfter, ringLength}
 
 module _ (head nextAt prevAt step p : ℕ) (t : List ℕ) where
   -- p was alone
-  pub unlink-alone : (x : List ℕ) (q : ℕ) → q ≡ prev head nextAt prevAt step t p → q ≡ p → x ≡ set t head nowhere → x ≡ unlinked head nextAt prevAt step p t
+  pub unlink-alone : (x : List ℕ) (q : ℕ) → q ≡ prev head nextAt prevAt step t p → q ≡ p → x ≡ set t head (recordOf nowhere) → x ≡ unlinked head nextAt prevAt step p t
   unfolding unlinked
   unlink-alone x q e s f = f ∙ sym (simp (eq-eqb (prev head nextAt prevAt step t p) p (sym e ∙ s)))
 
   -- or one of more
-  pub unlink-one : (x y z : List ℕ) (n q : ℕ) → n ≡ next head nextAt prevAt step t p → q ≡ prev head nextAt prevAt step t p → (q ≡ p → ⊥) → x ≡ set t (cellOf nextAt step q) n → y ≡ set x (cellOf prevAt step n) q → z ≡ set y head n → z ≡ unlinked head nextAt prevAt step p t
+  pub unlink-one : (x y z : List ℕ) (n q : ℕ) → n ≡ next head nextAt prevAt step t p → q ≡ prev head nextAt prevAt step t p → (q ≡ p → ⊥) → x ≡ set t (cellOf nextAt step q) (recordOf n) → y ≡ set x (cellOf prevAt step n) (recordOf q) → z ≡ set y head (recordOf n) → z ≡ unlinked head nextAt prevAt step p t
   unfolding unlinked
   unlink-one x y z n q d e o f g h = h ∙ rw (g, f, d, e) (sym (simp (ne-eqb (prev head nextAt prevAt step t p) p (λ s. o (e ∙ s)))))
 
   -- the ring was empty
-  pub link-first : (x y z : List ℕ) (h : ℕ) → h ≡ getD t head 0 → h ≡ nowhere → x ≡ set t (cellOf nextAt step p) p → y ≡ set x (cellOf prevAt step p) p → z ≡ set y head p → z ≡ linked head nextAt prevAt step p t
+  pub link-first : (x y z : List ℕ) (h : ℕ) → h ≡ headIn head nextAt prevAt step t → h ≡ nowhere → x ≡ set t (cellOf nextAt step p) (recordOf p) → y ≡ set x (cellOf prevAt step p) (recordOf p) → z ≡ set y head (recordOf p) → z ≡ linked head nextAt prevAt step p t
   unfolding linked
-  link-first x y z h d e f g k = k ∙ rw (g, f) (sym (simp (eq-eqb (getD t head 0) nowhere (sym d ∙ e))))
+  link-first x y z h d e f g k = k ∙ rw (g, f) (sym (simp (eq-eqb (headIn head nextAt prevAt step t) nowhere (sym d ∙ e))))
 
   -- or was not
-  pub link-last : (w x y z : List ℕ) (h q : ℕ) → h ≡ getD t head 0 → (h ≡ nowhere → ⊥) → q ≡ prev head nextAt prevAt step t h → w ≡ set t (cellOf prevAt step h) p → x ≡ set w (cellOf nextAt step q) p → y ≡ set x (cellOf nextAt step p) h → z ≡ set y (cellOf prevAt step p) q → z ≡ linked head nextAt prevAt step p t
+  pub link-last : (w x y z : List ℕ) (h q : ℕ) → h ≡ headIn head nextAt prevAt step t → (h ≡ nowhere → ⊥) → q ≡ prev head nextAt prevAt step t h → w ≡ set t (cellOf prevAt step h) (recordOf p) → x ≡ set w (cellOf nextAt step q) (recordOf p) → y ≡ set x (cellOf nextAt step p) (recordOf h) → z ≡ set y (cellOf prevAt step p) (recordOf q) → z ≡ linked head nextAt prevAt step p t
   unfolding linked
-  link-last w x y z h q d o e f g k l = l ∙ rw (k, g, f, e, d) (sym (simp (ne-eqb (getD t head 0) nowhere (λ s. o (d ∙ s)))))
+  link-last w x y z h q d o e f g k l = l ∙ rw (k, g, f, e, d) (sym (simp (ne-eqb (headIn head nextAt prevAt step t) nowhere (λ s. o (d ∙ s)))))
 
 -- the walk, with k steps left from p on; x is the place that p leads to
 module _ (next prev : ℕ → ℕ) (n h p k : ℕ) where
@@ -62,7 +62,7 @@ module _ (next prev : ℕ → ℕ) (n h p k : ℕ) where
     met-on f b c = turn o ∙ simp (sym e, lt-ltb x n f, eq-eqb (prev x) p b, ne-eqb x h c)
 
 -- the whole test
-module _ (head nextAt prevAt step n : ℕ) (t : List ℕ) (h : ℕ) (e : h ≡ getD t head 0) where
+module _ (head nextAt prevAt step n : ℕ) (t : List ℕ) (h : ℕ) (e : h ≡ headIn head nextAt prevAt step t) where
   pub length-none : h ≡ nowhere → ringLength head nextAt prevAt step n t ≡ 0
   unfolding ringLength
   length-none s = simp (sym e, eq-eqb h nowhere s)

@@ -8,7 +8,7 @@ use lib.Dec.{eqb}
 use lib.ListN.{length, getD, set}
 use Rattle.lists.specs.Members.{Distinct, Below, headOr}
 use Rattle.words.specs.Words.{cellOf}
-use Rattle.slab.specs.Slab.{nowhere}
+use Rattle.slab.specs.Slab.{nowhere, placeOf, recordOf, linkAt}
 
 -- next leads on from a place, prev leads back
 module _ (next prev : ℕ → ℕ) where
@@ -35,31 +35,36 @@ module _ (next prev : ℕ → ℕ) where
 module _ (head nextAt prevAt step : ℕ) where
   -- the place after p, and the one before it
   abbrev pub next : List ℕ → ℕ → ℕ
-  next t p = getD t (cellOf nextAt step p) 0
+  next t p = linkAt t nextAt step p
 
   abbrev pub prev : List ℕ → ℕ → ℕ
-  prev t p = getD t (cellOf prevAt step p) 0
+  prev t p = linkAt t prevAt step p
+
+  -- the place that the ring begins with
+  abbrev pub headIn : List ℕ → ℕ
+  headIn t = placeOf (getD t head 0)
 
   -- q and n are joined, and n is the head
   abbrev pub joined : ℕ → ℕ → List ℕ → List ℕ
-  joined q n t = set (set (set t (cellOf nextAt step q) n) (cellOf prevAt step n) q) head n
+  joined q n t = set (set (set t (cellOf nextAt step q) (recordOf n)) (cellOf prevAt step n) (recordOf q)) head (recordOf n)
 
   -- "the pair goes, the head becomes that pair's next even if it wasn't the head": p is taken out; it was alone where the
   -- place before it is p itself, and then the ring is empty
   unfoldable pub unlinked : ℕ → List ℕ → List ℕ
-  unlinked p t = cond (eqb (prev t p) p) (set t head nowhere) (joined (prev t p) (next t p) t)
+  unlinked p t = cond (eqb (prev t p) p) (set t head (recordOf nowhere)) (joined (prev t p) (next t p) t)
 
   -- p alone is the ring
   abbrev pub alone : ℕ → List ℕ → List ℕ
-  alone p t = set (set (set t (cellOf nextAt step p) p) (cellOf prevAt step p) p) head p
+  alone p t = set (set (set t (cellOf nextAt step p) (recordOf p)) (cellOf prevAt step p) (recordOf p)) head (recordOf p)
 
   -- p stands between q and h
   abbrev pub between : ℕ → ℕ → ℕ → List ℕ → List ℕ
-  between q p h t = set (set (set (set t (cellOf prevAt step h) p) (cellOf nextAt step q) p) (cellOf nextAt step p) h) (cellOf prevAt step p) q
+  between q p h t =
+      set (set (set (set t (cellOf prevAt step h) (recordOf p)) (cellOf nextAt step q) (recordOf p)) (cellOf nextAt step p) (recordOf h)) (cellOf prevAt step p) (recordOf q)
 
   -- "joins the ring before the head, or as head if the ring is empty"
   unfoldable pub linked : ℕ → List ℕ → List ℕ
-  linked p t = cond (eqb (getD t head 0) nowhere) (alone p t) (between (prev t (getD t head 0)) p (getD t head 0) t)
+  linked p t = cond (eqb (headIn t) nowhere) (alone p t) (between (prev t (headIn t)) p (headIn t) t)
 
   -- the words that each of the two writes
   unfoldable pub unlinkedAt : ℕ → List ℕ → List ℕ
@@ -67,13 +72,13 @@ module _ (head nextAt prevAt step : ℕ) where
 
   unfoldable pub linkedAt : ℕ → List ℕ → List ℕ
   linkedAt p t =
-      cond (eqb (getD t head 0) nowhere) (cellOf nextAt step p ∷ cellOf prevAt step p ∷ head ∷ [])
-      (cellOf prevAt step (getD t head 0) ∷ cellOf nextAt step (prev t (getD t head 0)) ∷ cellOf nextAt step p ∷ cellOf prevAt step p ∷ [])
+      cond (eqb (headIn t) nowhere) (cellOf nextAt step p ∷ cellOf prevAt step p ∷ head ∷ [])
+      (cellOf prevAt step (headIn t) ∷ cellOf nextAt step (prev t (headIn t)) ∷ cellOf nextAt step p ∷ cellOf prevAt step p ∷ [])
 
   -- the places of R are the ring in the words of t, at the head
   pub record RingOf (t R : List ℕ) : Type 0 where
     pub ring : Ring (next t) (prev t) R
-    pub first : getD t head 0 ≡ headOr nowhere R
+    pub first : headIn t ≡ headOr nowhere R
 
   -- the ring in the words of t has k places, all of them below n
   pub record HasRing (n k : ℕ) (t : List ℕ) : Type 0 where

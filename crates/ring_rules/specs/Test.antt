@@ -5,7 +5,7 @@ use Prim.Native.Nat.{ℕ, zero, suc, _-_}
 use lib.Dec.{eqb, ltb}
 use lib.ListN.{getD}
 use Rattle.slab.specs.Slab.{nowhere}
-use Rattle.ring_rules.specs.Ring.{next, prev}
+use Rattle.ring_rules.specs.Ring.{next, prev, headIn}
 
 -- how many of n places have been met when the walk from p on, with k steps left, is back at h: nowhere where a step leads
 -- to no place or to one that does not lead back, and where no step is left
@@ -17,7 +17,7 @@ metAfter next prev n h p (suc k) =
 -- how many places stand in the ring, all of them below n: nowhere where it is torn
 unfoldable pub ringLength : ℕ → ℕ → ℕ → ℕ → ℕ → List ℕ → ℕ
 ringLength head nextAt prevAt step n t =
-    cond (eqb (getD t head 0) nowhere) 0
-    (cond (ltb (getD t head 0) n)
-    (metAfter (next head nextAt prevAt step t) (prev head nextAt prevAt step t) n (getD t head 0) (getD t head 0) n)
+    cond (eqb (headIn head nextAt prevAt step t) nowhere) 0
+    (cond (ltb (headIn head nextAt prevAt step t) n)
+    (metAfter (next head nextAt prevAt step t) (prev head nextAt prevAt step t) n (headIn head nextAt prevAt step t) (headIn head nextAt prevAt step t) n)
     nowhere)

@@ -16,7 +16,8 @@ use Rattle.lists.proofs.Members.{mem-not, not-mem, mem-below, split, below-from
 use Rattle.words.specs.Words.{cellOf}
 use Rattle.slab.specs.declared.Slab.{Slab}
 use Rattle.slab.specs.declared.Taken.{Taken}
-use Rattle.slab.specs.Slab.{nowhere, vacantAt, linkAt, fresh, inserted, removed, removedLinks, Chain, Parted, changed}
+use Rattle.slab.proofs.Links.{place-record}
+use Rattle.slab.specs.Slab.{nowhere, placeOf, recordOf, vacantAt, linkAt, fresh, inserted, removed, removedLinks, Chain, Parted, changed}
 
 -- from each place there is one chain that ends
 pub chain-unique : (next : ℕ → ℕ) (n h : ℕ) (l l′ : List ℕ) → n ≤ nowhere → Chain next h l → Chain next h l′ → Below n l → Below n l′ → l ≡ l′
@@ -83,11 +84,11 @@ vacant-set records mark width p v x o h = ⊎-elim here other (same? x p)
         ∙ sym (changed-other (vacantAt records mark width) p (eqb v 0) x n)
 
 -- a store to the link of the place p changes the link of that place only
-pub link-here : (links : List ℕ) (at step p v : ℕ) → cellOf at step p < length links → linkAt (set links (cellOf at step p) v) at step p ≡ v
-link-here links at step p v h = getD-set-same links (cellOf at step p) v 0 h
+pub link-here : (links : List ℕ) (at step p v : ℕ) → cellOf at step p < length links → linkAt (set links (cellOf at step p) (recordOf v)) at step p ≡ v
+link-here links at step p v h = ap placeOf (getD-set-same links (cellOf at step p) (recordOf v) 0 h) ∙ place-record v
 
 pub link-other : (links : List ℕ) (at step p v x : ℕ) → 0 < step → (x ≡ p → ⊥) → linkAt (set links (cellOf at step p) v) at step x ≡ linkAt links at step x
-link-other links at step p v x o n = getD-set-other links (cellOf at step p) (cellOf at step x) v 0 (λ e. n (cell-one at step p x o e))
+link-other links at step p v x o n = ap placeOf (getD-set-other links (cellOf at step p) (cellOf at step x) v 0 (λ e. n (cell-one at step p x o e)))
 
 -- no place used: nothing to part
 pub parted-fresh : (free : ℕ → Bool) (next : ℕ → ℕ) (most : ℕ) → Parted free next fresh most
@@ -243,7 +244,7 @@ unfolding removed removedLinks
 removed-parted free links at step s most p P h u k o =
     let out : NotIn p (P .chained) = used-out free (linkAt links at step) s most P p u in
     let other : (x : ℕ) → Mem x (P .chained) → x ≡ p → ⊥ = λ x m e. not-mem p (P .chained) out (rw e at m) in
-    let c : Chain (linkAt (removedLinks s links at step p) at step) (s .vacant) (P .chained) = chain-same (linkAt links at step) _ (s .vacant) (P .chained) (λ x m. link-other links at step p (s .vacant) x o (other x m)) (P .chain) in
+    let c : Chain (linkAt (removedLinks s links at step p) at step) (s .vacant) (P .chained) = chain-same (linkAt links at step) _ (s .vacant) (P .chained) (λ x m. link-other links at step p (recordOf (s .vacant)) x o (other x m)) (P .chain) in
     record {
       chained = p ∷ P .chained;
       chain = (refl, rw (link-here links at step p (s .vacant) k) c);

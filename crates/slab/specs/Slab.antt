@@ -3,7 +3,7 @@
 use mathlib.Core.Path.{_≡_}
 use mathlib.Core.Bool.{Bool, true, cond}
 use mathlib.Core.List.{List, [], _∷_}
-use Prim.Native.Nat.{ℕ, _+_, _^_, _%_, _≤_, _<_}
+use Prim.Native.Nat.{ℕ, _+_, _-_, _^_, _%_, _≤_, _<_}
 use lib.Dec.{eqb, ltb}
 use lib.ListN.{getD, set}
 use Rattle.lists.specs.Members.{Mem, Distinct, Below}
@@ -19,9 +19,17 @@ nowhere = 0xffff_ffff_ffff_ffff
 abbrev pub vacantAt : List ℕ → ℕ → ℕ → ℕ → Bool
 vacantAt records mark width p = eqb (getD records (cellOf mark width p) 0) 0
 
+-- ---- a link in a table is the number of a record, one more than the place's; 0 tells none
+
+abbrev pub placeOf : ℕ → ℕ
+placeOf w = cond (eqb w 0) nowhere (w - 1)
+
+abbrev pub recordOf : ℕ → ℕ
+recordOf p = cond (eqb p nowhere) 0 (p + 1)
+
 -- the vacant place after p in the chain
 abbrev pub linkAt : List ℕ → ℕ → ℕ → ℕ → ℕ
-linkAt links at step p = getD links (cellOf at step p) 0
+linkAt links at step p = placeOf (getD links (cellOf at step p) 0)
 
 -- no place used yet
 abbrev pub fresh : Slab
@@ -40,7 +48,7 @@ removed s p = record { places = s .places; vacant = p }
 
 -- and links it to the one before
 unfoldable pub removedLinks : Slab → List ℕ → ℕ → ℕ → ℕ → List ℕ
-removedLinks s links at step p = set links (cellOf at step p) (s .vacant)
+removedLinks s links at step p = set links (cellOf at step p) (recordOf (s .vacant))
 
 -- from h on the links lead through the places of F, and end
 abbrev pub Chain : (ℕ → ℕ) → ℕ → List ℕ → Type 0

@@ -2,8 +2,9 @@
 // the links of the vacant places in another (or in other words of the same), each at a width of its own.
 ghost use mathlib.Core.Path.{_≡_};
 ghost use Prim.Native.Nat.{_≤_, _<_};
-ghost use Rattle.words.specs.Words.{widest, atMost};
-ghost use Rattle.slab.specs.Slab.{inserted, removed, removedLinks, vacantAt, linkAt};
+ghost use lib.ListN.{getD, set};
+ghost use Rattle.words.specs.Words.{widest, atMost, cellOf};
+ghost use Rattle.slab.specs.Slab.{placeOf, recordOf, inserted, removed, removedLinks, vacantAt, linkAt};
 ghost use Rattle.slab.specs.Test.{vacancies, leads, partedOk};
 
 // The end of a chain.
@@ -39,7 +40,7 @@ impl Slab {
         let last = self.vacant;
         let n = self.places;
         if last < n {
-            let next = words::cell(links, at, step, last as usize);
+            let next = link(links, at, step, last);
             return Taken {
                 place: last,
                 slab: Slab {
@@ -64,12 +65,49 @@ impl Slab {
         ensures { λ r. ⌜ r ≡ removed self p ⌝ }
         ensures { λ _. ⌜ now (links .exit) ≡ removedLinks self (now (links .entry)) at step p ⌝ }
     {
-        words::put_cell(links, at, step, p as usize, self.vacant);
+        put_link(links, at, step, p, self.vacant);
         Slab {
             places: self.places,
             vacant: p,
         }
     }
+}
+
+// The place that a link of a table leads to: the number of its record less 1, or NOWHERE.
+pub fn place_of(w: u64) -> u64
+    ensures { λ r. ⌜ r ≡ placeOf w ⌝ }
+{
+    std::num::wrapping_sub_u64(w, 1)
+}
+
+// The link that leads to a place.
+pub fn record_of(p: u64) -> u64
+    ensures { λ r. ⌜ r ≡ recordOf p ⌝ }
+{
+    std::num::wrapping_add_u64(p, 1)
+}
+
+// The place that the word at i leads to, NOWHERE past the end.
+pub fn led_to(t: &[u64], i: usize) -> u64
+    ensures { λ r. ⌜ r ≡ placeOf (getD (now (t .entry)) i 0) ⌝ }
+{
+    place_of(words::word(t, i))
+}
+
+// The place that the link of p leads to, NOWHERE past the end. `at` and `step` say where the links stand.
+pub fn link(t: &[u64], at: usize, step: usize, p: u64) -> u64
+    requires { ⌜ (0 < step) × (step ≤ widest) × (at ≤ atMost) ⌝ }
+    ensures { λ r. ⌜ r ≡ linkAt (now (t .entry)) at step p ⌝ }
+{
+    place_of(words::cell(t, at, step, p as usize))
+}
+
+// The link of p leads to q from now on; nothing is written past the end.
+pub fn put_link(t: &mut [u64], at: usize, step: usize, p: u64, q: u64)
+    requires { ⌜ (0 < step) × (step ≤ widest) × (at ≤ atMost) ⌝ }
+    ensures { λ _. ⌜ now (t .exit) ≡ set (now (t .entry)) (cellOf at step p) (recordOf q) ⌝ }
+{
+    words::put_cell(t, at, step, p as usize, record_of(q));
 }
 
 // How many of the first n places are vacant, by the marking word of each record.
@@ -112,7 +150,7 @@ fn chain_leads(
         if words::cell(records, mark, width, cur as usize) != 0 {
             return false;
         }
-        cur = words::cell(links, at, step, cur as usize);
+        cur = link(links, at, step, cur);
         left -= 1;
     }
     cur == NOWHERE

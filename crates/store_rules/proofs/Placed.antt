@@ -7,13 +7,13 @@ use Prim.Native.Nat.{ℕ, zero, suc, _+_, _*_, _≤_, _<_}
 use native.Mathlib.Omega.{arith}
 use lib.Dec.{eqb}
 use lib.ListN.{length, getD, set, take, drop, length-set, length-drop}
-use lib.Seq.{getD-set-same, set-split, split-at}
+use lib.Seq.{getD-set-same, set-set, set-comm, set-split, split-at}
 use borrow.Author.Tests.{eq-eqb}
 use Rattle.lists.proofs.Bools.{told, true-false}
 use Rattle.words.specs.Words.{cellOf}
 use Rattle.words.specs.Rows.{row, rows}
 use Rattle.words.proofs.Records.{length-rows, getD-rows, rows-after, stored-at}
-use Rattle.store_rules.specs.Loans.{loanWords, sizeAt, noLoan, loanRow, onLoan, loansOf}
+use Rattle.store_rules.specs.Loans.{loanWords, serialAt, sizeAt, noLoan, loanRow, onLoan, loansOf}
 use Rattle.store_rules.specs.declared.Loan.{Loan}
 
 -- ---- members and their indexes
@@ -101,18 +101,38 @@ module _ (n p : ℕ) (t : List ℕ) (h : p < n) (long : loanWords + loanWords * 
       let f : onLoan (row loanRow p t ∷ drop (suc p) all) ≡ row loanRow p t ∷ later = rw u in
       ap onLoan e ∙ on-loan-append (take p all) (row loanRow p t ∷ drop (suc p) all) ∙ ap (λ (xs : List Loan). earlier ++ xs) f
 
-  -- the record at p as it is when p has been made vacant
+  -- a word of the record at p changed changes that record alone
+  rows-stored : (k : ℕ) (u : List ℕ) → length u ≡ length t → loanWords ≤ k → k < loanWords + loanWords
+      → rows loanRow n (set u (cellOf k loanWords p) 0) ≡ set (rows loanRow n u) p (loanRow .dec (set (drop (loanWords * p) u) k 0))
+  rows-stored k u e a b =
+      let g : Loan = loanRow .dec (set (drop (loanWords * p) u) k 0) in
+      let l : loanWords + loanWords * n ≤ length u = omega arith in
+      ap (rows loanRow n) (stored-at loanRow n p k 0 u h l a b)
+      ∙ rows-after loanRow n (set (rows loanRow n u) p g) u l (length-set (rows loanRow n u) p g ∙ length-rows loanRow n u)
+
+  -- the table without the serial at p, and the record at p as it is when p has been made vacant
+  abbrev unnamed : List ℕ
+  unnamed = set t (cellOf serialAt loanWords p) 0
+
+  unnamed-long : length unnamed ≡ length t
+  unnamed-long = length-set t (cellOf serialAt loanWords p) 0
+
   abbrev gone : Loan
-  gone = loanRow .dec (set (drop (loanWords * p) t) sizeAt 0)
+  gone = loanRow .dec (set (drop (loanWords * p) unnamed) sizeAt 0)
+
+  rows-gone : rows loanRow n (set (set t (cellOf sizeAt loanWords p) 0) (cellOf serialAt loanWords p) 0) ≡ set all p gone
+  rows-gone =
+      let named : Loan = loanRow .dec (set (drop (loanWords * p) t) serialAt 0) in
+      ap (rows loanRow n) (set-comm t (cellOf sizeAt loanWords p) (cellOf serialAt loanWords p) 0 0 (λ e. omega arith))
+      ∙ rows-stored sizeAt unnamed unnamed-long (omega arith) (omega arith)
+      ∙ ap (λ (rs : List Loan). set rs p gone) (rows-stored serialAt t refl (omega arith) (omega arith))
+      ∙ set-set all p named gone
 
   -- where p is made vacant they are left
-  pub loans-less : loansOf n (set t (cellOf sizeAt loanWords p) 0) ≡ earlier ++ later
+  pub loans-less : loansOf n (set (set t (cellOf sizeAt loanWords p) 0) (cellOf serialAt loanWords p) 0) ≡ earlier ++ later
   unfolding loansOf
   loans-less =
-      let z : gone .size ≡ 0 = getD-set-same (drop (loanWords * p) t) sizeAt 0 0 (simp length-drop (omega arith)) in
+      let z : gone .size ≡ 0 = getD-set-same (drop (loanWords * p) unnamed) sizeAt 0 0 (simp length-drop (omega (arith, unnamed-long))) in
       let v : eqb (gone .size) 0 ≡ true = eq-eqb (gone .size) 0 z in
-      let e : rows loanRow n (set t (cellOf sizeAt loanWords p) 0) ≡ set all p gone =
-      ap (rows loanRow n) (stored-at loanRow n p sizeAt 0 t h long (omega arith) (omega arith))
-      ∙ rows-after loanRow n (set all p gone) t long (length-set all p gone ∙ length-rows loanRow n t) in
       let f : onLoan (gone ∷ drop (suc p) all) ≡ later = rw v in
-      ap onLoan (e ∙ set-split all p gone inside) ∙ on-loan-append (take p all) (gone ∷ drop (suc p) all) ∙ ap (λ (xs : List Loan). earlier ++ xs) f
+      ap onLoan (rows-gone ∙ set-split all p gone inside) ∙ on-loan-append (take p all) (gone ∷ drop (suc p) all) ∙ ap (λ (xs : List Loan). earlier ++ xs) f

@@ -4,6 +4,7 @@ use mathlib.Core.Path.{ap, _∙_}
 use Prim.Native.Nat.{ℕ, _%_}
 use lib.ListN.{length, set}
 use Rattle.words.specs.Rows.{written}
+use Rattle.slab.specs.Slab.{recordOf}
 use Rattle.store_rules.specs.Loans.{loanRow}
 use Rattle.book_rules.specs.Book.{vacatedAt, firstOf, nextOf}
 use Rattle.book_rules.proofs.Counted.{counted-long}
@@ -14,8 +15,8 @@ use Rattle.book.proofs.enter_at.Tie as tie
 rem-i : tie.Need-rem-i
 rem-i c = search needs
 
-first-before-requires : tie.Need-first-before-requires
-first-before-requires c κs = search needs
+first-word-requires : tie.Need-first-word-requires
+first-word-requires c κs = search needs
 
 count-requires : tie.Need-count-requires
 count-requires c κs = search needs
@@ -44,14 +45,14 @@ returns c =
     let k = e .before .before .before .before in
     let f = k .before .before in
     let a = f .before .before .before .before .before .before .args in
-    (e .write-loan .ensures ∙ ap (written loanRow (a .t .place) (a .l)) (k .count .ensures), d .put-first .ensures ∙ ap (λ (x : ℕ). set (set (set (a .index .now) vacatedAt (a .t .slab .vacant)) (nextOf (a .t .place)) x) (firstOf (a .l .serial % a .n)) (a .t .place)) (f .first-before .ensures))
+    (e .write-loan .ensures ∙ ap (written loanRow (a .t .place) (a .l)) (k .count .ensures), d .put-first .ensures ∙ ap (λ (x : ℕ). set (set (set (a .index .now) vacatedAt (recordOf (a .t .slab .vacant))) (nextOf (a .t .place)) x) (firstOf (a .l .serial % a .n)) (recordOf (a .t .place))) (f .first-word .ensures))
 
 pub enter-at-spec : {M : Type 1} → statement M
 enter-at-spec =
     tie.close
     (tie.spec
     rem-i
-    first-before-requires
+    first-word-requires
     count-requires
     write-loan-requires
     put-first-requires

@@ -10,6 +10,12 @@ mul-after c = search needs
 add-after : tie.Need-add-after
 add-after c = search needs
 
+mul-lead : tie.Need-mul-lead
+mul-lead c = search needs
+
+slice-read-lead : tie.Need-slice-read-lead
+slice-read-lead c = search needs
+
 mul-index : tie.Need-mul-index
 mul-index c = search needs
 
@@ -37,6 +43,8 @@ pass-over-spec =
     (tie.spec
     mul-after
     add-after
+    mul-lead
+    slice-read-lead
     mul-index
     slice-write-index
     mul-index-2

@@ -19,17 +19,8 @@ slice-read-next c = search needs
 slice-read-vacated : tie.Need-slice-read-vacated
 slice-read-vacated c = search needs
 
-mul-size : tie.Need-mul-size
-mul-size c = search needs
-
-add-size : tie.Need-add-size
-add-size c = search needs
-
-mul-loans : tie.Need-mul-loans
-mul-loans c = search needs
-
-slice-write-loans : tie.Need-slice-write-loans
-slice-write-loans c = search needs
+vacate-requires : tie.Need-vacate-requires
+vacate-requires c κs = search needs
 
 pass-over-requires : tie.Need-pass-over-requires
 pass-over-requires c κs = search needs
@@ -43,9 +34,10 @@ same-length-2 c = search needs
 returns : tie.Need-returns
 returns c =
     let d = c .before .before in
-    let o = d .before .before .before .before .before .before in
+    let v = d .before .before .before .before in
+    let o = v .before .before .before .before .before .before in
     let leads = o .pre .leads in
-    (struck-loans _ _ _ _ _ leads refl, struck-index _ _ _ _ _ _ leads refl refl (d .pass-over .ensures))
+    (struck-loans _ _ _ _ _ leads (v .vacate .ensures), struck-index _ _ _ _ _ _ leads refl refl (d .pass-over .ensures))
 
 pub strike-spec : {M : Type 1} → statement M
 strike-spec =
@@ -56,10 +48,7 @@ strike-spec =
     mul-next
     slice-read-next
     slice-read-vacated
-    mul-size
-    add-size
-    mul-loans
-    slice-write-loans
+    vacate-requires
     pass-over-requires
     same-length
     same-length-2

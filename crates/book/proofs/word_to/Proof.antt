@@ -32,24 +32,24 @@ loop-holds c =
     let a = c .before .before .args in
     word-is (a .loans .now) (a .index .now) (a .n) (a .places) (a .serial)
 
-word-requires : tie.Need-word-requires Inv-loop μ-loop
-word-requires c κs = search needs
+led-to-requires : tie.Need-led-to-requires Inv-loop μ-loop
+led-to-requires c κs = search needs
 
 returns : tie.Need-returns Inv-loop μ-loop
 returns c =
     let b = c .before .before .before .loop in
     let o : 0 < b .left = omega arith in
-    sym (b .inv ∙ seek-past _ _ _ _ _ _ _ (c .before .word .ensures) o (c .if1 .taken))
+    sym (b .inv ∙ seek-past _ _ _ _ _ _ _ (c .before .led-to .ensures) o (c .if1 .taken))
 
-word-requires-2 : tie.Need-word-requires-2 Inv-loop μ-loop
-word-requires-2 c κs = search needs
+word-requires : tie.Need-word-requires Inv-loop μ-loop
+word-requires c κs = search needs
 
 returns-2 : tie.Need-returns-2 Inv-loop μ-loop
 returns-2 c =
     let b = c .before .before .before .before .before .loop in
     let o : 0 < b .left = omega arith in
-    let e = sym (c .before .word2 .ensures) ∙ c .if2 .taken in
-    sym (b .inv ∙ seek-here _ _ _ _ _ _ _ (c .before .before .before .word .ensures) o (c .before .before .if1 .left) e)
+    let e = sym (c .before .word .ensures) ∙ c .if2 .taken in
+    sym (b .inv ∙ seek-here _ _ _ _ _ _ _ (c .before .before .before .led-to .ensures) o (c .before .before .if1 .left) e)
 
 mul-at-2 : tie.Need-mul-at-2 Inv-loop μ-loop
 mul-at-2 c = search needs
@@ -67,7 +67,7 @@ loop-again : tie.Need-loop-again Inv-loop μ-loop
 loop-again c =
     let b = c .before .before .before .before .before .loop in
     let o : 0 < b .left = omega arith in
-    b .inv ∙ seek-on _ _ _ _ _ _ _ (c .before .before .before .word .ensures) o (c .before .before .if1 .left) (λ z. c .if2 .left (c .before .word2 .ensures ∙ z))
+    b .inv ∙ seek-on _ _ _ _ _ _ _ (c .before .before .before .led-to .ensures) o (c .before .before .if1 .left) (λ z. c .if2 .left (c .before .word .ensures ∙ z))
 
 returns-3 : tie.Need-returns-3 Inv-loop μ-loop
 returns-3 c =
@@ -91,11 +91,11 @@ word-to-spec =
     mul-at
     add-at
     loop-holds
-    word-requires
+    led-to-requires
     returns
     mul-word
     add-word
-    word-requires-2
+    word-requires
     returns-2
     mul-at-2
     add-at-2

@@ -15,6 +15,9 @@ put-requires c κs = search needs
 add-put-2 : tie.Need-add-put-2
 add-put-2 c = search needs
 
+record-of-requires : tie.Need-record-of-requires
+record-of-requires c κs = search needs
+
 put-requires-2 : tie.Need-put-requires-2
 put-requires-2 c κs = search needs
 
@@ -28,11 +31,11 @@ returns : tie.Need-returns
 returns c =
     let d = c .before .before in
     let e = d .before .before .before .before in
-    let f = e .before .before .before .before in
+    let f = e .before .before .before .before .before in
     let g = f .before .before .before in
     let a = g .before .before .before .args in
     let taken = g .pair-taken .ensures in
-    (taken-place (a .base) (a .tree .now) _ taken, pair-added (a .base) (a .tree .now) _ taken (a .chunk) (a .offset) (a .node) (a .left) _ _ _ (f .put .ensures) (e .put2 .ensures) (d .enter-pair .ensures))
+    (taken-place (a .base) (a .tree .now) _ taken, pair-added (a .base) (a .tree .now) _ taken (a .chunk) (a .offset) (a .node) (a .left) _ _ _ _ (f .put .ensures) (e .before .record-of .ensures) (e .put2 .ensures) (d .enter-pair .ensures))
 
 pub add-pair-spec : {M : Type 1} → statement M
 add-pair-spec =
@@ -42,6 +45,7 @@ add-pair-spec =
     add-put
     put-requires
     add-put-2
+    record-of-requires
     put-requires-2
     enter-pair-requires
     same-length

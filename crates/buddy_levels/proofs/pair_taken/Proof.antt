@@ -9,11 +9,11 @@ add-word c = search needs
 word-requires : tie.Need-word-requires
 word-requires c κs = search needs
 
-add-word-2 : tie.Need-add-word-2
-add-word-2 c = search needs
+add-led-to : tie.Need-add-led-to
+add-led-to c = search needs
 
-word-requires-2 : tie.Need-word-requires-2
-word-requires-2 c κs = search needs
+led-to-requires : tie.Need-led-to-requires
+led-to-requires c κs = search needs
 
 add-insert : tie.Need-add-insert
 add-insert c = search needs
@@ -27,7 +27,7 @@ insert-requires c κs = search needs
 returns : tie.Need-returns
 returns c =
     let a = c .before .before .before .before .args in
-    taken-read (a .base) (a .tree .now) _ _ _ (c .before .before .word .ensures) (c .before .word2 .ensures) (c .insert .ensures)
+    taken-read (a .base) (a .tree .now) _ _ _ (c .before .before .word .ensures) (c .before .led-to .ensures) (c .insert .ensures)
 
 pub pair-taken-spec : {M : Type 1} → statement M
 pair-taken-spec =
@@ -35,8 +35,8 @@ pair-taken-spec =
     (tie.spec
     add-word
     word-requires
-    add-word-2
-    word-requires-2
+    add-led-to
+    led-to-requires
     add-insert
     add-insert-2
     insert-requires

@@ -3,6 +3,9 @@ use borrow.Author.Needs.{needs}
 use Rattle.buddy_levels.proofs.stand_alone.Statement.{statement}
 use Rattle.buddy_levels.proofs.stand_alone.Tie as tie
 
+record-of-requires : tie.Need-record-of-requires
+record-of-requires c κs = search needs
+
 put-field-requires : tie.Need-put-field-requires
 put-field-requires c κs = search needs
 
@@ -23,10 +26,17 @@ returns c =
     let d = c .before .before in
     let e = d .before .before .before .before in
     let f = e .before .before .before .before in
-    let a = f .before .before .before .args in
-    alone-stood (a .base) (a .tree .now) (a .p) _ _ _ (f .put-field .ensures) (e .put-field2 .ensures) (d .put .ensures)
+    let a = f .before .before .before .before .args in
+    alone-stood (a .base) (a .tree .now) (a .p) _ _ _ _ (f .before .before .record-of .ensures) (f .put-field .ensures) (e .put-field2 .ensures) (d .put .ensures)
 
 pub stand-alone-spec : {M : Type 1} → statement M
 stand-alone-spec =
     tie.close
-    (tie.spec put-field-requires put-field-requires-2 add-put put-requires same-length returns)
+    (tie.spec
+    record-of-requires
+    put-field-requires
+    put-field-requires-2
+    add-put
+    put-requires
+    same-length
+    returns)

@@ -41,7 +41,7 @@ clean-up-requires c κs = search needs
 
 put-share-requires : tie.Need-put-share-requires
 put-share-requires c κs =
-    let j = c .before .before .before .before .before .before .before .before .before .before .before .before .before .before .before .before .before .before in
+    let j = c .before .before .before .before .before .before .before .before .before .before .before .before .before .before .before .before .before .before .before in
     let q = j .before in
     let p = q .before .before in
     let a = p .before .before .before .before .before .before .before .before .before .before .args in
@@ -68,12 +68,15 @@ same-length-4 c = search needs
 same-length-5 : tie.Need-same-length-5
 same-length-5 c = search needs
 
+same-length-6 : tie.Need-same-length-6
+same-length-6 c = search needs
+
 returns : tie.Need-returns
 returns c =
     let v = c .before .before in
     let w = v .before .before .before .before in
     let m = w .before .before .before .before .before .before .before .before .before in
-    let h = m .before .before .before .before in
+    let h = m .before .before .before .before .before in
     let f = h .before .before .before in
     let j = f .before .before .before in
     let q = j .before in
@@ -81,11 +84,11 @@ returns c =
     let a = p .before .before .before .before .before .before .before .before .before .before .args in
     clean-made (a .settings .now) (a .account .now) _ _ (a .answer .now) _ (p .is-settings .ensures) (q .is-account .ensures) _ _ _ (tables (a .head .now) (a .loans .now) (a .chunks .now) (a .index .now) (a .regions .now)) _ _ (f .read-free-list .ensures) (h .read-share .ensures) (a .list .now) _ _ (j .if1 .taken) (m .clean-up .ensures) (w .put-share .ensures) (v .tell-released .ensures)
 
-same-length-6 : tie.Need-same-length-6
-same-length-6 c = search needs
-
 same-length-7 : tie.Need-same-length-7
 same-length-7 c = search needs
+
+same-length-8 : tie.Need-same-length-8
+same-length-8 c = search needs
 
 returns-2 : tie.Need-returns-2
 returns-2 c =
@@ -114,7 +117,8 @@ tibrezkam-list-clean-up-spec =
     same-length-3
     same-length-4
     same-length-5
-    returns
     same-length-6
+    returns
     same-length-7
+    same-length-8
     returns-2)

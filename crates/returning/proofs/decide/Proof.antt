@@ -12,8 +12,8 @@ returns c =
     let a = f .before .before .before .args in
     return-none (a .loans .now) (a .index .now) (a .n) (a .places) (a .b) _ (f .word-to .ensures) (c .if1 .taken)
 
-word-requires : tie.Need-word-requires
-word-requires c κs = search needs
+led-to-requires : tie.Need-led-to-requires
+led-to-requires c κs = search needs
 
 loan-at-requires : tie.Need-loan-at-requires
 loan-at-requires c κs = search needs
@@ -28,7 +28,7 @@ returns-2 c =
     let w = l .before in
     let f = w .before .before in
     let a = f .before .before .before .args in
-    return-back (a .loans .now) (a .index .now) (a .n) (a .places) (a .b) _ (f .word-to .ensures) _ _ _ (w .before .if1 .left) (w .word .ensures) (l .loan-at .ensures) (e .is-same .ensures) (c .if2 .taken)
+    return-back (a .loans .now) (a .index .now) (a .n) (a .places) (a .b) _ (f .word-to .ensures) _ _ _ (w .before .if1 .left) (w .led-to .ensures) (l .loan-at .ensures) (e .is-same .ensures) (c .if2 .taken)
 
 returns-3 : tie.Need-returns-3
 returns-3 c =
@@ -37,7 +37,7 @@ returns-3 c =
     let w = l .before in
     let f = w .before .before in
     let a = f .before .before .before .args in
-    return-stale (a .loans .now) (a .index .now) (a .n) (a .places) (a .b) _ (f .word-to .ensures) _ _ _ (w .before .if1 .left) (w .word .ensures) (l .loan-at .ensures) (e .is-same .ensures) (c .if2 .left)
+    return-stale (a .loans .now) (a .index .now) (a .n) (a .places) (a .b) _ (f .word-to .ensures) _ _ _ (w .before .if1 .left) (w .led-to .ensures) (l .loan-at .ensures) (e .is-same .ensures) (c .if2 .left)
 
 pub decide-spec : {M : Type 1} → statement M
 decide-spec =
@@ -45,7 +45,7 @@ decide-spec =
     (tie.spec
     word-to-requires
     returns
-    word-requires
+    led-to-requires
     loan-at-requires
     is-same-requires
     returns-2

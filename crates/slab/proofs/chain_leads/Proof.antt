@@ -31,8 +31,8 @@ returns-2 c =
     let o : 0 < c .before .before .before .before .loop .left = omega arith in
     sym (c .before .before .before .before .loop .inv ∙ leads-used _ _ _ _ _ o (c .before .before .if1 .left) (ne-eqb _ _ (λ z. c .if2 .taken (c .before .cell .ensures ∙ z))))
 
-cell-requires-2 : tie.Need-cell-requires-2 Inv-loop μ-loop
-cell-requires-2 c κs = search needs
+link-requires : tie.Need-link-requires Inv-loop μ-loop
+link-requires c κs = search needs
 
 sub-left : tie.Need-sub-left Inv-loop μ-loop
 sub-left c = search needs
@@ -44,7 +44,7 @@ loop-again : tie.Need-loop-again Inv-loop μ-loop
 loop-again c =
     let o : 0 < c .before .before .before .before .before .loop .left = omega arith in
     let free = eq-eqb _ _ (sym (c .before .before .cell .ensures) ∙ c .before .if2 .left) in
-    c .before .before .before .before .before .loop .inv ∙ leads-on _ _ _ _ _ _ o (c .before .before .before .if1 .left) free (c .cell2 .ensures)
+    c .before .before .before .before .before .loop .inv ∙ leads-on _ _ _ _ _ _ o (c .before .before .before .if1 .left) free (c .link .ensures)
 
 returns-3 : tie.Need-returns-3 Inv-loop μ-loop
 returns-3 c =
@@ -61,7 +61,7 @@ chain-leads-spec =
     returns
     cell-requires
     returns-2
-    cell-requires-2
+    link-requires
     sub-left
     loop-less
     loop-again

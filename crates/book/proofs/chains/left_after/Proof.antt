@@ -1,10 +1,9 @@
 use mathlib.Core.Path.{_≡_, refl, sym, _∙_}
 use Prim.Native.Nat.{_<_}
 use native.Mathlib.Omega.{arith}
-use lib.ListN.{getD}
 use Rattle.slab.specs.Slab.{vacantAt}
 use Rattle.store_rules.specs.Loans.{loanWords, sizeAt}
-use Rattle.book_rules.specs.Book.{nextOf, serialOf, firstIn}
+use Rattle.book_rules.specs.Book.{serialOf, firstIn, nextIn}
 use Rattle.book_rules.specs.Chains.{leftAfter}
 use Rattle.book_rules.proofs.Following.{link-alone, link-serial, after-end, after-none, after-torn, after-on}
 use borrow.Author.Needs.{needs}
@@ -13,8 +12,8 @@ use Rattle.book.proofs.chains.left_after.Tie as tie
 
 abbrev Inv-loop : tie.InvT-loop
 Inv-loop loans index n places i given h k p₀ most₀ left₀ p most left =
-    leftAfter (vacantAt loans sizeAt loanWords) (firstIn index) (λ p. getD index (nextOf p) 0) (serialOf loans) n places i given h k
-    ≡ leftAfter (vacantAt loans sizeAt loanWords) (firstIn index) (λ p. getD index (nextOf p) 0) (serialOf loans) n places i most p left
+    leftAfter (vacantAt loans sizeAt loanWords) (firstIn index) (nextIn index) (serialOf loans) n places i given h k
+    ≡ leftAfter (vacantAt loans sizeAt loanWords) (firstIn index) (nextIn index) (serialOf loans) n places i most p left
 
 abbrev μ-loop : tie.MeasureT-loop
 μ-loop loans index n places i given h k p₀ most₀ left₀ p most left = left
@@ -38,8 +37,8 @@ sub-most c =
     let e = sym (c .before .before .is-link .ensures) ∙ c .before .if2 .taken in
     omega (arith, c .cell .ensures, link-serial _ _ _ _ _ _ _ _ _ e)
 
-cell-requires-2 : tie.Need-cell-requires-2 Inv-loop μ-loop
-cell-requires-2 c κs = search needs
+link-requires : tie.Need-link-requires Inv-loop μ-loop
+link-requires c κs = search needs
 
 sub-left : tie.Need-sub-left Inv-loop μ-loop
 sub-left c = search needs
@@ -52,7 +51,7 @@ loop-again c =
     let b = c .before .before .before .before .before .before .loop in
     let o : 0 < b .left = omega arith in
     let e = sym (c .before .before .before .is-link .ensures) ∙ c .before .before .if2 .taken in
-    b .inv ∙ after-on _ _ _ _ _ _ _ _ _ _ _ _ (c .before .before .before .before .before .loop-test .taken) o (link-alone _ _ _ _ _ _ _ _ _ _ _ ∙ e) (c .before .cell .ensures) (c .cell2 .ensures)
+    b .inv ∙ after-on _ _ _ _ _ _ _ _ _ _ _ _ (c .before .before .before .before .before .loop-test .taken) o (link-alone _ _ _ _ _ _ _ _ _ _ _ ∙ e) (c .before .cell .ensures) (c .link .ensures)
 
 returns-2 : tie.Need-returns-2 Inv-loop μ-loop
 returns-2 c =
@@ -77,7 +76,7 @@ left-after-spec =
     is-link-requires
     cell-requires
     sub-most
-    cell-requires-2
+    link-requires
     sub-left
     loop-less
     loop-again

@@ -3,10 +3,9 @@ use mathlib.Core.Logic.{⊎-elim}
 use Prim.Native.Nat.{_-_, _≤_}
 use native.Mathlib.Omega.{arith}
 use borrow.Author.Needs.{needs}
-use lib.ListN.{getD}
 use Rattle.slab.specs.Slab.{vacantAt}
 use Rattle.store_rules.specs.Loans.{loanWords, sizeAt}
-use Rattle.book_rules.specs.Book.{nextOf, serialOf, firstIn}
+use Rattle.book_rules.specs.Book.{serialOf, firstIn, nextIn}
 use Rattle.book_rules.specs.Chains.{leftOf}
 use Rattle.book_rules.proofs.Following.{of-none, of-torn, of-on}
 use Rattle.book.proofs.chains.left_of.Statement.{statement}
@@ -14,7 +13,7 @@ use Rattle.book.proofs.chains.left_of.Tie as tie
 
 abbrev Inv-loop : tie.InvT-loop
 Inv-loop loans index n places given k left₀ i₀ left i =
-    (i ≤ n) × (left ≡ leftOf (vacantAt loans sizeAt loanWords) (firstIn index) (λ p. getD index (nextOf p) 0) (serialOf loans) n places given k i)
+    (i ≤ n) × (left ≡ leftOf (vacantAt loans sizeAt loanWords) (firstIn index) (nextIn index) (serialOf loans) n places given k i)
 
 abbrev μ-loop : tie.MeasureT-loop
 μ-loop loans index n places given k left₀ i₀ left i = n - i

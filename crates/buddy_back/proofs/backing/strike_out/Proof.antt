@@ -17,14 +17,14 @@ cast-level c = search needs
 nodes-from-requires : tie.Need-nodes-from-requires
 nodes-from-requires c κs = search needs
 
-word-requires-2 : tie.Need-word-requires-2
-word-requires-2 c κs = search needs
+led-to-requires : tie.Need-led-to-requires
+led-to-requires c κs = search needs
 
 add-word : tie.Need-add-word
 add-word c = search needs
 
-word-requires-3 : tie.Need-word-requires-3
-word-requires-3 c κs = search needs
+word-requires-2 : tie.Need-word-requires-2
+word-requires-2 c κs = search needs
 
 strike-requires : tie.Need-strike-requires
 strike-requires c κs = search needs
@@ -54,7 +54,7 @@ returns c =
     let l = f .before in
     let w = l .before in
     let a = w .before .before .before .before .before .before .args in
-    let climb = climb-is (a .s) (a .b) (a .at) (a .head .now) (a .index .now) (a .tree .now) _ _ _ _ _ (w .word .ensures) (l .level .ensures) (f .nodes-from .ensures .0) (v .word2 .ensures) (n .word3 .ensures) in
+    let climb = climb-is (a .s) (a .b) (a .at) (a .head .now) (a .index .now) (a .tree .now) _ _ _ _ _ (w .word .ensures) (l .level .ensures) (f .nodes-from .ensures .0) (v .led-to .ensures) (n .word2 .ensures) in
     (m .climb .ensures .0 ∙ ap (λ (x : Climbed). x .freed) climb, (m .climb .ensures .1 ∙ ap (λ (x : Climbed). x .room) climb, (k .strike .ensures .0, k .strike .ensures .1)))
 
 pub strike-out-spec : {M : Type 1} → statement M
@@ -65,9 +65,9 @@ strike-out-spec =
     level-requires
     cast-level
     nodes-from-requires
-    word-requires-2
+    led-to-requires
     add-word
-    word-requires-3
+    word-requires-2
     strike-requires
     sub-climb
     climb-requires

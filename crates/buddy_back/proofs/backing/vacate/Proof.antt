@@ -21,6 +21,9 @@ add-put-cell-2 c = search needs
 put-cell-requires-2 : tie.Need-put-cell-requires-2
 put-cell-requires-2 c κs = search needs
 
+record-of-requires : tie.Need-record-of-requires
+record-of-requires c κs = search needs
+
 put-requires : tie.Need-put-requires
 put-requires c κs = search needs
 
@@ -33,12 +36,12 @@ same-length-2 c = search needs
 returns : tie.Need-returns
 returns c =
     let r = c .before .before in
-    let q = r .before .before .before .before in
+    let q = r .before .before .before .before .before in
     let p = q .before .before .before .before in
     let w = p .before .before in
     let f = w .before .before in
     let a = f .before .before .before .args in
-    (p .put-cell .ensures, vacated-done (a .s) (a .c) _ _ (a .tree .now) _ _ (f .chunks-from .ensures .0) (w .word .ensures) (q .put-cell2 .ensures) (r .put .ensures))
+    (p .put-cell .ensures, vacated-done (a .s) (a .c) _ _ _ (a .tree .now) _ _ (f .chunks-from .ensures .0) (w .word .ensures) (q .put-cell2 .ensures) (r .before .record-of .ensures) (r .put .ensures))
 
 pub vacate-spec : {M : Type 1} → statement M
 vacate-spec =
@@ -50,6 +53,7 @@ vacate-spec =
     add-put-cell
     add-put-cell-2
     put-cell-requires-2
+    record-of-requires
     put-requires
     same-length
     same-length-2

@@ -9,8 +9,8 @@ chunks-from-requires c κs = search needs
 word-requires : tie.Need-word-requires
 word-requires c κs = search needs
 
-word-requires-2 : tie.Need-word-requires-2
-word-requires-2 c κs = search needs
+led-to-requires : tie.Need-led-to-requires
+led-to-requires c κs = search needs
 
 add-insert : tie.Need-add-insert
 add-insert c = search needs
@@ -27,9 +27,9 @@ returns c =
     let w = v .before in
     let b = w .before in
     let a = b .before .before .before .args in
-    taken-is (a .pairs) (a .chunks .now) (a .tree .now) _ _ _ _ (w .word .ensures) (b .chunks-from .ensures .0) (v .word2 .ensures) (c .insert .ensures)
+    taken-is (a .pairs) (a .chunks .now) (a .tree .now) _ _ _ _ (w .word .ensures) (b .chunks-from .ensures .0) (v .led-to .ensures) (c .insert .ensures)
 
 pub chunk-taken-spec : {M : Type 1} → statement M
 chunk-taken-spec =
     tie.close
-    (tie.spec chunks-from-requires word-requires word-requires-2 add-insert add-insert-2 insert-requires returns)
+    (tie.spec chunks-from-requires word-requires led-to-requires add-insert add-insert-2 insert-requires returns)

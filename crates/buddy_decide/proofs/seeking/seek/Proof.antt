@@ -24,11 +24,11 @@ node-bytes-requires c κs = let p = c .before .before .before .before .pre in (p
 level-from-requires : tie.Need-level-from-requires Inv-loop μ-loop
 level-from-requires c κs = search needs
 
-add-word : tie.Need-add-word Inv-loop μ-loop
-add-word c = search needs
+add-led-to : tie.Need-add-led-to Inv-loop μ-loop
+add-led-to c = search needs
 
-word-requires : tie.Need-word-requires Inv-loop μ-loop
-word-requires c κs = search needs
+led-to-requires : tie.Need-led-to-requires Inv-loop μ-loop
+led-to-requires c κs = search needs
 
 add-l : tie.Need-add-l Inv-loop μ-loop
 add-l c = search needs
@@ -42,7 +42,7 @@ loop-again c =
     let f = w .before in
     let b = f .before .before in
     let a = b .before .before .args in
-    (omega (arith, b .loop .inv .0), b .loop .inv .1 ∙ seek-on (a .minimal) (a .pairs) (a .level) (a .levels) (a .tree .now) (b .loop .l) (f .before .if1 .left) _ _ (f .level-from .ensures .0) (w .word .ensures) (c .if2 .left))
+    (omega (arith, b .loop .inv .0), b .loop .inv .1 ∙ seek-on (a .minimal) (a .pairs) (a .level) (a .levels) (a .tree .now) (b .loop .l) (f .before .if1 .left) _ _ (f .level-from .ensures .0) (w .led-to .ensures) (c .if2 .left))
 
 returns : tie.Need-returns Inv-loop μ-loop
 returns c =
@@ -57,7 +57,7 @@ returns-2 c =
     let f = w .before in
     let b = f .before .before in
     let a = b .before .before .args in
-    seek-at (a .minimal) (a .pairs) (a .level) (a .levels) (a .tree .now) (b .loop .l) (f .before .if1 .left) _ _ (f .level-from .ensures .0) (w .word .ensures) (b .loop .inv .1) (c .if2 .taken)
+    seek-at (a .minimal) (a .pairs) (a .level) (a .levels) (a .tree .now) (b .loop .l) (f .before .if1 .left) _ _ (f .level-from .ensures .0) (w .led-to .ensures) (b .loop .inv .1) (c .if2 .taken)
 
 pub seek-spec : {M : Type 1} → statement M
 seek-spec =
@@ -69,8 +69,8 @@ seek-spec =
     grown-requires
     node-bytes-requires
     level-from-requires
-    add-word
-    word-requires
+    add-led-to
+    led-to-requires
     add-l
     loop-less
     loop-again

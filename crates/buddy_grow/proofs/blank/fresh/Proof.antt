@@ -1,17 +1,24 @@
 use borrow.Author.Needs.{needs}
+use mathlib.Core.Path.{ap, _∙_}
+use Prim.Native.Nat.{ℕ}
+use Rattle.words.specs.Words.{blank}
+use Rattle.buddy_rules.specs.Tables.{marks}
 use Rattle.buddy_grow.proofs.Grown.{fresh-done}
 use Rattle.buddy_grow.proofs.blank.fresh.Statement.{statement}
 use Rattle.buddy_grow.proofs.blank.fresh.Tie as tie
 
+fresh-head-requires : tie.Need-fresh-head-requires
+fresh-head-requires c κs =
+    let p = c .before .before .before .before .before .before .pre in
+    (p .0, p .1 .head)
+
 fresh-rows-requires : tie.Need-fresh-rows-requires
 fresh-rows-requires c κs =
-    let p = c .before .before .before .before .before .before .before .before .pre .1 in
-    (p .loans, p .chunks, p .index)
+    let p = c .before .before .before .before .before .before .before .before .before .before .before .before .pre in
+    (p .1 .loans, p .1 .chunks, p .1 .index)
 
-fresh-initial-requires : tie.Need-fresh-initial-requires
-fresh-initial-requires c κs =
-    let p = c .before .before .before .before .before .before .before .before .before .before .before .before .before .before .before .before .before .pre in
-    (p .0, p .1 .head, p .1 .room)
+put-blank-requires : tie.Need-put-blank-requires
+put-blank-requires c κs = search needs
 
 same-length : tie.Need-same-length
 same-length c = search needs
@@ -30,19 +37,21 @@ same-length-5 c = search needs
 
 returns : tie.Need-returns
 returns c =
-    let i = c .before .before .before .before in
-    let r = i .before .before .before .before .before .before .before .before .before in
-    let a = r .before .before .before .before .before .before .before .before .before .args in
+    let k = c .before .before in
+    let r = k .before .before .before .before .before .before .before .before in
+    let h = r .before .before .before .before .before .before in
+    let a = h .before .before .before .before .before .before .before .args in
+    let p = h .before .before .before .before .before .before .before .pre in
     let w = r .fresh-rows .ensures in
-    let v = i .fresh-initial .ensures in
-    fresh-done (a .s) _ _ _ _ _ (v .0) (w .0) (w .1 .0) (w .1 .1) (v .1)
+    fresh-done (a .s) _ _ _ _ _ (h .fresh-head .ensures) (w .0) (w .1 .0) (w .1 .1) (k .put-blank .ensures ∙ ap (λ (n : ℕ). blank n (marks .room) 0) (p .1 .room))
 
 pub fresh-spec : {M : Type 1} → statement M
 fresh-spec =
     tie.close
     (tie.spec
+    fresh-head-requires
     fresh-rows-requires
-    fresh-initial-requires
+    put-blank-requires
     same-length
     same-length-2
     same-length-3

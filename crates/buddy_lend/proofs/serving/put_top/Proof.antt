@@ -6,6 +6,9 @@ use Rattle.buddy_lend.proofs.serving.put_top.Tie as tie
 chunks-from-requires : tie.Need-chunks-from-requires
 chunks-from-requires c κs = search needs
 
+record-of-requires : tie.Need-record-of-requires
+record-of-requires c κs = search needs
+
 put-requires : tie.Need-put-requires
 put-requires c κs = search needs
 
@@ -29,15 +32,16 @@ returns c =
     let q = c .before .before in
     let w = q .before in
     let p = w .before .before .before .before in
-    let f = p .before .before in
+    let f = p .before .before .before in
     let a = f .before .before .args in
-    top-done (a .pairs) _ (f .chunks-from .ensures .0) (a .tree .now) (a .c) (a .p) _ (a .vacant) _ _ (p .put .ensures) (w .split-word .ensures) (q .put-cell .ensures)
+    top-done (a .pairs) _ (f .chunks-from .ensures .0) (a .tree .now) (a .c) (a .p) _ (a .vacant) _ _ _ (p .before .record-of .ensures) (p .put .ensures) (w .split-word .ensures) (q .put-cell .ensures)
 
 pub put-top-spec : {M : Type 1} → statement M
 put-top-spec =
     tie.close
     (tie.spec
     chunks-from-requires
+    record-of-requires
     put-requires
     add-put-cell
     add-put-cell-2

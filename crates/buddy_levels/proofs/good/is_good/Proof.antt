@@ -9,11 +9,11 @@ add-word c = search needs
 word-requires : tie.Need-word-requires
 word-requires c κs = search needs
 
-add-word-2 : tie.Need-add-word-2
-add-word-2 c = search needs
+add-led-to : tie.Need-add-led-to
+add-led-to c = search needs
 
-word-requires-2 : tie.Need-word-requires-2
-word-requires-2 c κs = search needs
+led-to-requires : tie.Need-led-to-requires
+led-to-requires c κs = search needs
 
 add-mark : tie.Need-add-mark
 add-mark c = search needs
@@ -36,11 +36,11 @@ ring-size-requires c κs = search needs
 count-ready-requires : tie.Need-count-ready-requires
 count-ready-requires c κs = search needs
 
-add-word-3 : tie.Need-add-word-3
-add-word-3 c = search needs
+add-led-to-2 : tie.Need-add-led-to-2
+add-led-to-2 c = search needs
 
-word-requires-3 : tie.Need-word-requires-3
-word-requires-3 c κs = search needs
+led-to-requires-2 : tie.Need-led-to-requires-2
+led-to-requires-2 c κs = search needs
 
 all-ready-requires : tie.Need-all-ready-requires
 all-ready-requires c κs = search needs
@@ -52,8 +52,8 @@ returns c =
     let f = e .before in
     let g = f .before .before in
     let a = g .before .before .before .args in
-    good-all (a .base) (a .pairs) (a .tree .now) _ _ _ (g .before .word .ensures) (g .word2 .ensures) (f .before .is-parted .ensures) _ _
-    (e .ring-size .ensures) (d .before .count-ready .ensures) (f .if1 .taken) (d .if2 .taken) _ _ (c .before .word3 .ensures) (c .all-ready .ensures)
+    good-all (a .base) (a .pairs) (a .tree .now) _ _ _ (g .before .word .ensures) (g .led-to .ensures) (f .before .is-parted .ensures) _ _
+    (e .ring-size .ensures) (d .before .count-ready .ensures) (f .if1 .taken) (d .if2 .taken) _ _ (c .before .led-to2 .ensures) (c .all-ready .ensures)
 
 returns-2 : tie.Need-returns-2
 returns-2 c =
@@ -61,14 +61,14 @@ returns-2 c =
     let f = e .before in
     let g = f .before .before in
     let a = g .before .before .before .args in
-    good-lost (a .base) (a .pairs) (a .tree .now) _ _ _ (g .before .word .ensures) (g .word2 .ensures) (f .before .is-parted .ensures) _ _
+    good-lost (a .base) (a .pairs) (a .tree .now) _ _ _ (g .before .word .ensures) (g .led-to .ensures) (f .before .is-parted .ensures) _ _
     (e .ring-size .ensures) (c .before .count-ready .ensures) (f .if1 .taken) (c .if2 .left)
 
 returns-3 : tie.Need-returns-3
 returns-3 c =
     let g = c .before .before in
     let a = g .before .before .before .args in
-    good-torn (a .base) (a .pairs) (a .tree .now) _ _ _ (g .before .word .ensures) (g .word2 .ensures) (c .before .is-parted .ensures) (c .if1 .left)
+    good-torn (a .base) (a .pairs) (a .tree .now) _ _ _ (g .before .word .ensures) (g .led-to .ensures) (c .before .is-parted .ensures) (c .if1 .left)
 
 pub is-good-spec : {M : Type 1} → statement M
 is-good-spec =
@@ -76,8 +76,8 @@ is-good-spec =
     (tie.spec
     add-word
     word-requires
-    add-word-2
-    word-requires-2
+    add-led-to
+    led-to-requires
     add-mark
     add-mark-2
     add-after
@@ -85,8 +85,8 @@ is-good-spec =
     is-parted-requires
     ring-size-requires
     count-ready-requires
-    add-word-3
-    word-requires-3
+    add-led-to-2
+    led-to-requires-2
     all-ready-requires
     returns
     returns-2

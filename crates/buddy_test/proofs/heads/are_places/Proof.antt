@@ -6,8 +6,8 @@ use Rattle.buddy_test.proofs.heads.are_places.Tie as tie
 chunks-from-requires : tie.Need-chunks-from-requires
 chunks-from-requires c κs = search needs
 
-word-requires : tie.Need-word-requires
-word-requires c κs = search needs
+led-to-requires : tie.Need-led-to-requires
+led-to-requires c κs = search needs
 
 add-after : tie.Need-add-after
 add-after c = search needs
@@ -24,9 +24,9 @@ returns c =
     let f = v .before in
     let o = f .before .before .before .before in
     let a = o .args in
-    places-told (a .s) (a .n) (f .chunks-from .result) (v .word .result) (a .chunks .now) (a .tree .now) (c .is-parted .result) (o .pre .1) (f .chunks-from .ensures .0) (v .word .ensures) (c .is-parted .ensures)
+    places-told (a .s) (a .n) (f .chunks-from .result) (v .led-to .result) (a .chunks .now) (a .tree .now) (c .is-parted .result) (o .pre .1) (f .chunks-from .ensures .0) (v .led-to .ensures) (c .is-parted .ensures)
 
 pub are-places-spec : {M : Type 1} → statement M
 are-places-spec =
     tie.close
-    (tie.spec chunks-from-requires word-requires add-after add-after-2 is-parted-requires returns)
+    (tie.spec chunks-from-requires led-to-requires add-after add-after-2 is-parted-requires returns)

@@ -1,4 +1,5 @@
 use borrow.Author.Needs.{needs}
+use mathlib.Core.Path.{_∙_}
 use Rattle.freelist.proofs.Arriving.{lends-now, kept-done}
 use Rattle.freelist.proofs.carries.keep_chunk.Statement.{statement}
 use Rattle.freelist.proofs.carries.keep_chunk.Tie as tie

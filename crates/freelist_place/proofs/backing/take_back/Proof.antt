@@ -9,8 +9,8 @@ add-strike c = search needs
 join-requires : tie.Need-join-requires
 join-requires c κs = search needs
 
-word-requires : tie.Need-word-requires
-word-requires c κs = search needs
+led-to-requires : tie.Need-led-to-requires
+led-to-requires c κs = search needs
 
 strike-requires : tie.Need-strike-requires
 strike-requires c κs = search needs
@@ -37,7 +37,7 @@ take-back-spec =
     (tie.spec
     add-strike
     join-requires
-    word-requires
+    led-to-requires
     strike-requires
     same-length
     same-length-2

@@ -1,10 +1,11 @@
 use borrow.Author.Needs.{needs}
-use borrow.Author.Tests.{le-leb, lt-leb}
+use borrow.Author.Tests.{leb-true, leb-false, le-leb, lt-leb}
 use mathlib.Core.Path.{_≡_, refl, sym, ap, _∙_}
-use mathlib.Core.Bool.{true, false}
+use mathlib.Core.Bool.{Bool, true, false, _&&_}
 use mathlib.Core.List.{List}
 use Prim.Native.Nat.{ℕ, suc, _-_, _≤_, _<_}
 use native.Mathlib.Omega.{arith}
+use lib.Dec.{leb}
 use lib.ListN.{length, take, getD}
 use Rattle.words.specs.Rows.{rows, row}
 use Rattle.words.proofs.Records.{length-rows, getD-rows}
@@ -15,6 +16,7 @@ use Rattle.store_rules.specs.declared.Region.{Region}
 use Rattle.freelist_rules.proofs.Search.{find-start, find-none, find-here, find-past}
 use Rattle.freelist_regions.proofs.search.find_fit.Statement.{statement}
 use Rattle.freelist_regions.proofs.search.find_fit.Tie as tie
+use Rattle.lists.proofs.Bools.{and-right}
 
 -- what fits stands among the first k
 abbrev Inv-loop : tie.InvT-loop
@@ -35,8 +37,20 @@ sub-k c = omega arith
 region-at-requires : tie.Need-region-at-requires Inv-loop μ-loop
 region-at-requires c κs = search needs
 
+-- a region that passes both tests before reaches as far as the block is long
+reaches : (long : Bool) (size : ℕ) (r : Region) → (long && leb size (r .end)) ≡ true → size ≤ r .end
+reaches long size r e = leb-true size (r .end) (and-right long (leb size (r .end)) e)
+
+is-long-requires : tie.Need-is-long-requires Inv-loop μ-loop
+is-long-requires c κs = search needs
+
+sub-lower-to-unit : tie.Need-sub-lower-to-unit Inv-loop μ-loop
+sub-lower-to-unit c =
+    let n = c .before .before .before in
+    reaches (n .is-long .result) (n .before .before .before .before .before .args .size) (n .before .region-at .result) (c .before .if1 .taken)
+
 lower-to-unit-requires : tie.Need-lower-to-unit-requires Inv-loop μ-loop
-lower-to-unit-requires c κs = c .before .before .before .before .before .before .before .pre
+lower-to-unit-requires c κs = c .before .before .before .before .before .before .before .before .pre
 
 -- the region at hand, of the first k
 module _ (t : List ℕ) (n k mask size : ℕ) (r : Region) (e : r ≡ row regionRow (k - 1) t) (some : 0 < k) (most : k ≤ n)
@@ -76,14 +90,19 @@ module _ (mask size x : ℕ) (r : Region) where
   unfolding fitsIn
   fits-not h = rw (lt-leb size (r .end) h)
 
+-- nor where one of the two tests before fails
+fits-never : (mask size : ℕ) (long : Bool) (r : Region) → (long ≡ false → (m : ℕ) → fitsIn m size r ≡ false) → (long && leb size (r .end)) ≡ false → fitsIn mask size r ≡ false
+fits-never mask size true r f e = fits-not mask size 0 r (leb-false size (r .end) e)
+fits-never mask size false r f e = f refl mask
+
 returns : tie.Need-returns Inv-loop μ-loop
 returns c =
     let u = c .before .before in
     let i = u .before .before in
-    let g = i .before .before in
+    let g = i .before .before .before in
     let l = g .before .before .loop in
     let a = g .before .before .before .before .args in
-    let fit = fits-yes (a .mask) (a .size) _ (g .region-at .result) (i .if1 .taken) (u .lower-to-unit .ensures) (c .if2 .taken) in (
+    let fit = fits-yes (a .mask) (a .size) _ (g .region-at .result) (reaches (i .before .before .is-long .result) (a .size) (g .region-at .result) (i .if1 .taken)) (u .lower-to-unit .ensures) (c .if2 .taken) in (
       sym (here (a .t .now) (a .n) (l .k) (a .mask) (a .size) (g .region-at .result) (g .region-at .ensures) (search needs) (search needs) (l .inv .1) fit),
       starts (a .t .now) (a .n) (l .k) (a .mask) (a .size) (g .region-at .result) (g .region-at .ensures) (search needs) (search needs) (l .inv .1) _ (u .lower-to-unit .ensures),
     )
@@ -95,10 +114,10 @@ loop-again : tie.Need-loop-again Inv-loop μ-loop
 loop-again c =
     let u = c .before .before in
     let i = u .before .before in
-    let g = i .before .before in
+    let g = i .before .before .before in
     let l = g .before .before .loop in
     let a = g .before .before .before .before .args in
-    let fit = fits-low (a .mask) (a .size) _ (g .region-at .result) (i .if1 .taken) (u .lower-to-unit .ensures) (c .if2 .left) in
+    let fit = fits-low (a .mask) (a .size) _ (g .region-at .result) (reaches (i .before .before .is-long .result) (a .size) (g .region-at .result) (i .if1 .taken)) (u .lower-to-unit .ensures) (c .if2 .left) in
     (omega arith, past (a .t .now) (a .n) (l .k) (a .mask) (a .size) (g .region-at .result) (g .region-at .ensures) (search needs) (search needs) (l .inv .1) fit)
 
 loop-less-2 : tie.Need-loop-less-2 Inv-loop μ-loop
@@ -106,11 +125,13 @@ loop-less-2 c = omega arith
 
 loop-again-2 : tie.Need-loop-again-2 Inv-loop μ-loop
 loop-again-2 c =
-    let g = c .before .before in
+    let n = c .before .before in
+    let g = n .before in
     let l = g .before .before .loop in
     let a = g .before .before .before .before .args in
-    let fit = fits-not (a .mask) (a .size) 0 (g .region-at .result) (c .if1 .left) in
-    (omega arith, past (a .t .now) (a .n) (l .k) (a .mask) (a .size) (g .region-at .result) (g .region-at .ensures) (search needs) (search needs) (l .inv .1) fit)
+    let r = g .region-at .result in
+    let fit = fits-never (a .mask) (a .size) (n .is-long .result) r (n .is-long .ensures) (c .if1 .left) in
+    (omega arith, past (a .t .now) (a .n) (l .k) (a .mask) (a .size) r (g .region-at .ensures) (search needs) (search needs) (l .inv .1) fit)
 
 returns-2 : tie.Need-returns-2 Inv-loop μ-loop
 returns-2 c =
@@ -129,6 +150,8 @@ find-fit-spec =
     loop-holds
     sub-k
     region-at-requires
+    is-long-requires
+    sub-lower-to-unit
     lower-to-unit-requires
     returns
     loop-less

@@ -2,8 +2,8 @@ use mathlib.Core.Path.{refl}
 use native.Mathlib.Nat.{mod-lt}
 use native.Mathlib.Omega.{arith}
 use borrow.Author.Needs.{needs}
-use Rattle.book.proofs.first_before.Statement.{statement}
-use Rattle.book.proofs.first_before.Tie as tie
+use Rattle.book.proofs.first_word.Statement.{statement}
+use Rattle.book.proofs.first_word.Tie as tie
 
 rem-i : tie.Need-rem-i
 rem-i c = search needs
@@ -23,5 +23,5 @@ shared-slice-read-result c = let o = c .before in omega (arith, mod-lt (o .args 
 returns : tie.Need-returns
 returns c = refl
 
-pub first-before-spec : {M : Type 1} → statement M
-first-before-spec = tie.close (tie.spec rem-i mul-at add-at mul-result shared-slice-read-result returns)
+pub first-word-spec : {M : Type 1} → statement M
+first-word-spec = tie.close (tie.spec rem-i mul-at add-at mul-result shared-slice-read-result returns)
