@@ -182,7 +182,7 @@ fn outcome_words(outcome: Outcome, memory: u64) -> OutcomeWords {
 
 /// Words of head, loans, chunks, index and regions: each table's own record, then the others.
 fn list_lengths(loans: usize, chunks: usize) -> [usize; 5] {
-    [2, 4 * (1 + loans), 3 * (1 + chunks), 3 * (1 + loans), 3 * (1 + loans + chunks)]
+    [2, 4 * (1 + loans), 3 * (1 + chunks), 5 * (1 + loans), 4 * (1 + loans + chunks)]
 }
 
 /// Words of head, loans, chunks, index and tree: its own record, levels of pairs, chunk places, loans' nodes.

@@ -123,7 +123,7 @@ pub fn enter_at(loans: &mut [u64], index: &mut [u64], n: usize, t: Taken, l: Loa
 
 // The word that leads to the first of the chain that this serial comes into, as it stands in the index.
 fn first_word(index: &[u64], n: usize, serial: u64) -> u64
-    requires { ⌜ (0 < n) × (n ≤ loansMost) × (length (now index) ≡ indexWords n) ⌝ }
+    requires { ⌜ (0 < n) × (n ≤ loansMost) × (indexWords n ≤ length (now index)) ⌝ }
     ensures { λ r. ⌜ r ≡ getD (now (index .entry)) (firstOf (serial % n)) 0 ⌝ }
 {
     let i = serial % n as u64;

@@ -4,7 +4,7 @@ use mathlib.Core.Path.{_≡_, refl, sym, ap, _∙_}
 use mathlib.Core.Bool.{true, false}
 use mathlib.Core.Logic.{⊎-elim}
 use mathlib.Core.List.{List}
-use Prim.Native.Nat.{ℕ, _*_, _%_, _<_, _+_}
+use Prim.Native.Nat.{ℕ, _*_, _%_, _<_, _+_, _≤_}
 use native.Mathlib.Omega.{arith}
 use lib.Dec.{eqb}
 use lib.ListN.{length, getD, set, length-set}
@@ -72,7 +72,7 @@ module _ (loans : List ℕ) (n p : ℕ) (l : Loan) (long : length loans ≡ loan
 
 -- ---- p put first in chain c, before the place that the word f leads to, and v the word that leads to the place vacated last
 
-module _ (index : List ℕ) (n c p f v : ℕ) (long : length index ≡ indexWords n) (own : c < n) (room : p < n) where
+module _ (index : List ℕ) (n c p f v : ℕ) (long : indexWords n ≤ length index) (own : c < n) (room : p < n) where
   abbrev begun : List ℕ
   begun = set index vacatedAt v
 
@@ -160,7 +160,7 @@ unfolding struck
 struck-gone at index loans n long room = (serial-gone loans n (ledTo index at) long room, size-gone loans n (ledTo index at) long room)
 
 -- the word at `at`, which leads to p, leads past it; `at` is no word that leads on among the vacant places
-module _ (index : List ℕ) (n at p : ℕ) (wide : length index ≡ indexWords n) (room : p < n) (inside : at < indexWords n)
+module _ (index : List ℕ) (n at p : ℕ) (wide : indexWords n ≤ length index) (room : p < n) (inside : at < indexWords n)
     (chained : at % 3 ≡ 2 → ⊥) (leads : ledTo index at ≡ p) where
   abbrev cut : List ℕ
   cut = set index at (getD index (nextOf p) 0)

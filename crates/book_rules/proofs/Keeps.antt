@@ -134,7 +134,7 @@ module _ (loans index : List ℕ) (n places : ℕ) (few : n < nowhere) (P : Book
           inl (e, ⊎-elim (λ (g : places + 1 < q). let z = k .grown (places + 1) g (λ f. omega arith) in absurd (omega arith)) (λ (g : q ≤ places + 1). omega arith) (lt-or-le (places + 1) q)))
           (lt-or-le p places)
 
-  module _ (given : ℕ) (l : Loan) (long : length loans ≡ loanWords + loanWords * n) (wide : length index ≡ indexWords n)
+  module _ (given : ℕ) (l : Loan) (long : length loans ≡ loanWords + loanWords * n) (wide : indexWords n ≤ length index)
       (room : takenOf places index .place < n) (next : l .serial ≡ given + 1) (whole : l .size ≡ 0 → ⊥) where
     abbrev taken : ℕ
     taken = takenOf places index .place
@@ -277,7 +277,7 @@ module _ (loans index : List ℕ) (n places given : ℕ) (some : 0 < n) (limit :
 
     -- ---- and struck out
 
-    module _ (long : length loans ≡ loanWords + loanWords * n) (wide : length index ≡ indexWords n) where
+    module _ (long : length loans ≡ loanWords + loanWords * n) (wide : indexWords n ≤ length index) where
       room : p < n
       room = omega arith
 

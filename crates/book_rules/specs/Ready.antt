@@ -14,7 +14,7 @@ pub record Opens (n p : ℕ) (loans index : List ℕ) : Type 0 where
   pub some : 0 < n
   pub most : n ≤ loansMost
   pub loans-long : length loans ≡ loanWords + loanWords * n
-  pub index-long : length index ≡ indexWords n
+  pub index-long : indexWords n ≤ length index
   pub place : p < n
 
 -- the loan at p, to which word `at` of the index leads, can be struck out

@@ -40,7 +40,7 @@ use Rattle.buddy_moves.proofs.Rooming.{roomy}
 pub opens : (s : BuddySettings) (t : Tables) → BuddyIn s → Lengths s t → takenOf (placesIn t) (t .index) .place < s .store .loans
     → Opens (s .store .loans) (takenOf (placesIn t) (t .index) .place) (t .loans) (t .index)
 opens s t fit lengths room =
-    record { some = fit .store .loans-some; most = fit .store .loans-most; loans-long = lengths .loans; index-long = lengths .index; place = room }
+    record { some = fit .store .loans-some; most = fit .store .loans-most; loans-long = lengths .loans; index-long = omega (arith, lengths .index); place = room }
 
 module _ (s : BuddySettings) (t : Tables) (fit : BuddyIn s) (lengths : Lengths s t) (sound : Sound s t) (size mask i : ℕ) (w : Takes s size mask t i) where
   abbrev lev : ℕ

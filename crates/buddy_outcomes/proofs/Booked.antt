@@ -262,11 +262,11 @@ module _ (s : BuddySettings) (t : Tables) (fit : BuddyIn s) (lengths : Lengths s
             levels-most = K .levels-most;
             loans-parted =
                 subst (λ (p : ℕ). BookParted (booked .loans) (booked .index) n p) (sym count-places)
-                (entered-parted (t .loans) (t .index) n (placesIn t) few (K .loans-parted) (givenIn t) new (lengths .loans) (lengths .index) place refl some);
+                (entered-parted (t .loans) (t .index) n (placesIn t) few (K .loans-parted) (givenIn t) new (lengths .loans) (omega (arith, lengths .index)) place refl some);
             chained =
                 subst (λ (p : ℕ). BookChained (booked .loans) (booked .index) n p (givenIn booked)) (sym count-places)
                 (subst (λ (g : ℕ). BookChained (booked .loans) (booked .index) n q g) (sym count-given)
-                (entered-chained (t .loans) (t .index) n (placesIn t) few (K .loans-parted) (givenIn t) new (lengths .loans) (lengths .index) place refl some (K .chained)));
+                (entered-chained (t .loans) (t .index) n (placesIn t) few (K .loans-parted) (givenIn t) new (lengths .loans) (omega (arith, lengths .index)) place refl some (K .chained)));
             chunks-parted = chunks-parted;
             memories-differ = K .memories-differ;
             good = X .1;

@@ -156,12 +156,12 @@ module _ (s : BuddySettings) (t : Tables) (fit : BuddyIn s) (lengths : Lengths s
   after-chained : BookChained loans′ index′ n (placesIn t) (givenIn t)
   after-chained =
       subst (λ (x : ℕ). BookChained (struck (wordTo (t .loans) (t .index) n (placesIn t) x) (t .index) (t .loans)) (struckIndex (wordTo (t .loans) (t .index) n (placesIn t) x) (t .index)) n (placesIn t) (givenIn t)) (says .serial)
-      (struck-chained (t .loans) (t .index) n (placesIn t) (givenIn t) (fit .store .loans-some) limit few (sound .chained) k (used .0) (used .1) (lengths .loans) (lengths .index))
+      (struck-chained (t .loans) (t .index) n (placesIn t) (givenIn t) (fit .store .loans-some) limit few (sound .chained) k (used .0) (used .1) (lengths .loans) (omega (arith, lengths .index)))
 
   after-parted : BookParted loans′ index′ n (placesIn t)
   after-parted =
       subst (λ (x : ℕ). BookParted (struck (wordTo (t .loans) (t .index) n (placesIn t) x) (t .index) (t .loans)) (struckIndex (wordTo (t .loans) (t .index) n (placesIn t) x) (t .index)) n (placesIn t)) (says .serial)
-      (struck-parted (t .loans) (t .index) n (placesIn t) (givenIn t) (fit .store .loans-some) limit few (sound .chained) k (used .0) (used .1) (lengths .loans) (lengths .index) (sound .loans-parted))
+      (struck-parted (t .loans) (t .index) n (placesIn t) (givenIn t) (fit .store .loans-some) limit few (sound .chained) k (used .0) (used .1) (lengths .loans) (omega (arith, lengths .index)) (sound .loans-parted))
 
   module _ (small : s .pairs ≤ 2 ^ 32) where
     -- ---- the climb in words and that of the store which the tables hold

@@ -173,7 +173,7 @@ fn damaged(old: u64, value: u64) -> u64 {
 
 // A copy of the row with that word damaged.
 pub fn spoilt_row(s: Settings, image: &[u64], p: Place) -> [u64; ROW_MOST]
-    ensures { λ r. ⌜ length r ≡ 1532 ⌝ }
+    ensures { λ r. ⌜ length r ≡ 1585 ⌝ }
 {
     let mut row = copy_of(s, image);
     let at = table_at(p.table);

@@ -4,6 +4,7 @@ ghost use mathlib.Core.Path.{_≡_};
 ghost use Prim.Native.Nat.{_≤_};
 ghost use lib.ListN.{length};
 ghost use Rattle.words.specs.Words.{atMost};
+use book::ENTRY_WORDS;
 use buddy_levels::HEADER_WORDS;
 use buddy_levels::OWN_WORDS;
 use buddy_levels::PAIR_WORDS;
@@ -13,6 +14,7 @@ use buddy_rules::PLACE_WORDS;
 use counter::Block;
 use counter::BuddySettings;
 use counter::LEVELS_MOST;
+use freelist_rules::COLUMNS;
 use freelist_rules::REGION_WORDS;
 use reel::Lengths;
 use reel::Limits;
@@ -31,10 +33,10 @@ pub const CHUNKS: usize = 4;
 
 pub const PAIRS: usize = 4;
 
-// the words of the longest table of both engines at these limits, the loans
-pub const ROOM: usize = LOAN_WORDS + LOAN_WORDS * LOANS;
+// the words of the longest table of both engines at these limits, a free list's index
+pub const ROOM: usize = ENTRY_WORDS + ENTRY_WORDS * LOANS + COLUMNS * (LOANS + 1);
 
-// of the engine's own table: a buddy store's tree, which is longer than the regions, and three words for each loan
+// of the engine's own table: a buddy store's tree, which is longer than the regions, and four words for each loan
 pub const OWN_ROOM: usize = OWN_WORDS
     + (HEADER_WORDS + PAIR_WORDS * PAIRS) * (LEVELS_MOST as usize)
     + PLACE_WORDS
@@ -72,11 +74,11 @@ fn pairs_of(settings: Settings) -> usize {
 
 // How many words of each table the store is lent.
 pub fn lent_words(settings: Settings) -> Lengths
-    ensures { λ r. ⌜ r .head ≤ 36 ⌝ }
-    ensures { λ r. ⌜ r .loans ≤ 36 ⌝ }
-    ensures { λ r. ⌜ r .chunks ≤ 36 ⌝ }
-    ensures { λ r. ⌜ r .index ≤ 36 ⌝ }
-    ensures { λ r. ⌜ r .own ≤ 1352 ⌝ }
+    ensures { λ r. ⌜ r .head ≤ 45 ⌝ }
+    ensures { λ r. ⌜ r .loans ≤ 45 ⌝ }
+    ensures { λ r. ⌜ r .chunks ≤ 45 ⌝ }
+    ensures { λ r. ⌜ r .index ≤ 45 ⌝ }
+    ensures { λ r. ⌜ r .own ≤ 1360 ⌝ }
 {
     let most = Limits {
         loans: LOANS,
@@ -154,7 +156,7 @@ pub fn is_tried(settings: Settings, image: &[u64], table: u64, word: usize) -> b
 // A table, or the list, taken out of the row, from a place on.
 pub fn table_from(image: &[u64], from: usize) -> [u64; ROOM]
     requires { ⌜ from ≤ atMost ⌝ }
-    ensures { λ r. ⌜ length r ≡ 36 ⌝ }
+    ensures { λ r. ⌜ length r ≡ 45 ⌝ }
 {
     let mut table = [0u64; ROOM];
     load(&mut table, image, from, ROOM);
@@ -175,7 +177,7 @@ fn load(table: &mut [u64], image: &[u64], from: usize, n: usize)
 
 // The engine's own table likewise, of which so many words are lent.
 pub fn own_from(image: &[u64], n: usize) -> [u64; OWN_ROOM]
-    ensures { λ r. ⌜ length r ≡ 1352 ⌝ }
+    ensures { λ r. ⌜ length r ≡ 1360 ⌝ }
 {
     let mut own = [0u64; OWN_ROOM];
     load(&mut own, image, OWN_AT, n);
@@ -184,7 +186,7 @@ pub fn own_from(image: &[u64], n: usize) -> [u64; OWN_ROOM]
 
 // A row that holds what the store takes up of this one.
 pub fn copy_of(settings: Settings, image: &[u64]) -> [u64; ROW_MOST]
-    ensures { λ r. ⌜ length r ≡ 1532 ⌝ }
+    ensures { λ r. ⌜ length r ≡ 1585 ⌝ }
 {
     let n = row_words(settings);
     let mut row = [0u64; ROW_MOST];

@@ -25,8 +25,9 @@ use Rattle.book_rules.specs.Chains.{linkOk, leftAfter, leftOf, chainsOk}
 use Rattle.freelist_rules.specs.Walk.{fillsOk, sizedOk, chunkOk, loanOk}
 use Rattle.freelist_rules.specs.Place.{fitsIn, findFrom, cutOff}
 use Rattle.freelist_rules.specs.Join.{insert}
+use Rattle.freelist_rules.specs.Threads.{threaded, unthreaded, cutGaps, insertGap, around, stayingGaps, followed, leadsOk, frontsOk}
 use Rattle.freelist_rules.specs.Release.{staying, leaving, remaining}
-use Rattle.freelist_rules.specs.Tables.{Tables, tables, lengthsOk, ordered, storeOf, soundOk, laidRegions, laidChunks, marks}
+use Rattle.freelist_rules.specs.Tables.{Tables, tables, lengthsOk, ordered, storeOf, soundOk, laidGaps, laidChunks, marks}
 use Rattle.freelist_outcomes.specs.Gate.{inTableOk, accountOk, gateOf}
 use Rattle.freelist_outcomes.specs.Ask.{sizeOk, roomOk, countOk, objectsOk, decideAsk, takenTables, orderedTables, carryAsk, planAsk, askOf}
 use Rattle.freelist_outcomes.specs.Deliver.{deliverGateOf, deliveredTables, carryFate, planDeliver, carryDeliver, deliverOf}
@@ -77,8 +78,8 @@ opening =
     (marks .head ∷ 4096 ∷ [])
     (marks .loans ∷ 0 ∷ 0 ∷ 0 ∷ 0 ∷ 0 ∷ 0 ∷ 0 ∷ 0 ∷ 0 ∷ 0 ∷ 0 ∷ 0 ∷ 0 ∷ 0 ∷ 0 ∷ [])
     (marks .chunks ∷ 0 ∷ 0 ∷ 0 ∷ 0 ∷ 0 ∷ 0 ∷ 0 ∷ 0 ∷ [])
-    (marks .index ∷ 0 ∷ 0 ∷ 0 ∷ 0 ∷ 0 ∷ 0 ∷ 0 ∷ 0 ∷ 0 ∷ 0 ∷ 0 ∷ [])
-    (marks .room ∷ 0 ∷ 0 ∷ 0 ∷ 0 ∷ 0 ∷ 0 ∷ 0 ∷ 0 ∷ 0 ∷ 0 ∷ 0 ∷ 0 ∷ 0 ∷ 0 ∷ 0 ∷ 0 ∷ 0 ∷ [])
+    (marks .index ∷ 0 ∷ 0 ∷ 0 ∷ 0 ∷ 0 ∷ 0 ∷ 0 ∷ 0 ∷ 0 ∷ 0 ∷ 0 ∷ 0 ∷ 0 ∷ 0 ∷ 0 ∷ 0 ∷ 0 ∷ 0 ∷ 0 ∷ [])
+    (marks .room ∷ 0 ∷ 0 ∷ 0 ∷ 0 ∷ 0 ∷ 0 ∷ 0 ∷ 0 ∷ 0 ∷ 0 ∷ 0 ∷ 0 ∷ 0 ∷ 0 ∷ 0 ∷ 0 ∷ 0 ∷ 0 ∷ 0 ∷ 0 ∷ 0 ∷ 0 ∷ 0 ∷ [])
 
 -- the 128 is on loan
 abbrev pub withOne : Tables
@@ -87,8 +88,8 @@ withOne =
     (marks .head ∷ 8192 ∷ [])
     (marks .loans ∷ 1 ∷ 1 ∷ 0 ∷ 1 ∷ 1 ∷ 3968 ∷ 128 ∷ 0 ∷ 0 ∷ 0 ∷ 0 ∷ 0 ∷ 0 ∷ 0 ∷ 0 ∷ [])
     (marks .chunks ∷ 1 ∷ 1 ∷ 1 ∷ 50 ∷ 4096 ∷ 0 ∷ 0 ∷ 0 ∷ [])
-    (marks .index ∷ 0 ∷ 0 ∷ 0 ∷ 0 ∷ 0 ∷ 1 ∷ 0 ∷ 0 ∷ 0 ∷ 0 ∷ 0 ∷ [])
-    (marks .room ∷ 1 ∷ 0 ∷ 1 ∷ 0 ∷ 3968 ∷ 0 ∷ 0 ∷ 0 ∷ 0 ∷ 0 ∷ 0 ∷ 0 ∷ 0 ∷ 0 ∷ 0 ∷ 0 ∷ 0 ∷ [])
+    (marks .index ∷ 0 ∷ 0 ∷ 0 ∷ 0 ∷ 0 ∷ 1 ∷ 0 ∷ 0 ∷ 0 ∷ 0 ∷ 0 ∷ 1 ∷ 0 ∷ 0 ∷ 0 ∷ 1 ∷ 0 ∷ 0 ∷ 0 ∷ [])
+    (marks .room ∷ 1 ∷ 0 ∷ 0 ∷ 1 ∷ 0 ∷ 3968 ∷ 0 ∷ 0 ∷ 0 ∷ 0 ∷ 0 ∷ 0 ∷ 0 ∷ 0 ∷ 0 ∷ 0 ∷ 0 ∷ 0 ∷ 0 ∷ 0 ∷ 0 ∷ 0 ∷ 0 ∷ [])
 
 -- and the 896; the next order raises nothing: 8,192 it is already
 abbrev pub withTwo : Tables
@@ -97,8 +98,8 @@ withTwo =
     (marks .head ∷ 8192 ∷ [])
     (marks .loans ∷ 2 ∷ 2 ∷ 0 ∷ 1 ∷ 1 ∷ 3968 ∷ 128 ∷ 2 ∷ 1 ∷ 3072 ∷ 896 ∷ 0 ∷ 0 ∷ 0 ∷ 0 ∷ [])
     (marks .chunks ∷ 1 ∷ 1 ∷ 1 ∷ 50 ∷ 4096 ∷ 0 ∷ 0 ∷ 0 ∷ [])
-    (marks .index ∷ 0 ∷ 0 ∷ 0 ∷ 0 ∷ 0 ∷ 1 ∷ 0 ∷ 0 ∷ 2 ∷ 0 ∷ 0 ∷ [])
-    (marks .room ∷ 1 ∷ 0 ∷ 1 ∷ 0 ∷ 3072 ∷ 0 ∷ 0 ∷ 0 ∷ 0 ∷ 0 ∷ 0 ∷ 0 ∷ 0 ∷ 0 ∷ 0 ∷ 0 ∷ 0 ∷ [])
+    (marks .index ∷ 0 ∷ 0 ∷ 0 ∷ 0 ∷ 0 ∷ 1 ∷ 0 ∷ 0 ∷ 2 ∷ 0 ∷ 0 ∷ 2 ∷ 0 ∷ 1 ∷ 0 ∷ 1 ∷ 2 ∷ 0 ∷ 0 ∷ [])
+    (marks .room ∷ 1 ∷ 0 ∷ 0 ∷ 1 ∷ 0 ∷ 3072 ∷ 0 ∷ 0 ∷ 0 ∷ 0 ∷ 0 ∷ 0 ∷ 0 ∷ 0 ∷ 0 ∷ 0 ∷ 0 ∷ 0 ∷ 0 ∷ 0 ∷ 0 ∷ 0 ∷ 0 ∷ [])
 
 -- and the 5,056, of chunk 2
 abbrev pub withThree : Tables
@@ -107,8 +108,8 @@ withThree =
     (marks .head ∷ 16384 ∷ [])
     (marks .loans ∷ 3 ∷ 3 ∷ 0 ∷ 1 ∷ 1 ∷ 3968 ∷ 128 ∷ 2 ∷ 1 ∷ 3072 ∷ 896 ∷ 3 ∷ 2 ∷ 3136 ∷ 5056 ∷ [])
     (marks .chunks ∷ 2 ∷ 2 ∷ 1 ∷ 50 ∷ 4096 ∷ 2 ∷ 51 ∷ 8192 ∷ [])
-    (marks .index ∷ 0 ∷ 0 ∷ 3 ∷ 0 ∷ 0 ∷ 1 ∷ 0 ∷ 0 ∷ 2 ∷ 0 ∷ 0 ∷ [])
-    (marks .room ∷ 2 ∷ 0 ∷ 1 ∷ 0 ∷ 3072 ∷ 2 ∷ 0 ∷ 3136 ∷ 0 ∷ 0 ∷ 0 ∷ 0 ∷ 0 ∷ 0 ∷ 0 ∷ 0 ∷ 0 ∷ [])
+    (marks .index ∷ 0 ∷ 0 ∷ 3 ∷ 0 ∷ 0 ∷ 1 ∷ 0 ∷ 0 ∷ 2 ∷ 0 ∷ 0 ∷ 2 ∷ 3 ∷ 1 ∷ 0 ∷ 3 ∷ 2 ∷ 0 ∷ 1 ∷ [])
+    (marks .room ∷ 2 ∷ 0 ∷ 0 ∷ 1 ∷ 0 ∷ 3072 ∷ 0 ∷ 2 ∷ 0 ∷ 3136 ∷ 1 ∷ 0 ∷ 0 ∷ 0 ∷ 0 ∷ 0 ∷ 0 ∷ 0 ∷ 0 ∷ 0 ∷ 0 ∷ 0 ∷ 0 ∷ [])
 
 -- the 128 is back
 abbrev pub lessOne : Tables
@@ -117,8 +118,8 @@ lessOne =
     (marks .head ∷ 16384 ∷ [])
     (marks .loans ∷ 3 ∷ 3 ∷ 0 ∷ 0 ∷ 1 ∷ 3968 ∷ 0 ∷ 2 ∷ 1 ∷ 3072 ∷ 896 ∷ 3 ∷ 2 ∷ 3136 ∷ 5056 ∷ [])
     (marks .chunks ∷ 2 ∷ 2 ∷ 1 ∷ 50 ∷ 4096 ∷ 2 ∷ 51 ∷ 8192 ∷ [])
-    (marks .index ∷ 0 ∷ 1 ∷ 3 ∷ 0 ∷ 0 ∷ 0 ∷ 0 ∷ 0 ∷ 2 ∷ 0 ∷ 0 ∷ [])
-    (marks .room ∷ 3 ∷ 0 ∷ 1 ∷ 0 ∷ 3072 ∷ 1 ∷ 3968 ∷ 4096 ∷ 2 ∷ 0 ∷ 3136 ∷ 0 ∷ 0 ∷ 0 ∷ 0 ∷ 0 ∷ 0 ∷ [])
+    (marks .index ∷ 0 ∷ 1 ∷ 3 ∷ 0 ∷ 0 ∷ 0 ∷ 0 ∷ 0 ∷ 2 ∷ 0 ∷ 0 ∷ 2 ∷ 3 ∷ 3 ∷ 0 ∷ 3 ∷ 2 ∷ 0 ∷ 2 ∷ [])
+    (marks .room ∷ 3 ∷ 0 ∷ 0 ∷ 1 ∷ 0 ∷ 3072 ∷ 0 ∷ 1 ∷ 3968 ∷ 4096 ∷ 2 ∷ 2 ∷ 0 ∷ 3136 ∷ 2 ∷ 0 ∷ 0 ∷ 0 ∷ 0 ∷ 0 ∷ 0 ∷ 0 ∷ 0 ∷ [])
 
 -- and the 896: chunk 1 is gone
 abbrev pub lessTwo : Tables
@@ -127,16 +128,16 @@ lessTwo =
     (marks .head ∷ 16384 ∷ [])
     (marks .loans ∷ 3 ∷ 3 ∷ 0 ∷ 0 ∷ 1 ∷ 3968 ∷ 0 ∷ 0 ∷ 1 ∷ 3072 ∷ 0 ∷ 3 ∷ 2 ∷ 3136 ∷ 5056 ∷ [])
     (marks .chunks ∷ 2 ∷ 1 ∷ 2 ∷ 51 ∷ 8192 ∷ 2 ∷ 51 ∷ 8192 ∷ [])
-    (marks .index ∷ 0 ∷ 2 ∷ 3 ∷ 0 ∷ 0 ∷ 0 ∷ 0 ∷ 1 ∷ 0 ∷ 0 ∷ 0 ∷ [])
-    (marks .room ∷ 1 ∷ 0 ∷ 2 ∷ 0 ∷ 3136 ∷ 2 ∷ 0 ∷ 3136 ∷ 2 ∷ 0 ∷ 3136 ∷ 0 ∷ 0 ∷ 0 ∷ 0 ∷ 0 ∷ 0 ∷ [])
+    (marks .index ∷ 0 ∷ 2 ∷ 3 ∷ 0 ∷ 0 ∷ 0 ∷ 0 ∷ 1 ∷ 0 ∷ 0 ∷ 0 ∷ 3 ∷ 3 ∷ 3 ∷ 0 ∷ 3 ∷ 2 ∷ 0 ∷ 0 ∷ [])
+    (marks .room ∷ 1 ∷ 0 ∷ 0 ∷ 2 ∷ 0 ∷ 3136 ∷ 0 ∷ 2 ∷ 0 ∷ 3136 ∷ 0 ∷ 2 ∷ 0 ∷ 3136 ∷ 2 ∷ 0 ∷ 0 ∷ 0 ∷ 0 ∷ 0 ∷ 0 ∷ 0 ∷ 0 ∷ [])
 
 -- ---- the day
 
 pub lending : List Day
 lending =
-    day (left (out (setUpOf list (tables (replicate 2 9) (replicate 16 9) (replicate 9 9) (replicate 12 9) (replicate 18 9)) .said)
+    day (left (out (setUpOf list (tables (replicate 2 9) (replicate 16 9) (replicate 9 9) (replicate 20 9) (replicate 24 9)) .said)
     (account 0 0 0 10 Nothing)
-    (setUpOf list (tables (replicate 2 9) (replicate 16 9) (replicate 9 9) (replicate 12 9) (replicate 18 9)) .tables)))
+    (setUpOf list (tables (replicate 2 9) (replicate 16 9) (replicate 9 9) (replicate 20 9) (replicate 24 9)) .tables)))
     (left (out Paper.ready (account 0 0 0 10 Nothing) opening))
     -- "Ask 100: order 4,096, block 3,968 size 128."
     ∷ day (left (askOf list (account 0 0 0 10 Nothing) 100 0 opening))
@@ -168,10 +169,10 @@ unfolding ranking lending servesOk patternOf wantedOf keyOf before placed order 
     agreesOk inserted vacancies leads partedOk deliveryOk loansOf chargedAccount releasedAccount coversOk
     blank signedOk counted entered enteredIndex seekIn wordTo struck struckIndex linkOk leftAfter leftOf chainsOk
     fillsOk sizedOk chunkOk loanOk fitsIn findFrom cutOff insert staying leaving remaining lengthsOk ordered storeOf
-    soundOk laidRegions laidChunks inTableOk accountOk gateOf sizeOk roomOk countOk objectsOk decideAsk takenTables orderedTables
+    soundOk laidGaps laidChunks inTableOk accountOk gateOf sizeOk roomOk countOk objectsOk decideAsk takenTables orderedTables
     carryAsk planAsk askOf deliverGateOf deliveredTables carryFate planDeliver carryDeliver deliverOf onLoanOk
     givenTables releasedTables releaseOf decideReturn planReturn carryReturn returnOf freshTables fitOk
-    planSetUp carrySetUp setUpOf
+    planSetUp carrySetUp setUpOf threaded unthreaded cutGaps insertGap around stayingGaps followed leadsOk frontsOk
 first-worked = refl
 
 map-append : (f : Day → Fact) (xs ys : List Day) → map f (xs ++ ys) ≡ map f xs ++ map f ys

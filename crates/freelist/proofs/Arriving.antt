@@ -146,12 +146,12 @@ deliver-ready s a o t (D.Come r b) e c = coming-ready s a o t b r e c
 
 -- ---- what is left
 
--- a chunk added does not look at loans and index
+-- a chunk added does not look at the loans
 module _ (s : FreeListSettings) (memory z : ℕ) (head loans chunks regions index : List ℕ) where
   abbrev before : Tables
   before = tables head loans chunks index regions
 
-  pub added-rest : (h′ c′ r′ : List ℕ) → tables h′ [] c′ [] r′ ≡ deliveredTables s memory z (tables head [] chunks [] regions)
+  pub added-rest : (h′ c′ r′ : List ℕ) → tables h′ [] c′ index r′ ≡ deliveredTables s memory z (tables head [] chunks index regions)
       → tables h′ loans c′ index r′ ≡ deliveredTables s memory z before
   unfolding deliveredTables storeOf
   added-rest h′ c′ r′ e = ap (λ (t : Tables). tables (t .head) loans (t .chunks) index (t .room)) e
@@ -171,13 +171,13 @@ module _ (s : FreeListSettings) (share : Share) (k : KeptOrder) (memory : ℕ) (
 
   -- of the tables that a chunk added leaves
   pub lends-now : (i x : ℕ) (h₁ c₁ r₁ : List ℕ) → i ≡ getD regions regionCountAt 0 → x ≡ downTo (k .order .size - b .size) (b .mask)
-      → tables h₁ [] c₁ [] r₁ ≡ deliveredTables s memory (k .order .size) (tables head [] chunks [] regions)
-      → Lends s i x (b .loan .place) loans index r₁
+      → tables h₁ [] c₁ index r₁ ≡ deliveredTables s memory (k .order .size) (tables head [] chunks index regions)
+      → Lends s i x (b .loan .place) loans c₁ index r₁
   lends-now i x h₁ c₁ r₁ e d f =
       let g = added-rest s memory (k .order .size) head loans chunks regions index h₁ c₁ r₁ f in
-      subst (λ (t : Tables). Lends s i x (b .loan .place) loans index (t .room)) (sym g)
-      (subst (λ (j : ℕ). Lends s j x (b .loan .place) loans index (added .room)) (sym (last-is i e))
-      (subst (λ (y : ℕ). Lends s last y (b .loan .place) loans index (added .room)) (sym d) (keeps .lends)))
+      subst (λ (t : Tables). Lends s i x (b .loan .place) loans (t .chunks) index (t .room)) (sym g)
+      (subst (λ (j : ℕ). Lends s j x (b .loan .place) loans (added .chunks) index (added .room)) (sym (last-is i e))
+      (subst (λ (y : ℕ). Lends s last y (b .loan .place) loans (added .chunks) index (added .room)) (sym d) (keeps .lends)))
 
   -- the block starts where the kept ask's does
   starts-now : (x : ℕ) → x ≡ downTo (k .order .size - b .size) (b .mask) → x ≡ blockAt s (k .ask .size) (k .ask .mask) added last .start
@@ -192,9 +192,9 @@ module _ (s : FreeListSettings) (share : Share) (k : KeptOrder) (memory : ℕ) (
 
   pub kept-done : (i x : ℕ) (h₁ c₁ r₁ l₂ r₂ i₂ : List ℕ) (after paid : Share) (order : OpenOrder) (l : Loan) (said : Said) → i ≡ getD regions regionCountAt 0
       → x ≡ downTo (k .order .size - b .size) (b .mask) → paid ≡ chargedShare share (k .order .size)
-      → tables h₁ [] c₁ [] r₁ ≡ deliveredTables s memory (k .order .size) (tables head [] chunks [] regions)
-      → l ≡ lentFrom s x (tables [] loans [] [] r₁) i
-      → tables [] l₂ [] i₂ r₂ ≡ lentTables s x (b .loan) (tables [] loans [] index r₁) i
+      → tables h₁ [] c₁ index r₁ ≡ deliveredTables s memory (k .order .size) (tables head [] chunks index regions)
+      → l ≡ lentFrom s x (tables [] loans c₁ index r₁) i
+      → tables [] l₂ c₁ i₂ r₂ ≡ lentTables s x (b .loan) (tables [] loans c₁ index r₁) i
       → after ≡ paid → order ≡ Nothing → said ≡ blockSaid l → (left : OpenOrder)
       → out said (holding (s .store) after order) (tables h₁ l₂ c₁ i₂ r₂) ≡ carryFate s (holding (s .store) share left) k start (kept memory)
   unfolding carryFate

@@ -28,7 +28,7 @@ use Rattle.freelist.proofs.Lending.{lends-ready}
 -- ---- what a passed gate and the plan give
 
 pub ask-ready : (s : FreeListSettings) (a : Account) (size mask : ℕ) (t : Tables) (p : Decided.Plan) → planOf p ≡ planAsk s a size mask t → Planned s size mask t p
-    → AskReady s (tables (t .head) (t .loans) [] (t .index) (t .room)) p
+    → AskReady s t p
 ask-ready s a size mask t (Decides.Refuse r) e c = tt
 ask-ready s a size mask t (Decides.Buy b) e c = tt
 ask-ready s a size mask t (Decides.Take k) e c =
@@ -37,14 +37,14 @@ ask-ready s a size mask t (Decides.Take k) e c =
 
 -- ---- what is left
 
--- a block lent does not look at head and chunks
+-- a block lent does not look at the head
 module _ (s : FreeListSettings) (start i : ℕ) (k : Taken) (head loans chunks regions index : List ℕ) where
-  pub lent-rest : (l′ r′ i′ : List ℕ) → tables [] l′ [] i′ r′ ≡ lentTables s start k (tables [] loans [] index regions) i
+  pub lent-rest : (l′ r′ i′ : List ℕ) → tables [] l′ chunks i′ r′ ≡ lentTables s start k (tables [] loans chunks index regions) i
       → tables head l′ chunks i′ r′ ≡ lentTables s start k (tables head loans chunks index regions) i
   unfolding lentTables storeOf
   lent-rest l′ r′ i′ e = ap (λ (t : Tables). tables head (t .loans) chunks (t .index) (t .room)) e
 
-  pub loan-rest : (l : Loan) → l ≡ lentFrom s start (tables [] loans [] [] regions) i → l ≡ lentFrom s start (tables head loans chunks index regions) i
+  pub loan-rest : (l : Loan) → l ≡ lentFrom s start (tables [] loans chunks index regions) i → l ≡ lentFrom s start (tables head loans chunks index regions) i
   unfolding storeOf
   loan-rest l e = e
 
@@ -59,7 +59,7 @@ module _ (s : FreeListSettings) (size mask : ℕ) (head loans chunks regions ind
 
   pub ask-taken : (i start : ℕ) (k : Taken) (l : Loan) (w : Said) (l′ r′ i′ : List ℕ) → p ≡ take i
       → start ≡ blockAt s size mask now i .start → k ≡ takenOf (placesIn now) index
-      → l ≡ lentFrom s start (tables [] loans [] [] regions) i → tables [] l′ [] i′ r′ ≡ lentTables s start k (tables [] loans [] index regions) i
+      → l ≡ lentFrom s start (tables [] loans chunks index regions) i → tables [] l′ chunks i′ r′ ≡ lentTables s start k (tables [] loans chunks index regions) i
       → w ≡ blockSaid l → out w (askLeft a size mask w) (tables head l′ chunks i′ r′) ≡ carryAsk s a size mask now p
   unfolding carryAsk
   ask-taken i start k l w l′ r′ i′ e x y m t g =

@@ -4,6 +4,7 @@ pub mod Asking
 pub mod Backing
 pub mod Fresh
 pub mod Lending
+pub mod Links
 pub mod Planned
 pub mod Releasing
 pub mod Returning

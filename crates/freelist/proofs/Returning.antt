@@ -26,20 +26,18 @@ use Rattle.store_rules.specs.Shares.{releasedShare}
 use Rattle.store_rules.proofs.Holders.{holding, orderBy, holder}
 use Rattle.store_rules.proofs.Shares.{held-released}
 use Rattle.freelist_rules.specs.Release.{memoriesOf, bytesOf}
-use Rattle.book_rules.specs.Book.{ledTo}
-use Rattle.book_rules.specs.Ready.{Strikes}
 use Rattle.freelist_rules.specs.Pieces.{total}
 use Rattle.freelist_rules.specs.Tables.{Tables, tables, chunksIn, storeOf}
 use Rattle.store_rules.specs.declared.Chunk.{Chunk}
 use Rattle.store_rules.specs.declared.Share.{Share}
 use Rattle.freelist_outcomes.specs.Gate.{accountOk, gateOf}
 use Rattle.freelist_outcomes.specs.Return.{Plan, deny, back, wordFor, onLoanOk, givenTables, decideReturn, planReturn, goneFrom, releasedTables, releaseOf, carryReturn, returnOf, planCleanUp, carryCleanUp, cleanUpOf}
-use Rattle.freelist_place.specs.Ready.{Backs}
 use Rattle.freelist.proofs.Backing.{backs-ready, strikes-ready}
-use Rattle.freelist.proofs.Releasing.{cleaned-ready, cleaned-bounds, cleaned-objects, returned-ready, returned-bounds, returned-objects}
+use Rattle.freelist.proofs.Releasing.{frees-ready, objects-ready}
+use Rattle.freelist_rules.proofs.Fits.{lengths-are, are-lengths}
+use Rattle.freelist_outcomes.proofs.Given.{given-lengths, given-sound}
 use Rattle.freelist_outcomes.proofs.Passing.{Passed, gate-passed}
-use Rattle.freelist_release.specs.Frees.{Frees}
-use Rattle.freelist.specs.Ready.{Releases, joined, TakesBack, ReturnReady, CleanUpReady}
+use Rattle.freelist.specs.Ready.{Releases, TakesBack, ReturnReady, CleanUpReady}
 
 -- ---- a plan that carries
 
@@ -88,20 +86,12 @@ module _ (s : FreeListSettings) (share : Share) (t : Tables) (list : List ℕ) (
   held = holder (s .store) share
 
   cleaned-releases : pass ≡ gateOf s held t (listOk (s .store) list) → Releases s (share .objects) false t list
-  unfolding storeOf accountOk holding
+  unfolding accountOk holding
   cleaned-releases e =
-      let p = gate-passed s held t (listOk (s .store) list) e in
-      let bounds = cleaned-bounds s t (p .settings) (p .sound) (p .lengths) in
-      let frees : Frees s (t .chunks) (t .room) list =
-      record {
-        settings = p .settings;
-        ready = cleaned-ready s t (p .settings) (p .sound);
-        chunks-fit = bounds .0;
-        regions-fit = bounds .1;
-        few = bounds .2;
-        long = long-enough s t list (p .listed) (p .sound .chunks-fit);
-      } in
-      (frees, cleaned-objects s t (p .settings) (p .sound) (heapAt held (s .store .heap)) (share .objects) (total (λ (c : Chunk). c .size) (storeOf s t .chunks)) false few (p .covered))
+      let p = gate-passed s held t (listOk (s .store) list) e in (
+        frees-ready s t (p .settings) (p .sound) (p .lengths) list (long-enough s t list (p .listed) (p .sound .chunks-fit)),
+        objects-ready s t (p .settings) (p .sound) (heapAt held (s .store .heap)) (share .objects) (total (λ (c : Chunk). c .size) (storeOf s t .chunks)) false (p .covered),
+      )
 
   pub clean-up-ready : (p : Gate) → verdictOf p ≡ planCleanUp s held t (listOk (s .store) list) → CleanUpReady s (share .objects) t list p
   clean-up-ready (G.Shut r) e = tt
@@ -114,31 +104,25 @@ module _ (s : FreeListSettings) (share : Share) (t : Tables) (list : List ℕ) (
     abbrev lent : onLoanOk s b t ≡ true
     lent = on-loan s held b t (listOk (s .store) list) w e
 
-    returned-backs : Backs s b (t .room)
-    returned-backs = backs-ready s t (gate .settings) (gate .sound) b lent (gate .lengths)
-
-    returned-strikes : Strikes w (ledTo (t .index) w) (t .loans) (t .index)
-    returned-strikes =
-        subst (λ (v : ℕ). Strikes v (ledTo (t .index) v) (t .loans) (t .index)) (sym (word-is s held b t (listOk (s .store) list) w e))
-        (strikes-ready s t (gate .settings) (gate .sound) b lent (gate .lengths))
-
-    returned-releases : Releases s (share .objects) true (tables (t .head) (t .loans) (t .chunks) (t .index) (joined s b (t .room))) list
-    unfolding givenTables storeOf accountOk holding
+    -- the tables that the block leaves are sound too
+    returned-releases : Releases s (share .objects) true (givenTables s b (wordFor s b t) t) list
+    unfolding givenTables accountOk holding
     returned-releases =
-        let bounds = returned-bounds s t (gate .settings) (gate .sound) b lent (gate .lengths) in
-        let frees : Frees s (t .chunks) (joined s b (t .room)) list =
-        record {
-          settings = gate .settings;
-          ready = returned-ready s t (gate .settings) (gate .sound) b lent (gate .lengths);
-          chunks-fit = bounds .0;
-          regions-fit = bounds .1;
-          few = bounds .2;
-          long = long-enough s t list (gate .listed) (gate .sound .chunks-fit);
-        } in
-        (frees, returned-objects s t (gate .settings) (gate .sound) b lent (gate .lengths) (heapAt held (s .store .heap)) (share .objects) (total (λ (c : Chunk). c .size) (storeOf s t .chunks)) true few (gate .covered))
+        let after = givenTables s b (wordFor s b t) t in
+        let long = lengths-are s t (gate .lengths) in
+        let sound = given-sound s t (gate .settings) long (gate .sound) b lent in (
+          frees-ready s after (gate .settings) sound (are-lengths s after (given-lengths s t (gate .settings) long (gate .sound) b lent)) list (long-enough s t list (gate .listed) (gate .sound .chunks-fit)),
+          objects-ready s after (gate .settings) sound (heapAt held (s .store .heap)) (share .objects) (total (λ (c : Chunk). c .size) (storeOf s t .chunks)) true (gate .covered),
+        )
 
     takes-back : TakesBack s (share .objects) b w t list
-    takes-back = record { backs = returned-backs; strikes = returned-strikes; releases = returned-releases }
+    takes-back =
+        subst (λ (v : ℕ). TakesBack s (share .objects) b v t list) (sym (word-is s held b t (listOk (s .store) list) w e))
+        record {
+          backs = backs-ready s t (gate .settings) (gate .sound) b lent (gate .lengths);
+          strikes = strikes-ready s t (gate .settings) (gate .sound) b lent (gate .lengths);
+          releases = returned-releases;
+        }
 
   pub return-ready : (b : Block) (p : Back) → backOf p ≡ planReturn s held b t (listOk (s .store) list) → ReturnReady s (share .objects) b t list p
   return-ready b (B.Refuse r) e = tt
@@ -175,28 +159,22 @@ module _ (s : FreeListSettings) (a : Account) (spare : Bool) (said : Paper.Said)
   unfolding releaseOf releasedTables storeOf
   beside head loans index = ap (λ (y : Listed Tables). listed (y .said) (y .account) (tables head loans (y .tables .chunks) index (y .tables .room)) (y .list)) e
 
-module _ (s : FreeListSettings) (a : Account) (b : Block) (at : ℕ) (loans regions index l′ r′ i′ : List ℕ)
-    (e : tables [] l′ [] i′ r′ ≡ givenTables s b at (tables [] loans [] index regions)) where
-  pub joined-is : r′ ≡ joined s b regions
-  unfolding givenTables storeOf
-  joined-is = ap (λ (x : Tables). x .room) e
-
-  -- so what is asked of the joined regions holds of them as they are written
-  pub releases-now : (objects : ℕ) (chunks list : List ℕ) → Releases s objects true (tables [] loans chunks index (joined s b regions)) list → Releases s objects true (tables [] [] chunks [] r′) list
+module _ (s : FreeListSettings) (a : Account) (b : Block) (at : ℕ) (loans chunks regions index l′ r′ i′ : List ℕ)
+    (e : tables [] l′ chunks i′ r′ ≡ givenTables s b at (tables [] loans chunks index regions)) where
+  -- what a release asks of the tables that the block leaves holds of them as they are written
+  pub releases-now : (objects : ℕ) (list : List ℕ) → Releases s objects true (givenTables s b at (tables [] loans chunks index regions)) list → Releases s objects true (tables [] [] chunks [] r′) list
   unfolding storeOf
-  releases-now objects chunks list r = subst (λ (x : List ℕ). Releases s objects true (tables [] [] chunks [] x) list) (sym joined-is) r
+  releases-now objects list r = subst (λ (x : Tables). Releases s objects true (tables [] [] (x .chunks) [] (x .room)) list) (sym e) r
 
-  pub taken-in : (chunks list c″ r″ m : List ℕ) (said : Paper.Said) (account : Account)
+  pub taken-in : (list c″ r″ m : List ℕ) (said : Paper.Said) (account : Account)
       → listed said account (tables [] [] c″ [] r″) m ≡ releaseOf s a true (tables [] [] chunks [] r′) list
       → listed said account (tables [] l′ c″ i′ r″) m ≡ releaseOf s a true (givenTables s b at (tables [] loans chunks index regions)) list
-  unfolding givenTables storeOf
-  taken-in chunks list c″ r″ m said account p =
-      beside s a true said account chunks r′ list c″ r″ m p [] l′ i′
-      ∙ ap (λ (t : Tables). releaseOf s a true (tables [] (t .loans) chunks (t .index) (t .room)) list) e
+  taken-in list c″ r″ m said account p =
+      beside s a true said account chunks r′ list c″ r″ m p [] l′ i′ ∙ ap (λ (t : Tables). releaseOf s a true t list) e
 
 -- nor does a return look at the head, which it leaves
 pub takes-few : (s : FreeListSettings) (objects : ℕ) (b : Block) (w : ℕ) (t : Tables) (list : List ℕ) → TakesBack s objects b w t list → TakesBack s objects b w (tables [] (t .loans) (t .chunks) (t .index) (t .room)) list
-unfolding storeOf
+unfolding givenTables storeOf
 takes-few s objects b w t list k = record { backs = k .backs; strikes = k .strikes; releases = k .releases }
 
 pub with-head : (s : FreeListSettings) (a : Account) (b : Block) (at : ℕ) (said : Paper.Said) (account : Account) (head loans chunks index regions list l′ c′ i′ r′ m : List ℕ)

@@ -15,10 +15,9 @@ use Rattle.counter.specs.declared.settings.FreeListSettings.{FreeListSettings}
 use Rattle.book_rules.specs.Ready.{Strikes}
 use Rattle.freelist_rules.specs.Records.{region}
 use Rattle.freelist_rules.specs.Place.{cut}
-use Rattle.freelist_rules.specs.Join.{insert}
-use Rattle.freelist_rules.specs.Tables.{Tables, tables, Lengths, storeOf, laidRegions, regionsOf}
+use Rattle.freelist_rules.specs.Tables.{Tables, Lengths, storeOf}
 use Rattle.freelist_outcomes.specs.Deliver.{deliveredTables}
-use Rattle.freelist_outcomes.specs.Return.{goneFrom}
+use Rattle.freelist_outcomes.specs.Return.{givenTables, goneFrom}
 use Rattle.freelist_decide.specs.Plans.{Planned}
 use Rattle.freelist_decide.specs.declared.deciding.Buying.{Buying}
 use Rattle.freelist_decide.specs.declared.deciding.Plan.{Plan}
@@ -43,7 +42,7 @@ SetUpReady s t Gate.Go = FreeListIn s × Lengths s t
 
 abbrev pub AskReady : FreeListSettings → Tables → Plan → Type 0
 AskReady s t (Refuse r) = Unit {0}
-AskReady s t (Take k) = Lends s (k .region) (k .start) (k .loan .place) (t .loans) (t .index) (t .room)
+AskReady s t (Take k) = Lends s (k .region) (k .start) (k .loan .place) (t .loans) (t .chunks) (t .index) (t .room)
 AskReady s t (Buy b) = Unit {0}
 
 -- ---- a delivery
@@ -64,7 +63,7 @@ pub record KeepReady (s : FreeListSettings) (k : KeptOrder) (memory : ℕ) (t : 
   pub aligned : Ones 63 (b .mask)
   pub small : b .size ≤ k .order .size
   pub adds : Adds s (t .chunks) (t .room)
-  pub lends : Lends s (length (storeOf s t .regions)) (cut (b .mask) (b .size) (region 0 0 (k .order .size))) (b .loan .place) (t .loans) (t .index) (deliveredTables s memory (k .order .size) t .room)
+  pub lends : Lends s (length (storeOf s t .regions)) (cut (b .mask) (b .size) (region 0 0 (k .order .size))) (b .loan .place) (t .loans) (deliveredTables s memory (k .order .size) t .chunks) (t .index) (deliveredTables s memory (k .order .size) t .room)
 
 abbrev pub ComingReady : FreeListSettings → Tables → Buying → Coming → Type 0
 ComingReady s t b (Coming.Refuse r) = Unit {0}
@@ -81,15 +80,11 @@ DeliverReady s t (Delivery.Come c b) = ComingReady s t b c
 abbrev pub Releases : FreeListSettings → ℕ → Bool → Tables → List ℕ → Type 0
 Releases s objects spare t list = Frees s (t .chunks) (t .room) list × (objects + length (goneFrom s spare t) ≤ objectsMost)
 
--- the table of regions with a block's bytes among them
-abbrev pub joined : FreeListSettings → Block → List ℕ → List ℕ
-joined s b regions = laidRegions (insert (region (b .chunk) (b .offset) (b .offset + b .size)) (regionsOf regions)) regions
-
 -- the loan that word w leads to can be struck out, its block go back, and then wholly free chunks go
 pub record TakesBack (s : FreeListSettings) (objects : ℕ) (b : Block) (w : ℕ) (t : Tables) (list : List ℕ) : Type 0 where
-  pub backs : Backs s b (t .room)
+  pub backs : Backs s b w (t .chunks) (t .index) (t .room)
   pub strikes : Strikes w (ledTo (t .index) w) (t .loans) (t .index)
-  pub releases : Releases s objects true (tables (t .head) (t .loans) (t .chunks) (t .index) (joined s b (t .room))) list
+  pub releases : Releases s objects true (givenTables s b w t) list
 
 abbrev pub ReturnReady : FreeListSettings → ℕ → Block → Tables → List ℕ → Back → Type 0
 ReturnReady s objects b t list (Back.Refuse r) = Unit {0}

@@ -32,7 +32,7 @@ pub fn ask(
     ensures { λ r. ⌜ out (askSaid r) (askLeft (holder (s .store) share) size mask (askSaid r)) (tables (now (head .exit)) (now (loans .exit)) (now (chunks .entry)) (now (index .exit)) (now (regions .exit))) ≡ askOf s (holder (s .store) share) size mask (tables (now (head .entry)) (now (loans .entry)) (now (chunks .entry)) (now (index .entry)) (now (regions .entry))) ⌝ }
 {
     let plan = crate::plans::plan_ask(s, share, size, mask, head, loans, chunks, index, regions);
-    crate::carries::carry_ask(s, plan, head, loans, index, regions)
+    crate::carries::carry_ask(s, plan, head, loans, chunks, index, regions)
 }
 
 // A delivery: the chunk is added and lent from, or the order is lost.

@@ -1,7 +1,7 @@
 // Plans carried out: the tables written, and what is answered.
 ghost use mathlib.Core.Path.{_≡_};
 ghost use mathlib.Core.Bool.{true};
-ghost use mathlib.Core.List.{List, []};
+ghost use mathlib.Core.List.{[]};
 ghost use Prim.Native.Nat.{ℕ};
 ghost use Rattle.counter.specs.Gate.{verdictOf};
 ghost use Rattle.counter.specs.Paper.{setUpSaid, askSaid, deliverSaid, releaseSaid};
@@ -63,23 +63,24 @@ pub fn carry_set_up(
     }
 }
 
-// Whatever the account, the chunks, and the size and mask that this is the plan of.
+// Whatever the account, and the size and mask that this is the plan of.
 pub fn carry_ask(
     s: FreeListSettings,
     plan: Plan,
     head: &mut [u64],
     loans: &mut [u64],
+    chunks: &[u64],
     index: &mut [u64],
     regions: &mut [u64],
 ) -> AskAnswer
-    requires { ⌜ AskReady s (tables (now head) (now loans) [] (now index) (now regions)) plan ⌝ }
-    ensures { λ r. ⌜ ((a : Account) (size mask : ℕ) (chunks : List ℕ) → Planned s size mask (tables (now (head .entry)) (now (loans .entry)) chunks (now (index .entry)) (now (regions .entry))) plan → out (askSaid r) (askLeft a size mask (askSaid r)) (tables (now (head .exit)) (now (loans .exit)) chunks (now (index .exit)) (now (regions .exit))) ≡ carryAsk s a size mask (tables (now (head .entry)) (now (loans .entry)) chunks (now (index .entry)) (now (regions .entry))) (planOf plan)) ⌝ }
+    requires { ⌜ AskReady s (tables (now head) (now loans) (now chunks) (now index) (now regions)) plan ⌝ }
+    ensures { λ r. ⌜ ((a : Account) (size mask : ℕ) → Planned s size mask (tables (now (head .entry)) (now (loans .entry)) (now (chunks .entry)) (now (index .entry)) (now (regions .entry))) plan → out (askSaid r) (askLeft a size mask (askSaid r)) (tables (now (head .exit)) (now (loans .exit)) (now (chunks .entry)) (now (index .exit)) (now (regions .exit))) ≡ carryAsk s a size mask (tables (now (head .entry)) (now (loans .entry)) (now (chunks .entry)) (now (index .entry)) (now (regions .entry))) (planOf plan)) ⌝ }
 {
     match plan {
         Plan::Refuse(refusal) => store::refuse_ask(refusal),
         Plan::Take(k) => {
             let loan = k.loan;
-            let l = freelist_place::lend(s, k.region, k.start, loan, loans, index, regions);
+            let l = freelist_place::lend(s, k.region, k.start, loan, loans, chunks, index, regions);
             store::answer_block(l)
         }
         Plan::Buy(b) => {
@@ -111,8 +112,8 @@ fn keep_chunk(
     let i = freelist_regions::region_count(regions);
     let start = rounding::lower_to_unit(order.size - b.size, b.mask);
     let charged = store_accounts::charged(share, order.size);
-    freelist_place::add_chunk(s, memory, order.size, head, chunks, regions);
-    let l = freelist_place::lend(s, i, start, loan, loans, index, regions);
+    freelist_place::add_chunk(s, memory, order.size, head, chunks, index, regions);
+    let l = freelist_place::lend(s, i, start, loan, loans, chunks, index, regions);
     store::deliver_block(charged, l)
 }
 
@@ -221,7 +222,7 @@ fn take_in(
     requires { ⌜ TakesBack s (share .objects) b at (tables [] (now loans) (now chunks) (now index) (now regions)) (now list) ⌝ }
     ensures { λ r. ⌜ listed (releaseSaid (r .answer)) (holder (s .store) (r .share)) (tables [] (now (loans .exit)) (now (chunks .exit)) (now (index .exit)) (now (regions .exit))) (now (list .exit)) ≡ releaseOf s (holder (s .store) share) true (givenTables s b at (tables [] (now (loans .entry)) (now (chunks .entry)) (now (index .entry)) (now (regions .entry)))) (now (list .entry)) ⌝ }
 {
-    freelist_place::take_back(s, b, at, loans, index, regions);
+    freelist_place::take_back(s, b, at, loans, chunks, index, regions);
     let_go(s, share, true, chunks, regions, list)
 }
 

@@ -17,9 +17,10 @@ use Rattle.slab.specs.declared.Taken as Next
 use Rattle.store_rules.specs.Orders.{Plan, deny, take, buy}
 use Rattle.store_rules.specs.Loans.{givenAt, placesAt}
 use Rattle.book_rules.specs.Book.{takenOf}
-use Rattle.freelist_rules.specs.Records.{regionRow}
+use Rattle.freelist_rules.specs.Records.{gapRow}
 use Rattle.freelist_rules.specs.Place.{Found, nowhere, at, find, cut, sizeFor, maskFor}
 use Rattle.freelist_rules.specs.Steps.{noRegion}
+use Rattle.freelist_rules.specs.Threads.{freeOf}
 use Rattle.freelist_rules.specs.Tables.{Tables, tables, madeAt, chunkSizeAt, chunksAt, regionCountAt, storeOf}
 use Rattle.freelist_outcomes.specs.Ask.{sizeOk, roomOk, countOk, objectsOk, lateRow, planned, foundFor, decideAsk, blockAt}
 use Rattle.words.specs.Rows.{rows}
@@ -114,9 +115,9 @@ module _ (s : FreeListSettings) (h : Heap) (objects size mask : ℕ) (head loans
   abbrev all : Tables
   all = tables head loans chunks index regions
 
-  pub found-is : (f : Found) (m n k : ℕ) → f ≡ find m n (rows regionRow k regions) → m ≡ maskFor s mask → n ≡ sizeFor s size → k ≡ getD regions regionCountAt 0 → f ≡ foundFor s size mask all
+  pub found-is : (f : Found) (m n k : ℕ) → f ≡ find m n (freeOf (rows gapRow k regions)) → m ≡ maskFor s mask → n ≡ sizeFor s size → k ≡ getD regions regionCountAt 0 → f ≡ foundFor s size mask all
   unfolding storeOf
-  found-is f m n k e a b c = e ∙ (λ j. find (a j) (b j) (rows regionRow (c j) regions))
+  found-is f m n k e a b c = e ∙ (λ j. find (a j) (b j) (freeOf (rows gapRow (c j) regions)))
 
   pub decide-mask : alignmentOk mask ≡ false → deny 5 ≡ decideAsk s h objects size mask all
   unfolding decideAsk
@@ -148,12 +149,12 @@ module _ (s : FreeListSettings) (h : Heap) (objects size mask : ℕ) (head loans
 
   -- ---- what the plan carries
 
-  pub start-is : (i x m n k : ℕ) (f : Regions.Found) → f ≡ At i x → Starts m n (rows regionRow k regions) f → m ≡ maskFor s mask → n ≡ sizeFor s size → k ≡ getD regions regionCountAt 0
+  pub start-is : (i x m n k : ℕ) (f : Regions.Found) → f ≡ At i x → Starts m n (freeOf (rows gapRow k regions)) f → m ≡ maskFor s mask → n ≡ sizeFor s size → k ≡ getD regions regionCountAt 0
       → x ≡ blockAt s size mask all i .start
   unfolding storeOf
   start-is i x m n k f e g a b c =
-      let h : x ≡ cut m n (getD (rows regionRow k regions) i noRegion) = subst (λ (y : Regions.Found). Starts m n (rows regionRow k regions) y) e g in
-      h ∙ (λ j. cut (a j) (b j) (getD (rows regionRow (c j) regions) i noRegion))
+      let h : x ≡ cut m n (getD (freeOf (rows gapRow k regions)) i noRegion) = subst (λ (y : Regions.Found). Starts m n (freeOf (rows gapRow k regions)) y) e g in
+      h ∙ (λ j. cut (a j) (b j) (getD (freeOf (rows gapRow (c j) regions)) i noRegion))
 
   pub carried-is : (p : Code.Plan) (m n : ℕ) → m ≡ maskFor s mask → n ≡ sizeFor s size → ((from : ℕ → ℕ) → Carries from n m (takenOf (getD loans placesAt 0) index) p) → Planned s size mask all p
   carried-is p m n a b g =

@@ -20,7 +20,7 @@ use Rattle.counter.proofs.Tables.{free-list-yes}
 use Rattle.store_rules.specs.Loans.{loanWords}
 use Rattle.store_rules.proofs.Holders.{holding, orderBy, holder}
 use Rattle.store_rules.specs.Tests.{noOrder, coversOk}
-use Rattle.book_rules.specs.Book.{indexWords}
+use Rattle.freelist_rules.specs.Threads.{threadWords}
 use Rattle.freelist_rules.specs.Records.{chunkWords, chunkRow, chunkBytesAt}
 use Rattle.freelist_rules.specs.Pieces.{total}
 use Rattle.freelist_rules.specs.Tables.{Tables, headWords, chunksAt, chunksIn, roomWords, lengthsOk, storeOf, soundOk}
@@ -34,7 +34,7 @@ use Rattle.freelist_outcomes.proofs.Passing.{lent-in}
 use Rattle.freelist_gate.specs.Gates.{storeGate}
 
 module _ (s : FreeListSettings) (t : Tables) where
-  pub lengths-is : ((((eqb (length (t .head)) headWords && eqb (length (t .loans)) (loanWords + loanWords * s .store .loans)) && eqb (length (t .chunks)) (chunkWords + chunkWords * s .store .chunks)) && eqb (length (t .index)) (indexWords (s .store .loans))) && eqb (length (t .room)) (roomWords s)) ≡ lengthsOk s t
+  pub lengths-is : ((((eqb (length (t .head)) headWords && eqb (length (t .loans)) (loanWords + loanWords * s .store .loans)) && eqb (length (t .chunks)) (chunkWords + chunkWords * s .store .chunks)) && eqb (length (t .index)) (threadWords (s .store .loans))) && eqb (length (t .room)) (roomWords s)) ≡ lengthsOk s t
   unfolding lengthsOk
   lengths-is = refl
 

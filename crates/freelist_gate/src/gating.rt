@@ -23,6 +23,7 @@ use counter::Refusal;
 use freelist_rules::CHUNK_BYTES_AT;
 use freelist_rules::CHUNK_WORDS;
 use freelist_rules::CHUNKS_AT;
+use freelist_rules::COLUMNS;
 use freelist_rules::HEAD_WORDS;
 use freelist_rules::REGION_WORDS;
 use store_rules::LOAN_WORDS;
@@ -43,7 +44,7 @@ pub fn lengths_fit(
     (head.len() == HEAD_WORDS)
         & (loans.len() == LOAN_WORDS + LOAN_WORDS * store.loans)
         & (chunks.len() == CHUNK_WORDS + CHUNK_WORDS * store.chunks)
-        & (index.len() == ENTRY_WORDS + ENTRY_WORDS * store.loans)
+        & (index.len() == ENTRY_WORDS + ENTRY_WORDS * store.loans + COLUMNS * (store.loans + 1))
         & (regions.len() == REGION_WORDS + REGION_WORDS * (store.loans + store.chunks))
 }
 

@@ -12,7 +12,8 @@ use Rattle.words.specs.Words.{cellOf}
 use Rattle.words.specs.Rows.{row, rows}
 use Rattle.words.proofs.Records.{length-rows, getD-rows, cell-row}
 use Rattle.lists.proofs.Bools.{and-left, and-right, and-both, told, true-false, same?, lt-or-le}
-use Rattle.freelist_rules.specs.Records.{chunkRow, regionRow, chunkNumberAt, regionStartAt, chunkWords, regionWords}
+use Rattle.freelist_rules.specs.Records.{chunkRow, gapRow, chunkNumberAt, regionStartAt, chunkWords, regionWords}
+use Rattle.freelist_rules.specs.Threads.{regionIn}
 use Rattle.freelist_rules.specs.Release.{covers, wholly, goes, memoryOf}
 use Rattle.store_rules.specs.declared.Chunk.{Chunk}
 use Rattle.store_rules.specs.declared.Region.{Region}
@@ -137,22 +138,30 @@ wholly-late r z (c ∷ cs) = go (eqb (r .chunk) (c .number)) (wholly-late r z cs
     go true ih = rw (ne-eqb (r .start) 0 z) ih
     go false ih = ih
 
+-- a region told by itself
+module _ (t : List ℕ) (k : ℕ) (up : NumbersRise (rows chunkRow k t)) (r : Region) where
+  pub whole-by : r .start ≡ 0 → (c : Chunk) → c ≡ numbered (r .chunk) (rows chunkRow k t) → (all : Bool) → all ≡ fills r c → all ≡ wholly (rows chunkRow k t) r
+  whole-by z c e all f = f ∙ ap (fills r) e ∙ wholly-from r z 1 (omega arith) (rows chunkRow k t) up
+
+  pub not-whole : (r .start ≡ 0 → ⊥) → false ≡ wholly (rows chunkRow k t) r
+  not-whole z = sym (wholly-late r z (rows chunkRow k t))
+
 module _ (t u : List ℕ) (k i : ℕ) (up : NumbersRise (rows chunkRow k t)) (spared : Bool) (start : ℕ) (read : start ≡ getD u (cellOf regionStartAt regionWords i) 0) where
   abbrev Told : Bool → Type 0
-  Told b = b ≡ (not spared && wholly (rows chunkRow k t) (row regionRow i u))
+  Told b = b ≡ (not spared && wholly (rows chunkRow k t) (regionIn (row gapRow i u)))
 
-  starts : row regionRow i u .start ≡ start
+  starts : row gapRow i u .start ≡ start
   starts = sym (read ∙ cell-row u regionStartAt regionWords i)
 
-  pub goes-whole : start ≡ 0 → (r : Region) → r ≡ row regionRow i u → (c : Chunk) → c ≡ numbered (r .chunk) (rows chunkRow k t) → (all : Bool) → all ≡ fills r c → Told (not spared && all)
+  pub goes-whole : start ≡ 0 → (r : Region) → r ≡ regionIn (row gapRow i u) → (c : Chunk) → c ≡ numbered (r .chunk) (rows chunkRow k t) → (all : Bool) → all ≡ fills r c → Told (not spared && all)
   goes-whole z r is c e all f =
       ap (λ (b : Bool). not spared && b)
       (f ∙ ap (fills r) e ∙ wholly-from r (ap (λ (d : Region). d .start) is ∙ starts ∙ z) 1 (omega arith) (rows chunkRow k t) up ∙ ap (wholly (rows chunkRow k t)) is)
 
   pub goes-not : (start ≡ 0 → ⊥) → Told false
-  goes-not z = go spared (wholly-late (row regionRow i u) (λ q. z (sym starts ∙ q)) (rows chunkRow k t))
+  goes-not z = go spared (wholly-late (regionIn (row gapRow i u)) (λ q. z (sym starts ∙ q)) (rows chunkRow k t))
     where
-      go : (s : Bool) → wholly (rows chunkRow k t) (row regionRow i u) ≡ false → false ≡ (not s && wholly (rows chunkRow k t) (row regionRow i u))
+      go : (s : Bool) → wholly (rows chunkRow k t) (regionIn (row gapRow i u)) ≡ false → false ≡ (not s && wholly (rows chunkRow k t) (regionIn (row gapRow i u)))
       go true e = refl
       go false e = sym e
 

@@ -10,10 +10,14 @@ use lib.ListN.{length, drop, length-append, length-drop}
 use lib.Seq.{drop-cons}
 use Rattle.words.specs.Rows.{Layout, row, rows}
 use Rattle.words.proofs.Records.{length-rows, getD-rows}
-use Rattle.freelist_rules.specs.Records.{regionRow}
+use Rattle.freelist_rules.specs.Records.{gapRow}
+use Rattle.freelist_rules.specs.Threads.{regionIn, freeOf}
 use Rattle.freelist_rules.specs.Release.{wholly, goes, rotated, leaving}
 use Rattle.store_rules.specs.declared.Chunk.{Chunk}
 use Rattle.store_rules.specs.declared.Region.{Region}
+use Rattle.freelist_rules.specs.Steps.{noRegion}
+use Rattle.freelist_rules.specs.Threads.{noGap}
+use Rattle.freelist_rules.proofs.GapLists.{free-at, free-length}
 use Rattle.freelist_marks.proofs.Finding.{goes-by}
 use Rattle.freelist_marks.proofs.Fronts.{length-rotated}
 
@@ -24,14 +28,22 @@ row-next {R = R} L t n i h =
     ∙ ap (λ (r : R). r ∷ drop (suc i) (rows L n t)) (getD-rows L n i t (row L i t) h)
     ∙ ap (λ (j : ℕ). row L i t ∷ drop j (rows L n t)) (sym (add-one i))
 
+-- and so the regions
+pub region-next : (t : List ℕ) (n i : ℕ) → i < n → drop i (freeOf (rows gapRow n t)) ≡ regionIn (row gapRow i t) ∷ drop (i + 1) (freeOf (rows gapRow n t))
+region-next t n i h =
+    let gs = rows gapRow n t in
+    drop-cons (freeOf gs) i noRegion (omega (arith, free-length gs, length-rows gapRow n t))
+    ∙ ap (λ (r : Region). r ∷ drop (suc i) (freeOf gs)) (free-at gs i ∙ ap regionIn (getD-rows gapRow n i t noGap h))
+    ∙ ap (λ (j : ℕ). regionIn (row gapRow i t) ∷ drop j (freeOf gs)) (sym (add-one i))
+
 -- ---- a region that goes, or does not, as code tests it
 
-module _ (cs : List Chunk) (spare : Bool) (t : List ℕ) (n i : ℕ) (h : i < n) (b : Bool) (e : b ≡ (not (spare && eqb (i + 1) n) && wholly cs (row regionRow i t))) where
+module _ (cs : List Chunk) (spare : Bool) (t : List ℕ) (n i : ℕ) (h : i < n) (b : Bool) (e : b ≡ (not (spare && eqb (i + 1) n) && wholly cs (regionIn (row gapRow i t)))) where
   abbrev rest : List Region
-  rest = drop (i + 1) (rows regionRow n t)
+  rest = drop (i + 1) (freeOf (rows gapRow n t))
 
-  pub goes-told : goes cs spare (row regionRow i t) rest ≡ b
-  goes-told = sym (e ∙ goes-by cs spare (row regionRow i t) rest i n (omega (arith, length-drop (i + 1) (rows regionRow n t), length-rows regionRow n t)))
+  pub goes-told : goes cs spare (regionIn (row gapRow i t)) rest ≡ b
+  goes-told = sym (e ∙ goes-by cs spare (regionIn (row gapRow i t)) rest i n (omega (arith, length-drop (i + 1) (freeOf (rows gapRow n t)), free-length (rows gapRow n t), length-rows gapRow n t)))
 
 module _ (cs : List Chunk) (spare : Bool) where
   -- the walk loses none that it has marked

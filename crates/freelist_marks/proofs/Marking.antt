@@ -10,7 +10,10 @@ use lib.Seq.{sets, length-sets}
 use Rattle.words.specs.Rows.{row, rows}
 use Rattle.words.proofs.Records.{length-rows, getD-rows}
 use Rattle.counter.specs.Limits.{chunkSizeMost}
-use Rattle.freelist_rules.specs.Records.{regionRow}
+use Rattle.freelist_rules.specs.Records.{gapRow}
+use Rattle.freelist_rules.specs.Threads.{regionIn, freeOf, noGap}
+use Rattle.freelist_rules.specs.Steps.{noRegion}
+use Rattle.freelist_rules.proofs.GapLists.{free-at, free-length}
 use Rattle.freelist_rules.specs.Release.{wholly, rotated, leaving, memoryOf, memoriesOf, bytesOf}
 use Rattle.store_rules.specs.declared.Chunk.{Chunk}
 use Rattle.store_rules.specs.declared.Region.{Region}
@@ -19,7 +22,7 @@ use Rattle.freelist_rules.proofs.Base.{at-in}
 use Rattle.freelist_marks.specs.Turned.{turned}
 use Rattle.freelist_marks.specs.Releasable.{Releasable}
 use Rattle.freelist_marks.proofs.Fronts.{sets-more, sets-turned, length-rotated}
-use Rattle.freelist_marks.proofs.Leaving.{row-next, goes-told, leaving-long}
+use Rattle.freelist_marks.proofs.Leaving.{region-next, goes-told, leaving-long}
 
 -- ---- sums and numbers of one more, and of a list turned
 
@@ -65,20 +68,20 @@ marking-done cs spare rs l u i m bytes h w =
 pub marking-length : (cs : List Chunk) (spare : Bool) (rs : List Region) (l u : List ℕ) (i m bytes : ℕ) → Marking cs spare rs l u i m bytes → length u ≡ length l
 marking-length cs spare rs l u i m bytes w = ap length (w .words) ∙ length-sets l 0 (memoriesOf cs (w .marked))
 
-module _ (cs : List Chunk) (spare : Bool) (t : List ℕ) (n i : ℕ) (h : i < n) (l : List ℕ) (fit : Releasable cs (rows regionRow n t)) (room : length cs ≤ length l)
-    (u : List ℕ) (m bytes : ℕ) (at : Marking cs spare (rows regionRow n t) l u i m bytes) where
+module _ (cs : List Chunk) (spare : Bool) (t : List ℕ) (n i : ℕ) (h : i < n) (l : List ℕ) (fit : Releasable cs (freeOf (rows gapRow n t))) (room : length cs ≤ length l)
+    (u : List ℕ) (m bytes : ℕ) (at : Marking cs spare (freeOf (rows gapRow n t)) l u i m bytes) where
   abbrev rs : List Region
-  rs = rows regionRow n t
+  rs = freeOf (rows gapRow n t)
 
   abbrev rest : List Region
   rest = drop (i + 1) rs
 
-  low : (r : Region) → r ≡ row regionRow i t → r .end ≤ chunkSizeMost
+  low : (r : Region) → r ≡ regionIn (row gapRow i t) → r .end ≤ chunkSizeMost
   low r is =
-      let e : getD rs i r ≡ r = getD-rows regionRow n i t r h ∙ sym is in
-      omega (arith, ap (λ (z : Region). z .end) e, fit .low (getD rs i r) (at-in i rs r (omega (arith, length-rows regionRow n t))))
+      let e : getD rs i noRegion ≡ r = free-at (rows gapRow n t) i ∙ ap regionIn (getD-rows gapRow n i t noGap h) ∙ sym is in
+      omega (arith, ap (λ (z : Region). z .end) e, fit .low (getD rs i noRegion) (at-in i rs noRegion (omega (arith, free-length (rows gapRow n t), length-rows gapRow n t))))
 
-  pub marking-room : (r : Region) → r ≡ row regionRow i t → bytes + r .end ≤ chunkSizeMost * (m + 1)
+  pub marking-room : (r : Region) → r ≡ regionIn (row gapRow i t) → bytes + r .end ≤ chunkSizeMost * (m + 1)
   marking-room r is = omega (arith, low r is, at .most)
 
   pub marking-fits : m ≤ length l
@@ -87,7 +90,7 @@ module _ (cs : List Chunk) (spare : Bool) (t : List ℕ) (n i : ℕ) (h : i < n)
   pub marking-turns : m ≤ length u
   marking-turns = omega (arith, marking-fits, marking-length cs spare rs l u i m bytes at)
 
-  module _ (b : Bool) (e : b ≡ (not (spare && eqb (i + 1) n) && wholly cs (row regionRow i t))) where
+  module _ (b : Bool) (e : b ≡ (not (spare && eqb (i + 1) n) && wholly cs (regionIn (row gapRow i t)))) where
     pub marking-stays : b ≡ false → (v : List ℕ) → v ≡ turned m u → Marking cs spare rs l v (i + 1) m bytes
     unfolding leaving
     marking-stays q v p =
@@ -96,7 +99,7 @@ module _ (cs : List Chunk) (spare : Bool) (t : List ℕ) (n i : ℕ) (h : i < n)
         let c : m ≡ length ms = at .count ∙ sym long in
         record {
           marked = rotated (at .marked);
-          same = at .same ∙ ap (leaving cs spare (at .marked)) (row-next regionRow t n i h) ∙ rw (goes-told cs spare t n i h b e ∙ q);
+          same = at .same ∙ ap (leaving cs spare (at .marked)) (region-next t n i h) ∙ rw (goes-told cs spare t n i h b e ∙ q);
           count = at .count ∙ sym (length-rotated (at .marked));
           sum = at .sum ∙ sym (bytes-rotated (at .marked));
           words = p ∙ ap (turned m) (at .words) ∙ ap (λ (z : ℕ). turned z (sets l 0 ms)) c ∙ sets-turned l ms (omega (arith, c, marking-fits)) ∙ ap (sets l 0) (sym (memories-rotated cs (at .marked)));
@@ -104,7 +107,7 @@ module _ (cs : List Chunk) (spare : Bool) (t : List ℕ) (n i : ℕ) (h : i < n)
           most = at .most;
         }
 
-    pub marking-goes : b ≡ true → (r : Region) → r ≡ row regionRow i t → (x : ℕ) → x ≡ memoryOf cs r → (v : List ℕ) → v ≡ set u m x → Marking cs spare rs l v (i + 1) (m + 1) (bytes + r .end)
+    pub marking-goes : b ≡ true → (r : Region) → r ≡ regionIn (row gapRow i t) → (x : ℕ) → x ≡ memoryOf cs r → (v : List ℕ) → v ≡ set u m x → Marking cs spare rs l v (i + 1) (m + 1) (bytes + r .end)
     unfolding leaving
     marking-goes q r is x y v p =
         let long = memories-length cs (at .marked) in
@@ -112,7 +115,7 @@ module _ (cs : List Chunk) (spare : Bool) (t : List ℕ) (n i : ℕ) (h : i < n)
         let more : List Region = at .marked ++ (r ∷ []) in
         let c : m ≡ length ms = at .count ∙ sym long in
         let s : leaving cs spare [] rs ≡ leaving cs spare more rest =
-        at .same ∙ ap (leaving cs spare (at .marked)) (row-next regionRow t n i h) ∙ rw (goes-told cs spare t n i h b e ∙ q, is) in
+        at .same ∙ ap (leaving cs spare (at .marked)) (region-next t n i h) ∙ rw (goes-told cs spare t n i h b e ∙ q, is) in
         let d : length more ≡ length (at .marked) + 1 = length-append (at .marked) (r ∷ []) in
         let f : length ms < length l = omega (arith, room, fit .few spare, ap length s, leaving-long cs spare more rest, d, long) in
         record {

@@ -4,4 +4,5 @@ mod marks;
 
 pub use marks::Marked;
 pub use marks::goes_at;
+pub use marks::is_whole;
 pub use marks::mark;

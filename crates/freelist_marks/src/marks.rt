@@ -7,8 +7,9 @@ ghost use lib.ListN.{length};
 ghost use lib.Seq.{sets};
 ghost use Rattle.words.specs.Rows.{row, rows};
 ghost use Rattle.counter.specs.Limits.{loansMost, chunksMost};
-ghost use Rattle.freelist_rules.specs.Records.{chunkRow, regionRow};
+ghost use Rattle.freelist_rules.specs.Records.{chunkRow, gapRow};
 ghost use Rattle.freelist_rules.specs.Release.{wholly, leaving, memoriesOf, bytesOf};
+ghost use Rattle.freelist_rules.specs.Threads.{regionIn, freeOf};
 ghost use Rattle.freelist_marks.specs.Turned.{turned};
 ghost use Rattle.freelist_marks.specs.Numbered.{fills};
 ghost use Rattle.freelist_marks.specs.Releasable.{NumbersRise, Releasable};
@@ -31,10 +32,23 @@ fn is_all(r: Region, c: Chunk) -> bool
     (0 < c.number) & ((r.chunk == c.number) & (r.end == c.size))
 }
 
+// Whether the region is all of its chunk. Few start at 0, and only those look their chunk up.
+pub fn is_whole(chunks: &[u64], k: usize, r: Region) -> bool
+    requires { ⌜ NumbersRise (rows chunkRow k (now chunks)) ⌝ }
+    ensures { λ b. ⌜ b ≡ wholly (rows chunkRow k (now (chunks .entry))) r ⌝ }
+{
+    if r.start == 0 {
+        let c = find_chunk(chunks, k, r.chunk);
+        is_all(r, c)
+    } else {
+        false
+    }
+}
+
 // Whether region i is all of its chunk, and is not spared. Few start at 0, and only those look their chunk up.
 pub fn goes_at(chunks: &[u64], k: usize, regions: &[u64], i: usize, spared: bool) -> bool
     requires { ⌜ NumbersRise (rows chunkRow k (now chunks)) ⌝ }
-    ensures { λ r. ⌜ r ≡ (not spared && wholly (rows chunkRow k (now (chunks .entry))) (row regionRow i (now (regions .entry)))) ⌝ }
+    ensures { λ r. ⌜ r ≡ (not spared && wholly (rows chunkRow k (now (chunks .entry))) (regionIn (row gapRow i (now (regions .entry))))) ⌝ }
 {
     let start = words::cell(regions, REGION_START_AT, REGION_WORDS, i);
     if start == 0 {
@@ -70,10 +84,10 @@ pub fn mark(
     list: &mut [u64],
 ) -> Marked
     requires { ⌜ (k ≤ length (now list)) × (n ≤ loansMost + chunksMost) ⌝ }
-    requires { ⌜ Releasable (rows chunkRow k (now chunks)) (rows regionRow n (now regions)) ⌝ }
-    ensures { λ r. ⌜ r .count ≡ length (leaving (rows chunkRow k (now (chunks .entry))) spare [] (rows regionRow n (now (regions .entry)))) ⌝ }
-    ensures { λ r. ⌜ r .bytes ≡ bytesOf (leaving (rows chunkRow k (now (chunks .entry))) spare [] (rows regionRow n (now (regions .entry)))) ⌝ }
-    ensures { λ _. ⌜ now (list .exit) ≡ sets (now (list .entry)) 0 (memoriesOf (rows chunkRow k (now (chunks .entry))) (leaving (rows chunkRow k (now (chunks .entry))) spare [] (rows regionRow n (now (regions .entry))))) ⌝ }
+    requires { ⌜ Releasable (rows chunkRow k (now chunks)) (freeOf (rows gapRow n (now regions))) ⌝ }
+    ensures { λ r. ⌜ r .count ≡ length (leaving (rows chunkRow k (now (chunks .entry))) spare [] (freeOf (rows gapRow n (now (regions .entry))))) ⌝ }
+    ensures { λ r. ⌜ r .bytes ≡ bytesOf (leaving (rows chunkRow k (now (chunks .entry))) spare [] (freeOf (rows gapRow n (now (regions .entry))))) ⌝ }
+    ensures { λ _. ⌜ now (list .exit) ≡ sets (now (list .entry)) 0 (memoriesOf (rows chunkRow k (now (chunks .entry))) (leaving (rows chunkRow k (now (chunks .entry))) spare [] (freeOf (rows gapRow n (now (regions .entry)))))) ⌝ }
 {
     let mut i = 0;
     let mut m = 0;

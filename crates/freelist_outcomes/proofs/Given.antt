@@ -9,6 +9,7 @@ use lib.Dec.{eqb}
 use lib.ListN.{length, getD}
 use borrow.Author.Tests.{ne-eqb}
 use Rattle.lists.proofs.Bools.{true-false, and-both, same?}
+use Rattle.words.specs.Words.{markAt}
 use Rattle.words.specs.Rows.{row}
 use Rattle.words.proofs.Records.{cell-row}
 use Rattle.counter.specs.InTable.{FreeListIn}
@@ -27,22 +28,28 @@ use Rattle.book_rules.proofs.Keeps.{BookChained, BookParted, freeIn, found, str
 use Rattle.book_rules.proofs.Owns.{struck-mark, struck-own, struck-index-mark, word-past-mark}
 use Rattle.freelist_rules.specs.Join.{insert}
 use Rattle.freelist_rules.specs.Pieces.{All, piece}
-use Rattle.freelist_rules.specs.Records.{region}
+use Rattle.freelist_rules.specs.declared.Gap.{Gap}
+use Rattle.freelist_rules.specs.Records.{Store, region}
 use Rattle.freelist_rules.specs.Seek.{sameLoan}
 use Rattle.freelist_rules.specs.Sound.{Sound}
 use Rattle.freelist_rules.specs.Steps.{noLoan}
-use Rattle.freelist_rules.specs.Tables.{Tables, Lengths, SoundTables, RegionsFit, placesIn, ordered, regionsMost, storeOf, givenIn}
+use Rattle.freelist_rules.specs.Tables.{Tables, Lengths, SoundTables, RegionsFit, placesIn, ordered, regionsMost, storeOf, givenIn, gapsIn}
+use Rattle.freelist_rules.specs.Threads.{beforeIn, freeOf, Fronts, insertGap, wholes}
 use Rattle.store_rules.specs.declared.Region.{Region}
 use Rattle.freelist_rules.proofs.Search.{same-loan}
 use Rattle.freelist_rules.proofs.Base.{at-in}
-use Rattle.freelist_rules.proofs.Fits.{are-lengths, regions-fit, laid-long, laid-count, laid-regions, laid-mark}
+use Rattle.freelist_rules.proofs.Columns.{parted-front, chained-front}
+use Rattle.freelist_rules.proofs.Fits.{are-lengths, regions-fit, laid-long, laid-count, laid-whole, laid-gaps, laid-regions, laid-mark}
+use Rattle.freelist_rules.proofs.GapLists.{free-length, insert-free}
 use Rattle.freelist_rules.proofs.Gaps.{LoansRise}
 use Rattle.freelist_rules.proofs.Giving.{without, give, give-sound}
 use Rattle.freelist_rules.proofs.Ordered.{ordered-out, loan-place}
 use Rattle.freelist_rules.proofs.Struck.{earlier, later, loans-with, loans-less, ordered-less}
-use Rattle.freelist_outcomes.specs.Return.{wordFor, onLoanOk, givenTables}
+use Rattle.freelist_rules.proofs.Threads.{unthreaded-length, unthreaded-front}
+use Rattle.freelist_outcomes.specs.Return.{wordFor, onLoanOk, recordAt, bytesFrom, wholeNow, givenTables}
 use Rattle.freelist_outcomes.proofs.Backs.{returning, back-room}
 use Rattle.freelist_outcomes.proofs.Loaned.{block-leads, block-stands}
+use Rattle.freelist_outcomes.proofs.Outgoing.{index′, old-thread, old-fronts, old-whole}
 
 -- where a loan of the first n places stands, in the book's words
 record Place (n : ℕ) (t : List ℕ) (l : Loan) : Type 0 where
@@ -115,11 +122,22 @@ module _ (s : FreeListSettings) (t : Tables) (fit : FreeListIn s) (lengths : Len
   regions-whole : RegionsFit s (t .room)
   regions-whole = regions-fit s t fit (are-lengths s t lengths) sound
 
-  abbrev joined : List Region
-  joined = insert (returning b) (storeOf s t .regions)
+  abbrev joined : List Gap
+  joined = insertGap (bytesFrom b) (recordAt word t) (beforeIn n (t .index) (recordAt word t)) (gapsIn t)
+
+  joined-free : freeOf joined ≡ insert (returning b) (storeOf s t .regions)
+  unfolding storeOf
+  joined-free = insert-free (bytesFrom b) (recordAt word t) (beforeIn n (t .index) (recordAt word t)) (gapsIn t)
 
   room : length joined ≤ regionsMost s
-  room = back-room s t fit sound b on
+  room = omega (arith, free-length joined, ap length joined-free, back-room s t fit sound b on)
+
+  -- the index: the book's entries, and the thread behind them
+  abbrev thread : List ℕ
+  thread = index′ s t fit lengths sound b on
+
+  thread-front : (k : ℕ) → k < indexWords n → getD thread k 0 ≡ getD (struckIndex word (t .index)) k 0
+  thread-front = unthreaded-front n (recordAt word t) (struckIndex word (t .index))
 
   pub given-lengths : Lengths s (givenTables s b (wordFor s b t) t)
   unfolding givenTables
@@ -128,8 +146,8 @@ module _ (s : FreeListSettings) (t : Tables) (fit : FreeListIn s) (lengths : Len
         head = lengths .head;
         loans = struck-long word (t .index) (t .loans) ∙ lengths .loans;
         chunks = lengths .chunks;
-        room = laid-long s joined (t .room) regions-whole room;
-        index = struck-wide word (t .index) ∙ lengths .index;
+        room = laid-long s joined (wholeNow s b t) (t .room) regions-whole room;
+        index = unthreaded-length n (recordAt word t) (struckIndex word (t .index)) ∙ struck-wide word (t .index) ∙ lengths .index;
       }
 
   -- ---- the loans
@@ -188,36 +206,56 @@ module _ (s : FreeListSettings) (t : Tables) (fit : FreeListIn s) (lengths : Len
       let m = v .2 in
       let l = ap (λ (k : ℕ). ordered (loansOf k loans′)) places-stay ∙ given-loans ∙ ap (λ (k : ℕ). without k (storeOf s t .loans)) (sym (m .serial)) in
       let p : returning b ≡ piece (v .0) = λ j. region (sym (m .chunk) j) (sym (m .offset) j) (sym (m .offset) j + sym (m .size) j) in
-      let r = laid-regions s joined (t .room) regions-whole room ∙ ap (λ (x : Region). insert x (storeOf s t .regions)) p in
+      let r = laid-regions s joined (wholeNow s b t) (t .room) regions-whole room ∙ joined-free ∙ ap (λ (x : Region). insert x (storeOf s t .regions)) p in
       (λ j. record { given = given-stays j; made = storeOf s t .made; size = storeOf s t .size; loans = l j; chunks = storeOf s t .chunks; regions = r j })
 
-  given-chained : BookChained (struck word (t .index) (t .loans)) (struckIndex word (t .index)) n (placesIn t) given
+  given-chained : BookChained (struck word (t .index) (t .loans)) thread n (placesIn t) given
   given-chained =
-      subst (λ (k : ℕ). BookChained (struck (wordTo (t .loans) (t .index) n (placesIn t) k) (t .index) (t .loans)) (struckIndex (wordTo (t .loans) (t .index) n (placesIn t) k) (t .index)) n (placesIn t) given) (leads .2)
-      (struck-chained (t .loans) (t .index) n (placesIn t) given (fit .store .loans-some) limit few (sound .chained) place (leads .0) (leads .1) (lengths .loans) (lengths .index))
+      chained-front n (placesIn t) loans′ (struckIndex word (t .index)) thread limit thread-front given
+      (subst (λ (k : ℕ). BookChained (struck (wordTo (t .loans) (t .index) n (placesIn t) k) (t .index) (t .loans)) (struckIndex (wordTo (t .loans) (t .index) n (placesIn t) k) (t .index)) n (placesIn t) given) (leads .2)
+      (struck-chained (t .loans) (t .index) n (placesIn t) given (fit .store .loans-some) limit few (sound .chained) place (leads .0) (leads .1) (lengths .loans) (omega (arith, lengths .index))))
 
-  given-parted : BookParted (struck word (t .index) (t .loans)) (struckIndex word (t .index)) n (placesIn t)
+  given-parted : BookParted (struck word (t .index) (t .loans)) thread n (placesIn t)
   given-parted =
-      subst (λ (k : ℕ). BookParted (struck (wordTo (t .loans) (t .index) n (placesIn t) k) (t .index) (t .loans)) (struckIndex (wordTo (t .loans) (t .index) n (placesIn t) k) (t .index)) n (placesIn t)) (leads .2)
-      (struck-parted (t .loans) (t .index) n (placesIn t) given (fit .store .loans-some) limit few (sound .chained) place (leads .0) (leads .1) (lengths .loans) (lengths .index) (sound .parted))
+      parted-front n (placesIn t) loans′ (struckIndex word (t .index)) thread limit thread-front
+      (subst (λ (k : ℕ). BookParted (struck (wordTo (t .loans) (t .index) n (placesIn t) k) (t .index) (t .loans)) (struckIndex (wordTo (t .loans) (t .index) n (placesIn t) k) (t .index)) n (placesIn t)) (leads .2)
+      (struck-parted (t .loans) (t .index) n (placesIn t) given (fit .store .loans-some) limit few (sound .chained) place (leads .0) (leads .1) (lengths .loans) (omega (arith, lengths .index)) (sound .parted)))
 
   pub given-sound : SoundTables s (givenTables s b (wordFor s b t) t)
   unfolding givenTables
   given-sound =
+      let v = on-loan-is s t fit sound b on in
+      let whole : ℕ = wholeNow s b t in
+      let T = old-thread s t fit lengths sound b on in
+      let after-is : give (v .0) (storeOf s t) ≡ storeOf s (givenTables s b word t) = sym given-store in
+      let bytes-is : bytesFrom b ≡ piece (v .0) = λ j. region (sym (v .2 .chunk) j) (sym (v .2 .offset) j) (sym (v .2 .offset) j + sym (v .2 .size) j) in
       record {
         signed =
             record {
               head = sound .signed .head;
               loans = struck-mark word (t .index) (t .loans) ∙ sound .signed .loans;
               chunks = sound .signed .chunks;
-              index = struck-index-mark word (t .index) (word-past-mark (t .loans) (t .index) n (placesIn t) (b .serial)) ∙ sound .signed .index;
-              room = laid-mark s joined (t .room) regions-whole ∙ sound .signed .room;
+              index = thread-front markAt (omega arith) ∙ struck-index-mark word (t .index) (word-past-mark (t .loans) (t .index) n (placesIn t) (b .serial)) ∙ sound .signed .index;
+              room = laid-mark s joined whole (t .room) regions-whole ∙ sound .signed .room;
             };
         chunks-fit = sound .chunks-fit;
-        regions-fit = omega (arith, laid-count s joined (t .room) regions-whole room, room);
-        parted = subst (λ (k : ℕ). BookParted loans′ (struckIndex word (t .index)) n k) (sym places-stay) given-parted;
+        regions-fit = omega (arith, laid-count s joined whole (t .room) regions-whole room, room);
+        parted = subst (λ (k : ℕ). BookParted loans′ thread n k) (sym places-stay) given-parted;
         chained =
-            subst (λ (k : ℕ). BookChained loans′ (struckIndex word (t .index)) n k (getD loans′ givenAt 0)) (sym places-stay)
-            (subst (λ (g : ℕ). BookChained loans′ (struckIndex word (t .index)) n (placesIn t) g) (sym given-stays) given-chained);
-        store = let v = on-loan-is s t fit sound b on in subst (Sound s) (sym given-store) (give-sound s (storeOf s t) fit (sound .store) (v .0) (v .1));
+            subst (λ (k : ℕ). BookChained loans′ thread n k (getD loans′ givenAt 0)) (sym places-stay)
+            (subst (λ (g : ℕ). BookChained loans′ thread n (placesIn t) g) (sym given-stays) given-chained);
+        store = subst (Sound s) after-is (give-sound s (storeOf s t) fit (sound .store) (v .0) (v .1));
+        threaded =
+            record {
+              records = T .records;
+              leads = T .leads;
+              right = λ q m. let w = T .right q m in (w .0, omega (arith, w .1, places-stay), w .2);
+              are = T .are ∙ ap (λ (k : ℕ). without k (storeOf s t .loans)) (sym (v .2 .serial)) ∙ ap (λ (u : Store). u .loans) after-is;
+            };
+        fronts = subst (Fronts loans′ (T .records)) (sym (laid-gaps s joined whole (t .room) regions-whole room)) (old-fronts s t fit lengths sound b on);
+        whole =
+            laid-whole s joined whole (t .room) regions-whole room
+            ∙ old-whole s t fit lengths sound b on
+            ∙ ap (λ (x : Region). wholes (storeOf s t .chunks) (insert x (storeOf s t .regions))) bytes-is
+            ∙ ap (λ (u : Store). wholes (u .chunks) (u .regions)) after-is;
       }

@@ -3,8 +3,10 @@ pub mod Passing
 pub mod Plans
 pub mod Loaned
 pub mod Backs
+pub mod Between
 pub mod Taken
 pub mod Changed
+pub mod Outgoing
 pub mod Given
 pub mod Comes
 pub mod Arrives

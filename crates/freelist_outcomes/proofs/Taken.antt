@@ -3,12 +3,13 @@ use mathlib.Core.Path.{_≡_, refl, sym, ap, subst, _∙_}
 use mathlib.Core.Bool.{true, false}
 use mathlib.Core.Logic.{inl, inr, ⊎-elim}
 use mathlib.Core.List.{List}
-use Prim.Native.Nat.{ℕ, _+_, _≤_, _<_}
+use Prim.Native.Nat.{ℕ, _≤_, _<_}
 use native.Mathlib.Omega.{arith}
 use lib.Dec.{eqb, ltb}
 use lib.ListN.{length, getD, length-set}
 use borrow.Author.Tests.{ne-eqb}
 use Rattle.lists.proofs.Bools.{told}
+use Rattle.words.specs.Words.{markAt}
 use Rattle.words.proofs.Records.{length-removeAt}
 use Rattle.counter.specs.InTable.{FreeListIn}
 use Rattle.counter.specs.Table.{alignmentOk}
@@ -16,25 +17,31 @@ use Rattle.counter.specs.declared.settings.FreeListSettings.{FreeListSettings}
 use Rattle.slab.specs.Slab.{nowhere}
 use Rattle.store_rules.specs.Loans.{givenAt, placesAt, loansOf}
 use Rattle.store_rules.specs.declared.Loan.{Loan}
-use Rattle.book_rules.specs.Book.{takenOf, entered, enteredIndex}
+use Rattle.book_rules.specs.Book.{indexWords, takenOf, entered, enteredIndex}
 use Rattle.book_rules.proofs.Entering.{entered-amid}
 use Rattle.book_rules.proofs.Keeps.{BookChained, BookParted, entered-long, entered-wide, entered-chained, entered-parted}
 use Rattle.book_rules.proofs.Owns.{entered-mark, entered-index-mark}
+use Rattle.freelist_rules.specs.declared.Gap.{Gap}
 use Rattle.freelist_rules.specs.Records.{Store}
 use Rattle.freelist_rules.specs.Pieces.{All}
 use Rattle.freelist_rules.specs.Place.{sizeFor, maskFor, at, cutOff, putLoan}
 use Rattle.freelist_rules.specs.Sound.{Sound}
 use Rattle.freelist_rules.specs.Steps.{noRegion, lent}
-use Rattle.freelist_rules.specs.Tables.{Tables, regionsMost, Lengths, placesIn, ordered, storeOf, SoundTables, RegionsFit, givenIn}
+use Rattle.freelist_rules.specs.Tables.{Tables, regionsMost, Lengths, placesIn, ordered, storeOf, SoundTables, RegionsFit, givenIn, gapsIn}
+use Rattle.freelist_rules.specs.Threads.{threadWords, afterIn, freeOf, Fronts, cutGaps, wholes}
 use Rattle.store_rules.specs.declared.Region.{Region}
 use Rattle.freelist_rules.proofs.Base.{rising-low, rising-apart}
 use Rattle.freelist_rules.proofs.Enters.{put-amid}
-use Rattle.freelist_rules.proofs.Fits.{regions-length, laid-long, laid-count, laid-regions, laid-mark}
+use Rattle.freelist_rules.proofs.Columns.{parted-front, chained-front}
+use Rattle.freelist_rules.proofs.Fits.{regions-length, laid-long, laid-count, laid-whole, laid-gaps, laid-regions, laid-mark}
+use Rattle.freelist_rules.proofs.GapLists.{free-length, cut-free}
 use Rattle.freelist_rules.proofs.Gaps.{begins, stops}
 use Rattle.freelist_rules.proofs.Lends.{lent-block, lent-sound}
 use Rattle.freelist_rules.proofs.Ordered.{put-in, ordered-in}
 use Rattle.freelist_rules.proofs.Search.{find-fits}
-use Rattle.freelist_outcomes.specs.Ask.{foundFor, blockAt, loanFrom, takenTables}
+use Rattle.freelist_rules.proofs.Threads.{threaded-length, threaded-front}
+use Rattle.freelist_outcomes.specs.Ask.{foundFor, blockAt, loanFrom, recordFor, frontAt, wholeLeft, takenTables}
+use Rattle.freelist_outcomes.proofs.Between.{index′, new-thread, new-fronts, new-whole}
 use Rattle.book_rules.proofs.Counted.{entered-given, entered-places}
 
 cut-length : (x i : ℕ) (rs : List Region) → i < length rs → length (cutOff x i rs) ≤ length rs
@@ -57,9 +64,13 @@ module _ (s : FreeListSettings) (t : Tables) (fit : FreeListIn s) (lengths : Len
   abbrev new : Loan
   new = loanFrom s size mask t i
 
-  -- the regions that are left
-  abbrev left : List Region
-  left = cutOff (blockAt s size mask t i .start) i (before .regions)
+  -- the regions that are left, with the loans in front of them
+  abbrev left : List Gap
+  left = cutGaps (blockAt s size mask t i .start) i (recordFor t) (gapsIn t)
+
+  left-free : freeOf left ≡ cutOff (blockAt s size mask t i .start) i (before .regions)
+  unfolding storeOf
+  left-free = cut-free (blockAt s size mask t i .start) i (recordFor t) (gapsIn t)
 
   abbrev after : Store
   after = lent (maskFor s mask) (sizeFor s size) i before
@@ -116,7 +127,33 @@ module _ (s : FreeListSettings) (t : Tables) (fit : FreeListIn s) (lengths : Len
   left-room : length left ≤ regionsMost s
   left-room =
       let h = find-fits (maskFor s mask) (sizeFor s size) i (before .regions) noRegion found .0 in
-      omega (arith, cut-length (blockAt s size mask t i .start) i (before .regions) h, regions-length s t, sound .regions-fit)
+      omega (arith, free-length left, ap length left-free, cut-length (blockAt s size mask t i .start) i (before .regions) h, regions-length s t, sound .regions-fit)
+
+  -- ---- the index: the book's entries, and the thread behind them
+
+  abbrev entries : List ℕ
+  entries = enteredIndex (s .store .loans) (placesIn t) (new .serial) (t .index)
+
+  abbrev thread : List ℕ
+  thread = index′ s t fit lengths sound size mask i aligned some-size place found
+
+  thread-wide : length thread ≡ threadWords (s .store .loans)
+  thread-wide = threaded-length (s .store .loans) (frontAt t i) (recordFor t) (afterIn (s .store .loans) (t .index) (frontAt t i)) entries ∙ entered-wide (s .store .loans) (placesIn t) (new .serial) (t .index) ∙ lengths .index
+
+  thread-front : (k : ℕ) → k < indexWords (s .store .loans) → getD thread k 0 ≡ getD entries k 0
+  thread-front = threaded-front (s .store .loans) (frontAt t i) (recordFor t) (afterIn (s .store .loans) (t .index) (frontAt t i)) entries
+
+  parted-now : BookParted loans′ thread (s .store .loans) used
+  parted-now =
+      let P = entered-parted (t .loans) (t .index) (s .store .loans) (placesIn t) few (sound .parted) (before .given) new (lengths .loans) (omega (arith, lengths .index)) place refl new-some in
+      parted-front (s .store .loans) used loans′ entries thread (P .limit) thread-front P
+
+  chained-now : BookChained loans′ thread (s .store .loans) used (new .serial)
+  unfolding storeOf
+  chained-now =
+      let P = entered-parted (t .loans) (t .index) (s .store .loans) (placesIn t) few (sound .parted) (before .given) new (lengths .loans) (omega (arith, lengths .index)) place refl new-some in
+      chained-front (s .store .loans) used loans′ entries thread (P .limit) thread-front (new .serial)
+      (entered-chained (t .loans) (t .index) (s .store .loans) (placesIn t) few (sound .parted) (givenIn t) new (lengths .loans) (omega (arith, lengths .index)) place refl new-some (sound .chained))
 
   -- the tables are as long as before
   pub taken-lengths : Lengths s (takenTables s size mask t i)
@@ -126,8 +163,8 @@ module _ (s : FreeListSettings) (t : Tables) (fit : FreeListIn s) (lengths : Len
         head = lengths .head;
         loans = entered-long (placesIn t) (t .index) new (t .loans) ∙ lengths .loans;
         chunks = lengths .chunks;
-        room = laid-long s left (t .room) table-fit left-room;
-        index = entered-wide (s .store .loans) (placesIn t) (before .given + 1) (t .index) ∙ lengths .index;
+        room = laid-long s left (wholeLeft s t i) (t .room) table-fit left-room;
+        index = thread-wide;
       }
 
   -- the store that they hold is the one with the block lent
@@ -135,33 +172,43 @@ module _ (s : FreeListSettings) (t : Tables) (fit : FreeListIn s) (lengths : Len
   unfolding takenTables storeOf
   taken-store =
       let d = ap (λ (k : ℕ). ordered (loansOf k loans′)) places-now ∙ loans-after in
-      let f = laid-regions s left (t .room) table-fit left-room in
+      let f = laid-regions s left (wholeLeft s t i) (t .room) table-fit left-room ∙ left-free in
       (λ j. record { given = given-now j; made = before .made; size = before .size; loans = d j; chunks = before .chunks; regions = f j })
 
   -- and they are sound
   pub taken-sound : SoundTables s (takenTables s size mask t i)
-  unfolding takenTables storeOf
+  unfolding takenTables
   taken-sound =
-      let g : ℕ = givenIn t + 1 in
       let n : ℕ = s .store .loans in
-      let index′ : List ℕ = enteredIndex n (placesIn t) g (t .index) in
+      let whole : ℕ = wholeLeft s t i in
+      let T = new-thread s t fit lengths sound size mask i aligned some-size place found in
+      let after-is : after ≡ storeOf s (takenTables s size mask t i) = sym taken-store in
       record {
         signed =
             record {
               head = sound .signed .head;
               loans = entered-mark (placesIn t) (t .index) new (t .loans) ∙ sound .signed .loans;
               chunks = sound .signed .chunks;
-              index = entered-index-mark n (placesIn t) g (t .index) ∙ sound .signed .index;
-              room = laid-mark s left (t .room) table-fit ∙ sound .signed .room;
+              index = thread-front markAt (omega arith) ∙ entered-index-mark n (placesIn t) (new .serial) (t .index) ∙ sound .signed .index;
+              room = laid-mark s left whole (t .room) table-fit ∙ sound .signed .room;
             };
         chunks-fit = sound .chunks-fit;
-        regions-fit = omega (arith, laid-count s left (t .room) table-fit left-room, left-room);
-        parted =
-            subst (λ (k : ℕ). BookParted loans′ index′ n k) (sym places-now)
-            (entered-parted (t .loans) (t .index) n (placesIn t) few (sound .parted) (givenIn t) new (lengths .loans) (lengths .index) place refl new-some);
+        regions-fit = omega (arith, laid-count s left whole (t .room) table-fit left-room, left-room);
+        parted = subst (λ (k : ℕ). BookParted loans′ thread n k) (sym places-now) parted-now;
         chained =
-            subst (λ (k : ℕ). BookChained loans′ index′ n k (getD loans′ givenAt 0)) (sym places-now)
-            (subst (λ (k : ℕ). BookChained loans′ index′ n used k) (sym given-now)
-            (entered-chained (t .loans) (t .index) n (placesIn t) few (sound .parted) (givenIn t) new (lengths .loans) (lengths .index) place refl new-some (sound .chained)));
-        store = subst (Sound s) (sym taken-store) after-sound;
+            subst (λ (k : ℕ). BookChained loans′ thread n k (getD loans′ givenAt 0)) (sym places-now)
+            (subst (λ (k : ℕ). BookChained loans′ thread n used k) (sym given-now) chained-now);
+        store = subst (Sound s) after-is after-sound;
+        threaded =
+            record {
+              records = T .records;
+              leads = T .leads;
+              right = λ q m. let w = T .right q m in (w .0, omega (arith, w .1, places-now), w .2);
+              are = T .are ∙ ap (λ (v : Store). v .loans) after-is;
+            };
+        fronts = subst (Fronts loans′ (T .records)) (sym (laid-gaps s left whole (t .room) table-fit left-room)) (new-fronts s t fit lengths sound size mask i aligned some-size place found);
+        whole =
+            laid-whole s left whole (t .room) table-fit left-room
+            ∙ new-whole s t fit lengths sound size mask i aligned some-size place found
+            ∙ ap (λ (v : Store). wholes (v .chunks) (v .regions)) after-is;
       }

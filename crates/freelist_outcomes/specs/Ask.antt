@@ -1,9 +1,9 @@
 -- What an ask says and leaves. 01, "freelist.rs", and the tests 5, 6, 8, 10 and 9.
-use mathlib.Core.Bool.{Bool, true, false, _&&_, _||_, not}
-use mathlib.Core.List.{List, [], _∷_}
-use Prim.Native.Nat.{ℕ, _+_}
+use mathlib.Core.Bool.{Bool, true, false, _&&_, _||_, not, cond}
+use mathlib.Core.List.{[], _∷_}
+use Prim.Native.Nat.{ℕ, _+_, _-_}
 use lib.Dec.{leb, ltb}
-use lib.ListN.{set}
+use lib.ListN.{set, getD}
 use Rattle.rounding_rules.specs.Growth.{grown}
 use Rattle.counter.specs.Limits.{spent}
 use Rattle.counter.specs.Account.{heapAt}
@@ -20,11 +20,14 @@ use Rattle.store_rules.specs.Orders.{orderFrom, keptFrom}
 use Rattle.store_rules.specs.Outcomes.{Out, out, withOrder, blockSaid}
 use Rattle.store_rules.specs.declared.Loan.{Loan}
 use Rattle.book_rules.specs.Book.{takenOf, entered, enteredIndex}
-use Rattle.freelist_rules.specs.Place.{sizeFor, maskFor, Found, nowhere, at, find, cutOff, lentLoan}
-use Rattle.freelist_rules.specs.Steps.{served}
-use Rattle.freelist_rules.specs.Tables.{Tables, tables, chunkSizeAt, placesIn, chunksIn, storeOf, laidRegions}
+use Rattle.freelist_rules.specs.Place.{sizeFor, maskFor, Found, nowhere, at, find, lentLoan}
+use Rattle.freelist_rules.specs.Steps.{served, noRegion}
+use Rattle.freelist_rules.specs.Tables.{Tables, tables, chunkSizeAt, placesIn, chunksIn, storeOf, gapsIn, wholeIn, laidGaps}
 use Rattle.store_rules.specs.declared.Region.{Region}
 use Rattle.freelist_outcomes.specs.Gate.{gateOf}
+use Rattle.freelist_rules.specs.Threads.{noGap, afterIn, threaded, cutGaps}
+use Rattle.freelist_rules.specs.Release.{wholly}
+use Rattle.slab.specs.Slab.{recordOf}
 
 -- which region serves
 abbrev pub foundFor : FreeListSettings → ℕ → ℕ → Tables → Found
@@ -86,24 +89,28 @@ blockAt s size mask t i = served (maskFor s mask) (sizeFor s size) (storeOf s t)
 abbrev pub loanFrom : FreeListSettings → ℕ → ℕ → Tables → ℕ → Loan
 loanFrom s size mask t i = lentLoan (storeOf s t .given + 1) (blockAt s size mask t i)
 
--- the loan l, whose serial is then the last given, is entered in the book
-abbrev pub bookedTables : FreeListSettings → Loan → Tables → Tables
-bookedTables s l t =
-    tables
-    (t .head)
-    (entered (placesIn t) (t .index) l (t .loans))
-    (t .chunks)
-    (enteredIndex (s .store .loans) (placesIn t) (l .serial) (t .index))
-    (t .room)
+-- the record that the next loan takes, and the one in front of region i by place
+abbrev pub recordFor : Tables → ℕ
+recordFor t = recordOf (takenOf (placesIn t) (t .index) .place)
 
--- these are the free regions from now on
-abbrev pub withRegions : FreeListSettings → List Region → Tables → Tables
-withRegions s rs t = tables (t .head) (t .loans) (t .chunks) (t .index) (laidRegions rs (t .room))
+abbrev pub frontAt : Tables → ℕ → ℕ
+frontAt t i = getD (gapsIn t) i noGap .front
 
--- "The block runs from there to the region's end": it is cut off region i and lent
+-- how many regions are whole once the block is cut off region i: one less, if that was
+abbrev pub wholeLeft : FreeListSettings → Tables → ℕ → ℕ
+wholeLeft s t i = wholeIn t - cond (wholly (storeOf s t .chunks) (getD (storeOf s t .regions) i noRegion)) 1 0
+
+-- "The block runs from there to the region's end": it is cut off region i and lent; its loan is entered in the book, and stands behind
+-- the one in front of the region
 unfoldable pub takenTables : FreeListSettings → ℕ → ℕ → Tables → ℕ → Tables
 takenTables s size mask t i =
-    withRegions s (cutOff (blockAt s size mask t i .start) i (storeOf s t .regions)) (bookedTables s (loanFrom s size mask t i) t)
+    tables
+    (t .head)
+    (entered (placesIn t) (t .index) (loanFrom s size mask t i) (t .loans))
+    (t .chunks)
+    (threaded (s .store .loans) (frontAt t i) (recordFor t) (afterIn (s .store .loans) (t .index) (frontAt t i))
+    (enteredIndex (s .store .loans) (placesIn t) (loanFrom s size mask t i .serial) (t .index)))
+    (laidGaps (cutGaps (blockAt s size mask t i .start) i (recordFor t) (gapsIn t)) (wholeLeft s t i) (t .room))
 
 -- an order raises the chunk size and is kept in the account
 unfoldable pub orderedTables : ℕ → Tables → Tables

@@ -20,10 +20,11 @@ use Rattle.store_rules.specs.Orders.{leadsTo}
 use Rattle.store_rules.specs.Outcomes.{Out, out, chargedAccount, lostAccount, blockSaid}
 use Rattle.store_rules.specs.Tests.{openFor, gateRow}
 use Rattle.freelist_rules.specs.Records.{region, chunk}
-use Rattle.freelist_rules.specs.Tables.{Tables, tables, madeAt, chunkSizeAt, storeOf, soundOk, laidRegions, laidChunks}
+use Rattle.freelist_rules.specs.Tables.{Tables, tables, madeAt, chunkSizeAt, storeOf, soundOk, laidChunks, gapsIn, wholeIn, laidGaps}
 use Rattle.freelist_rules.specs.Walk.{memories}
 use Rattle.freelist_outcomes.specs.Gate.{inTableOk, accountOk}
 use Rattle.freelist_outcomes.specs.Ask.{decideAsk, loanFrom, takenTables}
+use Rattle.freelist_rules.specs.Threads.{gap, beforeIn}
 
 -- 3 on a delivery: the kept ask still leads to the order that was told
 abbrev pub stillOk : FreeListSettings → Account → Tables → OpenOrder → Bool
@@ -44,7 +45,7 @@ deliveredTables s memory z t =
     (t .loans)
     (set (laidChunks (storeOf s t .chunks ++ (chunk (storeOf s t .made + 1) memory z ∷ [])) (t .chunks)) madeAt (storeOf s t .made + 1))
     (t .index)
-    (laidRegions (storeOf s t .regions ++ (region (storeOf s t .made + 1) 0 z ∷ [])) (t .room))
+    (laidGaps (gapsIn t ++ (gap (region (storeOf s t .made + 1) 0 z) (beforeIn (s .store .loans) (t .index) 0) ∷ [])) (wholeIn t + 1) (t .room))
 
 -- it is kept, and the kept ask is served from its region, the last; or it is lost
 unfoldable pub carryFate : FreeListSettings → Account → KeptOrder → Tables → Fate → Out Tables

@@ -1,8 +1,8 @@
 -- What a return and a clean-up say and leave. 01, "freelist.rs", and test 7.
-use mathlib.Core.Bool.{Bool, true, false}
+use mathlib.Core.Bool.{Bool, true, false, cond}
 use mathlib.Core.List.{List, []}
-use Prim.Native.Nat.{ℕ, _+_}
-use lib.ListN.{length}
+use Prim.Native.Nat.{ℕ, _+_, _-_}
+use lib.ListN.{length, getD}
 use lib.Seq.{sets}
 use Rattle.counter.specs.Gate.{Verdict, pass, refuse, gated}
 use Rattle.counter.specs.Paper as Paper
@@ -14,11 +14,11 @@ use Rattle.book_rules.specs.Book.{struck, struckIndex}
 use Rattle.book_rules.specs.Returns as Returns
 pub use Rattle.book_rules.specs.Returns.{Plan, deny, back, decided}
 use Rattle.freelist_rules.specs.Records.{region}
-use Rattle.freelist_rules.specs.Join.{insert}
-use Rattle.freelist_rules.specs.Release.{staying, leaving, remaining, memoriesOf, bytesOf}
-use Rattle.freelist_rules.specs.Tables.{Tables, tables, placesIn, storeOf, laidRegions, laidChunks}
+use Rattle.freelist_rules.specs.Release.{leaving, remaining, memoriesOf, bytesOf, wholly}
+use Rattle.freelist_rules.specs.Tables.{Tables, tables, placesIn, storeOf, laidChunks, gapsIn, wholeIn, laidGaps}
 use Rattle.store_rules.specs.declared.Region.{Region}
 use Rattle.freelist_outcomes.specs.Gate.{gateOf}
+use Rattle.freelist_rules.specs.Threads.{beforeIn, unthreaded, insertGap, around, stayingGaps}
 
 -- the word of the index that leads to the loan with the block's serial
 abbrev pub wordFor : FreeListSettings → Block → Tables → ℕ
@@ -28,6 +28,17 @@ wordFor s b t = Returns.wordFor (t .loans) (t .index) (s .store .loans) (placesI
 unfoldable pub onLoanOk : FreeListSettings → Block → Tables → Bool
 onLoanOk s b t = Returns.onLoanOk (t .loans) (t .index) (s .store .loans) (placesIn t) b
 
+-- the record that the word w leads to, and the bytes of the block
+abbrev pub recordAt : ℕ → Tables → ℕ
+recordAt w t = getD (t .index) w 0
+
+abbrev pub bytesFrom : Block → Region
+bytesFrom b = region (b .chunk) (b .offset) (b .offset + b .size)
+
+-- how many regions are whole once they are free: one more, if they then are all of their chunk
+abbrev pub wholeNow : FreeListSettings → Block → Tables → ℕ
+wholeNow s b t = wholeIn t + cond (wholly (storeOf s t .chunks) (around (bytesFrom b) (storeOf s t .regions))) 1 0
+
 -- the loan that the word w leads to is struck out, and its bytes go back among the free regions
 unfoldable pub givenTables : FreeListSettings → Block → ℕ → Tables → Tables
 givenTables s b w t =
@@ -35,8 +46,8 @@ givenTables s b w t =
     (t .head)
     (struck w (t .index) (t .loans))
     (t .chunks)
-    (struckIndex w (t .index))
-    (laidRegions (insert (region (b .chunk) (b .offset) (b .offset + b .size)) (storeOf s t .regions)) (t .room))
+    (unthreaded (s .store .loans) (recordAt w t) (struckIndex w (t .index)))
+    (laidGaps (insertGap (bytesFrom b) (recordAt w t) (beforeIn (s .store .loans) (t .index) (recordAt w t)) (gapsIn t)) (wholeNow s b t) (t .room))
 
 -- ---- the release
 
@@ -51,7 +62,7 @@ releasedTables s spare t =
     (t .loans)
     (laidChunks (remaining (goneFrom s spare t) (storeOf s t .chunks)) (t .chunks))
     (t .index)
-    (laidRegions (staying (storeOf s t .chunks) spare (storeOf s t .regions)) (t .room))
+    (laidGaps (stayingGaps (storeOf s t .chunks) spare (gapsIn t)) (wholeIn t - length (goneFrom s spare t)) (t .room))
 
 unfoldable pub releaseOf : FreeListSettings → Account → Bool → Tables → List ℕ → Listed Tables
 releaseOf s a spare t list =

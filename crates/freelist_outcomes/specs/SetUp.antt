@@ -8,7 +8,7 @@ use Rattle.counter.specs.Paper as Paper
 use Rattle.counter.specs.Table.{freeListOk}
 use Rattle.counter.specs.declared.settings.FreeListSettings.{FreeListSettings}
 use Rattle.store_rules.specs.Loans.{loanWords}
-use Rattle.book_rules.specs.Book.{freshIndex}
+use Rattle.freelist_rules.specs.Threads.{threadWords}
 pub use Rattle.store_rules.specs.Tables.{Begun, begun}
 use Rattle.freelist_rules.specs.Records.{chunkWords}
 use Rattle.freelist_rules.specs.Tables.{Tables, tables, marks, lengthsOk, roomWords}
@@ -24,7 +24,7 @@ freshTables s =
     (freshHead s)
     (blank (loanWords + loanWords * s .store .loans) (marks .loans) 0)
     (blank (chunkWords + chunkWords * s .store .chunks) (marks .chunks) 0)
-    (freshIndex (marks .index) (s .store .loans))
+    (blank (threadWords (s .store .loans)) (marks .index) 0)
     (blank (roomWords s) (marks .room) 0)
 
 -- 1, but for the account, which set-up does not take

@@ -5,7 +5,6 @@ use Prim.Native.Nat.{ℕ}
 use native.Mathlib.Omega.{arith}
 use lib.ListN.{length, set}
 use Rattle.counter.specs.declared.settings.FreeListSettings.{FreeListSettings}
-use Rattle.book_rules.specs.Book.{freshIndex}
 use Rattle.freelist_rules.specs.Tables.{Tables, tables, chunkSizeAt, headWords, Lengths, marks}
 use Rattle.freelist_outcomes.specs.SetUp.{freshHead, freshTables}
 use Rattle.words.specs.Words.{markAt, blank}
@@ -21,10 +20,11 @@ none : (t : List ℕ) (n m : ℕ) (u : List ℕ) → length t ≡ n → u ≡ bl
 none t n m u l e = e ∙ ap (λ (k : ℕ). blank k m 0) l
 
 pub fresh-done : (s : FreeListSettings) (t : Tables) (h l c i r : List ℕ) → Lengths s t → h ≡ freshHead s → l ≡ blank (length (t .loans)) (marks .loans) 0 → c ≡ blank (length (t .chunks)) (marks .chunks) 0
-    → r ≡ blank (length (t .room)) (marks .room) 0 → i ≡ freshIndex (marks .index) (s .store .loans) → tables h l c i r ≡ freshTables s
+    → r ≡ blank (length (t .room)) (marks .room) 0 → i ≡ blank (length (t .index)) (marks .index) 0 → tables h l c i r ≡ freshTables s
 unfolding freshTables
 fresh-done s t h l c i r long p q v w x =
     let q′ = none (t .loans) _ (marks .loans) l (long .loans) q in
     let v′ = none (t .chunks) _ (marks .chunks) c (long .chunks) v in
     let w′ = none (t .room) _ (marks .room) r (long .room) w in
-    (λ j. tables (p j) (q′ j) (v′ j) (x j) (w′ j))
+    let x′ = none (t .index) _ (marks .index) i (long .index) x in
+    (λ j. tables (p j) (q′ j) (v′ j) (x′ j) (w′ j))

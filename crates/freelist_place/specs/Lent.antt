@@ -11,9 +11,11 @@ use Rattle.store_rules.specs.declared.Loan.{Loan}
 use Rattle.store_rules.specs.declared.Region.{Region}
 use Rattle.book_rules.specs.Book.{vacatedAt, firstOf, nextOf, counted}
 use Rattle.freelist_rules.specs.Records.{region}
-use Rattle.freelist_rules.specs.Place.{cutOff, lentLoan}
+use Rattle.freelist_rules.specs.Place.{lentLoan}
 use Rattle.freelist_rules.specs.Steps.{noRegion}
-use Rattle.freelist_rules.specs.Tables.{Tables, tables, storeOf, laidRegions}
+use Rattle.freelist_rules.specs.Threads.{afterIn, threaded, cutGaps}
+use Rattle.freelist_rules.specs.Tables.{Tables, tables, storeOf, gapsIn, laidGaps}
+use Rattle.freelist_outcomes.specs.Ask.{frontAt, wholeLeft}
 
 -- "The block runs from there to the region's end"
 abbrev pub blockFrom : FreeListSettings → ℕ → Tables → ℕ → Region
@@ -31,12 +33,13 @@ enteredAt n k serial index =
     (firstOf (serial % n))
     (recordOf (k .place))
 
--- the tables that region i's block on loan leaves
+-- the tables that region i's block on loan leaves: its loan stands behind the one in front of the region
 unfoldable pub lentTables : FreeListSettings → ℕ → Taken → Tables → ℕ → Tables
 lentTables s start k t i =
     tables
     (t .head)
     (written loanRow (k .place) (lentFrom s start t i) (counted (storeOf s t .given + 1) (k .slab .places) (t .loans)))
     (t .chunks)
-    (enteredAt (s .store .loans) k (storeOf s t .given + 1) (t .index))
-    (laidRegions (cutOff start i (storeOf s t .regions)) (t .room))
+    (threaded (s .store .loans) (frontAt t i) (recordOf (k .place)) (afterIn (s .store .loans) (t .index) (frontAt t i))
+    (enteredAt (s .store .loans) k (storeOf s t .given + 1) (t .index)))
+    (laidGaps (cutGaps start i (recordOf (k .place)) (gapsIn t)) (wholeLeft s t i) (t .room))

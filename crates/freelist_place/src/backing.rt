@@ -1,4 +1,4 @@
-// A block taken back: struck out of the book, and its bytes put among the free regions.
+// A block taken back: struck out of the book and out of the thread by place, and its bytes put among the free regions.
 ghost use mathlib.Core.Path.{_≡_};
 ghost use mathlib.Core.List.{[]};
 ghost use Rattle.book_rules.specs.Book.{ledTo};
@@ -16,18 +16,23 @@ pub fn take_back(
     b: Block,
     at: usize,
     loans: &mut [u64],
+    chunks: &[u64],
     index: &mut [u64],
     regions: &mut [u64],
 )
-    requires { ⌜ Backs s b (now regions) ⌝ }
+    requires { ⌜ Backs s b at (now chunks) (now index) (now regions) ⌝ }
     requires { ⌜ Strikes at (ledTo (now index) at) (now loans) (now index) ⌝ }
-    ensures { λ _. ⌜ tables [] (now (loans .exit)) [] (now (index .exit)) (now (regions .exit)) ≡ givenTables s b at (tables [] (now (loans .entry)) [] (now (index .entry)) (now (regions .entry))) ⌝ }
+    ensures { λ _. ⌜ tables [] (now (loans .exit)) (now (chunks .entry)) (now (index .exit)) (now (regions .exit)) ≡ givenTables s b at (tables [] (now (loans .entry)) (now (chunks .entry)) (now (index .entry)) (now (regions .entry))) ⌝ }
 {
+    let own = s.store;
     let free = Region {
         chunk: b.chunk,
         start: b.offset,
         end: b.offset + b.size,
     };
-    crate::counted::join(s, regions, free);
+    let r = words::word(index, at);
+    let front = crate::threads::before_of(index, own.loans, r);
+    crate::counted::join(s, chunks, regions, free, r, front);
     book::strike(loans, index, at, slab::led_to(index, at));
+    crate::threads::unthread(index, own.loans, r);
 }

@@ -1,54 +1,64 @@
-// A block lent: cut off its region, and entered in the book under the next serial.
+// A block lent: cut off its region, entered in the book under the next serial, and threaded by its place.
 ghost use mathlib.Core.Path.{_≡_};
 ghost use mathlib.Core.List.{[]};
+ghost use Prim.Native.Nat.{_+_, _≤_, _<_};
+ghost use lib.ListN.{getD};
+ghost use Rattle.counter.specs.Limits.{spent};
+ghost use Rattle.store_rules.specs.Loans.{givenAt};
+ghost use Rattle.freelist_rules.specs.Records.{region};
+ghost use Rattle.freelist_rules.specs.Place.{lentLoan};
 ghost use Rattle.freelist_rules.specs.Tables.{tables};
 ghost use Rattle.freelist_place.specs.Lent.{lentFrom, lentTables};
 ghost use Rattle.freelist_place.specs.Ready.{Lends};
 use counter::FreeListSettings;
+use freelist_rules::Gap;
+use freelist_rules::WHOLE_AT;
 use slab::Taken;
 use store_rules::GIVEN_AT;
 use store_rules::Loan;
+use store_rules::Region;
 
-// The loan that region i gives from `start` on. `loan` is its place in the book.
-fn loan_of(
-    s: FreeListSettings,
-    i: usize,
-    start: u64,
-    loan: Taken,
-    loans: &[u64],
-    index: &[u64],
-    regions: &[u64],
-) -> Loan
-    requires { ⌜ Lends s i start (loan .place) (now loans) (now index) (now regions) ⌝ }
-    ensures { λ r. ⌜ r ≡ lentFrom s start (tables [] (now (loans .entry)) [] [] (now (regions .entry))) i ⌝ }
+// The loan that the region gives from `start` on.
+fn loan_of(start: u64, loans: &[u64], g: Gap) -> Loan
+    requires { ⌜ (getD (now loans) givenAt 0 < spent) × (start ≤ g .end) ⌝ }
+    ensures { λ r. ⌜ r ≡ lentLoan (getD (now (loans .entry)) givenAt 0 + 1) (region (g .chunk) start (g .end)) ⌝ }
 {
     let serial = words::word(loans, GIVEN_AT) + 1;
-    let r = freelist_regions::region_at(regions, i);
     Loan {
         serial: serial,
-        chunk: r.chunk,
+        chunk: g.chunk,
         offset: start,
-        size: r.end - start,
+        size: g.end - start,
     }
 }
 
-// Region i serves an ask from `start` on, and the loan takes its place in the book.
+// Region i serves an ask from `start` on, and the loan takes its place in the book. `loan` is that place.
 pub fn lend(
     s: FreeListSettings,
     i: usize,
     start: u64,
     loan: Taken,
     loans: &mut [u64],
+    chunks: &[u64],
     index: &mut [u64],
     regions: &mut [u64],
 ) -> Loan
-    requires { ⌜ Lends s i start (loan .place) (now loans) (now index) (now regions) ⌝ }
-    ensures { λ r. ⌜ r ≡ lentFrom s start (tables [] (now (loans .entry)) [] [] (now (regions .entry))) i ⌝ }
-    ensures { λ _. ⌜ tables [] (now (loans .exit)) [] (now (index .exit)) (now (regions .exit)) ≡ lentTables s start loan (tables [] (now (loans .entry)) [] (now (index .entry)) (now (regions .entry))) i ⌝ }
+    requires { ⌜ Lends s i start (loan .place) (now loans) (now chunks) (now index) (now regions) ⌝ }
+    ensures { λ r. ⌜ r ≡ lentFrom s start (tables [] (now (loans .entry)) (now (chunks .entry)) (now (index .entry)) (now (regions .entry))) i ⌝ }
+    ensures { λ _. ⌜ tables [] (now (loans .exit)) (now (chunks .entry)) (now (index .exit)) (now (regions .exit)) ≡ lentTables s start loan (tables [] (now (loans .entry)) (now (chunks .entry)) (now (index .entry)) (now (regions .entry))) i ⌝ }
 {
-    let l = loan_of(s, i, start, loan, loans, index, regions);
     let own = s.store;
-    crate::counted::cut(s, regions, i, start);
+    let g = freelist_regions::gap_at(regions, i);
+    let l = loan_of(start, loans, g);
+    let free = Region {
+        chunk: g.chunk,
+        start: g.start,
+        end: g.end,
+    };
+    let left = crate::wholes::without(chunks, words::word(regions, WHOLE_AT), free);
+    let r = slab::record_of(loan.place);
+    crate::counted::cut(s, regions, i, start, r, left);
     book::enter_at(loans, index, own.loans, loan, l);
+    crate::threads::thread(index, own.loans, g.front, r);
     l
 }

@@ -5,6 +5,8 @@ mod counted;
 mod lending;
 mod raising;
 mod setting;
+mod threads;
+mod wholes;
 
 pub use adding::add_chunk;
 pub use backing::take_back;

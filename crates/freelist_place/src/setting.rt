@@ -46,8 +46,7 @@ pub fn fresh(
     requires { ⌜ FreeListIn s × Lengths s (tables (now head) (now loans) (now chunks) (now index) (now regions)) ⌝ }
     ensures { λ _. ⌜ tables (now (head .exit)) (now (loans .exit)) (now (chunks .exit)) (now (index .exit)) (now (regions .exit)) ≡ freshTables s ⌝ }
 {
-    let own = s.store;
     fresh_head(s, head);
     clear(loans, chunks, regions);
-    book::fresh_index(INDEX_MARK, own.loans, index);
+    words::put_blank(index, INDEX_MARK, 0);
 }

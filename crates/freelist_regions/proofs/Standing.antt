@@ -8,15 +8,17 @@ use lib.Dec.{ltb}
 use lib.ListN.{length, getD}
 use borrow.Author.Tests.{lt-ltb, ltb-true, ltb-false}
 use Rattle.words.specs.Words.{cellOf}
-use Rattle.words.specs.Rows.{rows}
+use Rattle.words.specs.Rows.{row, rows}
 use Rattle.words.proofs.Records.{length-rows, getD-rows, cell-row}
-use Rattle.freelist_rules.specs.Records.{regionRow, regionChunkAt, regionStartAt, regionWords}
+use Rattle.freelist_rules.specs.Records.{gapRow, regionChunkAt, regionStartAt, regionWords}
 use Rattle.store_rules.specs.declared.Region.{Region}
 use Rattle.freelist_rules.specs.Pieces.{line, lo}
 use Rattle.lists.specs.Pairs.{earlier}
 use Rattle.lists.proofs.Pairs.{earlier-then}
 use Rattle.freelist_rules.proofs.Lines.{line-earlier}
 use Rattle.freelist_rules.specs.Steps.{noRegion}
+use Rattle.freelist_rules.specs.Threads.{regionIn, freeOf, noGap}
+use Rattle.freelist_rules.proofs.GapLists.{free-at, free-length}
 use Rattle.freelist_regions.specs.Order.{LowPlace, RegionsStand}
 use Rattle.freelist_regions.specs.Stand.{after, Parting, Parts}
 
@@ -31,20 +33,20 @@ module _ (t : List ℕ) (at w n : ℕ) (chunk place : ℕ → ℕ)
   keys-part c p i j h g e =
       key-read c p j g ∙ earlier-then c p (chunk i) (place i) (chunk j) (place j) (sym (key-read c p i (omega arith)) ∙ e) (rise i j h g)
 
-module _ (t : List ℕ) (n : ℕ) (stand : RegionsStand (rows regionRow n t)) where
+module _ (t : List ℕ) (n : ℕ) (stand : RegionsStand (freeOf (rows gapRow n t))) where
   abbrev regionChunk : ℕ → ℕ
-  regionChunk i = getD (rows regionRow n t) i noRegion .chunk
+  regionChunk i = getD (freeOf (rows gapRow n t)) i noRegion .chunk
 
   abbrev regionStart : ℕ → ℕ
-  regionStart i = getD (rows regionRow n t) i noRegion .start
+  regionStart i = getD (freeOf (rows gapRow n t)) i noRegion .start
 
   region-reads : (i : ℕ) → i < n → (getD t (cellOf regionChunkAt regionWords i) 0 ≡ regionChunk i) × (getD t (cellOf regionStartAt regionWords i) 0 ≡ regionStart i)
   region-reads i h =
-      let e = getD-rows regionRow n i t noRegion h in
+      let e : getD (freeOf (rows gapRow n t)) i noRegion ≡ regionIn (row gapRow i t) = free-at (rows gapRow n t) i ∙ ap regionIn (getD-rows gapRow n i t noGap h) in
       (cell-row t regionChunkAt regionWords i ∙ sym (ap (λ (d : Region). d .chunk) e), cell-row t regionStartAt regionWords i ∙ sym (ap (λ (d : Region). d .start) e))
 
-  regions-long : length (rows regionRow n t) ≡ n
-  regions-long = length-rows regionRow n t
+  regions-long : length (freeOf (rows gapRow n t)) ≡ n
+  regions-long = free-length (rows gapRow n t) ∙ length-rows gapRow n t
 
   region-sorted : (i j : ℕ) → i < j → j < n → earlier (regionChunk i) (regionStart i) (regionChunk j) (regionStart j) ≡ true
   region-sorted i j h g =
@@ -54,14 +56,14 @@ module _ (t : List ℕ) (n : ℕ) (stand : RegionsStand (rows regionRow n t)) wh
   pub regions-part : (c p : ℕ) → Parting (after t regionChunkAt regionWords c p) n
   regions-part c p = keys-part t regionChunkAt regionWords n regionChunk regionStart region-reads region-sorted c p
 
-  region-line : (c p i : ℕ) → LowPlace p → i < n → ltb (line c p) (lo (getD (rows regionRow n t) i noRegion)) ≡ after t regionChunkAt regionWords c p i
+  region-line : (c p i : ℕ) → LowPlace p → i < n → ltb (line c p) (lo (getD (freeOf (rows gapRow n t)) i noRegion)) ≡ after t regionChunkAt regionWords c p i
   region-line c p i low h =
       line-earlier c p (regionChunk i) (regionStart i) low (stand .low i (omega (arith, regions-long)))
       ∙ sym (key-read t regionChunkAt regionWords n regionChunk regionStart region-reads region-sorted c p i h)
 
   -- the regions before where the search ends begin at the place or before it, the others past it
-  pub region-before : (c p k : ℕ) → LowPlace p → Parts (after t regionChunkAt regionWords c p) n k → (i : ℕ) → i < k → lo (getD (rows regionRow n t) i noRegion) ≤ line c p
+  pub region-before : (c p k : ℕ) → LowPlace p → Parts (after t regionChunkAt regionWords c p) n k → (i : ℕ) → i < k → lo (getD (freeOf (rows gapRow n t)) i noRegion) ≤ line c p
   region-before c p k low w i h = ltb-false _ _ (region-line c p i low (omega (arith, w .most)) ∙ w .below i h)
 
-  pub region-past : (c p k : ℕ) → LowPlace p → Parts (after t regionChunkAt regionWords c p) n k → (i : ℕ) → k ≤ i → i < n → line c p < lo (getD (rows regionRow n t) i noRegion)
+  pub region-past : (c p k : ℕ) → LowPlace p → Parts (after t regionChunkAt regionWords c p) n k → (i : ℕ) → k ≤ i → i < n → line c p < lo (getD (freeOf (rows gapRow n t)) i noRegion)
   region-past c p k low w i h g = ltb-true _ _ (region-line c p i low g ∙ w .above i h g)

@@ -3,3 +3,4 @@ pub mod Found
 pub mod Order
 pub mod Seat
 pub mod Stand
+pub mod Settled

@@ -1,21 +1,24 @@
 // Records read and written whole. A record past the end of its table reads as zeros, and a write there does nothing.
 ghost use mathlib.Core.Path.{_≡_};
 ghost use Rattle.words.specs.Rows.{row, written};
-ghost use Rattle.freelist_rules.specs.Records.{chunkRow, regionRow};
+ghost use Rattle.freelist_rules.specs.Records.{chunkRow, gapRow};
+ghost use Rattle.freelist_rules.specs.Threads.{regionIn};
 ghost use Rattle.freelist_regions.specs.Ended.{endedAt};
 use freelist_rules::CHUNK_BYTES_AT;
 use freelist_rules::CHUNK_MEMORY_AT;
 use freelist_rules::CHUNK_NUMBER_AT;
 use freelist_rules::CHUNK_WORDS;
+use freelist_rules::Gap;
 use freelist_rules::REGION_CHUNK_AT;
 use freelist_rules::REGION_END_AT;
+use freelist_rules::REGION_FRONT_AT;
 use freelist_rules::REGION_START_AT;
 use freelist_rules::REGION_WORDS;
 use store_rules::Chunk;
 use store_rules::Region;
 
 pub fn region_at(t: &[u64], i: usize) -> Region
-    ensures { λ r. ⌜ r ≡ row regionRow i (now (t .entry)) ⌝ }
+    ensures { λ r. ⌜ r ≡ regionIn (row gapRow i (now (t .entry))) ⌝ }
 {
     Region {
         chunk: words::cell(t, REGION_CHUNK_AT, REGION_WORDS, i),
@@ -24,28 +27,31 @@ pub fn region_at(t: &[u64], i: usize) -> Region
     }
 }
 
-pub fn put_region(t: &mut [u64], i: usize, r: Region)
-    ensures { λ _. ⌜ now (t .exit) ≡ written regionRow i r (now (t .entry)) ⌝ }
+pub fn gap_at(t: &[u64], i: usize) -> Gap
+    ensures { λ r. ⌜ r ≡ row gapRow i (now (t .entry)) ⌝ }
 {
-    words::put_cell(t, REGION_CHUNK_AT, REGION_WORDS, i, r.chunk);
-    words::put_cell(t, REGION_START_AT, REGION_WORDS, i, r.start);
-    words::put_cell(t, REGION_END_AT, REGION_WORDS, i, r.end);
+    Gap {
+        chunk: words::cell(t, REGION_CHUNK_AT, REGION_WORDS, i),
+        start: words::cell(t, REGION_START_AT, REGION_WORDS, i),
+        end: words::cell(t, REGION_END_AT, REGION_WORDS, i),
+        front: words::cell(t, REGION_FRONT_AT, REGION_WORDS, i),
+    }
+}
+
+pub fn put_gap(t: &mut [u64], i: usize, g: Gap)
+    ensures { λ _. ⌜ now (t .exit) ≡ written gapRow i g (now (t .entry)) ⌝ }
+{
+    words::put_cell(t, REGION_CHUNK_AT, REGION_WORDS, i, g.chunk);
+    words::put_cell(t, REGION_START_AT, REGION_WORDS, i, g.start);
+    words::put_cell(t, REGION_END_AT, REGION_WORDS, i, g.end);
+    words::put_cell(t, REGION_FRONT_AT, REGION_WORDS, i, g.front);
 }
 
 // Region i ends at `place` from now on.
 pub fn end_at(t: &mut [u64], i: usize, place: u64)
     ensures { λ _. ⌜ now (t .exit) ≡ endedAt i place (now (t .entry)) ⌝ }
 {
-    let r = region_at(t, i);
-    put_region(
-        t,
-        i,
-        Region {
-            chunk: r.chunk,
-            start: r.start,
-            end: place,
-        },
-    );
+    words::put_cell(t, REGION_END_AT, REGION_WORDS, i, place);
 }
 
 pub fn chunk_at(t: &[u64], i: usize) -> Chunk

@@ -4,7 +4,8 @@ ghost use mathlib.Core.Bool.{false};
 ghost use Prim.Native.Nat.{ℕ};
 ghost use Rattle.rounding_rules.specs.Masks.{Ones};
 ghost use Rattle.words.specs.Rows.{rows};
-ghost use Rattle.freelist_rules.specs.Records.{regionRow};
+ghost use Rattle.freelist_rules.specs.Records.{gapRow};
+ghost use Rattle.freelist_rules.specs.Threads.{freeOf};
 ghost use Rattle.freelist_rules.specs.Place.{fitsIn, find};
 ghost use Rattle.freelist_regions.specs.Found.{foundOf, Starts};
 use crate::records::region_at;
@@ -26,8 +27,8 @@ fn is_long(r: Region, size: u64) -> bool
 // The last of the first n regions that has an aligned place for `size` bytes that ends within it. `mask` holds the atom mask.
 pub fn find_fit(t: &[u64], n: usize, mask: u64, size: u64) -> Found
     requires { ⌜ Ones 63 mask ⌝ }
-    ensures { λ r. ⌜ foundOf r ≡ find mask size (rows regionRow n (now (t .entry))) ⌝ }
-    ensures { λ r. ⌜ Starts mask size (rows regionRow n (now (t .entry))) r ⌝ }
+    ensures { λ r. ⌜ foundOf r ≡ find mask size (freeOf (rows gapRow n (now (t .entry)))) ⌝ }
+    ensures { λ r. ⌜ Starts mask size (freeOf (rows gapRow n (now (t .entry)))) r ⌝ }
 {
     let mut k = n;
     while 0 < k {

@@ -4,5 +4,6 @@ pub mod Keeping
 pub mod Listing
 pub mod Releasing
 pub mod Sounds
+pub mod Sparing
 pub mod Staying
 pub mod Turns

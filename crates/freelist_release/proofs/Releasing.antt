@@ -2,31 +2,32 @@
 use mathlib.Core.Path.{_≡_, sym, ap, _∙_}
 use mathlib.Core.Bool.{Bool}
 use mathlib.Core.List.{List, [], _++_}
-use Prim.Native.Nat.{ℕ, _+_, _*_, _≤_}
+use Prim.Native.Nat.{ℕ, _+_, _≤_}
 use native.Mathlib.Omega.{arith}
 use lib.ListN.{length, take, drop}
 use lib.Seq.{sets, length-sets, take-append-seam}
 use Rattle.words.specs.Rows.{rows, laid}
-use Rattle.words.proofs.Records.{length-rows, laid-rows}
-use Rattle.freelist_rules.specs.Records.{chunkRow, regionRow}
-use Rattle.freelist_rules.specs.Release.{staying, leaving, remaining, memoriesOf, bytesOf}
+use Rattle.words.proofs.Records.{length-rows}
+use Rattle.freelist_rules.specs.Records.{chunkRow, gapRow}
+use Rattle.freelist_rules.specs.Release.{leaving, remaining, memoriesOf, bytesOf}
+use Rattle.freelist_rules.specs.declared.Gap.{Gap}
+use Rattle.freelist_rules.specs.Threads.{freeOf, stayingGaps}
 use Rattle.store_rules.specs.declared.Chunk.{Chunk}
 use Rattle.store_rules.specs.declared.Region.{Region}
 use Rattle.freelist_release.specs.Listed.{unlisted}
 use Rattle.freelist_marks.specs.Releasable.{Releasable}
 use Rattle.freelist_rules.proofs.Listed.{sets-front, memories-length}
 use Rattle.freelist_release.proofs.Listing.{unlisted-remain}
-use Rattle.freelist_release.proofs.Staying.{all-stay, all-remain, none-of}
 
-module _ (t : List ℕ) (k : ℕ) (u : List ℕ) (n : ℕ) (spare : Bool) (l : List ℕ) (fit : Releasable (rows chunkRow k t) (rows regionRow n u)) where
+module _ (t : List ℕ) (k : ℕ) (u : List ℕ) (n : ℕ) (spare : Bool) (l : List ℕ) (fit : Releasable (rows chunkRow k t) (freeOf (rows gapRow n u))) where
   abbrev cs : List Chunk
   cs = rows chunkRow k t
 
-  abbrev rs : List Region
-  rs = rows regionRow n u
+  abbrev gs : List Gap
+  gs = rows gapRow n u
 
   abbrev gone : List Region
-  gone = leaving cs spare [] rs
+  gone = leaving cs spare [] (freeOf gs)
 
   -- the tables and the list after a release, and what it says
   abbrev Released : ℕ → ℕ → ℕ → ℕ → List ℕ → List ℕ → List ℕ → Type 0
@@ -34,9 +35,9 @@ module _ (t : List ℕ) (k : ℕ) (u : List ℕ) (n : ℕ) (spare : Bool) (l : L
       (count ≡ length gone)
       × ((bytes ≡ bytesOf gone)
       × ((chunks ≡ length (remaining gone cs))
-      × ((regions ≡ length (staying cs spare rs))
+      × ((regions ≡ length (stayingGaps cs spare gs))
       × ((t′ ≡ laid chunkRow (remaining gone cs) t)
-      × ((u′ ≡ laid regionRow (staying cs spare rs) u)
+      × ((u′ ≡ laid gapRow (stayingGaps cs spare gs) u)
       × (l′ ≡ sets l 0 (memoriesOf cs gone)))))))
 
   module _ (m : ℕ) (l′ : List ℕ) (em : m ≡ length gone) (el : l′ ≡ sets l 0 (memoriesOf cs gone)) (room : k ≤ length l) where
@@ -55,15 +56,8 @@ module _ (t : List ℕ) (k : ℕ) (u : List ℕ) (n : ℕ) (spare : Bool) (l : L
         ∙ ap (λ (z : ℕ). take z (ms ++ drop (length ms) l)) e
         ∙ take-append-seam ms (drop (length ms) l)
 
-    pub released-some : (bytes chunks regions : ℕ) (t′ u′ : List ℕ) → bytes ≡ bytesOf gone → (regions ≡ length (staying cs spare rs)) × (u′ ≡ laid regionRow (staying cs spare rs) u)
+    pub released-some : (bytes chunks regions : ℕ) (t′ u′ : List ℕ) → bytes ≡ bytesOf gone → (regions ≡ length (stayingGaps cs spare gs)) × (u′ ≡ laid gapRow (stayingGaps cs spare gs) u)
         → (chunks ≡ length (unlisted (take m l′) cs)) × (t′ ≡ laid chunkRow (unlisted (take m l′) cs) t) → Released m bytes chunks regions t′ u′ l′
     released-some bytes chunks regions t′ u′ eb er ec =
-        let e : unlisted (take m l′) cs ≡ remaining gone cs = ap (λ (z : List ℕ). unlisted z cs) front ∙ unlisted-remain cs rs spare fit in
+        let e : unlisted (take m l′) cs ≡ remaining gone cs = ap (λ (z : List ℕ). unlisted z cs) front ∙ unlisted-remain cs (freeOf gs) spare fit in
         (em, (eb, (ec .0 ∙ ap length e, (er .0, (ec .1 ∙ ap (λ (z : List Chunk). laid chunkRow z t) e, (er .1, el))))))
-
-    pub released-none : (z : m ≡ 0) → 3 + 3 * k ≤ length t → 3 + 3 * n ≤ length u → Released 0 0 k n t u l′
-    released-none z ht hu =
-        let e : 0 ≡ length gone = sym z ∙ em in
-        let a : cs ≡ remaining gone cs = all-remain gone cs e in
-        let b : rs ≡ staying cs spare rs = all-stay cs spare rs e in
-        (e, (ap bytesOf (sym (none-of gone e)), (sym (length-rows chunkRow k t) ∙ ap length a, (sym (length-rows regionRow n u) ∙ ap length b, (sym (laid-rows chunkRow k t ht) ∙ ap (λ (x : List Chunk). laid chunkRow x t) a, (sym (laid-rows regionRow n u hu) ∙ ap (λ (x : List Region). laid regionRow x u) b, el))))))

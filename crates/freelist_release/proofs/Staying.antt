@@ -2,34 +2,44 @@
 use mathlib.Core.Path.{_≡_, refl, sym, ap, _∙_}
 use mathlib.Core.Bool.{Bool, true, false, cond, _&&_, not}
 use mathlib.Core.List.{List, [], _∷_, _++_}
-use Prim.Native.Nat.{ℕ, _+_, _<_}
+use Prim.Native.Nat.{ℕ, zero, suc, _+_, _<_}
 use native.Mathlib.Omega.{arith}
 use lib.Dec.{eqb}
 use lib.ListN.{length, drop, length-append}
 use Rattle.words.specs.Rows.{Layout, row, rows}
-use Rattle.freelist_rules.specs.Records.{regionRow}
-use Rattle.freelist_rules.specs.Release.{wholly, goes, staying, rotated, leaving, remaining}
+use Rattle.freelist_rules.specs.Records.{gapRow}
+use Rattle.freelist_rules.specs.Release.{wholly, goes, rotated, leaving, remaining}
 use Rattle.store_rules.specs.declared.Chunk.{Chunk}
 use Rattle.store_rules.specs.declared.Region.{Region}
+use Rattle.freelist_rules.specs.declared.Gap.{Gap}
+use Rattle.freelist_rules.specs.Threads.{regionIn, freeOf, stayingGaps}
 use Rattle.freelist_marks.proofs.Leaving.{row-next, goes-told, leaving-long}
 use Rattle.freelist_release.specs.Listed.{among, unlisted}
 
 -- ---- a region that goes, or does not, as code tests it
 
-module _ (cs : List Chunk) (spare : Bool) (t : List ℕ) (n i : ℕ) (h : i < n) (b : Bool) (e : b ≡ (not (spare && eqb (i + 1) n) && wholly cs (row regionRow i t))) where
-  abbrev rest : List Region
-  rest = drop (i + 1) (rows regionRow n t)
+free-from : (i : ℕ) (gs : List Gap) → freeOf (drop i gs) ≡ drop i (freeOf gs)
+free-from zero gs = refl
+free-from (suc i) [] = refl
+free-from (suc i) (g ∷ gs) = free-from i gs
 
-  pub staying-past : b ≡ true → staying cs spare (drop i (rows regionRow n t)) ≡ staying cs spare rest
-  unfolding staying
-  staying-past q = ap (staying cs spare) (row-next regionRow t n i h) ∙ rw (goes-told cs spare t n i h b e ∙ q)
+module _ (cs : List Chunk) (spare : Bool) (t : List ℕ) (n i : ℕ) (h : i < n) (b : Bool) (e : b ≡ (not (spare && eqb (i + 1) n) && wholly cs (regionIn (row gapRow i t)))) where
+  abbrev rest : List Gap
+  rest = drop (i + 1) (rows gapRow n t)
 
-  pub staying-more : b ≡ false → staying cs spare (drop i (rows regionRow n t)) ≡ row regionRow i t ∷ staying cs spare rest
-  unfolding staying
-  staying-more q = ap (staying cs spare) (row-next regionRow t n i h) ∙ rw (goes-told cs spare t n i h b e ∙ q)
+  told-goes : goes cs spare (regionIn (row gapRow i t)) (freeOf rest) ≡ b
+  told-goes = ap (goes cs spare (regionIn (row gapRow i t))) (free-from (i + 1) (rows gapRow n t)) ∙ goes-told cs spare t n i h b e
 
-pub staying-end : (cs : List Chunk) (spare : Bool) → staying cs spare [] ≡ []
-unfolding staying
+  pub staying-past : b ≡ true → stayingGaps cs spare (drop i (rows gapRow n t)) ≡ stayingGaps cs spare rest
+  unfolding stayingGaps
+  staying-past q = ap (stayingGaps cs spare) (row-next gapRow t n i h) ∙ rw (told-goes ∙ q)
+
+  pub staying-more : b ≡ false → stayingGaps cs spare (drop i (rows gapRow n t)) ≡ row gapRow i t ∷ stayingGaps cs spare rest
+  unfolding stayingGaps
+  staying-more q = ap (stayingGaps cs spare) (row-next gapRow t n i h) ∙ rw (told-goes ∙ q)
+
+pub staying-end : (cs : List Chunk) (spare : Bool) → stayingGaps cs spare [] ≡ []
+unfolding stayingGaps
 staying-end cs spare = refl
 
 -- ---- a chunk that is listed, or is not
@@ -53,27 +63,21 @@ unlisted-end ms = refl
 -- ---- where none leaves
 
 module _ (cs : List Chunk) (spare : Bool) where
-  none-goes : (marked rs : List Region) → length (leaving cs spare marked rs) ≡ 0 → staying cs spare rs ≡ rs
-  unfolding leaving staying
+  none-goes : (marked : List Region) (gs : List Gap) → length (leaving cs spare marked (freeOf gs)) ≡ 0 → stayingGaps cs spare gs ≡ gs
+  unfolding leaving stayingGaps
   none-goes marked [] e = refl
-  none-goes marked (r ∷ rs) e = go (goes cs spare r rs) (none-goes (rotated marked) rs) e
+  none-goes marked (g ∷ gs) e = go (goes cs spare (regionIn g) (freeOf gs)) (none-goes (rotated marked) gs) e
     where
-      go : (b : Bool) → (length (leaving cs spare (rotated marked) rs) ≡ 0 → staying cs spare rs ≡ rs)
-          → length (cond b (leaving cs spare (marked ++ (r ∷ [])) rs) (leaving cs spare (rotated marked) rs)) ≡ 0 → cond b (staying cs spare rs) (r ∷ staying cs spare rs) ≡ r ∷ rs
-      go true ih z = absurd (omega (arith, z, leaving-long cs spare (marked ++ (r ∷ [])) rs, length-append marked (r ∷ [])))
-      go false ih z = ap (λ (l : List Region). r ∷ l) (ih z)
+      go : (b : Bool) → (length (leaving cs spare (rotated marked) (freeOf gs)) ≡ 0 → stayingGaps cs spare gs ≡ gs)
+          → length (cond b (leaving cs spare (marked ++ (regionIn g ∷ [])) (freeOf gs)) (leaving cs spare (rotated marked) (freeOf gs))) ≡ 0
+          → cond b (stayingGaps cs spare gs) (g ∷ stayingGaps cs spare gs) ≡ g ∷ gs
+      go true ih z = absurd (omega (arith, z, leaving-long cs spare (marked ++ (regionIn g ∷ [])) (freeOf gs), length-append marked (regionIn g ∷ [])))
+      go false ih z = ap (λ (l : List Gap). g ∷ l) (ih z)
 
-  pub all-stay : (rs : List Region) → 0 ≡ length (leaving cs spare [] rs) → rs ≡ staying cs spare rs
-  all-stay rs e = sym (none-goes [] rs (sym e))
+  pub all-stay : (gs : List Gap) → leaving cs spare [] (freeOf gs) ≡ [] → stayingGaps cs spare gs ≡ gs
+  all-stay gs e = none-goes [] gs (ap length e)
 
-pub none-of : {A : Type 0} (xs : List A) → 0 ≡ length xs → xs ≡ []
-none-of [] e = refl
-none-of (x ∷ xs) e = absurd (omega (arith, e))
-
-remaining-none : (cs : List Chunk) → cs ≡ remaining [] cs
+pub all-remain : (cs : List Chunk) → remaining [] cs ≡ cs
 unfolding remaining
-remaining-none [] = refl
-remaining-none (c ∷ cs) = ap (λ (l : List Chunk). c ∷ l) (remaining-none cs)
-
-pub all-remain : (gone : List Region) (cs : List Chunk) → 0 ≡ length gone → cs ≡ remaining gone cs
-all-remain gone cs e = remaining-none cs ∙ ap (λ (l : List Region). remaining l cs) (sym (none-of gone e))
+all-remain [] = refl
+all-remain (c ∷ cs) = ap (λ (l : List Chunk). c ∷ l) (all-remain cs)

@@ -8,36 +8,37 @@ use lib.Dec.{eqb}
 use lib.ListN.{length}
 use Rattle.words.specs.Rows.{row, rows, laid, written}
 use Rattle.words.proofs.Records.{length-rows}
-use Rattle.freelist_rules.specs.Records.{chunkRow, regionRow}
-use Rattle.freelist_rules.specs.Release.{wholly, staying}
+use Rattle.freelist_rules.specs.Records.{chunkRow, gapRow}
+use Rattle.freelist_rules.specs.Release.{wholly}
 use Rattle.store_rules.specs.declared.Chunk.{Chunk}
-use Rattle.store_rules.specs.declared.Region.{Region}
+use Rattle.freelist_rules.specs.declared.Gap.{Gap}
+use Rattle.freelist_rules.specs.Threads.{regionIn, stayingGaps}
 use Rattle.freelist_release.specs.Listed.{among, unlisted}
 use Rattle.freelist_release.proofs.Keeping.{Kept, kept-row, kept-past, kept-more, kept-all}
 use Rattle.freelist_release.proofs.Staying.{staying-past, staying-more, staying-end, unlisted-past, unlisted-more, unlisted-end}
 
 module _ (cs : List Chunk) (spare : Bool) (t : List ℕ) (n : ℕ) where
   abbrev pub KeptRegions : List ℕ → ℕ → ℕ → Type 0
-  KeptRegions u i kept = Kept regionRow (staying cs spare) (rows regionRow n t) t u i kept
+  KeptRegions u i kept = Kept gapRow (stayingGaps cs spare) (rows gapRow n t) t u i kept
 
   module _ (u : List ℕ) (i kept : ℕ) (now : KeptRegions u i kept) where
-    pub regions-done : n ≤ i → (kept ≡ length (staying cs spare (rows regionRow n t))) × (u ≡ laid regionRow (staying cs spare (rows regionRow n t)) t)
-    regions-done h = kept-all regionRow (staying cs spare) (rows regionRow n t) t u i kept now (staying-end cs spare) (omega (arith, length-rows regionRow n t))
+    pub regions-done : n ≤ i → (kept ≡ length (stayingGaps cs spare (rows gapRow n t))) × (u ≡ laid gapRow (stayingGaps cs spare (rows gapRow n t)) t)
+    regions-done h = kept-all gapRow (stayingGaps cs spare) (rows gapRow n t) t u i kept now (staying-end cs spare) (omega (arith, length-rows gapRow n t))
 
-    module _ (h : i < n) (long : 3 + 3 * n ≤ length t) (b : Bool) (e : b ≡ (not (spare && eqb (i + 1) n) && wholly cs (row regionRow i u))) where
-      same : row regionRow i u ≡ row regionRow i t
-      same = kept-row regionRow (staying cs spare) (rows regionRow n t) t u i kept now (omega arith)
+    module _ (h : i < n) (long : 4 + 4 * n ≤ length t) (b : Bool) (e : b ≡ (not (spare && eqb (i + 1) n) && wholly cs (regionIn (row gapRow i u)))) where
+      same : row gapRow i u ≡ row gapRow i t
+      same = kept-row gapRow (stayingGaps cs spare) (rows gapRow n t) t u i kept now (omega arith)
 
-      tested : b ≡ (not (spare && eqb (i + 1) n) && wholly cs (row regionRow i t))
-      tested = e ∙ ap (λ (r : Region). not (spare && eqb (i + 1) n) && wholly cs r) same
+      tested : b ≡ (not (spare && eqb (i + 1) n) && wholly cs (regionIn (row gapRow i t)))
+      tested = e ∙ ap (λ (g : Gap). not (spare && eqb (i + 1) n) && wholly cs (regionIn g)) same
 
       pub region-past : b ≡ true → KeptRegions u (i + 1) kept
-      region-past q = kept-past regionRow (staying cs spare) (rows regionRow n t) t u i kept now (staying-past cs spare t n i h b tested q)
+      region-past q = kept-past gapRow (stayingGaps cs spare) (rows gapRow n t) t u i kept now (staying-past cs spare t n i h b tested q)
 
-      pub region-more : b ≡ false → (r : Region) → r ≡ row regionRow i u → (v : List ℕ) → v ≡ written regionRow kept r u → KeptRegions v (i + 1) (kept + 1)
-      region-more q r is v p =
-          kept-more regionRow (staying cs spare) (rows regionRow n t) t u i kept now (row regionRow i t) v (staying-more cs spare t n i h b tested q)
-          (p ∙ ap (λ (z : Region). written regionRow kept z u) (is ∙ same)) (omega arith)
+      pub region-more : b ≡ false → (g : Gap) → g ≡ row gapRow i u → (v : List ℕ) → v ≡ written gapRow kept g u → KeptRegions v (i + 1) (kept + 1)
+      region-more q g is v p =
+          kept-more gapRow (stayingGaps cs spare) (rows gapRow n t) t u i kept now (row gapRow i t) v (staying-more cs spare t n i h b tested q)
+          (p ∙ ap (λ (z : Gap). written gapRow kept z u) (is ∙ same)) (omega arith)
 
 module _ (ms t : List ℕ) (k : ℕ) where
   abbrev pub KeptChunks : List ℕ → ℕ → ℕ → Type 0

@@ -1,4 +1,5 @@
 -- What the release of a store's chunks asks of its tables and of the list: a passed gate gives it.
+use mathlib.Core.Path.{_≡_}
 use mathlib.Core.List.{List}
 use Prim.Native.Nat.{ℕ, _+_, _*_, _≤_}
 use lib.ListN.{length, getD}
@@ -7,7 +8,8 @@ use Rattle.counter.specs.InTable.{FreeListIn}
 use Rattle.counter.specs.Limits.{loansMost, chunksMost}
 use Rattle.counter.specs.declared.settings.FreeListSettings.{FreeListSettings}
 use Rattle.freelist_rules.specs.Records.{chunkWords, regionWords, chunkRow}
-use Rattle.freelist_rules.specs.Tables.{chunksAt, regionCountAt, regionsOf}
+use Rattle.freelist_rules.specs.Tables.{chunksAt, regionCountAt, wholeAt, regionsOf}
+use Rattle.freelist_rules.specs.Threads.{wholes}
 use Rattle.store_rules.specs.declared.Chunk.{Chunk}
 use Rattle.freelist_marks.specs.Releasable.{Releasable}
 
@@ -22,3 +24,4 @@ pub record Frees (s : FreeListSettings) (chunks regions list : List ℕ) : Type 
   pub regions-fit : regionWords + regionWords * getD regions regionCountAt 0 ≤ length regions
   pub few : getD regions regionCountAt 0 ≤ loansMost + chunksMost
   pub long : getD chunks chunksAt 0 ≤ length list
+  pub whole : getD regions wholeAt 0 ≡ wholes (chunksOf chunks) (regionsOf regions)

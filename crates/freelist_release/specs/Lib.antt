@@ -1,2 +1,3 @@
 pub mod Frees
 pub mod Listed
+pub mod Spared

@@ -6,8 +6,9 @@ ghost use lib.ListN.{length};
 ghost use lib.Seq.{sets};
 ghost use Rattle.words.specs.Rows.{rows, laid};
 ghost use Rattle.counter.specs.Limits.{loansMost, chunksMost};
-ghost use Rattle.freelist_rules.specs.Records.{chunkRow, chunkWords, regionRow, regionWords};
-ghost use Rattle.freelist_rules.specs.Release.{staying, leaving, remaining, memoriesOf, bytesOf};
+ghost use Rattle.freelist_rules.specs.Records.{chunkRow, chunkWords, gapRow, regionWords};
+ghost use Rattle.freelist_rules.specs.Release.{leaving, remaining, memoriesOf, bytesOf};
+ghost use Rattle.freelist_rules.specs.Threads.{freeOf, stayingGaps};
 ghost use Rattle.freelist_marks.specs.Releasable.{Releasable};
 use crate::keeps::keep_chunks;
 use crate::keeps::keep_regions;
@@ -31,24 +32,16 @@ pub fn drop_chunks(
     list: &mut [u64],
 ) -> Tally
     requires { ⌜ (chunkWords + chunkWords * k ≤ length (now chunks)) × (regionWords + regionWords * n ≤ length (now regions)) × (k ≤ length (now list)) × (n ≤ loansMost + chunksMost) ⌝ }
-    requires { ⌜ Releasable (rows chunkRow k (now chunks)) (rows regionRow n (now regions)) ⌝ }
-    ensures { λ r. ⌜ r .count ≡ length (leaving (rows chunkRow k (now (chunks .entry))) spare [] (rows regionRow n (now (regions .entry)))) ⌝ }
-    ensures { λ r. ⌜ r .bytes ≡ bytesOf (leaving (rows chunkRow k (now (chunks .entry))) spare [] (rows regionRow n (now (regions .entry)))) ⌝ }
-    ensures { λ r. ⌜ r .chunks ≡ length (remaining (leaving (rows chunkRow k (now (chunks .entry))) spare [] (rows regionRow n (now (regions .entry)))) (rows chunkRow k (now (chunks .entry)))) ⌝ }
-    ensures { λ r. ⌜ r .regions ≡ length (staying (rows chunkRow k (now (chunks .entry))) spare (rows regionRow n (now (regions .entry)))) ⌝ }
-    ensures { λ _. ⌜ now (chunks .exit) ≡ laid chunkRow (remaining (leaving (rows chunkRow k (now (chunks .entry))) spare [] (rows regionRow n (now (regions .entry)))) (rows chunkRow k (now (chunks .entry)))) (now (chunks .entry)) ⌝ }
-    ensures { λ _. ⌜ now (regions .exit) ≡ laid regionRow (staying (rows chunkRow k (now (chunks .entry))) spare (rows regionRow n (now (regions .entry)))) (now (regions .entry)) ⌝ }
-    ensures { λ _. ⌜ now (list .exit) ≡ sets (now (list .entry)) 0 (memoriesOf (rows chunkRow k (now (chunks .entry))) (leaving (rows chunkRow k (now (chunks .entry))) spare [] (rows regionRow n (now (regions .entry))))) ⌝ }
+    requires { ⌜ Releasable (rows chunkRow k (now chunks)) (freeOf (rows gapRow n (now regions))) ⌝ }
+    ensures { λ r. ⌜ r .count ≡ length (leaving (rows chunkRow k (now (chunks .entry))) spare [] (freeOf (rows gapRow n (now (regions .entry))))) ⌝ }
+    ensures { λ r. ⌜ r .bytes ≡ bytesOf (leaving (rows chunkRow k (now (chunks .entry))) spare [] (freeOf (rows gapRow n (now (regions .entry))))) ⌝ }
+    ensures { λ r. ⌜ r .chunks ≡ length (remaining (leaving (rows chunkRow k (now (chunks .entry))) spare [] (freeOf (rows gapRow n (now (regions .entry))))) (rows chunkRow k (now (chunks .entry)))) ⌝ }
+    ensures { λ r. ⌜ r .regions ≡ length (stayingGaps (rows chunkRow k (now (chunks .entry))) spare (rows gapRow n (now (regions .entry)))) ⌝ }
+    ensures { λ _. ⌜ now (chunks .exit) ≡ laid chunkRow (remaining (leaving (rows chunkRow k (now (chunks .entry))) spare [] (freeOf (rows gapRow n (now (regions .entry))))) (rows chunkRow k (now (chunks .entry)))) (now (chunks .entry)) ⌝ }
+    ensures { λ _. ⌜ now (regions .exit) ≡ laid gapRow (stayingGaps (rows chunkRow k (now (chunks .entry))) spare (rows gapRow n (now (regions .entry)))) (now (regions .entry)) ⌝ }
+    ensures { λ _. ⌜ now (list .exit) ≡ sets (now (list .entry)) 0 (memoriesOf (rows chunkRow k (now (chunks .entry))) (leaving (rows chunkRow k (now (chunks .entry))) spare [] (freeOf (rows gapRow n (now (regions .entry)))))) ⌝ }
 {
     let m = mark(chunks, k, regions, n, spare, list);
-    if m.count == 0 {
-        return Tally {
-            count: 0,
-            bytes: 0,
-            chunks: k,
-            regions: n,
-        };
-    }
     let left = keep_regions(chunks, k, regions, n, spare);
     let held = keep_chunks(chunks, k, list, m.count);
     Tally {

@@ -3,21 +3,21 @@ ghost use mathlib.Core.Path.{_≡_};
 ghost use Prim.Native.Nat.{_*_, _≤_, _+_};
 ghost use lib.ListN.{length, take};
 ghost use Rattle.words.specs.Rows.{rows, laid};
-ghost use Rattle.freelist_rules.specs.Records.{chunkRow, chunkWords, regionRow, regionWords};
-ghost use Rattle.freelist_rules.specs.Release.{staying};
+ghost use Rattle.freelist_rules.specs.Records.{chunkRow, chunkWords, gapRow, regionWords};
+ghost use Rattle.freelist_rules.specs.Threads.{stayingGaps};
 ghost use Rattle.freelist_release.specs.Listed.{among, unlisted};
 ghost use Rattle.freelist_marks.specs.Releasable.{NumbersRise};
 use freelist_marks::goes_at;
 use freelist_regions::chunk_at;
+use freelist_regions::gap_at;
 use freelist_regions::put_chunk;
-use freelist_regions::put_region;
-use freelist_regions::region_at;
+use freelist_regions::put_gap;
 
 // The regions that stay; how many they are.
 pub fn keep_regions(chunks: &[u64], k: usize, regions: &mut [u64], n: usize, spare: bool) -> usize
     requires { ⌜ (regionWords + regionWords * n ≤ length (now regions)) × NumbersRise (rows chunkRow k (now chunks)) ⌝ }
-    ensures { λ r. ⌜ r ≡ length (staying (rows chunkRow k (now (chunks .entry))) spare (rows regionRow n (now (regions .entry)))) ⌝ }
-    ensures { λ _. ⌜ now (regions .exit) ≡ laid regionRow (staying (rows chunkRow k (now (chunks .entry))) spare (rows regionRow n (now (regions .entry)))) (now (regions .entry)) ⌝ }
+    ensures { λ r. ⌜ r ≡ length (stayingGaps (rows chunkRow k (now (chunks .entry))) spare (rows gapRow n (now (regions .entry)))) ⌝ }
+    ensures { λ _. ⌜ now (regions .exit) ≡ laid gapRow (stayingGaps (rows chunkRow k (now (chunks .entry))) spare (rows gapRow n (now (regions .entry)))) (now (regions .entry)) ⌝ }
 {
     let mut i = 0;
     let mut kept = 0;
@@ -25,8 +25,8 @@ pub fn keep_regions(chunks: &[u64], k: usize, regions: &mut [u64], n: usize, spa
         if goes_at(chunks, k, regions, i, spare & (i + 1 == n)) {
             i += 1;
         } else {
-            let r = region_at(regions, i);
-            put_region(regions, kept, r);
+            let g = gap_at(regions, i);
+            put_gap(regions, kept, g);
             kept += 1;
             i += 1;
         }

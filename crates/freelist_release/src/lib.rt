@@ -1,6 +1,7 @@
 // Wholly free chunks of a free-list store released: out of its tables, and into the list that the caller reads.
 mod dropping;
 mod keeps;
+mod spares;
 
 ghost use mathlib.Core.Path.{_≡_};
 ghost use mathlib.Core.List.{[]};
@@ -11,9 +12,11 @@ ghost use Rattle.freelist_rules.specs.Tables.{tables, storeOf};
 ghost use Rattle.freelist_outcomes.specs.Return.{goneFrom, releasedTables};
 ghost use Rattle.freelist_release.specs.Frees.{Frees};
 use crate::dropping::drop_chunks;
+use crate::spares::spared;
 use counter::FreeListSettings;
 use freelist_rules::CHUNKS_AT;
 use freelist_rules::REGION_COUNT_AT;
+use freelist_rules::WHOLE_AT;
 
 // So many chunks went, of so many bytes in all.
 pub struct Freed {
@@ -21,7 +24,8 @@ pub struct Freed {
     pub bytes: u64,
 }
 
-// Wholly free chunks go, their memory numbers to the front of `list`; `spare` keeps that of the last region.
+// Wholly free chunks go, their memory numbers to the front of `list`; `spare` keeps that of the last region. The regions are
+// walked only where more are all of their chunk than stay.
 pub fn release(
     s: FreeListSettings,
     spare: bool,
@@ -37,9 +41,15 @@ pub fn release(
 {
     let k = words::word(chunks, CHUNKS_AT) as usize;
     let n = words::word(regions, REGION_COUNT_AT) as usize;
+    let whole = words::word(regions, WHOLE_AT);
+    let stay = spared(chunks, k, regions, n, spare);
+    if whole == stay {
+        return Freed { count: 0, bytes: 0 };
+    }
     let gone = drop_chunks(chunks, k, regions, n, spare, list);
     words::put(chunks, CHUNKS_AT, gone.chunks as u64);
     words::put(regions, REGION_COUNT_AT, gone.regions as u64);
+    words::put(regions, WHOLE_AT, whole - gone.count);
     Freed {
         count: gone.count,
         bytes: gone.bytes,

@@ -163,3 +163,9 @@ module _ (s : FreeListSettings) (t : Store) (fit : FreeListIn s) (sound : Sound 
   -- no byte is both on loan and free
   pub once : (n x : ℕ) → loaned n x (t .loans) + free n x (t .regions) ≤ 1
   once n x = omega (arith, sound .fills n x, held-once 1 n x (t .chunks) (sound .chunks-rise))
+
+  -- so that a loan and a free region lie apart
+  pub apart-from : (l : Loan) → List·Memᴰ l (t .loans) → (r : Region) → List·Memᴰ r (t .regions) → (hi r ≤ lo (piece l)) ⊎ (hi (piece l) ≤ lo r)
+  apart-from l m r k =
+      apart-pieces (piece l) r (loan-low l m) (region-low r k) (omega (arith, loan-some l m)) (region-some r k)
+      (λ n x p q. omega (arith, once n x, total-mem (λ (d : Loan). has n x (piece d)) l (t .loans) m, total-mem (has n x) r (t .regions) k))

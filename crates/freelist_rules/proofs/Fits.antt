@@ -6,22 +6,23 @@ use mathlib.Core.List.{List, [], _∷_}
 use Prim.Native.Nat.{ℕ, _+_, _*_, _≤_}
 use native.Mathlib.Omega.{arith}
 use lib.Dec.{eqb}
-use lib.ListN.{length, getD, set, length-set}
-use lib.Seq.{getD-set-same, getD-set-other}
+use lib.ListN.{length, getD, set, length-map}
+use lib.Seq.{getD-set-other}
 use borrow.Author.Tests.{eqb-true, eq-eqb}
 use Rattle.lists.proofs.Bools.{told, all-each, each-all}
 use Rattle.words.specs.Rows.{rows, laid}
-use Rattle.words.proofs.Records.{length-rows, rows-own, own-laid}
+use Rattle.words.proofs.Records.{length-rows, own-laid}
 use Rattle.words.specs.Words.{markAt}
 use Rattle.counter.specs.InTable.{FreeListIn}
 use Rattle.counter.specs.declared.settings.FreeListSettings.{FreeListSettings}
 use Rattle.store_rules.specs.Loans.{loanRow, onLoan, loansOf}
 use Rattle.store_rules.specs.declared.Loan.{Loan}
-use Rattle.freelist_rules.specs.Records.{chunkWords, regionWords, chunkRow, regionRow}
-use Rattle.freelist_rules.specs.Tables.{Tables, regionsMost, regionCountAt, madeAt, chunksAt, lengthsRow, lengthsOk, Lengths, placesIn, chunksIn, regionsIn, storeOf, SoundTables, laidRegions, laidChunks, RegionsFit, regionsOf, roomWords}
+use Rattle.freelist_rules.specs.declared.Gap.{Gap}
+use Rattle.freelist_rules.specs.Records.{chunkWords, regionWords, chunkRow, gapRow}
+use Rattle.freelist_rules.specs.Tables.{Tables, regionsMost, regionCountAt, madeAt, chunksAt, lengthsRow, lengthsOk, Lengths, placesIn, chunksIn, regionsIn, storeOf, SoundTables, gapsIn, wholeAt, laidGaps, laidChunks, RegionsFit, gapsOf, regionsOf, roomWords}
+use Rattle.freelist_rules.specs.Threads.{regionIn, freeOf}
 use Rattle.store_rules.specs.declared.Chunk.{Chunk}
-use Rattle.store_rules.specs.declared.Region.{Region}
-use Rattle.freelist_rules.proofs.Laid.{counted-length, counted-count, counted-rows, counted-own}
+use Rattle.freelist_rules.proofs.Laid.{counted-length, counted-count, counted-rows, counted-own, noted-length, noted-count, noted-here, noted-rows, noted-own}
 use Rattle.freelist_rules.proofs.Ordered.{ordered-length}
 
 -- ---- the lengths
@@ -59,7 +60,7 @@ module _ (s : FreeListSettings) (t : Tables) where
 
   pub regions-length : length (storeOf s t .regions) ≡ regionsIn t
   unfolding storeOf
-  regions-length = length-rows regionRow (regionsIn t) (t .room)
+  regions-length = length-map (gapsIn t) regionIn ∙ length-rows gapRow (regionsIn t) (t .room)
 
   -- no more are on loan than places were ever used
   pub loans-length : length (storeOf s t .loans) ≤ placesIn t
@@ -78,30 +79,39 @@ module _ (s : FreeListSettings) (t : Tables) where
 
 -- ---- the regions written back
 
-module _ (s : FreeListSettings) (rs : List Region) (t : List ℕ) (fit : RegionsFit s t) (room : length rs ≤ regionsMost s) where
-  fits : regionWords + regionWords * length rs ≤ length t
+module _ (s : FreeListSettings) (gs : List Gap) (whole : ℕ) (t : List ℕ) (fit : RegionsFit s t) (room : length gs ≤ regionsMost s) where
+  fits : regionWords + regionWords * length gs ≤ length t
   fits = omega (arith, fit .long)
 
-  pub laid-long : length (laidRegions rs t) ≡ roomWords s
-  unfolding laidRegions
-  laid-long = counted-length regionRow regionCountAt (omega arith) rs t fits ∙ fit .long
+  pub laid-long : length (laidGaps gs whole t) ≡ roomWords s
+  unfolding laidGaps
+  laid-long = noted-length gapRow regionCountAt (omega arith) gs t fits wholeAt whole (omega arith) (λ e. omega arith) ∙ fit .long
 
-  pub laid-count : getD (laidRegions rs t) regionCountAt 0 ≡ length rs
-  unfolding laidRegions
-  laid-count = counted-count regionRow regionCountAt (omega arith) rs t fits
+  pub laid-count : getD (laidGaps gs whole t) regionCountAt 0 ≡ length gs
+  unfolding laidGaps
+  laid-count = noted-count gapRow regionCountAt (omega arith) gs t fits wholeAt whole (omega arith) (λ e. omega arith)
 
-  pub laid-fit : RegionsFit s (laidRegions rs t)
+  pub laid-whole : getD (laidGaps gs whole t) wholeAt 0 ≡ whole
+  unfolding laidGaps
+  laid-whole = noted-here gapRow regionCountAt (omega arith) gs t fits wholeAt whole (omega arith) (λ e. omega arith)
+
+  pub laid-fit : RegionsFit s (laidGaps gs whole t)
   laid-fit = record { settings = fit .settings; long = laid-long; count = omega (arith, laid-count) }
 
-  pub laid-regions : regionsOf (laidRegions rs t) ≡ rs
-  unfolding laidRegions
-  laid-regions = counted-rows regionRow regionCountAt (omega arith) rs t fits
+  pub laid-gaps : gapsOf (laidGaps gs whole t) ≡ gs
+  unfolding laidGaps
+  laid-gaps = noted-rows gapRow regionCountAt (omega arith) gs t fits wholeAt whole (omega arith) (λ e. omega arith)
+
+  pub laid-regions : regionsOf (laidGaps gs whole t) ≡ freeOf gs
+  laid-regions = ap freeOf laid-gaps
 
 -- their table's mark stays
-pub laid-mark : (s : FreeListSettings) (rs : List Region) (t : List ℕ) → RegionsFit s t → getD (laidRegions rs t) markAt 0 ≡ getD t markAt 0
-unfolding laidRegions
-laid-mark s rs t fit =
-    getD-set-other (laid regionRow rs t) regionCountAt markAt (length rs) 0 (λ e. omega arith) ∙ own-laid regionRow rs t markAt 0 (omega (arith, fit .long)) (omega arith)
+pub laid-mark : (s : FreeListSettings) (gs : List Gap) (whole : ℕ) (t : List ℕ) → RegionsFit s t → getD (laidGaps gs whole t) markAt 0 ≡ getD t markAt 0
+unfolding laidGaps
+laid-mark s gs whole t fit =
+    getD-set-other (set (laid gapRow gs t) regionCountAt (length gs)) wholeAt markAt whole 0 (λ e. omega arith)
+    ∙ getD-set-other (laid gapRow gs t) regionCountAt markAt (length gs) 0 (λ e. omega arith)
+    ∙ own-laid gapRow gs t markAt 0 (omega (arith, fit .long)) (omega arith)
 
 -- ---- the chunks written back
 
@@ -127,17 +137,11 @@ module _ (cs : List Chunk) (t : List ℕ) (room : chunkWords + chunkWords * leng
 
   -- or this many
   pub chunks-numbered : (made : ℕ) → Holding t made cs (set (laidChunks cs t) madeAt made)
-  chunks-numbered made =
-      let u = laidChunks cs t in
-      let H = chunks-laid in
-      let same : getD (set u madeAt made) chunksAt 0 ≡ getD u chunksAt 0 = getD-set-other u madeAt chunksAt made 0 (λ e. omega arith) in
-      record {
-        long = length-set u madeAt made ∙ H .long;
-        mark = getD-set-other u madeAt markAt made 0 (λ e. omega arith) ∙ H .mark;
-        number = getD-set-same u madeAt made 0 (omega (arith, H .long));
-        count = same ∙ H .count;
-        records =
-            ap (λ (k : ℕ). rows chunkRow k (set u madeAt made)) same
-            ∙ rows-own chunkRow (getD u chunksAt 0) madeAt made u (omega arith) (omega (arith, H .long, H .count))
-            ∙ H .records;
-      }
+  unfolding laidChunks
+  chunks-numbered made = record {
+    long = noted-length chunkRow chunksAt (omega arith) cs t room madeAt made (omega arith) (λ e. omega arith);
+    mark = noted-own chunkRow chunksAt (omega arith) cs t room madeAt made (omega arith) (λ e. omega arith) markAt (omega arith) (λ e. omega arith) (λ e. omega arith);
+    number = noted-here chunkRow chunksAt (omega arith) cs t room madeAt made (omega arith) (λ e. omega arith);
+    count = noted-count chunkRow chunksAt (omega arith) cs t room madeAt made (omega arith) (λ e. omega arith);
+    records = noted-rows chunkRow chunksAt (omega arith) cs t room madeAt made (omega arith) (λ e. omega arith);
+  }

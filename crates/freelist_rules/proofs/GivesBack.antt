@@ -21,7 +21,7 @@ use Rattle.store_rules.specs.declared.Chunk.{Chunk}
 use Rattle.store_rules.specs.declared.Region.{Region}
 use Rattle.freelist_rules.proofs.Base.{rising-mono, rising-low}
 use Rattle.freelist_rules.proofs.Facts.{ChunksRise}
-use Rattle.freelist_rules.proofs.Releases.{covers-yes, wholly-where, left-where, where-left, going, going-in, leaving-in, in-leaving, removed, remaining-in, in-remaining, removed-in, in-removed, remaining-total}
+use Rattle.freelist_rules.proofs.Releases.{covers-yes, wholly-where, left-where, where-left, going, going-in, gone-in, in-leaving, removed, remaining-in, in-remaining, removed-in, in-removed, remaining-total}
 
 -- ---- sums over lists in another order
 
@@ -43,7 +43,7 @@ bytes-total [] = refl
 bytes-total (r ∷ rs) = omega (arith, bytes-total rs)
 
 -- the walk's order changes no sum
-leaving-total : (cs : List Chunk) (spare : Bool) (f : Region → ℕ) (marked rs : List Region) → total f (leaving cs spare marked rs) ≡ total f marked + total f (going cs spare rs)
+pub leaving-total : (cs : List Chunk) (spare : Bool) (f : Region → ℕ) (marked rs : List Region) → total f (leaving cs spare marked rs) ≡ total f marked + total f (going cs spare rs)
 unfolding leaving going
 leaving-total cs spare f marked [] = omega arith
 leaving-total cs spare f marked (r ∷ rs) = go (goes cs spare r rs) (leaving-total cs spare f (marked ++ (r ∷ [])) rs) (leaving-total cs spare f (rotated marked) rs)
@@ -158,11 +158,8 @@ module _ (s : FreeListSettings) (t : Store) (fit : FreeListIn s) (sound : Sound 
   in-gone : (r : Region) → List·Memᴰ r (going (t .chunks) spare (t .regions)) → List·Memᴰ r gone
   in-gone r m = in-leaving (t .chunks) spare r [] (t .regions) (inr m)
 
-  gone-in : (r : Region) → List·Memᴰ r gone → List·Memᴰ r (going (t .chunks) spare (t .regions))
-  gone-in r m = ⊎-elim (λ k. absurd (List·Memᴰ·not-nil k)) (λ k. k) (leaving-in (t .chunks) spare r [] (t .regions) m)
-
   covering : (r : Region) → List·Memᴰ r gone → Covering (t .chunks) r
-  covering r m = wholly-where (t .chunks) r (going-in (t .chunks) spare r (t .regions) (gone-in r m) .1)
+  covering r m = wholly-where (t .chunks) r (going-in (t .chunks) spare r (t .regions) (gone-in s t fit sound spare r m) .1)
 
   -- what regions that go and the chunks they cover count alike, those held after and those gone count as before
   gone-total : (f : Region → ℕ) (g : Chunk → ℕ) → ((r : Region) (c : Chunk) → covers r c ≡ true → f r ≡ g c) → total g (released spare t .chunks) + total f gone ≡ total g (t .chunks)
@@ -174,7 +171,7 @@ module _ (s : FreeListSettings) (t : Store) (fit : FreeListIn s) (sound : Sound 
         paired-total f g same 0 1 (going (t .chunks) spare (t .regions)) (removed gone (t .chunks)) (going-rise (t .chunks) spare 0 (t .regions) (sound .regions-rise))
             (removed-rise gone 1 (t .chunks) (sound .chunks-rise))
             (λ r m. let w = covering r (in-gone r m) in (w .0, in-removed gone (w .0) (t .chunks) (w .1) (where-left gone (w .0) r (in-gone r m) (w .2)), w .2))
-            (λ c m. let w = left-where gone c (removed-in gone c (t .chunks) m) in (w .0, gone-in (w .0) (w .1), w .2)),
+            (λ c m. let w = left-where gone c (removed-in gone c (t .chunks) m) in (w .0, gone-in s t fit sound spare (w .0) (w .1), w .2)),
       )
 
   -- whatever is counted of chunks by their number and size: those held after and those gone are those held before

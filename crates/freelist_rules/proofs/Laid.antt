@@ -1,5 +1,5 @@
 -- Records laid from the front of a table and counted in its own record, once over the layout: a free list's chunks and its regions.
-use mathlib.Core.Path.{_≡_, ap, _∙_}
+use mathlib.Core.Path.{_≡_, sym, ap, _∙_}
 use mathlib.Core.List.{List}
 use Prim.Native.Nat.{ℕ, _+_, _*_, _≤_, _<_}
 use native.Mathlib.Omega.{arith}
@@ -30,3 +30,26 @@ module _ {R : Type 0} (L : Layout R) (at : ℕ) (own : at < L .width) (rs : List
   -- the other words of the table's own record stay
   pub counted-own : (j : ℕ) → j < L .width → (j ≡ at → ⊥) → getD counted j 0 ≡ getD t j 0
   counted-own j h o = getD-set-other (laid L rs t) at j (length rs) 0 o ∙ own-laid L rs t j 0 (omega arith) h
+
+  -- and another of them written too
+  module _ (k v : ℕ) (within : k < L .width) (other : k ≡ at → ⊥) where
+    abbrev noted : List ℕ
+    noted = set counted k v
+
+    pub noted-length : length noted ≡ length t
+    noted-length = length-set counted k v ∙ counted-length
+
+    pub noted-count : getD noted at 0 ≡ length rs
+    noted-count = getD-set-other counted k at v 0 (λ e. other (sym e)) ∙ counted-count
+
+    pub noted-here : getD noted k 0 ≡ v
+    noted-here = getD-set-same counted k v 0 (omega (arith, counted-length))
+
+    pub noted-rows : rows L (getD noted at 0) noted ≡ rs
+    noted-rows =
+        ap (λ (n : ℕ). rows L n noted) (getD-set-other counted k at v 0 (λ e. other (sym e)))
+        ∙ rows-own L (getD counted at 0) k v counted within (omega (arith, counted-length, ap (λ (n : ℕ). L .width * n) counted-count))
+        ∙ counted-rows
+
+    pub noted-own : (j : ℕ) → j < L .width → (j ≡ at → ⊥) → (j ≡ k → ⊥) → getD noted j 0 ≡ getD t j 0
+    noted-own j h o p = getD-set-other counted k j v 0 p ∙ counted-own j h o

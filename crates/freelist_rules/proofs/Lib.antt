@@ -31,3 +31,11 @@ pub mod Fits
 pub mod Summing
 pub mod Struck
 pub mod Truth
+pub mod Threads
+pub mod GapLists
+pub mod Along
+pub mod Threading
+pub mod Columns
+pub mod Booked
+pub mod Parting
+pub mod Wholes

@@ -44,10 +44,10 @@ ordered-out a (l ∷ ls) m = ⊎-elim (λ e. List·Memᴰ·head e) (λ k. List·
 
 -- ---- which is put in first makes no difference where they stand at different places
 
-put-front : (l c : Loan) (ls : List Loan) → begins l < begins c → putLoan l (c ∷ ls) ≡ l ∷ c ∷ ls
+pub put-front : (l c : Loan) (ls : List Loan) → begins l < begins c → putLoan l (c ∷ ls) ≡ l ∷ c ∷ ls
 put-front l c ls h = rw (lt-ltb (begins l) (begins c) h)
 
-put-past : (l c : Loan) (ls : List Loan) → begins c ≤ begins l → putLoan l (c ∷ ls) ≡ c ∷ putLoan l ls
+pub put-past : (l c : Loan) (ls : List Loan) → begins c ≤ begins l → putLoan l (c ∷ ls) ≡ c ∷ putLoan l ls
 put-past l c ls h = rw (le-ltb (begins l) (begins c) h)
 
 put-less : (a b : Loan) (ls : List Loan) → begins a < begins b → putLoan a (putLoan b ls) ≡ putLoan b (putLoan a ls)

@@ -149,7 +149,7 @@ module _ (cs : List Chunk) (spare : Bool) where
       go ih (inr k) =
           ⊎-elim (λ q. inl (in-taken (wholly cs r) a r (going cs spare (d ∷ rs)) (inr q))) (λ q. inr (q .0, (r ∷ q .1 .0, ap (λ (z : List Region). r ∷ z) (q .1 .1)))) (ih k e)
 
-  staying-in : (a : Region) (rs : List Region) → List·Memᴰ a (staying cs spare rs) → List·Memᴰ a rs
+  pub staying-in : (a : Region) (rs : List Region) → List·Memᴰ a (staying cs spare rs) → List·Memᴰ a rs
   unfolding staying
   staying-in a [] m = m
   staying-in a (r ∷ rs) m = go (staying-in a rs) (left-in (goes cs spare r rs) a r (staying cs spare rs) m)
@@ -158,7 +158,7 @@ module _ (cs : List Chunk) (spare : Bool) where
       go ih (inl h) = List·Memᴰ·head (h .0)
       go ih (inr k) = List·Memᴰ·tail (ih k)
 
-  staying-total : (f : Region → ℕ) (rs : List Region) → total f rs ≡ total f (staying cs spare rs) + total f (going cs spare rs)
+  pub staying-total : (f : Region → ℕ) (rs : List Region) → total f rs ≡ total f (staying cs spare rs) + total f (going cs spare rs)
   unfolding staying going
   staying-total f [] = refl
   staying-total f (r ∷ rs) = split-total f (goes cs spare r rs) r (staying cs spare rs) (going cs spare rs) rs (staying-total f rs)
@@ -262,13 +262,13 @@ module _ (gone : List Region) where
 -- ---- a release: at every byte as many free regions go as chunks
 
 module _ (s : FreeListSettings) (t : Store) (fit : FreeListIn s) (sound : Sound s t) (spare : Bool) where
-  abbrev gone : List Region
+  abbrev pub gone : List Region
   gone = leaving (t .chunks) spare [] (t .regions)
 
   in-gone : (r : Region) → List·Memᴰ r (going (t .chunks) spare (t .regions)) → List·Memᴰ r gone
   in-gone r m = in-leaving (t .chunks) spare r [] (t .regions) (inr m)
 
-  gone-in : (r : Region) → List·Memᴰ r gone → List·Memᴰ r (going (t .chunks) spare (t .regions))
+  pub gone-in : (r : Region) → List·Memᴰ r gone → List·Memᴰ r (going (t .chunks) spare (t .regions))
   gone-in r m = ⊎-elim (λ k. absurd (List·Memᴰ·not-nil k)) (λ k. k) (leaving-in (t .chunks) spare r [] (t .regions) m)
 
   -- where a region that goes has a byte, a chunk that goes has it, and the other way round

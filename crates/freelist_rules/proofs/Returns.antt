@@ -18,8 +18,8 @@ use Rattle.freelist_rules.specs.Sound.{Units, Sound}
 use Rattle.freelist_rules.specs.Join.{meets, join, absorb, insert}
 use Rattle.freelist_rules.specs.Steps.{noLoan, givenBack}
 use Rattle.store_rules.specs.declared.Region.{Region}
-use Rattle.freelist_rules.proofs.Base.{total-mem, at-in, removed-in, removed-total, removed-rise}
-use Rattle.freelist_rules.proofs.Facts.{has, apart-pieces, region-some, region-low, loan-some, loan-low, once}
+use Rattle.freelist_rules.proofs.Base.{at-in, removed-in, removed-total, removed-rise}
+use Rattle.freelist_rules.proofs.Facts.{has, region-low, loan-some, loan-low, apart-from}
 use Rattle.freelist_rules.proofs.Units.{multiple-plus}
 use Rattle.freelist_rules.proofs.Joins.{Clear, insert-free, insert-rise}
 
@@ -64,11 +64,7 @@ module _ (s : FreeListSettings) (t : Store) (fit : FreeListIn s) (sound : Sound 
 
   -- no byte is both on loan and free, so no free region overlaps it
   back-clear : Clear (piece back) (t .regions)
-  back-clear r k =
-      apart-pieces (piece back) r (loan-low s t fit sound back back-in) (region-low s t fit sound r k)
-      (omega (arith, loan-some s t fit sound back back-in))
-      (region-some s t fit sound r k)
-      (λ n x p q. omega (arith, once s t fit sound n x, total-mem (λ (d : Loan). has n x (piece d)) back (t .loans) back-in, total-mem (has n x) r (t .regions) k))
+  back-clear r k = apart-from s t fit sound back back-in r k
 
   pub given-back-sound : Sound s (givenBack i t)
   unfolding back

@@ -9,4 +9,5 @@ pub mod Release
 pub mod Seek
 pub mod Steps
 pub mod AtOnce
+pub mod Threads
 pub mod Tables

@@ -6,10 +6,12 @@ use native.Mathlib.Omega.{arith}
 use lib.ListN.{length, take, drop, getD, length-drop}
 use lib.Seq.{getD-drop}
 use Rattle.words.specs.Rows.{Layout}
+use Rattle.store_rules.specs.Loans as Loans
 use Rattle.store_rules.specs.declared.Loan.{Loan}
 pub use Rattle.store_rules.specs.Views.{region, chunk}
 use Rattle.store_rules.specs.declared.Chunk.{Chunk}
 use Rattle.store_rules.specs.declared.Region.{Region}
+use Rattle.freelist_rules.specs.declared.Gap.{Gap}
 
 -- serials given, chunk numbers given, chunk size now; loans and regions by chunk and place, chunks by number
 pub record Store : Type 0 where
@@ -35,28 +37,32 @@ abbrev pub chunkBytesAt : ℕ
 chunkBytesAt = 5
 
 abbrev pub regionWords : ℕ
-regionWords = 3
+regionWords = 4
 
 abbrev pub regionChunkAt : ℕ
-regionChunkAt = 3
+regionChunkAt = 4
 
 abbrev pub regionStartAt : ℕ
-regionStartAt = 4
+regionStartAt = 5
 
 abbrev pub regionEndAt : ℕ
-regionEndAt = 5
+regionEndAt = 6
+
+abbrev pub regionFrontAt : ℕ
+regionFrontAt = 7
 
 abbrev pub chunkOf : List ℕ → Chunk
 chunkOf t = chunk (getD t chunkNumberAt 0) (getD t chunkMemoryAt 0) (getD t chunkBytesAt 0)
 
-abbrev pub regionOf : List ℕ → Region
-regionOf t = region (getD t regionChunkAt 0) (getD t regionStartAt 0) (getD t regionEndAt 0)
+abbrev pub gapOf : List ℕ → Gap
+gapOf t =
+    record { chunk = getD t regionChunkAt 0; start = getD t regionStartAt 0; end = getD t regionEndAt 0; front = getD t regionFrontAt 0 }
 
 abbrev pub wordsOfChunk : Chunk → List ℕ
 wordsOfChunk c = c .number ∷ c .memory ∷ c .size ∷ []
 
-abbrev pub wordsOfRegion : Region → List ℕ
-wordsOfRegion r = r .chunk ∷ r .start ∷ r .end ∷ []
+abbrev pub wordsOfGap : Gap → List ℕ
+wordsOfGap g = g .chunk ∷ g .start ∷ g .end ∷ g .front ∷ []
 
 -- three words behind three others, read and written again
 whole : (t : List ℕ) → 3 ≤ length t → getD t 0 0 ∷ getD t 1 0 ∷ getD t 2 0 ∷ [] ≡ take 3 t
@@ -79,11 +85,12 @@ three (a ∷ b ∷ c ∷ d ∷ own) h = absurd (omega (arith, h))
 pub chunk-again : (own : List ℕ) (c : Chunk) (rest : List ℕ) → length own ≡ 3 → chunkOf (own ++ (wordsOfChunk c ++ rest)) ≡ c
 chunk-again own c rest h = rw (three own h .3)
 
-pub region-again : (own : List ℕ) (r : Region) (rest : List ℕ) → length own ≡ 3 → regionOf (own ++ (wordsOfRegion r ++ rest)) ≡ r
-region-again own r rest h = rw (three own h .3)
+pub gap-again : (own : List ℕ) (g : Gap) (rest : List ℕ) → length own ≡ 4 → gapOf (own ++ (wordsOfGap g ++ rest)) ≡ g
+gap-again [] g rest h = absurd (omega (arith, h))
+gap-again (a ∷ own) g rest h = rw (three own (omega (arith, h)) .3)
 
 abbrev pub chunkRow : Layout Chunk
 chunkRow = record { width = chunkWords; enc = wordsOfChunk; dec = chunkOf; enc-length = λ c. refl; dec-enc = chunk-again; enc-dec = read-again }
 
-abbrev pub regionRow : Layout Region
-regionRow = record { width = regionWords; enc = wordsOfRegion; dec = regionOf; enc-length = λ r. refl; dec-enc = region-again; enc-dec = read-again }
+abbrev pub gapRow : Layout Gap
+gapRow = record { width = regionWords; enc = wordsOfGap; dec = gapOf; enc-length = λ g. refl; dec-enc = gap-again; enc-dec = Loans.read-again }

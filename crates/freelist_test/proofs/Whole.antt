@@ -2,25 +2,32 @@
 use mathlib.Core.Path.{_≡_, refl, sym, ap, _∙_}
 use mathlib.Core.Bool.{Bool, true, false, _&&_, and-assoc}
 use mathlib.Core.List.{List, [], _∷_}
-use Prim.Native.Nat.{ℕ}
-use lib.Dec.{leb}
-use lib.ListN.{getD}
+use Prim.Native.Nat.{ℕ, _-_}
+use lib.Dec.{eqb, leb}
+use lib.ListN.{length, getD}
 use Rattle.lists.specs.Tests.{all}
 use Rattle.words.specs.Rows.{rows}
 use Rattle.counter.specs.declared.settings.FreeListSettings.{FreeListSettings}
 use Rattle.store_rules.specs.Loans.{givenAt, placesAt, loansOf}
-use Rattle.freelist_rules.specs.Records.{chunkRow, regionRow}
-use Rattle.freelist_rules.specs.Tables.{tables, madeAt, chunkSizeAt, chunksAt, regionCountAt, regionsMost, ordered, storeOf, partedIn, chainedIn, soundOk, marks, signedOk}
+use Rattle.slab.specs.Test.{vacancies}
+use Rattle.freelist_rules.specs.Records.{chunkRow}
+use Rattle.freelist_rules.specs.Threads.{afterIn, beforeIn, freeOf, wholes, leadsOk, frontsOk}
+use Rattle.freelist_walk.specs.Walked.{walkOk}
+use Rattle.freelist_rules.specs.Tables.{Tables, tables, madeAt, chunkSizeAt, chunksAt, regionCountAt, regionsMost, storeOf, partedIn, chainedIn, soundOk, marks, signedOk, placesIn, vacantIn, recordsIn, alongIn, gapsIn, wholeIn}
 use Rattle.freelist_rules.specs.Walk.{allOk, sizedOk, numbersRise, chunkOk, loanOk, fillsOk, apart, memories}
-use Rattle.freelist_test.specs.Parts.{counted, headOk, bookOk, eachOk, chunksOk}
+use Rattle.freelist_test.specs.Parts.{counted, headOk, bookOk, eachOk, chunksOk, walkedOk}
 
--- eleven tests from the left, as groups of three, two, four and two
-regroup : (a b c d e f g h i j k : Bool) → all (a ∷ b ∷ c ∷ d ∷ e ∷ f ∷ g ∷ h ∷ i ∷ j ∷ k ∷ []) ≡ (((a && b) && c) && ((d && e) && ((f && ((g && h) && i)) && (j && k))))
-regroup a b c d e f g h i j k = simp and-assoc
+-- fourteen tests from the left, as groups of three, two, four, one and four
+regroup : (a b c d e f g h i j k l m n o : Bool) → all (a ∷ b ∷ c ∷ d ∷ e ∷ f ∷ g ∷ h ∷ i ∷ j ∷ (k && l) ∷ m ∷ n ∷ o ∷ [])
+    ≡ (((a && b) && c) && ((d && e) && ((f && ((g && h) && i)) && (j && (k && (l && (m && (n && o))))))))
+regroup a b c d e f g h i j k l m n o = simp and-assoc
 
 module _ (s : FreeListSettings) (head loans chunks index regions : List ℕ) where
   abbrev whole : Bool
   whole = soundOk s (tables head loans chunks index regions)
+
+  abbrev t : Tables
+  t = tables head loans chunks index regions
 
   -- the groups, by the numbers that the code reads
   abbrev chunksPart : ℕ → ℕ → ℕ → Bool
@@ -30,12 +37,12 @@ module _ (s : FreeListSettings) (head loans chunks index regions : List ℕ) whe
   loansPart given p = allOk (loanOk s (counted given 0 0)) (loansOf p loans)
 
   abbrev fillsPart : ℕ → ℕ → ℕ → Bool
-  fillsPart k p n = fillsOk (rows chunkRow k chunks) (ordered (loansOf p loans)) (rows regionRow n regions)
+  fillsPart k p n = walkedOk s chunks k loans p index regions n
 
   -- the row is its groups
   parts : whole ≡ (headOk s (tables head loans chunks index regions) (getD regions regionCountAt 0) && (bookOk s loans index && (chunksPart (getD chunks madeAt 0) (getD head chunkSizeAt 0) (getD chunks chunksAt 0)
       && (loansPart (getD loans givenAt 0) (getD loans placesAt 0) && fillsPart (getD chunks chunksAt 0) (getD loans placesAt 0) (getD regions regionCountAt 0)))))
-  unfolding soundOk storeOf headOk bookOk chunksOk eachOk chunkOk loanOk
+  unfolding soundOk storeOf headOk bookOk chunksOk eachOk chunkOk loanOk walkedOk walkOk
   parts =
       regroup
       (signedOk marks (tables head loans chunks index regions))
@@ -48,7 +55,11 @@ module _ (s : FreeListSettings) (head loans chunks index regions : List ℕ) whe
       (allOk (chunkOk s (counted 0 (getD chunks madeAt 0) (getD head chunkSizeAt 0))) (rows chunkRow (getD chunks chunksAt 0) chunks))
       (apart (memories (rows chunkRow (getD chunks chunksAt 0) chunks)))
       (loansPart (getD loans givenAt 0) (getD loans placesAt 0))
-      (fillsPart (getD chunks chunksAt 0) (getD loans placesAt 0) (getD regions regionCountAt 0))
+      (leadsOk (afterIn (s .store .loans) index) (beforeIn (s .store .loans) index) (vacantIn t) (placesIn t) 0 (recordsIn s t))
+      (eqb (length (recordsIn s t)) (placesIn t - vacancies (vacantIn t) (placesIn t)))
+      (fillsOk (rows chunkRow (getD chunks chunksAt 0) chunks) (alongIn s t) (freeOf (gapsIn t)))
+      (frontsOk loans (recordsIn s t) (gapsIn t))
+      (eqb (wholeIn t) (wholes (rows chunkRow (getD chunks chunksAt 0) chunks) (freeOf (gapsIn t))))
 
   -- one group after the other, with what the code has read and was told
   module _ (n : ℕ) (hd : Bool) (ns : n ≡ getD regions regionCountAt 0) (hs : hd ≡ headOk s (tables head loans chunks index regions) n) where

@@ -1,12 +1,18 @@
 -- The row of tests of a free-list store's tables, in groups as the code takes them.
 use mathlib.Core.Bool.{Bool, _&&_}
 use mathlib.Core.List.{List, [], _∷_}
-use Prim.Native.Nat.{ℕ}
+use Prim.Native.Nat.{ℕ, _-_}
 use lib.Dec.{leb}
+use lib.ListN.{getD}
+use Rattle.words.specs.Rows.{rows}
 use Rattle.lists.specs.Tests.{all}
 use Rattle.counter.specs.declared.settings.FreeListSettings.{FreeListSettings}
-use Rattle.freelist_rules.specs.Records.{Store}
-use Rattle.freelist_rules.specs.Tables.{tables, chunksIn, regionsMost, partedIn, chainedIn, marks, Tables, signedOk}
+use Rattle.slab.specs.Slab.{vacantAt}
+use Rattle.slab.specs.Test.{vacancies}
+use Rattle.store_rules.specs.Loans.{loanWords, sizeAt}
+use Rattle.freelist_rules.specs.Records.{Store, chunkRow, gapRow}
+use Rattle.freelist_walk.specs.Walked.{walkOk}
+use Rattle.freelist_rules.specs.Tables.{tables, chunksIn, regionsMost, partedIn, chainedIn, marks, Tables, signedOk, wholeAt}
 use Rattle.freelist_rules.specs.Walk.{allOk, sizedOk, numbersRise, chunkOk, apart, memories}
 use Rattle.store_rules.specs.declared.Chunk.{Chunk}
 
@@ -30,3 +36,8 @@ eachOk s made size cs = numbersRise 1 cs && allOk (chunkOk s (counted 0 made siz
 -- the chunk size now, the chunks, and their memories
 unfoldable pub chunksOk : FreeListSettings → ℕ → ℕ → List Chunk → Bool
 chunksOk s made size cs = sizedOk s size && (eachOk s made size cs && apart (memories cs))
+
+-- the first p places on loan, in the order in which the index leads through them, fill the first k chunks with the first n regions
+unfoldable pub walkedOk : FreeListSettings → List ℕ → ℕ → List ℕ → ℕ → List ℕ → List ℕ → ℕ → Bool
+walkedOk s chunks k loans p index regions n =
+    walkOk (s .store .loans) (rows chunkRow k chunks) loans p index (rows gapRow n regions) (p - vacancies (vacantAt loans sizeAt loanWords) p) (getD regions wholeAt 0)

@@ -3,6 +3,7 @@
 mod blocks;
 mod chunks;
 mod heads;
+mod walks;
 
 ghost use mathlib.Core.Path.{_≡_};
 ghost use mathlib.Core.Bool.{true};
@@ -45,5 +46,5 @@ pub fn is_sound(
     if !blocks::are_loans(s, given, loans, places) {
         return false;
     }
-    freelist_fills::fills(chunks, k, loans, places, regions, n)
+    walks::is_walked(s, chunks, k, loans, places, index, regions, n)
 }

@@ -58,14 +58,16 @@ fn free_list_lengths(loans: usize, chunks: usize) -> Lengths
     ensures { λ r. ⌜ r .head ≤ 2 ⌝ }
     ensures { λ r. ⌜ r .loans ≤ 4 + 4 * loans ⌝ }
     ensures { λ r. ⌜ r .chunks ≤ 3 + 3 * chunks ⌝ }
-    ensures { λ r. ⌜ r .index ≤ 3 + 3 * loans ⌝ }
-    ensures { λ r. ⌜ r .own ≤ 3 + 3 * (loans + chunks) ⌝ }
+    ensures { λ r. ⌜ r .index ≤ 5 + 5 * loans ⌝ }
+    ensures { λ r. ⌜ r .own ≤ 4 + 4 * (loans + chunks) ⌝ }
 {
     Lengths {
         head: freelist_rules::HEAD_WORDS,
         loans: store_rules::LOAN_WORDS + store_rules::LOAN_WORDS * loans,
         chunks: freelist_rules::CHUNK_WORDS + freelist_rules::CHUNK_WORDS * chunks,
-        index: book::ENTRY_WORDS + book::ENTRY_WORDS * loans,
+        index: book::ENTRY_WORDS
+            + book::ENTRY_WORDS * loans
+            + freelist_rules::COLUMNS * (loans + 1),
         own: freelist_rules::REGION_WORDS + freelist_rules::REGION_WORDS * (loans + chunks),
     }
 }
@@ -77,8 +79,8 @@ fn buddy_lengths(loans: usize, chunks: usize, pairs: usize) -> Lengths
     ensures { λ r. ⌜ r .head ≤ 2 ⌝ }
     ensures { λ r. ⌜ r .loans ≤ 4 + 4 * loans ⌝ }
     ensures { λ r. ⌜ r .chunks ≤ 3 + 3 * chunks ⌝ }
-    ensures { λ r. ⌜ r .index ≤ 3 + 3 * loans ⌝ }
-    ensures { λ r. ⌜ r .own ≤ 256 * (1 + pairs) + 16 + 3 * loans + 8 * chunks ⌝ }
+    ensures { λ r. ⌜ r .index ≤ 5 + 5 * loans ⌝ }
+    ensures { λ r. ⌜ r .own ≤ 256 * (1 + pairs) + 16 + 4 * loans + 8 * chunks ⌝ }
 {
     Lengths {
         head: buddy_rules::HEAD_WORDS,
@@ -97,8 +99,8 @@ pub fn table_lengths(settings: Settings, most: Limits) -> Lengths
     ensures { λ r. ⌜ r .head ≤ 2 ⌝ }
     ensures { λ r. ⌜ r .loans ≤ 4 + 4 * (most .loans) ⌝ }
     ensures { λ r. ⌜ r .chunks ≤ 3 + 3 * (most .chunks) ⌝ }
-    ensures { λ r. ⌜ r .index ≤ 3 + 3 * (most .loans) ⌝ }
-    ensures { λ r. ⌜ r .own ≤ 256 * (1 + most .pairs) + 16 + 3 * (most .loans) + 8 * (most .chunks) ⌝ }
+    ensures { λ r. ⌜ r .index ≤ 5 + 5 * (most .loans) ⌝ }
+    ensures { λ r. ⌜ r .own ≤ 256 * (1 + most .pairs) + 16 + 4 * (most .loans) + 8 * (most .chunks) ⌝ }
 {
     let store = store_of(settings);
     let loans = least(store.loans, most.loans);

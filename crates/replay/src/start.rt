@@ -9,19 +9,22 @@ use counter::LOANS_MOST;
 use counter::PAIRS_MOST;
 use counter::SetUpAnswer;
 use freelist_rules::CHUNK_WORDS;
+use freelist_rules::COLUMNS;
 use freelist_rules::HEAD_WORDS;
 use freelist_rules::REGION_WORDS;
 use reel::Limits;
 use reel::Settings;
 
-// each table at the greatest limits, in words, for either engine: the heads are as long, a free list's chunks are the longer
+// each table at the greatest limits, in words, for either engine: the heads are as long, a free list's chunks and index are the longer
 const LOANS_WORDS: usize = store_rules::LOAN_WORDS + store_rules::LOAN_WORDS * LOANS_MOST;
 
 const CHUNKS_WORDS: usize = CHUNK_WORDS + CHUNK_WORDS * CHUNKS_MOST;
 
-const INDEX_WORDS: usize = book::ENTRY_WORDS + book::ENTRY_WORDS * LOANS_MOST;
+const INDEX_WORDS: usize = book::ENTRY_WORDS
+    + book::ENTRY_WORDS * LOANS_MOST
+    + COLUMNS * (LOANS_MOST + 1);
 
-// a buddy store's tree, which is longer than the regions: its own record, the levels, the chunk places with theirs; and three words
+// a buddy store's tree, which is longer than the regions: its own record, the levels, the chunk places with theirs; and four words
 // for each loan
 const TREE_WORDS: usize = buddy_levels::OWN_WORDS
     + (HEADER_WORDS + PAIR_WORDS * PAIRS_MOST) * (LEVELS_MOST as usize)

@@ -97,8 +97,8 @@ returns-4 c =
     let o = n .before .before .before .before .before .before in
     loans-fail (o .args .s) (o .args .head .now) (o .args .loans .now) (o .args .chunks .now) (o .args .index .now) (o .args .regions .now) (n .region-count .result) (h .is-head .result) (n .region-count .ensures) (h .is-head .ensures) (not-no _ (i .if1 .left)) (b .is-book .result) (b .is-book .ensures) (not-no _ (j .if2 .left)) (k .word .result) (z .word2 .result) (m .word3 .result) (d .are-chunks .result) (k .word .ensures) (z .word2 .ensures) (m .word3 .ensures) (d .are-chunks .ensures) (not-no _ (e .if3 .left)) (g .word4 .result) (p .word5 .result) (l .are-loans .result) (g .word4 .ensures) (p .word5 .ensures) (l .are-loans .ensures) (not-yes _ (c .if4 .taken))
 
-fills-requires : tie.Need-fills-requires
-fills-requires c κs =
+is-walked-requires : tie.Need-is-walked-requires
+is-walked-requires c κs =
     let l = c .before in
     let p = l .before in
     let g = p .before in
@@ -115,8 +115,9 @@ fills-requires c κs =
     let o = n .before .before .before .before .before .before in
     let right = sym (d .are-chunks .ensures) ∙ not-no _ (e .if3 .left) in (
       (
+        o .pre .0,
         omega (arith, head-chunks (o .args .s) (tables (o .args .head .now) (o .args .loans .now) (o .args .chunks .now) (o .args .index .now) (o .args .regions .now)) (n .region-count .result) (sym (h .is-head .ensures) ∙ not-no _ (i .if1 .left)), k .word .ensures, o .pre .0 .store .chunks-most),
-        omega (arith, book-most (o .args .s) (o .args .loans .now) (o .args .index .now) (sym (b .is-book .ensures) ∙ not-no _ (j .if2 .left)), p .word5 .ensures, o .pre .0 .store .loans-most),
+        omega (arith, book-most (o .args .s) (o .args .loans .now) (o .args .index .now) (sym (b .is-book .ensures) ∙ not-no _ (j .if2 .left)), p .word5 .ensures),
       ),
       (
         chunks-rise (o .args .s) (m .word3 .result) (z .word2 .result) (rows chunkRow (k .word .result) (o .args .chunks .now)) right,
@@ -141,7 +142,7 @@ returns-5 c =
     let h = i .before in
     let n = h .before in
     let o = n .before .before .before .before .before .before in
-    fills-left (o .args .s) (o .args .head .now) (o .args .loans .now) (o .args .chunks .now) (o .args .index .now) (o .args .regions .now) (n .region-count .result) (h .is-head .result) (n .region-count .ensures) (h .is-head .ensures) (not-no _ (i .if1 .left)) (b .is-book .result) (b .is-book .ensures) (not-no _ (j .if2 .left)) (k .word .result) (z .word2 .result) (m .word3 .result) (d .are-chunks .result) (k .word .ensures) (z .word2 .ensures) (m .word3 .ensures) (d .are-chunks .ensures) (not-no _ (e .if3 .left)) (g .word4 .result) (p .word5 .result) (l .are-loans .result) (g .word4 .ensures) (p .word5 .ensures) (l .are-loans .ensures) (not-no _ (f .if4 .left)) (c .fills .result) (c .fills .ensures)
+    fills-left (o .args .s) (o .args .head .now) (o .args .loans .now) (o .args .chunks .now) (o .args .index .now) (o .args .regions .now) (n .region-count .result) (h .is-head .result) (n .region-count .ensures) (h .is-head .ensures) (not-no _ (i .if1 .left)) (b .is-book .result) (b .is-book .ensures) (not-no _ (j .if2 .left)) (k .word .result) (z .word2 .result) (m .word3 .result) (d .are-chunks .result) (k .word .ensures) (z .word2 .ensures) (m .word3 .ensures) (d .are-chunks .ensures) (not-no _ (e .if3 .left)) (g .word4 .result) (p .word5 .result) (l .are-loans .result) (g .word4 .ensures) (p .word5 .ensures) (l .are-loans .ensures) (not-no _ (f .if4 .left)) (c .is-walked .result) (c .is-walked .ensures)
 
 pub is-sound-spec : {M : Type 1} → statement M
 is-sound-spec =
@@ -161,5 +162,5 @@ is-sound-spec =
     word-requires-5
     are-loans-requires
     returns-4
-    fills-requires
+    is-walked-requires
     returns-5)

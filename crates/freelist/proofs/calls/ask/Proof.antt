@@ -32,7 +32,7 @@ returns c =
     let k = c .before .before .before .before .before .before .before .before in
     let p = k .before .before .before .before .before in
     let a = p .before .before .before .before .before .before .before .before .before .before .args in
-    k .carry-ask .ensures (holder (a .s .store) (a .share)) (a .size) (a .mask) (a .chunks .now) (p .plan-ask .ensures .1)
+    k .carry-ask .ensures (holder (a .s .store) (a .share)) (a .size) (a .mask) (p .plan-ask .ensures .1)
     ∙ ask-done (a .s) (holder (a .s .store) (a .share)) (a .size) (a .mask) (tables (a .head .now) (a .loans .now) (a .chunks .now) (a .index .now) (a .regions .now)) _ (p .plan-ask .ensures .0)
 
 pub ask-spec : {M : Type 1} → statement M

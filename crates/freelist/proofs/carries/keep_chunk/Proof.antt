@@ -20,12 +20,12 @@ charged-requires c κs = search needs
 
 add-chunk-requires : tie.Need-add-chunk-requires
 add-chunk-requires c κs =
-    c .before .before .before .before .before .before .before .before .before .before .before .before .before .before .before .before .pre .adds
+    c .before .before .before .before .before .before .before .before .before .before .before .before .before .before .before .before .before .pre .adds
 
 lend-requires : tie.Need-lend-requires
 lend-requires c κs =
-    let d = c .before .before .before .before .before .before .before .before .before in
-    let u = d .before .before .before .before .before in
+    let d = c .before .before .before .before .before .before .before .before .before .before in
+    let u = d .before .before .before .before .before .before in
     let n = u .before .before .before in
     let b = n .before .before .before .before .before .before .before .before .before in
     let a = b .args in
@@ -52,8 +52,8 @@ same-length-5 c = search needs
 returns : tie.Need-returns
 returns c =
     let l = c .before .before .before .before .before .before .before in
-    let d = l .before .before .before .before .before .before .before .before .before .before in
-    let g = d .before .before .before .before in
+    let d = l .before .before .before .before .before .before .before .before .before .before .before in
+    let g = d .before .before .before .before .before in
     let u = g .before in
     let n = u .before .before .before in
     let b = n .before .before .before .before .before .before .before .before .before in

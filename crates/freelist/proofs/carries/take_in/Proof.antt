@@ -6,15 +6,15 @@ use Rattle.freelist.proofs.carries.take_in.Tie as tie
 
 take-back-requires : tie.Need-take-back-requires
 take-back-requires c κs =
-    let b = c .before .before .before .before .before .before .before .before in
+    let b = c .before .before .before .before .before .before .before .before .before in
     (b .pre .backs, b .pre .strikes)
 
 let-go-requires : tie.Need-let-go-requires
 let-go-requires c κs =
     let k = c .before .before .before .before .before .before .before .before .before in
-    let b = k .before .before .before .before .before .before .before .before .before in
+    let b = k .before .before .before .before .before .before .before .before .before .before in
     let a = b .args in
-    releases-now (a .s) (holder (a .s .store) (a .share)) (a .b) (a .at) (a .loans .now) (a .regions .now) (a .index .now) _ _ _ (k .take-back .ensures) (a .share .objects) (a .chunks .now) (a .list .now) (b .pre .releases)
+    releases-now (a .s) (holder (a .s .store) (a .share)) (a .b) (a .at) (a .loans .now) (a .chunks .now) (a .regions .now) (a .index .now) _ _ _ (k .take-back .ensures) (a .share .objects) (a .list .now) (b .pre .releases)
 
 same-length : tie.Need-same-length
 same-length c = search needs
@@ -35,8 +35,8 @@ returns : tie.Need-returns
 returns c =
     let g = c .before .before .before .before .before .before in
     let k = g .before .before .before .before .before .before .before .before .before .before in
-    let a = k .before .before .before .before .before .before .before .before .before .args in
-    taken-in (a .s) (holder (a .s .store) (a .share)) (a .b) (a .at) (a .loans .now) (a .regions .now) (a .index .now) _ _ _ (k .take-back .ensures) (a .chunks .now) (a .list .now) _ _ _ _ _ (g .let-go .ensures)
+    let a = k .before .before .before .before .before .before .before .before .before .before .args in
+    taken-in (a .s) (holder (a .s .store) (a .share)) (a .b) (a .at) (a .loans .now) (a .chunks .now) (a .regions .now) (a .index .now) _ _ _ (k .take-back .ensures) (a .list .now) _ _ _ _ _ (g .let-go .ensures)
 
 pub take-in-spec : {M : Type 1} → statement M
 take-in-spec =

@@ -7,7 +7,9 @@ use native.Mathlib.Omega.{arith}
 use lib.Dec.{eqb}
 use Rattle.words.specs.Rows.{rows}
 use Rattle.words.proofs.Records.{length-rows}
-use Rattle.freelist_rules.specs.Records.{chunkRow, regionRow}
+use Rattle.freelist_rules.specs.Records.{chunkRow, gapRow}
+use Rattle.freelist_rules.specs.Threads.{freeOf}
+use Rattle.freelist_rules.proofs.GapLists.{free-length}
 use Rattle.store_rules.specs.declared.Chunk.{Chunk}
 use Rattle.freelist_marks.proofs.Finding.{goes-not, memory-numbered}
 use Rattle.freelist_marks.proofs.Marking.{Marking, marking-none, marking-done, marking-length, marking-room, marking-turns, marking-stays, marking-goes}
@@ -15,7 +17,7 @@ use Rattle.freelist_marks.proofs.marks.mark.Statement.{statement}
 use Rattle.freelist_marks.proofs.marks.mark.Tie as tie
 
 abbrev Inv-loop : tie.InvT-loop
-Inv-loop chunks k regions n spare list₀ i₀ m₀ bytes₀ list i m bytes = (i ≤ n) × Marking (rows chunkRow k chunks) spare (rows regionRow n regions) list₀ list i m bytes
+Inv-loop chunks k regions n spare list₀ i₀ m₀ bytes₀ list i m bytes = (i ≤ n) × Marking (rows chunkRow k chunks) spare (freeOf (rows gapRow n regions)) list₀ list i m bytes
 
 abbrev μ-loop : tie.MeasureT-loop
 μ-loop chunks k regions n spare list₀ i₀ m₀ bytes₀ list i m bytes = n - i
@@ -23,7 +25,7 @@ abbrev μ-loop : tie.MeasureT-loop
 loop-holds : tie.Need-loop-holds Inv-loop μ-loop
 loop-holds c =
     let a = c .before .before .before .args in
-    (omega arith, marking-none (rows chunkRow (a .k) (a .chunks .now)) (a .spare) (rows regionRow (a .n) (a .regions .now)) (a .list .now))
+    (omega arith, marking-none (rows chunkRow (a .k) (a .chunks .now)) (a .spare) (freeOf (rows gapRow (a .n) (a .regions .now))) (a .list .now))
 
 cell-requires : tie.Need-cell-requires Inv-loop μ-loop
 cell-requires c κs = search needs
@@ -116,13 +118,13 @@ same-length : tie.Need-same-length Inv-loop μ-loop
 same-length c =
     let l = c .before in
     let a = l .before .before .before .before .args in
-    marking-length (rows chunkRow (a .k) (a .chunks .now)) (a .spare) (rows regionRow (a .n) (a .regions .now)) (a .list .now) (l .loop .list) (l .loop .i) (l .loop .m) (l .loop .bytes) (l .loop .inv .1)
+    marking-length (rows chunkRow (a .k) (a .chunks .now)) (a .spare) (freeOf (rows gapRow (a .n) (a .regions .now))) (a .list .now) (l .loop .list) (l .loop .i) (l .loop .m) (l .loop .bytes) (l .loop .inv .1)
 
 returns : tie.Need-returns Inv-loop μ-loop
 returns c =
     let l = c .before in
     let a = l .before .before .before .before .args in
-    let d = marking-done (rows chunkRow (a .k) (a .chunks .now)) (a .spare) (rows regionRow (a .n) (a .regions .now)) (a .list .now) (l .loop .list) (l .loop .i) (l .loop .m) (l .loop .bytes) (omega (arith, length-rows regionRow (a .n) (a .regions .now))) (l .loop .inv .1) in
+    let d = marking-done (rows chunkRow (a .k) (a .chunks .now)) (a .spare) (freeOf (rows gapRow (a .n) (a .regions .now))) (a .list .now) (l .loop .list) (l .loop .i) (l .loop .m) (l .loop .bytes) (omega (arith, free-length (rows gapRow (a .n) (a .regions .now)), length-rows gapRow (a .n) (a .regions .now))) (l .loop .inv .1) in
     (d .0, (d .1, d .2))
 
 pub mark-spec : {M : Type 1} → statement M

@@ -1,7 +1,10 @@
 use borrow.Author.Needs.{needs}
+use Rattle.freelist_place.proofs.Writing.{added-done}
 use Rattle.freelist_place.proofs.adding.add_chunk.Statement.{statement}
 use Rattle.freelist_place.proofs.adding.add_chunk.Tie as tie
-use Rattle.freelist_place.proofs.Writing.{added-done}
+
+before-of-requires : tie.Need-before-of-requires
+before-of-requires c κs = search needs
 
 word-requires : tie.Need-word-requires
 word-requires c κs = search needs
@@ -48,13 +51,16 @@ returns c =
     let z = p .before .before in
     let m = z .before in
     let k = m .before .before in
-    let b = k .before .before .before .before .before in
-    added-done (b .args .s) (b .args .memory) (b .args .size) (b .args .head .now) (b .args .chunks .now) (b .args .regions .now) (b .pre) _ _ _ _ _ _ _ (k .word .ensures) (m .word2 .ensures) (z .double .ensures) (p .put-chunk .ensures) (d .count-chunk .ensures) (r .append .ensures) (h .raise-size .ensures)
+    let l = k .before .before in
+    let o = l .before .before .before .before .before .before in
+    let a = o .args in
+    added-done (a .s) (a .memory) (a .size) (a .head .now) (a .chunks .now) (a .index .now) (a .regions .now) (o .pre) _ _ _ _ _ _ _ _ (l .before-of .ensures) (k .word .ensures) (m .word2 .ensures) (z .double .ensures) (p .put-chunk .ensures) (d .count-chunk .ensures) (r .append .ensures) (h .raise-size .ensures)
 
 pub add-chunk-spec : {M : Type 1} → statement M
 add-chunk-spec =
     tie.close
     (tie.spec
+    before-of-requires
     word-requires
     word-requires-2
     add-number

@@ -1,41 +1,60 @@
 use borrow.Author.Needs.{needs}
 use mathlib.Core.Path.{refl}
-use Rattle.freelist_place.proofs.Counting.{few, appended-done}
+use Rattle.freelist_place.proofs.Counting.{few, whole-few, appended-done}
 use Rattle.freelist_place.proofs.counted.append.Statement.{statement}
 use Rattle.freelist_place.proofs.counted.append.Tie as tie
 
 word-requires : tie.Need-word-requires
 word-requires c κs = search needs
 
-put-region-requires : tie.Need-put-region-requires
-put-region-requires c κs = search needs
+word-requires-2 : tie.Need-word-requires-2
+word-requires-2 c κs = search needs
 
-add-put : tie.Need-add-put
-add-put c =
-    let w = c .before .before .before .before .before in
-    let b = w .before .before .before in
-    let h = few (b .args .s) (b .args .regions .now) (b .pre .0) _ (w .word .ensures) in
+put-gap-requires : tie.Need-put-gap-requires
+put-gap-requires c κs = search needs
+
+add-count-regions : tie.Need-add-count-regions
+add-count-regions c =
+    let w = c .before .before .before .before .before .before .before in
+    let o = w .before .before .before in
+    let a = o .args in
+    let h = few (a .s) (a .regions .now) (o .pre .0) _ (w .word .ensures) in
     search needs
 
-put-requires : tie.Need-put-requires
-put-requires c κs = search needs
+add-count-regions-2 : tie.Need-add-count-regions-2
+add-count-regions-2 c =
+    let v = c .before .before .before .before .before in
+    let w = v .before .before in
+    let o = w .before .before .before in
+    let a = o .args in
+    let h = whole-few (a .s) (a .regions .now) (o .pre .0) _ (w .word .ensures) _ (v .word2 .ensures) (o .pre .2) in
+    search needs
+
+count-regions-requires : tie.Need-count-regions-requires
+count-regions-requires c κs = search needs
 
 same-length : tie.Need-same-length
 same-length c = search needs
 
 returns : tie.Need-returns
 returns c =
-    let w = c .before .before .before .before .before .before .before .before in
-    let b = w .before .before .before in
-    appended-done (b .args .s) (b .args .regions .now) (b .pre .0) _ (w .word .ensures) (b .args .r) _ _ _ (b .pre .1) (c .before .before .before .before .before .before .put-region .ensures) refl (c .before .before .put .ensures)
+    let q = c .before .before in
+    let p = q .before .before .before .before in
+    let v = p .before .before in
+    let w = v .before .before in
+    let o = w .before .before .before in
+    let a = o .args in
+    appended-done (a .s) (a .regions .now) (o .pre .0) _ (w .word .ensures) (a .g) _ _ _ _ _ (o .pre .1) (v .word2 .ensures) (p .put-gap .ensures) refl refl (q .count-regions .ensures)
 
 pub append-spec : {M : Type 1} → statement M
 append-spec =
     tie.close
     (tie.spec
     word-requires
-    put-region-requires
-    add-put
-    put-requires
+    word-requires-2
+    put-gap-requires
+    add-count-regions
+    add-count-regions-2
+    count-regions-requires
     same-length
     returns)

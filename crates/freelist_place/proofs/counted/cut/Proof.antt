@@ -1,5 +1,5 @@
 use borrow.Author.Needs.{needs}
-use Rattle.freelist_rules.specs.Place.{cutOff}
+use Rattle.freelist_rules.specs.Threads.{cutGaps}
 use Rattle.freelist_place.proofs.Counting.{cut-fits, laid-done}
 use Rattle.freelist_place.proofs.counted.cut.Statement.{statement}
 use Rattle.freelist_place.proofs.counted.cut.Tie as tie
@@ -9,23 +9,27 @@ word-requires c κs = search needs
 
 cut-region-requires : tie.Need-cut-region-requires
 cut-region-requires c κs =
-    let b = c .before .before .before .before in
-    cut-fits (b .args .s) (b .args .regions .now) (b .pre .0) _ (c .before .word .ensures) (b .args .i) (b .pre .1)
+    let w = c .before in
+    let o = w .before .before .before in
+    let a = o .args in
+    cut-fits (a .s) (a .regions .now) (o .pre .0) _ (w .word .ensures) (a .i) (o .pre .1)
 
-put-requires : tie.Need-put-requires
-put-requires c κs = search needs
+count-regions-requires : tie.Need-count-regions-requires
+count-regions-requires c κs = search needs
 
 same-length : tie.Need-same-length
 same-length c = search needs
 
 returns : tie.Need-returns
 returns c =
-    let w = c .before .before .before .before .before .before .before .before in
-    let b = w .before .before .before in
-    let r = c .before .before .before .before .before .before .cut-region in
-    laid-done (b .args .s) (b .args .regions .now) (b .pre .0) _ (w .word .ensures) (cutOff (b .args .place) (b .args .i)) _ _ _ (r .ensures .0) (r .ensures .1) (c .before .before .put .ensures)
+    let q = c .before .before in
+    let r = q .before .before .before .before in
+    let w = r .before .before in
+    let o = w .before .before .before in
+    let a = o .args in
+    laid-done (a .s) (a .regions .now) (o .pre .0) _ (w .word .ensures) (cutGaps (a .place) (a .i) (a .loan)) _ (a .whole) _ _ (r .cut-region .ensures .0) (r .cut-region .ensures .1) (q .count-regions .ensures)
 
 pub cut-spec : {M : Type 1} → statement M
 cut-spec =
     tie.close
-    (tie.spec word-requires cut-region-requires put-requires same-length returns)
+    (tie.spec word-requires cut-region-requires count-regions-requires same-length returns)

@@ -9,10 +9,12 @@ use lib.Dec.{leb}
 use lib.ListN.{length, take, getD}
 use Rattle.words.specs.Rows.{rows, row}
 use Rattle.words.proofs.Records.{length-rows, getD-rows}
-use Rattle.freelist_rules.specs.Records.{regionRow}
+use Rattle.freelist_rules.specs.Records.{gapRow}
 use Rattle.freelist_rules.specs.Place.{at, cut, fitsIn, find}
 use Rattle.freelist_rules.specs.Steps.{noRegion}
 use Rattle.store_rules.specs.declared.Region.{Region}
+use Rattle.freelist_rules.specs.Threads.{regionIn, freeOf, noGap}
+use Rattle.freelist_rules.proofs.GapLists.{free-at, free-length}
 use Rattle.freelist_rules.proofs.Search.{find-start, find-none, find-here, find-past}
 use Rattle.freelist_regions.proofs.search.find_fit.Statement.{statement}
 use Rattle.freelist_regions.proofs.search.find_fit.Tie as tie
@@ -20,7 +22,7 @@ use Rattle.lists.proofs.Bools.{and-right}
 
 -- what fits stands among the first k
 abbrev Inv-loop : tie.InvT-loop
-Inv-loop t n mask size k₀ k = (k ≤ n) × (find mask size (rows regionRow n t) ≡ find mask size (take k (rows regionRow n t)))
+Inv-loop t n mask size k₀ k = (k ≤ n) × (find mask size (freeOf (rows gapRow n t)) ≡ find mask size (take k (freeOf (rows gapRow n t))))
 
 abbrev μ-loop : tie.MeasureT-loop
 μ-loop t n mask size k₀ k = k
@@ -28,8 +30,8 @@ abbrev μ-loop : tie.MeasureT-loop
 loop-holds : tie.Need-loop-holds Inv-loop μ-loop
 loop-holds c =
     let a = c .before .args in
-    let rs = rows regionRow (a .n) (a .t .now) in
-    (omega arith, find-start (a .mask) (a .size) rs ∙ ap (λ (m : ℕ). find (a .mask) (a .size) (take m rs)) (length-rows regionRow (a .n) (a .t .now)))
+    let rs = freeOf (rows gapRow (a .n) (a .t .now)) in
+    (omega arith, find-start (a .mask) (a .size) rs ∙ ap (λ (m : ℕ). find (a .mask) (a .size) (take m rs)) (free-length (rows gapRow (a .n) (a .t .now)) ∙ length-rows gapRow (a .n) (a .t .now)))
 
 sub-k : tie.Need-sub-k Inv-loop μ-loop
 sub-k c = omega arith
@@ -53,19 +55,19 @@ lower-to-unit-requires : tie.Need-lower-to-unit-requires Inv-loop μ-loop
 lower-to-unit-requires c κs = c .before .before .before .before .before .before .before .before .pre
 
 -- the region at hand, of the first k
-module _ (t : List ℕ) (n k mask size : ℕ) (r : Region) (e : r ≡ row regionRow (k - 1) t) (some : 0 < k) (most : k ≤ n)
-    (inv : find mask size (rows regionRow n t) ≡ find mask size (take k (rows regionRow n t))) where
+module _ (t : List ℕ) (n k mask size : ℕ) (r : Region) (e : r ≡ regionIn (row gapRow (k - 1) t)) (some : 0 < k) (most : k ≤ n)
+    (inv : find mask size (freeOf (rows gapRow n t)) ≡ find mask size (take k (freeOf (rows gapRow n t)))) where
   abbrev rs : List Region
-  rs = rows regionRow n t
+  rs = freeOf (rows gapRow n t)
 
   below : k - 1 < length rs
-  below = omega (arith, length-rows regionRow n t)
+  below = omega (arith, free-length (rows gapRow n t), length-rows gapRow n t)
 
   last : suc (k - 1) ≡ k
   last = omega arith
 
   is : r ≡ getD rs (k - 1) noRegion
-  is = e ∙ sym (getD-rows regionRow n (k - 1) t noRegion (omega arith))
+  is = e ∙ sym (free-at (rows gapRow n t) (k - 1) ∙ ap regionIn (getD-rows gapRow n (k - 1) t noGap (omega arith)))
 
   here : fitsIn mask size r ≡ true → find mask size rs ≡ at (k - 1)
   here f = inv ∙ rw last at (find-here mask size (k - 1) rs noRegion below (ap (fitsIn mask size) (sym is) ∙ f))
@@ -137,7 +139,7 @@ returns-2 : tie.Need-returns-2 Inv-loop μ-loop
 returns-2 c =
     let a = c .before .before .before .args in
     let l = c .before .loop in
-    let rs = rows regionRow (a .n) (a .t .now) in
+    let rs = freeOf (rows gapRow (a .n) (a .t .now)) in
     let e : l .k ≡ 0 = omega arith in
     (sym ((rw e at (l .inv .1)) ∙ find-none (a .mask) (a .size) rs), tt)
 

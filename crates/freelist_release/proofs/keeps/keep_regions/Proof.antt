@@ -2,8 +2,8 @@ use borrow.Author.Needs.{needs}
 use Prim.Native.Nat.{_-_, _≤_}
 use native.Mathlib.Omega.{arith}
 use Rattle.words.specs.Rows.{rows}
-use Rattle.freelist_rules.specs.Records.{chunkRow, regionRow}
-use Rattle.freelist_rules.specs.Release.{staying}
+use Rattle.freelist_rules.specs.Records.{chunkRow, gapRow}
+use Rattle.freelist_rules.specs.Threads.{stayingGaps}
 use Rattle.freelist_release.proofs.Keeping.{kept-none, kept-length}
 use Rattle.freelist_release.proofs.Turns.{KeptRegions, region-past, region-more, regions-done}
 use Rattle.freelist_release.proofs.keeps.keep_regions.Statement.{statement}
@@ -18,7 +18,7 @@ abbrev μ-loop : tie.MeasureT-loop
 loop-holds : tie.Need-loop-holds Inv-loop μ-loop
 loop-holds c =
     let a = c .before .before .args in
-    (omega arith, kept-none regionRow (staying (rows chunkRow (a .k) (a .chunks .now)) (a .spare)) (rows regionRow (a .n) (a .regions .now)) (a .regions .now) (omega (arith, c .before .before .pre .0)))
+    (omega arith, kept-none gapRow (stayingGaps (rows chunkRow (a .k) (a .chunks .now)) (a .spare)) (rows gapRow (a .n) (a .regions .now)) (a .regions .now) (omega (arith, c .before .before .pre .0)))
 
 add-goes-at : tie.Need-add-goes-at Inv-loop μ-loop
 add-goes-at c = search needs
@@ -42,11 +42,11 @@ loop-again c =
       region-past (rows chunkRow (a .k) (a .chunks .now)) (a .spare) (a .regions .now) (a .n) (l .loop .regions) (l .loop .i) (l .loop .kept) (l .loop .inv .1) (search needs) (s .pre .0) _ (g .goes-at .ensures) (c .if1 .taken),
     )
 
-region-at-requires : tie.Need-region-at-requires Inv-loop μ-loop
-region-at-requires c κs = search needs
+gap-at-requires : tie.Need-gap-at-requires Inv-loop μ-loop
+gap-at-requires c κs = search needs
 
-put-region-requires : tie.Need-put-region-requires Inv-loop μ-loop
-put-region-requires c κs = search needs
+put-gap-requires : tie.Need-put-gap-requires Inv-loop μ-loop
+put-gap-requires c κs = search needs
 
 add-kept : tie.Need-add-kept Inv-loop μ-loop
 add-kept c = let l = c .before .before .before .before .before .before .before .before .before .before in omega (arith, l .loop .inv .1 .within)
@@ -67,7 +67,7 @@ loop-again-2 c =
     let s = l .before .before .before in
     let a = s .args in (
       omega arith,
-      region-more (rows chunkRow (a .k) (a .chunks .now)) (a .spare) (a .regions .now) (a .n) (l .loop .regions) (l .loop .i) (l .loop .kept) (l .loop .inv .1) (search needs) (s .pre .0) _ (g .goes-at .ensures) (f .if1 .left) (r .region-at .result) (r .region-at .ensures) _ (p .put-region .ensures),
+      region-more (rows chunkRow (a .k) (a .chunks .now)) (a .spare) (a .regions .now) (a .n) (l .loop .regions) (l .loop .i) (l .loop .kept) (l .loop .inv .1) (search needs) (s .pre .0) _ (g .goes-at .ensures) (f .if1 .left) (r .gap-at .result) (r .gap-at .ensures) _ (p .put-gap .ensures),
     )
 
 same-length : tie.Need-same-length Inv-loop μ-loop
@@ -75,7 +75,7 @@ same-length c =
     let l = c .before in
     let s = l .before .before .before in
     let a = s .args in
-    kept-length regionRow (staying (rows chunkRow (a .k) (a .chunks .now)) (a .spare)) (rows regionRow (a .n) (a .regions .now)) (a .regions .now) (l .loop .regions) (l .loop .i) (l .loop .kept) (l .loop .inv .1) (a .n) (search needs) (s .pre .0)
+    kept-length gapRow (stayingGaps (rows chunkRow (a .k) (a .chunks .now)) (a .spare)) (rows gapRow (a .n) (a .regions .now)) (a .regions .now) (l .loop .regions) (l .loop .i) (l .loop .kept) (l .loop .inv .1) (a .n) (search needs) (s .pre .0)
 
 returns : tie.Need-returns Inv-loop μ-loop
 returns c =
@@ -95,8 +95,8 @@ keep-regions-spec =
     add-i
     loop-less
     loop-again
-    region-at-requires
-    put-region-requires
+    gap-at-requires
+    put-gap-requires
     add-kept
     add-i-2
     loop-less-2
