@@ -36,6 +36,8 @@ fn main() {
     }
     if env::var_os("CARGO_FEATURE_TIMING").is_some() {
         println!("cargo::rerun-if-changed=untested.rs");
+        // An emulator tells addresses: they are those of the file only if it is loaded where it says.
+        println!("cargo::rustc-link-arg-bin=count=-no-pie");
         link_copies(&folder);
     }
     println!("cargo::rerun-if-changed=build.rs");

@@ -11,7 +11,7 @@ use crate::{
     MemoryPropertyFlags, MemoryType,
 };
 
-/// An engine of the crate, and an account whose device always gives memory.
+/// An engine of the crate, and an account whose device gives memory until it is to rest.
 pub struct Bare {
     engine: Engine,
     account: Account,
@@ -28,7 +28,12 @@ impl Bare {
         Bare { engine: Engine::set_up(settings), account }
     }
 
-    /// The crate's `alloc`, of a block that there is room for.
+    /// From here on the device must not be asked for memory.
+    pub fn rest_device(&mut self) {
+        self.account.device.begin(Script::Rest);
+    }
+
+    /// The crate's `alloc`, of a block that there is room for or that the device gives memory for.
     pub fn alloc(&mut self, size: u64, mask: u64) -> BareBlock {
         let block = self.engine.alloc(&mut self.account, size, mask);
         BareBlock(block.expect("the device gives memory"))

@@ -4,8 +4,12 @@ use crate::tape::{word, Header, Record};
 
 /// Greatest heap size and heap used.
 pub const HEAP_LIMIT: u64 = 1 << 62;
-/// Levels a buddy store may have.
+/// Levels a buddy store may have, and pairs for each of them.
 pub const LEVEL_LIMIT: usize = 32;
+pub const PAIR_LIMIT: u64 = 256;
+/// Blocks on loan and chunks that a store may have.
+pub const LOAN_LIMIT: u64 = 512;
+pub const CHUNK_LIMIT: u64 = 64;
 
 const BUDDY: u64 = 1;
 const FREE_LIST: u64 = 2;
@@ -47,8 +51,8 @@ impl Settings {
             properties: within(header[word::PROPERTIES], 0, 63)? as u8,
             heap: within(header[word::HEAP], 0, 15)?,
             atom_mask,
-            loans: within(header[word::LOANS], 1, 512)? as usize,
-            chunks: within(header[word::CHUNKS], 1, 64)? as usize,
+            loans: within(header[word::LOANS], 1, LOAN_LIMIT)? as usize,
+            chunks: within(header[word::CHUNKS], 1, CHUNK_LIMIT)? as usize,
             heap_size: within(header[word::HEAP_SIZE], 0, HEAP_LIMIT)?,
             objects: u32::try_from(header[word::OBJECTS]).ok()?,
         };
@@ -102,7 +106,7 @@ impl Kind {
                 let minimal = within(least, 1, MINIMAL_LIMIT)?;
                 let powers = minimal.is_power_of_two() && greatest.is_power_of_two();
                 let initial = within(greatest, 1, minimal << LEVEL_LIMIT)?;
-                let pairs = within(header[word::PAIRS], 1, 256)? as usize;
+                let pairs = within(header[word::PAIRS], 1, PAIR_LIMIT)? as usize;
                 powers.then_some(Kind::Buddy { minimal, initial, pairs })
             }
             FREE_LIST => {

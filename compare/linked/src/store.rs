@@ -7,7 +7,7 @@ use {
     },
     compare::{
         answer::{Answer, Order},
-        settings::LEVEL_LIMIT,
+        settings::{CHUNK_LIMIT, LEVEL_LIMIT, LOAN_LIMIT, PAIR_LIMIT},
         tape::{word, Block, Header, Outcome, Record},
     },
 };
@@ -28,6 +28,18 @@ const BUDDY_OWN: [usize; 3] = [word::LEAST, word::GREATEST, word::PAIRS];
 /// Of both engines' tables the loans', and the word that every table begins with.
 const LOANS: usize = 1;
 const MARK: usize = 0;
+
+/// Words of both engines' heads, and of a record of their loans.
+const HEAD: usize = 2;
+const LOAN: usize = 4;
+/// Words that a free list has for a chunk, for a loan in its index, and for a region.
+const LIST_CHUNK: usize = 3;
+const LIST_ENTRY: usize = 5;
+const REGION: usize = 4;
+/// Words that a buddy has for a chunk, for a loan in its index, and for a record of its tree.
+const BUDDY_CHUNK: usize = 2;
+const BUDDY_ENTRY: usize = 4;
+const TREE_RECORD: usize = 8;
 
 /// What an answer's words are before the call, so that one left unwritten shows.
 const UNWRITTEN: ffi::Answer = [u64::MAX; 6];
@@ -57,11 +69,12 @@ impl Store {
     pub fn lent(engines: &Engines, header: &Header) -> Option<Store> {
         // More than the greatest limits is refused, whatever the lengths.
         let limit = |at: usize, most: u64| header[at].min(most) as usize;
-        let (loans, chunks) = (limit(word::LOANS, 512), limit(word::CHUNKS, 64));
+        let loans = limit(word::LOANS, LOAN_LIMIT);
+        let chunks = limit(word::CHUNKS, CHUNK_LIMIT);
         let (engine, own, tables): (_, &[usize], _) =
             match (header[word::ENGINE], header[word::PAIRS]) {
-                (1, pairs) => {
-                    let lengths = buddy_lengths(loans, chunks, pairs.min(256) as usize);
+                (1, _) => {
+                    let lengths = buddy_lengths(loans, chunks, limit(word::PAIRS, PAIR_LIMIT));
                     (engines.buddy, &BUDDY_OWN, lengths)
                 }
                 (2, 0) => (engines.list, &LIST_OWN, list_lengths(loans, chunks)),
@@ -182,11 +195,24 @@ fn outcome_words(outcome: Outcome, memory: u64) -> OutcomeWords {
 
 /// Words of head, loans, chunks, index and regions: each table's own record, then the others.
 fn list_lengths(loans: usize, chunks: usize) -> [usize; 5] {
-    [2, 4 * (1 + loans), 3 * (1 + chunks), 5 * (1 + loans), 4 * (1 + loans + chunks)]
+    let regions = loans + chunks;
+    [
+        HEAD,
+        LOAN * (1 + loans),
+        LIST_CHUNK * (1 + chunks),
+        LIST_ENTRY * (1 + loans),
+        REGION * (1 + regions),
+    ]
 }
 
-/// Words of head, loans, chunks, index and tree: its own record, levels of pairs, chunk places, loans' nodes.
+/// Words of head, loans, chunks, index and tree: its own record, levels of pairs, chunk places.
 fn buddy_lengths(loans: usize, chunks: usize, pairs: usize) -> [usize; 5] {
-    let tree = 8 + (8 + 8 * pairs) * LEVEL_LIMIT + 8 * (1 + chunks) + loans;
-    [2, 4 * (1 + loans), 2 * (1 + chunks), 3 * (1 + loans), tree]
+    let tree_records = 1 + LEVEL_LIMIT * (1 + pairs) + (1 + chunks);
+    [
+        HEAD,
+        LOAN * (1 + loans),
+        BUDDY_CHUNK * (1 + chunks),
+        BUDDY_ENTRY * (1 + loans),
+        TREE_RECORD * tree_records,
+    ]
 }

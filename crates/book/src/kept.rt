@@ -1,36 +1,51 @@
 // The test of a book.
 ghost use mathlib.Core.Path.{_≡_};
-ghost use Prim.Native.Nat.{_≤_, _<_};
+ghost use Prim.Native.Nat.{_+_, _*_, _≤_, _<_};
+ghost use lib.ListN.{length};
 ghost use Rattle.counter.specs.Limits.{loansMost};
+ghost use Rattle.slab.specs.Slab.{vacantAt};
+ghost use Rattle.slab.specs.Test.{vacancies};
+ghost use Rattle.store_rules.specs.Loans.{loanWords, sizeAt};
+ghost use Rattle.book_rules.specs.Book.{indexWords};
 ghost use Rattle.book_rules.specs.Kept.{keptOk};
+ghost use Rattle.book_rules.specs.Ready.{Reads};
 use crate::ENTRY_WORDS;
 use crate::VACANT_AFTER_AT;
 use crate::VACATED_AT;
-use slab::Slab;
 use store_rules::LOAN_WORDS;
 use store_rules::SIZE_AT;
 
 // Whether the places of the loans are parted into used and vacant ones, and the chains lead to each loan.
 pub fn is_kept(loans: &[u64], index: &[u64], n: usize, places: u64, given: u64) -> bool
-    requires { ⌜ (0 < n) × (n ≤ loansMost) ⌝ }
+    requires { ⌜ (0 < n) × (n ≤ loansMost) × (length (now loans) ≡ loanWords + loanWords * n) × (indexWords n ≤ length (now index)) ⌝ }
     ensures { λ r. ⌜ r ≡ keptOk (now (loans .entry)) (now (index .entry)) n places given ⌝ }
 {
-    let s = Slab {
-        places: places,
-        vacant: slab::led_to(index, VACATED_AT),
-    };
-    let parted = slab::is_parted(
-        s,
-        n as u64,
+    if (n as u64) < places {
+        return false;
+    }
+    let vacant = slab::count_vacant(loans, SIZE_AT, LOAN_WORDS, places);
+    is_led(loans, index, n, places, given, vacant)
+}
+
+// The same of places that are not too many, of which so many are vacant.
+pub fn is_led(loans: &[u64], index: &[u64], n: usize, places: u64, given: u64, vacant: u64) -> bool
+    requires { ⌜ Reads n places (now loans) (now index) × (vacant ≡ vacancies (vacantAt (now loans) sizeAt loanWords) places) ⌝ }
+    ensures { λ r. ⌜ r ≡ keptOk (now (loans .entry)) (now (index .entry)) n places given ⌝ }
+{
+    let last = slab::led_to(index, VACATED_AT);
+    let parted = slab::chain_leads(
         loans,
         SIZE_AT,
         LOAN_WORDS,
         index,
         VACANT_AFTER_AT,
         ENTRY_WORDS,
+        places,
+        last,
+        vacant,
     );
     if !parted {
         return false;
     }
-    crate::chains::is_chained(loans, index, n, places, given)
+    crate::chains::is_chained(loans, index, n, places, given, vacant)
 }

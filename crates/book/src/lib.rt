@@ -2,8 +2,8 @@
 mod chains;
 mod kept;
 
-pub use chains::is_chained;
 pub use kept::is_kept;
+pub use kept::is_led;
 ghost use mathlib.Core.Path.{_≡_};
 ghost use Prim.Native.Nat.{_%_, _≤_, _<_};
 ghost use lib.ListN.{length, getD, set};
@@ -13,7 +13,7 @@ ghost use Rattle.words.specs.Rows.{row, written};
 ghost use Rattle.slab.specs.Slab.{recordOf};
 ghost use Rattle.store_rules.specs.Loans.{placesAt, loanWords, serialAt, sizeAt, loanRow};
 ghost use Rattle.book_rules.specs.Ready.{Opens, Strikes};
-ghost use Rattle.book_rules.specs.Book.{entryWords, vacatedAt, vacantAfterAt, indexWords, firstOf, nextOf, freshIndex, takenOf, counted, wordTo, struck, struckIndex};
+ghost use Rattle.book_rules.specs.Book.{entryWords, vacatedAt, vacantAfterAt, indexWords, firstOf, nextOf, takenOf, counted, wordTo, struck, struckIndex};
 use slab::NOWHERE;
 use slab::Slab;
 use slab::Taken;
@@ -37,14 +37,6 @@ const NEXT_AT: usize = 4;
 
 pub const VACANT_AFTER_AT: usize = 5;
 
-// The index of n loans with no loan in it: behind its mark no word leads anywhere.
-pub fn fresh_index(mark: u64, n: usize, index: &mut [u64])
-    requires { ⌜ length (now index) ≡ indexWords n ⌝ }
-    ensures { λ _. ⌜ now (index .exit) ≡ freshIndex mark n ⌝ }
-{
-    words::put_blank(index, mark, 0);
-}
-
 // The place that the next loan takes, and the slab from then on.
 pub fn next_place(places: u64, index: &[u64]) -> Taken
     ensures { λ r. ⌜ r ≡ takenOf places (now (index .entry)) ⌝ }
@@ -61,20 +53,28 @@ pub fn loan_at(loans: &[u64], p: usize) -> Loan
     ensures { λ r. ⌜ r ≡ row loanRow p (now (loans .entry)) ⌝ }
 {
     if p < loans.len() {
-        let at = LOAN_WORDS * p;
-        if at + SIZE_AT < loans.len() {
-            return Loan {
-                serial: loans[at + SERIAL_AT],
-                chunk: loans[at + CHUNK_AT],
-                offset: loans[at + OFFSET_AT],
-                size: loans[at + SIZE_AT],
-            };
+        if LOAN_WORDS * p + SIZE_AT < loans.len() {
+            return loan_in(loans, p);
         }
     }
     loan_by_words(loans, p)
 }
 
-// The same, each word by itself.
+// The loan at a place that the table has.
+pub fn loan_in(loans: &[u64], p: usize) -> Loan
+    requires { ⌜ cellOf sizeAt loanWords p < length (now loans) ⌝ }
+    ensures { λ r. ⌜ r ≡ row loanRow p (now (loans .entry)) ⌝ }
+{
+    let at = LOAN_WORDS * p;
+    Loan {
+        serial: loans[at + SERIAL_AT],
+        chunk: loans[at + CHUNK_AT],
+        offset: loans[at + OFFSET_AT],
+        size: loans[at + SIZE_AT],
+    }
+}
+
+// The loan at any place, each word by itself.
 fn loan_by_words(loans: &[u64], p: usize) -> Loan
     ensures { λ r. ⌜ r ≡ row loanRow p (now (loans .entry)) ⌝ }
 {

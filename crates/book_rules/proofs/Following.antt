@@ -45,6 +45,15 @@ module _ (free : ℕ → Bool) (first next serial : ℕ → ℕ) (n places i : �
         by true false e = ltb-true 0 (serial p) (and-left _ _ e)
         by false d e = absurd (true-false false e refl)
 
+    -- and is one of the places
+    pub link-below : linkOk free first next serial n places i most p ≡ true → p < places
+    unfolding linkOk
+    link-below e = by (ltb p places) refl e
+      where
+        by : (b : Bool) → ltb p places ≡ b → cond b (cond (free p) false (ltb 0 (serial p) && (leb (serial p) most && eqb (serial p % n) i))) false ≡ true → p < places
+        by true h e = ltb-true p places h
+        by false h e = absurd (true-false false e refl)
+
   -- a chain followed, from p on with k loans left
   module _ (most p k : ℕ) where
     pub after-end : p ≡ nowhere → leftAfter free first next serial n places i most p k ≡ k

@@ -11,6 +11,7 @@ pub mod Changed
 pub mod Counted
 pub mod Cutting
 pub mod Keeps
+pub mod Columns
 pub mod Uses
 pub mod Keeping
 pub mod Entering

@@ -6,7 +6,7 @@ use mathlib.Core.List.{List}
 use Prim.Native.Nat.{ℕ, zero, suc, _+_, _*_, _%_}
 use lib.Dec.{eqb, ltb}
 use lib.ListN.{getD, set}
-use Rattle.words.specs.Words.{cellOf, blank}
+use Rattle.words.specs.Words.{cellOf}
 use Rattle.words.specs.Rows.{written}
 use Rattle.slab.specs.Slab.{nowhere, placeOf, recordOf, inserted}
 use Rattle.slab.specs.declared.Slab.{Slab}
@@ -33,7 +33,7 @@ nextAt = 4
 abbrev pub vacantAfterAt : ℕ
 vacantAfterAt = 5
 
--- how many words the index of n loans takes
+-- how many words the entries of n loans take; an index may have columns behind them
 abbrev pub indexWords : ℕ → ℕ
 indexWords n = entryWords + entryWords * n
 
@@ -62,11 +62,6 @@ firstIn index i = ledTo index (firstOf i)
 
 abbrev pub nextIn : List ℕ → ℕ → ℕ
 nextIn index p = ledTo index (nextOf p)
-
--- ---- no loan yet: behind the mark no word leads anywhere
-
-abbrev pub freshIndex : ℕ → ℕ → List ℕ
-freshIndex mark n = blank (indexWords n) mark 0
 
 -- ---- a loan is entered
 

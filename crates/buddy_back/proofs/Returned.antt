@@ -2,7 +2,7 @@
 use mathlib.Core.Path.{_≡_, refl, sym, ap, _∙_}
 use mathlib.Core.Bool.{Bool, true, false, cond}
 use mathlib.Core.List.{List, []}
-use Prim.Native.Nat.{ℕ, _+_, _-_, _*_}
+use Prim.Native.Nat.{ℕ, _+_, _-_}
 use lib.ListN.{getD, set}
 use Rattle.words.specs.Words.{cellOf}
 use Rattle.rounding_rules.specs.Raising.{levelOf}
@@ -26,11 +26,11 @@ vacated-done s c at last r tree t₁ t′ e f g k h =
     ∙ (λ j. set (set tree (cellOf (at + (placeWords + afterAt)) placeWords c) (f j)) at (k j))
     ∙ (λ j. set (set tree (cellOf (e j + (placeWords + afterAt)) placeWords c) (getD tree (e j) 0)) (e j) (recordOf c))
 
-module _ (s : BuddySettings) (b : Block) (w : ℕ) (head index tree : List ℕ) (levels level nodes k node : ℕ) (top : levels ≡ getD head levelsAt 0) (low : level ≡ levelOf (b .size) (s .minimal)) (beside : nodes ≡ levelStart (s .pairs) levelsMost + (placeWords + placeWords * s .store .chunks)) (leads : k ≡ ledTo index w) (reads : node ≡ getD tree (nodes + k) 0) where
+module _ (s : BuddySettings) (b : Block) (w : ℕ) (head index tree : List ℕ) (levels level k at node : ℕ) (top : levels ≡ getD head levelsAt 0) (low : level ≡ levelOf (b .size) (s .minimal)) (leads : k ≡ ledTo index w) (beside : at ≡ nodesFrom s + (k + 1)) (reads : node ≡ getD index at 0) where
   -- the climb from the node that was read
   pub climb-is : climbed (s .pairs) (levels - level) level node tree ≡ climbFor s b w (tables head [] [] index tree)
   climb-is =
-      let e : node ≡ getD tree (nodesFrom s + ledTo index w) 0 = reads ∙ (λ j. getD tree (beside j + leads j) 0) in
+      let e : node ≡ getD index (nodesFrom s + (ledTo index w + 1)) 0 = reads ∙ ap (λ (i : ℕ). getD index i 0) beside ∙ ap (λ (x : ℕ). getD index (nodesFrom s + (x + 1)) 0) leads in
       (λ j. climbed (s .pairs) (top j - low j) (low j) (e j) tree)
 
 -- the tables when the block is taken back, by what the climb came to

@@ -54,9 +54,8 @@ pub fn strike_out(
     let own = s.store;
     let levels = words::word(head, LEVELS_AT) as usize;
     let level = rounding::level(b.size, s.minimal) as usize;
-    let nodes = buddy_levels::nodes_from(s.pairs, own.chunks);
     let p = slab::led_to(index, at);
-    let node = words::word(tree, nodes + p as usize);
+    let node = words::word(index, buddy_levels::node_at(own.loans, p));
     book::strike(loans, index, at, p);
     buddy_moves::climb(tree, s.pairs, level, levels - level, node)
 }

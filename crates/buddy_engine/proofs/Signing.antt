@@ -21,7 +21,7 @@ use Rattle.store_rules.specs.Outcomes.{Listed, listed}
 use Rattle.store_rules.specs.Orders.{Plan, deny, take, buy}
 use Rattle.store_rules.specs.Arrivals as Arrivals
 use Rattle.store_rules.specs.Arrivals.{Arrival}
-use Rattle.book_rules.specs.Book.{takenOf}
+use Rattle.book_rules.specs.Book.{takenOf, enteredIndex}
 use Rattle.book_rules.proofs.Owns.{entered-mark, entered-index-mark, struck-mark, struck-index-mark, word-past-mark}
 use Rattle.engines.specs.Pools.{Slot, ofHead, ofLoans, ofChunks, ofIndex, ofRoom, tableOf, seal, signOf, Marking, Sealed}
 use Rattle.engines.proofs.Signs.{in-slot}
@@ -69,9 +69,11 @@ module _ (s : BuddySettings) where
   booked-stays c o size cut t own ofHead = refl
   booked-stays c o size cut t own ofLoans = entered-mark (placesIn t) (t .index) (loan (givenIn t + 1) c o size) (t .loans)
   booked-stays c o size cut t own ofChunks = refl
-  booked-stays c o size cut t own ofIndex = entered-index-mark (s .store .loans) (placesIn t) (givenIn t + 1) (t .index)
-  booked-stays c o size cut t own ofRoom =
-      getD-set-other (cut .room) (nodesFrom s + takenOf (placesIn t) (t .index) .place) markAt (cut .node) 0 (λ e. omega arith) ∙ own
+  booked-stays c o size cut t own ofIndex =
+      let n = s .store .loans in
+      getD-set-other (enteredIndex n (placesIn t) (givenIn t + 1) (t .index)) (nodesFrom s + (takenOf (placesIn t) (t .index) .place + 1)) markAt (cut .node) 0 (λ e. omega arith)
+      ∙ entered-index-mark n (placesIn t) (givenIn t + 1) (t .index)
+  booked-stays c o size cut t own ofRoom = own
 
   taken-stays : (z l i : ℕ) (t : Tables) → Stays t (takenTables s z l t i)
   unfolding takenTables

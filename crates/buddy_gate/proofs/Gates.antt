@@ -24,10 +24,9 @@ use Rattle.store_rules.proofs.Holders.{holding, orderBy, holder}
 use Rattle.store_rules.specs.Tests.{coversOk}
 use Rattle.store_rules.specs.declared.Share.{Share}
 use Rattle.store_rules.proofs.Shares.{held-heap, held-table, held-free}
-use Rattle.book_rules.specs.Book.{indexWords}
 use Rattle.buddy_levels.specs.Seen.{levelPart}
 use Rattle.buddy_levels.proofs.Bounds.{node-bytes-most}
-use Rattle.buddy_rules.specs.Tables.{Tables, headWords, chunkWords, chunkPlacesIn, chunkSizeIn, heldIn, highIn, nodesFrom, lengthsOk}
+use Rattle.buddy_rules.specs.Tables.{Tables, headWords, chunkWords, chunkPlacesIn, chunkSizeIn, heldIn, highIn, bookWords, treeWords, lengthsOk}
 use Rattle.buddy_rules.specs.Sound.{Sound}
 use Rattle.buddy_rules.specs.Test.{soundOk}
 use Rattle.buddy_outcomes.specs.Gate.{inTableOk, heldCount, heldBytes, accountOk, gateOf}
@@ -45,11 +44,11 @@ joined true true true false e = refl
 joined true true true true e = refl
 
 module _ (s : BuddySettings) (t : Tables) where
-  pub lengths-is : (nodes : ℕ) → nodes ≡ nodesFrom s
-      → (eqb (length (t .head)) headWords && (eqb (length (t .loans)) (loanWords + loanWords * s .store .loans) && (eqb (length (t .chunks)) (chunkWords + chunkWords * s .store .chunks) && (eqb (length (t .index)) (indexWords (s .store .loans)) && eqb (length (t .room)) (nodes + s .store .loans))))) ≡ lengthsOk s t
+  pub lengths-is : (room : ℕ) → room ≡ treeWords s
+      → (eqb (length (t .head)) headWords && (eqb (length (t .loans)) (loanWords + loanWords * s .store .loans) && (eqb (length (t .chunks)) (chunkWords + chunkWords * s .store .chunks) && (eqb (length (t .index)) (bookWords s) && eqb (length (t .room)) room)))) ≡ lengthsOk s t
   unfolding lengthsOk
-  lengths-is nodes e =
-      joined (eqb (length (t .head)) headWords) (eqb (length (t .loans)) (loanWords + loanWords * s .store .loans)) (eqb (length (t .chunks)) (chunkWords + chunkWords * s .store .chunks)) (eqb (length (t .index)) (indexWords (s .store .loans))) (eqb (length (t .room)) (nodes + s .store .loans))
+  lengths-is room e =
+      joined (eqb (length (t .head)) headWords) (eqb (length (t .loans)) (loanWords + loanWords * s .store .loans)) (eqb (length (t .chunks)) (chunkWords + chunkWords * s .store .chunks)) (eqb (length (t .index)) (bookWords s)) (eqb (length (t .room)) room)
       ∙ rw e refl
 
   pub lent-yes : (share : Share) (own f : Bool) → buddyOk s ≡ true → own ≡ heapOk (share .heap) → f ≡ lengthsOk s t → (share .bounded && (own && f)) ≡ inTableOk s (holder (s .store) share) t

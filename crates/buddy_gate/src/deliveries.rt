@@ -6,7 +6,7 @@ ghost use Rattle.counter.specs.InTable.{BuddyIn};
 ghost use Rattle.counter.specs.Limits.{levelsMost};
 ghost use Rattle.store_rules.specs.Orders.{leadsTo};
 ghost use Rattle.store_rules.proofs.Holders.{holding};
-ghost use Rattle.buddy_rules.specs.Tables.{tables, levelsAt};
+ghost use Rattle.buddy_rules.specs.Tables.{tables, levelsAt, Lengths};
 ghost use Rattle.buddy_outcomes.specs.Ask.{decideAsk};
 ghost use Rattle.buddy_outcomes.specs.Deliver.{deliverGateOf};
 ghost use Rattle.buddy_gate.specs.Gates.{keptGate, stillOf, StillBuys, passingOf, PassingBuys, OpenBuys};
@@ -85,7 +85,7 @@ fn gate_kept(
     index: &[u64],
     tree: &[u64],
 ) -> Passing
-    requires { ⌜ BuddyIn s ⌝ }
+    requires { ⌜ BuddyIn s × Lengths s (tables (now head) (now loans) (now chunks) (now index) (now tree)) ⌝ }
     ensures { λ r. ⌜ passingOf r ≡ keptGate s h objects k (tables (now (head .entry)) (now (loans .entry)) (now (chunks .entry)) (now (index .entry)) (now (tree .entry))) ⌝ }
     ensures { λ r. ⌜ PassingBuys s k (tables (now (head .entry)) (now (loans .entry)) (now (chunks .entry)) (now (index .entry)) (now (tree .entry))) r ⌝ }
 {

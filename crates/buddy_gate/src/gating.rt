@@ -10,7 +10,7 @@ ghost use Rattle.counter.specs.Limits.{chunksMost, minimalBits, levelsMost};
 ghost use Rattle.store_rules.proofs.Holders.{holder};
 ghost use Rattle.store_rules.specs.Tests.{coversOk};
 ghost use Rattle.buddy_levels.specs.Seen.{levelPart};
-ghost use Rattle.buddy_rules.specs.Tables.{tables, lengthsOk, chunkPlacesAt, chunkWords, chunkSizeAt};
+ghost use Rattle.buddy_rules.specs.Tables.{tables, lengthsOk, Lengths, chunkPlacesAt, chunkWords, chunkSizeAt};
 ghost use Rattle.buddy_outcomes.specs.Gate.{inTableOk, heldCount, heldBytes, gateOf};
 ghost use Rattle.buddy_outcomes.specs.SetUp.{fitOk};
 ghost use Rattle.buddy_gate.specs.Gates.{storeGate};
@@ -18,6 +18,7 @@ use book::ENTRY_WORDS;
 use buddy_rules::CHUNK_PLACES_AT;
 use buddy_rules::CHUNK_SIZE_AT;
 use buddy_rules::CHUNK_WORDS;
+use buddy_rules::COLUMNS;
 use buddy_rules::HEAD_WORDS;
 use counter::BuddySettings;
 use counter::Gate;
@@ -38,12 +39,13 @@ pub fn lengths_fit(
     ensures { λ r. ⌜ r ≡ lengthsOk s (tables (now (head .entry)) (now (loans .entry)) (now (chunks .entry)) (now (index .entry)) (now (tree .entry))) ⌝ }
 {
     let own = s.store;
-    let nodes = buddy_levels::nodes_from(s.pairs, own.chunks);
+    let room = buddy_levels::tree_words(s.pairs, own.chunks);
     (head.len() == HEAD_WORDS)
         & ((loans.len() == LOAN_WORDS + LOAN_WORDS * own.loans)
             & ((chunks.len() == CHUNK_WORDS + CHUNK_WORDS * own.chunks)
-                & ((index.len() == ENTRY_WORDS + ENTRY_WORDS * own.loans)
-                    & (tree.len() == nodes + own.loans))))
+                & ((index.len()
+                    == ENTRY_WORDS + ENTRY_WORDS * own.loans + COLUMNS * (own.loans + 1))
+                    & (tree.len() == room))))
 }
 
 // Test 1 of a set-up: the settings, and every table's length.
@@ -135,7 +137,7 @@ fn gate_store(
     index: &[u64],
     tree: &[u64],
 ) -> Gate
-    requires { ⌜ BuddyIn s ⌝ }
+    requires { ⌜ BuddyIn s × Lengths s (tables (now head) (now loans) (now chunks) (now index) (now tree)) ⌝ }
     ensures { λ r. ⌜ verdictOf r ≡ storeGate s h objects (tables (now (head .entry)) (now (loans .entry)) (now (chunks .entry)) (now (index .entry)) (now (tree .entry))) ⌝ }
 {
     if !buddy_test::is_sound(s, head, loans, chunks, index, tree) {

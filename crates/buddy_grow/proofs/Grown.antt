@@ -6,9 +6,8 @@ use native.Mathlib.Omega.{arith}
 use lib.ListN.{length, getD, set}
 use Rattle.counter.specs.declared.settings.BuddySettings.{BuddySettings}
 use Rattle.store_rules.specs.Loans.{loanWords}
-use Rattle.book_rules.specs.Book.{freshIndex}
 use Rattle.buddy_rules.specs.Level.{freshLevel, levelStart}
-use Rattle.buddy_rules.specs.Tables.{tables, levelsAt, headWords, chunkWords, treeWords, levelFrom, marks}
+use Rattle.buddy_rules.specs.Tables.{tables, levelsAt, headWords, chunkWords, bookWords, treeWords, levelFrom, marks}
 use Rattle.buddy_outcomes.specs.Ask.{freshLevels, grownTables}
 use Rattle.buddy_outcomes.specs.SetUp.{freshHead, freshTables}
 use Rattle.words.specs.Words.{markAt, blank}
@@ -56,7 +55,7 @@ head-fresh (a ∷ b ∷ []) n l = refl
 head-fresh (a ∷ b ∷ c ∷ t) n l = absurd (omega arith)
 
 pub fresh-done : (s : BuddySettings) (h l c i r : List ℕ) → h ≡ freshHead s → l ≡ blank (loanWords + loanWords * s .store .loans) (marks .loans) 0 → c ≡ blank (chunkWords + chunkWords * s .store .chunks) (marks .chunks) 0
-    → i ≡ freshIndex (marks .index) (s .store .loans) → r ≡ blank (treeWords s) (marks .room) 0
+    → i ≡ blank (bookWords s) (marks .index) 0 → r ≡ blank (treeWords s) (marks .room) 0
     → tables h l c i r ≡ freshTables s
 unfolding freshTables
 fresh-done s h l c i r eh el ec ei er = λ j. tables (eh j) (el j) (ec j) (ei j) (er j)

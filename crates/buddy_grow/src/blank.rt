@@ -5,8 +5,7 @@ ghost use lib.ListN.{length};
 ghost use Rattle.words.specs.Words.{blank};
 ghost use Rattle.counter.specs.InTable.{BuddyIn};
 ghost use Rattle.store_rules.specs.Loans.{loanWords};
-ghost use Rattle.book_rules.specs.Book.{indexWords, freshIndex};
-ghost use Rattle.buddy_rules.specs.Tables.{tables, Lengths, marks, headWords, chunkWords};
+ghost use Rattle.buddy_rules.specs.Tables.{tables, Lengths, marks, headWords, chunkWords, bookWords};
 ghost use Rattle.buddy_outcomes.specs.SetUp.{freshHead, freshTables};
 use buddy_rules::CHUNKS_MARK;
 use buddy_rules::HEAD_MARK;
@@ -27,17 +26,16 @@ fn fresh_head(s: BuddySettings, head: &mut [u64])
     words::put(head, LEVELS_AT, levels as u64);
 }
 
-// Behind the marks no loan, no chunk, and no link from loan to loan.
+// Behind the marks no loan, no chunk, no link from loan to loan, and no node.
 fn fresh_rows(s: BuddySettings, loans: &mut [u64], chunks: &mut [u64], index: &mut [u64])
-    requires { ⌜ (length (now loans) ≡ loanWords + loanWords * s .store .loans) × (length (now chunks) ≡ chunkWords + chunkWords * s .store .chunks) × (length (now index) ≡ indexWords (s .store .loans)) ⌝ }
+    requires { ⌜ (length (now loans) ≡ loanWords + loanWords * s .store .loans) × (length (now chunks) ≡ chunkWords + chunkWords * s .store .chunks) × (length (now index) ≡ bookWords s) ⌝ }
     ensures { λ _. ⌜ now (loans .exit) ≡ blank (loanWords + loanWords * s .store .loans) (marks .loans) 0 ⌝ }
     ensures { λ _. ⌜ now (chunks .exit) ≡ blank (chunkWords + chunkWords * s .store .chunks) (marks .chunks) 0 ⌝ }
-    ensures { λ _. ⌜ now (index .exit) ≡ freshIndex (marks .index) (s .store .loans) ⌝ }
+    ensures { λ _. ⌜ now (index .exit) ≡ blank (bookWords s) (marks .index) 0 ⌝ }
 {
-    let own = s.store;
     words::put_blank(loans, LOANS_MARK, 0);
     words::put_blank(chunks, CHUNKS_MARK, 0);
-    book::fresh_index(INDEX_MARK, own.loans, index);
+    words::put_blank(index, INDEX_MARK, 0);
 }
 
 // Every word of every table, so that nothing of what was lent is left. A level of which all words are 0 is an empty one.

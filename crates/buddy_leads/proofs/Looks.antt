@@ -2,7 +2,7 @@
 use mathlib.Core.Path.{_≡_, refl, sym, ap, _∙_}
 use mathlib.Core.Bool.{Bool, true, false, _&&_, _||_, not}
 use mathlib.Core.List.{List}
-use Prim.Native.Nat.{ℕ, suc, _+_, _*_, _≤_, _<_}
+use Prim.Native.Nat.{ℕ, suc, _+_, _≤_, _<_}
 use native.Mathlib.Omega.{arith}
 use lib.Dec.{eqb, ltb}
 use lib.ListN.{getD}
@@ -16,6 +16,7 @@ use Rattle.counter.specs.Limits.{levelsMost}
 use Rattle.slab.specs.Slab.{nowhere}
 use Rattle.store_rules.specs.Loans.{placesAt, loanWords, chunkAt, sizeAt, loanRow}
 use Rattle.store_rules.specs.declared.Loan.{Loan}
+use Rattle.book_rules.specs.Book.{indexWords}
 use Rattle.buddy_rules.specs.Nodes.{loanWord, splitWord, vacant, Ent, pairOf, isLeft}
 use Rattle.buddy_rules.specs.Level.{usedAt, pairIn, levelStart}
 use Rattle.buddy_rules.specs.Tables.{chunkPlacesAt, chunkWords, chunkSizeAt, placeWords, topAt}
@@ -125,14 +126,14 @@ module _ (minimal pairs levels : ℕ) (chunks tree : List ℕ) where
 
 -- ---- a loan
 
-module _ (minimal pairs most levels place : ℕ) (loans chunks tree : List ℕ) (used : place < getD loans placesAt 0) where
+module _ (minimal pairs most levels place : ℕ) (loans chunks index tree : List ℕ) (used : place < getD loans placesAt 0) where
   abbrev lentOk : Bool
-  lentOk = loanOk (partSettings minimal pairs most) (partTables levels loans chunks tree) place
+  lentOk = loanOk (partSettings minimal pairs most) (partTables levels loans chunks index tree) place
 
   in-place : ltb place (getD loans placesAt 0) ≡ true
   in-place = lt-ltb place (getD loans placesAt 0) used
 
-  lead-same : (l c n w : ℕ) → leadsOk (partSettings minimal pairs 0) (levelPart levels chunks tree) l c n w ≡ leadsOk (partSettings minimal pairs most) (partTables levels loans chunks tree) l c n w
+  lead-same : (l c n w : ℕ) → leadsOk (partSettings minimal pairs 0) (levelPart levels chunks tree) l c n w ≡ leadsOk (partSettings minimal pairs most) (partTables levels loans chunks index tree) l c n w
   unfolding leadsOk
   lead-same l c n w = refl
 
@@ -147,8 +148,8 @@ module _ (minimal pairs most levels place : ℕ) (loans chunks tree : List ℕ) 
     unfolding loanOk
     lent-none z = rw (in-place, sym size-is, eq-eqb (l .size) 0 z) refl
 
-    pub lent-is : (r : Bool) (level from node w : ℕ) → (l .size ≡ 0 → ⊥) → level ≡ levelOf (l .size) minimal → from ≡ levelStart pairs levelsMost + (placeWords + placeWords * most)
-        → node ≡ getD tree (from + place) 0 → w ≡ loanWord place → r ≡ leadsOk (partSettings minimal pairs 0) (levelPart levels chunks tree) level (l .chunk) node w → r ≡ lentOk
+    pub lent-is : (r : Bool) (level at node w : ℕ) → (l .size ≡ 0 → ⊥) → level ≡ levelOf (l .size) minimal → at ≡ indexWords most + (place + 1)
+        → node ≡ getD index at 0 → w ≡ loanWord place → r ≡ leadsOk (partSettings minimal pairs 0) (levelPart levels chunks tree) level (l .chunk) node w → r ≡ lentOk
     unfolding loanOk
-    lent-is r level from node w z e f g k h =
+    lent-is r level at node w z e f g k h =
         rw (in-place, sym size-is, ne-eqb (l .size) 0 z, sym e, sym chunk-is, sym f, sym g, sym k) (h ∙ lead-same level (l .chunk) node w)

@@ -15,7 +15,7 @@ module _ (s : BuddySettings) (t : Tables) where
   unfolding pairOk leadsOk
   pair-shown l p = refl
 
-  loan-shown : (k : ℕ) → loanOk s t k ≡ loanOk (partSettings (s .minimal) (s .pairs) (s .store .chunks)) (partTables (levelsIn t) (t .loans) (t .chunks) (t .room)) k
+  loan-shown : (k : ℕ) → loanOk s t k ≡ loanOk (partSettings (s .minimal) (s .pairs) (s .store .loans)) (partTables (levelsIn t) (t .loans) (t .chunks) (t .index) (t .room)) k
   unfolding loanOk leadsOk
   loan-shown k = refl
 
@@ -26,5 +26,5 @@ module _ (s : BuddySettings) (t : Tables) where
 
   pub loans-shown :
       every (loanOk s t) (placesIn t)
-      ≡ every (loanOk (partSettings (s .minimal) (s .pairs) (s .store .chunks)) (partTables (levelsIn t) (t .loans) (t .chunks) (t .room))) (placesIn t)
+      ≡ every (loanOk (partSettings (s .minimal) (s .pairs) (s .store .loans)) (partTables (levelsIn t) (t .loans) (t .chunks) (t .index) (t .room))) (placesIn t)
   loans-shown = every-same _ _ (placesIn t) (λ k h. loan-shown k)

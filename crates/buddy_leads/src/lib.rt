@@ -2,7 +2,7 @@
 ghost use mathlib.Core.Path.{_≡_};
 ghost use Prim.Native.Nat.{_+_, _≤_, _<_};
 ghost use lib.ListN.{getD};
-ghost use Rattle.counter.specs.Limits.{levelsMost, pairsMost, loansMost, chunksMost};
+ghost use Rattle.counter.specs.Limits.{levelsMost, pairsMost, loansMost};
 ghost use Rattle.slab.specs.Slab.{nowhere};
 ghost use Rattle.store_rules.specs.Loans.{placesAt};
 ghost use Rattle.buddy_rules.specs.Level.{usedAt, levelStart};
@@ -161,17 +161,18 @@ fn is_loan_led(
     place: u64,
     loans: &[u64],
     chunks: &[u64],
+    index: &[u64],
     tree: &[u64],
 ) -> bool
-    requires { ⌜ (pairs ≤ pairsMost) × (most ≤ chunksMost) × (levels ≤ levelsMost) × (place < loansMost) × (held ≡ getD (now chunks) chunkPlacesAt 0) × (place < getD (now loans) placesAt 0) ⌝ }
-    ensures { λ r. ⌜ r ≡ loanOk (partSettings minimal pairs most) (partTables levels (now (loans .entry)) (now (chunks .entry)) (now (tree .entry))) place ⌝ }
+    requires { ⌜ (pairs ≤ pairsMost) × (most ≤ loansMost) × (levels ≤ levelsMost) × (place < loansMost) × (held ≡ getD (now chunks) chunkPlacesAt 0) × (place < getD (now loans) placesAt 0) ⌝ }
+    ensures { λ r. ⌜ r ≡ loanOk (partSettings minimal pairs most) (partTables levels (now (loans .entry)) (now (chunks .entry)) (now (index .entry)) (now (tree .entry))) place ⌝ }
 {
     let l = book::loan_at(loans, place as usize);
     if l.size == 0 {
         return true;
     }
     let level = rounding::level(l.size, minimal) as u64;
-    let node = words::word(tree, buddy_levels::nodes_from(pairs, most) + place as usize);
+    let node = words::word(index, buddy_levels::node_at(most, place));
     leads_to(
         minimal,
         pairs,
@@ -196,14 +197,26 @@ pub fn are_lent(
     n: u64,
     loans: &[u64],
     chunks: &[u64],
+    index: &[u64],
     tree: &[u64],
 ) -> bool
-    requires { ⌜ (pairs ≤ pairsMost) × (most ≤ chunksMost) × (levels ≤ levelsMost) × (n ≤ loansMost) × (held ≡ getD (now chunks) chunkPlacesAt 0) × (n ≡ getD (now loans) placesAt 0) ⌝ }
-    ensures { λ r. ⌜ r ≡ every (loanOk (partSettings minimal pairs most) (partTables levels (now (loans .entry)) (now (chunks .entry)) (now (tree .entry)))) n ⌝ }
+    requires { ⌜ (pairs ≤ pairsMost) × (most ≤ loansMost) × (levels ≤ levelsMost) × (n ≤ loansMost) × (held ≡ getD (now chunks) chunkPlacesAt 0) × (n ≡ getD (now loans) placesAt 0) ⌝ }
+    ensures { λ r. ⌜ r ≡ every (loanOk (partSettings minimal pairs most) (partTables levels (now (loans .entry)) (now (chunks .entry)) (now (index .entry)) (now (tree .entry)))) n ⌝ }
 {
     let mut k = 0;
     while k < n {
-        if !is_loan_led(minimal, pairs, most, levels, held, k, loans, chunks, tree) {
+        if !is_loan_led(
+            minimal,
+            pairs,
+            most,
+            levels,
+            held,
+            k,
+            loans,
+            chunks,
+            index,
+            tree,
+        ) {
             return false;
         }
         k += 1;

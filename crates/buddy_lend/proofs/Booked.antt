@@ -1,10 +1,9 @@
--- A loan entered in the book and its node beside the tree are the tables with the loan booked.
+-- A loan entered in the book and its node beside it are the tables with the loan booked.
 use mathlib.Core.Path.{_≡_, refl, ap, _∙_}
 use mathlib.Core.List.{List, []}
-use Prim.Native.Nat.{ℕ, _+_, _*_, _%_, _<_}
+use Prim.Native.Nat.{ℕ, _+_, _%_, _<_}
 use lib.ListN.{getD, set}
 use Rattle.words.specs.Rows.{written}
-use Rattle.counter.specs.Limits.{levelsMost}
 use Rattle.counter.specs.declared.settings.BuddySettings.{BuddySettings}
 use Rattle.slab.specs.Slab.{recordOf}
 use Rattle.slab.specs.declared.Taken.{Taken}
@@ -12,8 +11,7 @@ use Rattle.store_rules.specs.Loans.{givenAt, placesAt, loan, loanRow}
 use Rattle.store_rules.specs.declared.Loan.{Loan}
 use Rattle.book_rules.specs.Book.{vacatedAt, firstOf, nextOf, takenOf, counted, entered, enteredIndex}
 use Rattle.book.proofs.Entering.{entered-loans, entered-index}
-use Rattle.buddy_rules.specs.Level.{levelStart}
-use Rattle.buddy_rules.specs.Tables.{Tables, tables, placeWords, nodesFrom}
+use Rattle.buddy_rules.specs.Tables.{Tables, tables, nodesFrom}
 use Rattle.buddy_outcomes.specs.Ask.{bookedTables}
 
 module _ (s : BuddySettings) (loans index : List ℕ) (taken : Taken) (next : taken ≡ takenOf (getD loans placesAt 0) index) where
@@ -32,20 +30,17 @@ module _ (s : BuddySettings) (loans index : List ℕ) (taken : Taken) (next : ta
         head
         (entered Places index (loan g (l .chunk) (l .offset) (l .size)) loans)
         []
-        (enteredIndex (s .store .loans) Places g index)
-        (set tree (nodesFrom s + t .place) node)
+        (set (enteredIndex (s .store .loans) Places g index) (nodesFrom s + (t .place + 1)) node)
+        tree
 
-    pub booked-done : (l′ i′ t′ : List ℕ) → t′ ≡ set tree (nodesFrom s + taken .place) node
+    pub booked-done : (l′ i₁ i′ : List ℕ)
         → l′ ≡ written loanRow (taken .place) l (counted (l .serial) (taken .slab .places) loans)
-        → i′ ≡ set (set (set index vacatedAt (recordOf (taken .slab .vacant))) (nextOf (taken .place)) (getD index (firstOf (l .serial % s .store .loans)) 0)) (firstOf (l .serial % s .store .loans)) (recordOf (taken .place))
-        → tables head l′ [] i′ t′ ≡ bookedTables s (l .chunk) (l .offset) (l .size) (record { node = node; room = tree }) (tables head loans [] index [])
+        → i₁ ≡ set (set (set index vacatedAt (recordOf (taken .slab .vacant))) (nextOf (taken .place)) (getD index (firstOf (l .serial % s .store .loans)) 0)) (firstOf (l .serial % s .store .loans)) (recordOf (taken .place))
+        → i′ ≡ set i₁ (nodesFrom s + (taken .place + 1)) node
+        → tables head l′ [] i′ tree ≡ bookedTables s (l .chunk) (l .offset) (l .size) (record { node = node; room = tree }) (tables head loans [] index [])
     unfolding bookedTables
-    booked-done l′ i′ t′ t ls is =
+    booked-done l′ i₁ i′ ls is put =
         let x : l′ ≡ entered Places index l loans = entered-loans Places index taken l loans l′ next ls in
-        let y : i′ ≡ enteredIndex (s .store .loans) Places (l .serial) index = entered-index Places index taken (s .store .loans) (l .serial) _ i′ next refl is in
-        (λ j. tables head (x j) [] (y j) (t j)) ∙ (λ j. after (next j) (serial j))
-
--- a loan's node, beside the tree
-pub node-put : (s : BuddySettings) (at place node : ℕ) (tree t′ : List ℕ) → at ≡ levelStart (s .pairs) levelsMost + (placeWords + placeWords * s .store .chunks)
-    → t′ ≡ set tree (at + place) node → t′ ≡ set tree (nodesFrom s + place) node
-node-put s at place node tree t′ a t = t ∙ ap (λ (z : ℕ). set tree (z + place) node) a
+        let y : i₁ ≡ enteredIndex (s .store .loans) Places (l .serial) index = entered-index Places index taken (s .store .loans) (l .serial) _ i₁ next refl is in
+        let z : i′ ≡ set (enteredIndex (s .store .loans) Places (l .serial) index) (nodesFrom s + (taken .place + 1)) node = put ∙ ap (λ (i : List ℕ). set i (nodesFrom s + (taken .place + 1)) node) y in
+        (λ j. tables head (x j) [] (z j) tree) ∙ (λ j. after (next j) (serial j))

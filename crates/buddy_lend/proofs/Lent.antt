@@ -67,11 +67,11 @@ module _ (s : BuddySettings) (i : ℕ) (tree : List ℕ) (base : ℕ) (at : base
         abbrev bookedBy : Loan → Cut → Tables
         bookedBy l c = bookedTables s (l .chunk) (l .offset) size c (tables [] loans [] index [])
 
-        pub lent-done : (n : ℕ) (t₂ l′ i′ t′ : List ℕ) → n ≡ cutBy (loan (g + 1) (e .chunk) o size) (k .place) .node → t₂ ≡ cutBy (loan (g + 1) (e .chunk) o size) (k .place) .room
-            → tables [] l′ [] i′ t′ ≡ bookedTables s (e .chunk) o size (record { node = n; room = t₂ }) (tables [] loans [] index [])
+        pub lent-done : (n : ℕ) (l′ i′ t′ : List ℕ) → n ≡ cutBy (loan (g + 1) (e .chunk) o size) (k .place) .node → t′ ≡ cutBy (loan (g + 1) (e .chunk) o size) (k .place) .room
+            → tables [] l′ [] i′ t′ ≡ bookedTables s (e .chunk) o size (record { node = n; room = t′ }) (tables [] loans [] index [])
             → tables [] l′ [] i′ t′ ≡ takenTables s size level (tables [] loans [] index tree) i
         unfolding bookedTables takenTables
-        lent-done n t₂ l′ i′ t′ a b d =
+        lent-done n l′ i′ t′ a b d =
             let l = loan (g + 1) (e .chunk) o size in
             d
             ∙ (λ j. bookedBy l (record { node = a j; room = b j }))

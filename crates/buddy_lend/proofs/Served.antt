@@ -76,11 +76,11 @@ module _ (s : BuddySettings) (memory bytes : ℕ) (head loans chunks index tree 
       abbrev cutBy : ℕ → ℕ → ℕ → List ℕ → Cut
       cutBy x p n t = splitChunk (s .pairs) level x p (n - level - 1) t
 
-      pub served-done : (size n : ℕ) (t₂ l′ i′ t′ : List ℕ) → n ≡ cutBy c (k .place) levels t₁ .node → t₂ ≡ cutBy c (k .place) levels t₁ .room
-          → tables head l′ [] i′ t′ ≡ bookedTables s c 0 size (record { node = n; room = t₂ }) (tables head loans [] index [])
+      pub served-done : (size n : ℕ) (l′ i′ t′ : List ℕ) → n ≡ cutBy c (k .place) levels t₁ .node → t′ ≡ cutBy c (k .place) levels t₁ .room
+          → tables head l′ [] i′ t′ ≡ bookedTables s c 0 size (record { node = n; room = t′ }) (tables head loans [] index [])
           → tables head l′ c₁ i′ t′ ≡ servedTables s size level memory bytes Before
       unfolding bookedTables servedTables
-      served-done size n t₂ l′ i′ t′ a b d =
+      served-done size n l′ i′ t′ a b d =
           (λ j. tables head (d j .loans) c₁ (d j .index) (d j .room))
           ∙ (λ j. bookedTables s c 0 size (record { node = a j; room = b j }) (tables head loans c₁ index t₁))
           ∙ (λ j. bookedTables s (taken j) 0 size (cutBy (taken j) (next j .place) (top j) (now-is j .room)) (now-is j))

@@ -1,4 +1,4 @@
-// A loan's node, beside the tree.
+// A loan's node, beside it in the book.
 ghost use mathlib.Core.Path.{_≡_};
 ghost use Prim.Native.Nat.{_+_, _<_};
 ghost use lib.ListN.{set};
@@ -8,11 +8,11 @@ ghost use Rattle.buddy_rules.specs.Tables.{nodesFrom};
 use counter::BuddySettings;
 
 // The node of the loan at this place.
-pub fn put_node(s: BuddySettings, place: u64, node: u64, tree: &mut [u64])
+pub fn put_node(s: BuddySettings, place: u64, node: u64, index: &mut [u64])
     requires { ⌜ BuddyIn s × (place < loansMost) ⌝ }
-    ensures { λ _. ⌜ now (tree .exit) ≡ set (now (tree .entry)) (nodesFrom s + place) node ⌝ }
+    ensures { λ _. ⌜ now (index .exit) ≡ set (now (index .entry)) (nodesFrom s + (place + 1)) node ⌝ }
 {
     let own = s.store;
-    let at = buddy_levels::nodes_from(s.pairs, own.chunks) + place as usize;
-    words::put(tree, at, node);
+    let at = buddy_levels::node_at(own.loans, place);
+    words::put(index, at, node);
 }

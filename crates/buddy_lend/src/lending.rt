@@ -68,7 +68,7 @@ pub fn lend(
         loan.place,
     );
     let own = s.store;
-    crate::booking::put_node(s, loan.place, n, tree);
     book::enter_at(loans, index, own.loans, loan, l);
+    crate::booking::put_node(s, loan.place, n, index);
     l
 }

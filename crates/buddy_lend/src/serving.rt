@@ -107,7 +107,7 @@ pub fn serve(
     let above = levels - level - 1;
     let n = buddy_moves::split_chunk(tree, s.pairs, level, above, l.chunk, loan.place);
     let own = s.store;
-    crate::booking::put_node(s, loan.place, n, tree);
     book::enter_at(loans, index, own.loans, loan, l);
+    crate::booking::put_node(s, loan.place, n, index);
     l
 }

@@ -5,24 +5,24 @@ use Prim.Native.Nat.{ℕ}
 use Rattle.counter.specs.declared.settings.BuddySettings.{BuddySettings}
 use Rattle.buddy_rules.specs.Tables.{Tables, tables, marks}
 
--- settings with this minimal size, so many pairs a level and so many chunk places
+-- settings with this minimal size, so many pairs a level and so many loan places
 abbrev pub partSettings : ℕ → ℕ → ℕ → BuddySettings
-partSettings minimal pairs chunks =
+partSettings minimal pairs loans =
     record {
-      store = record { number = 0; memtype = 0; properties = 0; heap = 0; atom = 0; loans = 0; chunks = chunks };
+      store = record { number = 0; memtype = 0; properties = 0; heap = 0; atom = 0; loans = loans; chunks = 0 };
       minimal = minimal;
       initial = 0;
       pairs = pairs;
     }
 
 -- tables whose head has so many levels
-abbrev pub partTables : ℕ → List ℕ → List ℕ → List ℕ → Tables
-partTables levels loans chunks tree = tables (marks .head ∷ levels ∷ []) loans chunks [] tree
+abbrev pub partTables : ℕ → List ℕ → List ℕ → List ℕ → List ℕ → Tables
+partTables levels loans chunks index tree = tables (marks .head ∷ levels ∷ []) loans chunks index tree
 
--- of these a walk down a chunk reads the loans and the tree
-abbrev pub loanPart : List ℕ → List ℕ → Tables
-loanPart loans tree = partTables 0 loans [] tree
+-- of these a walk down a chunk reads the loans, their nodes in the index, and the tree
+abbrev pub loanPart : List ℕ → List ℕ → List ℕ → Tables
+loanPart loans index tree = partTables 0 loans [] index tree
 
 -- and the looks at what leads to a node the levels, the chunks and the tree
 abbrev pub levelPart : ℕ → List ℕ → List ℕ → Tables
-levelPart levels chunks tree = partTables levels [] chunks tree
+levelPart levels chunks tree = partTables levels [] chunks [] tree

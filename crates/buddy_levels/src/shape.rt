@@ -1,13 +1,15 @@
-// Where the words of a buddy store's tree stand, and how long its nodes are.
+// Where the words of a buddy store's tree and the nodes of its loans stand, and how long its nodes are.
 ghost use mathlib.Core.Path.{_≡_};
 ghost use Prim.Native.Nat.{_+_, _*_, _^_, _≤_, _<_};
-ghost use Rattle.counter.specs.Limits.{levelsMost, pairsMost, chunksMost, minimalBits};
+ghost use Rattle.counter.specs.Limits.{levelsMost, pairsMost, loansMost, chunksMost, minimalBits};
+ghost use Rattle.book_rules.specs.Book.{indexWords};
 ghost use Rattle.buddy_trees.specs.Trees.{bytes};
 ghost use Rattle.buddy_rules.specs.Level.{baseMost, levelStart};
 ghost use Rattle.buddy_rules.specs.Tables.{placeWords};
 use crate::HEADER_WORDS;
 use crate::OWN_WORDS;
 use crate::PAIR_WORDS;
+use book::ENTRY_WORDS;
 use buddy_rules::PLACE_WORDS;
 use counter::LEVELS_MOST;
 
@@ -29,13 +31,22 @@ pub fn chunks_from(pairs: usize) -> usize
     level_from(pairs, LEVELS_MOST as usize)
 }
 
-// Where the loans' nodes stand.
-pub fn nodes_from(pairs: usize, chunks: usize) -> usize
+// How many words the tree takes.
+pub fn tree_words(pairs: usize, chunks: usize) -> usize
     requires { ⌜ (pairs ≤ pairsMost) × (chunks ≤ chunksMost) ⌝ }
     ensures { λ r. ⌜ r ≡ levelStart pairs levelsMost + (placeWords + placeWords * chunks) ⌝ }
     ensures { λ r. ⌜ r ≤ baseMost ⌝ }
 {
     chunks_from(pairs) + (PLACE_WORDS + PLACE_WORDS * chunks)
+}
+
+// Where the node of the loan at a place stands in an index for so many loans: in the column behind the book's entries, at the loan's
+// record.
+pub fn node_at(loans: usize, place: u64) -> usize
+    requires { ⌜ (loans ≤ loansMost) × (place < loansMost) ⌝ }
+    ensures { λ r. ⌜ r ≡ indexWords loans + (place + 1) ⌝ }
+{
+    ENTRY_WORDS + ENTRY_WORDS * loans + (place as usize + 1)
 }
 
 // How long a node of a level is.

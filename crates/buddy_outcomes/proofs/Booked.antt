@@ -1,4 +1,4 @@
--- A loan entered in a buddy store's book, and its node beside the tree: the tables are sound when the store with that loan is.
+-- A loan entered in a buddy store's book, and its node beside it: the tables are sound when the store with that loan is.
 use mathlib.Core.Path.{_≡_, refl, sym, ap, _∙_, subst}
 use mathlib.Core.Bool.{Bool, true, false, cond, _&&_, not}
 use mathlib.Core.Logic.{_⊎_, inl, inr, ⊎-elim}
@@ -21,7 +21,8 @@ use Rattle.slab.proofs.Places.{parted-same}
 use Rattle.store_rules.specs.Loans as Loans
 use Rattle.store_rules.specs.Loans.{loan, sizeAt, offsetAt}
 use Rattle.store_rules.specs.declared.Loan.{Loan}
-use Rattle.book_rules.specs.Book.{takenOf, entered, enteredIndex}
+use Rattle.book_rules.specs.Book.{indexWords, takenOf, entered, enteredIndex}
+use Rattle.book_rules.proofs.Columns.{parted-front, chained-front, entered-behind}
 use Rattle.book_rules.proofs.Keeps.{BookChained, BookParted, entered-long, entered-wide, taken-where, entered-chained, entered-parted}
 use Rattle.book_rules.proofs.Owns.{entered-mark, entered-index-mark}
 use Rattle.buddy_trees.specs.Trees.{Tree, bytes}
@@ -31,14 +32,14 @@ use Rattle.buddy_rules.specs.Stores.{with}
 use Rattle.buddy_rules.specs.Stores as Stores
 use Rattle.buddy_rules.specs.Level.{part}
 use Rattle.buddy_rules.proofs.Ops.{levelOps}
-use Rattle.buddy_rules.specs.Tables.{Tables, tables, Lengths, givenIn, levelsIn, placesIn, chunkPlacesIn, memoryIn, chunkSizeIn, chunksFrom, placeAt, topAt, afterAt, placeWords, nodesFrom, loanCell, loanIn, liveIn, heldIn, highIn, topIn, vacantChunk, chunkAfter, chunkSlab, initialLevels, marks, Signed}
+use Rattle.buddy_rules.specs.Tables.{Tables, tables, Lengths, givenIn, levelsIn, placesIn, chunkPlacesIn, memoryIn, chunkSizeIn, chunksFrom, placeAt, topAt, afterAt, placeWords, nodesFrom, bookWords, loanCell, loanIn, liveIn, heldIn, highIn, topIn, vacantChunk, chunkAfter, chunkSlab, initialLevels, marks, Signed}
 use Rattle.buddy_rules.specs.Moves.{Cut}
 use Rattle.buddy_rules.specs.Sound.{Sound}
 use Rattle.buddy_rules.proofs.Abstract.{storeOf, Sizes, store-trees}
 use Rattle.buddy_rules.proofs.Walks.{minimal-pos}
 use Rattle.buddy_outcomes.specs.Ask.{bookedTables}
 use Rattle.buddy_outcomes.proofs.Same.{sound-as}
-use Rattle.buddy_outcomes.proofs.Changed.{few-pairs, part-set}
+use Rattle.buddy_outcomes.proofs.Changed.{few-pairs}
 use Rattle.buddy_outcomes.proofs.Heads.{booked-given, booked-places}
 use Rattle.buddy_outcomes.proofs.Written.{OfLoan, entered-chunk, entered-offset, entered-size, entered-other}
 
@@ -83,21 +84,28 @@ module _ (s : BuddySettings) (t : Tables) (fit : BuddyIn s) (lengths : Lengths s
   abbrev new : Loan
   new = loan (givenIn t + 1) c o size
 
+  -- the index with the loan entered, and its node not yet
+  abbrev entries : List ℕ
+  entries = enteredIndex (s .store .loans) (placesIn t) (givenIn t + 1) (t .index)
+
   abbrev booked : Tables
   booked =
       tables (t .head)
       (entered (placesIn t) (t .index) new (t .loans))
       (t .chunks)
-      (enteredIndex (s .store .loans) (placesIn t) (givenIn t + 1) (t .index))
-      (set (cut .room) (nodesFrom s + k) (cut .node))
+      (set entries (nodesFrom s + (k + 1)) (cut .node))
+      (cut .room)
+
+  entries-long : length entries ≡ bookWords s
+  entries-long = entered-wide (s .store .loans) (placesIn t) (givenIn t + 1) (t .index) ∙ lengths .index
 
   booked-long : Lengths s booked
   booked-long = record {
     head = lengths .head;
     loans = entered-long (placesIn t) (t .index) new (t .loans) ∙ lengths .loans;
     chunks = lengths .chunks;
-    index = entered-wide (s .store .loans) (placesIn t) (givenIn t + 1) (t .index) ∙ lengths .index;
-    room = length-set (cut .room) (nodesFrom s + k) (cut .node) ∙ long ∙ lengths .room;
+    index = length-set entries (nodesFrom s + (k + 1)) (cut .node) ∙ entries-long;
+    room = long ∙ lengths .room;
   }
 
   pub booked-lengths : Lengths s (bookedTables s c o size cut t)
@@ -123,13 +131,18 @@ module _ (s : BuddySettings) (t : Tables) (fit : BuddyIn s) (lengths : Lengths s
     some : size ≡ 0 → ⊥
     some e = omega (arith, bytes-pos (s .minimal) lev (minimal-pos s fit))
 
-    -- ---- words of the tree
+    -- ---- the loans' nodes, and the book's entries in front of them
 
-    node-here : getD (booked .room) (nodesFrom s + k) 0 ≡ cut .node
-    node-here = getD-set-same (cut .room) (nodesFrom s + k) (cut .node) 0 (omega (arith, long, lengths .room))
+    node-here : getD (booked .index) (nodesFrom s + (k + 1)) 0 ≡ cut .node
+    node-here = getD-set-same entries (nodesFrom s + (k + 1)) (cut .node) 0 (omega (arith, entries-long))
 
-    tree-other : (i : ℕ) → chunksFrom s ≤ i → (i ≡ nodesFrom s + k → ⊥) → getD (booked .room) i 0 ≡ getD (t .room) i 0
-    tree-other i h n = getD-set-other (cut .room) (nodesFrom s + k) i (cut .node) 0 n ∙ past i h
+    node-other : (x : ℕ) → (x ≡ k → ⊥) → getD (booked .index) (nodesFrom s + (x + 1)) 0 ≡ getD (t .index) (nodesFrom s + (x + 1)) 0
+    node-other x o =
+        getD-set-other entries (nodesFrom s + (k + 1)) (nodesFrom s + (x + 1)) (cut .node) 0 (λ e. o (omega arith))
+        ∙ entered-behind (s .store .loans) (t .index) (nodesFrom s + (x + 1)) (omega arith) (placesIn t) (givenIn t + 1) (fit .store .loans-some) place
+
+    front : (i : ℕ) → i < indexWords (s .store .loans) → getD (booked .index) i 0 ≡ getD entries i 0
+    front i h = getD-set-other entries (nodesFrom s + (k + 1)) i (cut .node) 0 (λ e. omega arith)
 
     -- ---- words of the loans
 
@@ -173,7 +186,7 @@ module _ (s : BuddySettings) (t : Tables) (fit : BuddyIn s) (lengths : Lengths s
         let a = cell-same Loans.chunkAt x (omega arith) n in
         let b = cell-same offsetAt x (omega arith) n in
         let e = ap (λ (z : ℕ). levelOf z (s .minimal)) (cell-same sizeAt x (omega arith) n) in
-        let f = tree-other (nodesFrom s + x) (omega arith) (λ z. n (omega arith)) in
+        let f = node-other x n in
         (λ j. record { chunk = a j; at = b j; lev = e j; node = f j })
 
     live : (j : ℕ) → liveIn booked j ≡ with (liveIn t) k true j
@@ -193,19 +206,19 @@ module _ (s : BuddySettings) (t : Tables) (fit : BuddyIn s) (lengths : Lengths s
         by : (heldIn t b ≡ true) ⊎ (heldIn t b ≡ false) → cond (heldIn t b) (getD (booked .room) (cellOf (placeAt s topAt) placeWords b) 0) 0 ≡ topIn s t b
         by (inl h) =
             let l : b < s .store .chunks = held-low b h in
-            rw h (tree-other (cellOf (placeAt s topAt) placeWords b) (omega arith) (λ e. omega arith))
+            rw h (past (cellOf (placeAt s topAt) placeWords b) (omega arith))
         by (inr h) = rw h
 
     slab : chunkSlab s t ≡ chunkSlab s booked
     slab =
-        let b = sym (tree-other (chunksFrom s) (omega arith) (λ e. omega arith)) in
+        let b = sym (past (chunksFrom s) (omega arith)) in
         (λ j. record { places = chunkPlacesIn t; vacant = ap placeOf b j })
 
     chunks-parted : Parted (vacantChunk t) (chunkAfter s booked) (chunkSlab s booked) (s .store .chunks)
     chunks-parted =
         subst (λ (z : Slab). Parted (vacantChunk t) (chunkAfter s booked) z (s .store .chunks)) slab
         (parted-same (vacantChunk t) (vacantChunk t) (chunkAfter s t) (chunkAfter s booked) (chunkSlab s t) (s .store .chunks) (λ x h. refl)
-        (λ x h. ap placeOf (tree-other (cellOf (placeAt s afterAt) placeWords x) (omega arith) (λ e. omega (arith, K .chunks-parted .limit)))) (K .chunks-parted))
+        (λ x h. ap placeOf (past (cellOf (placeAt s afterAt) placeWords x) (omega arith))) (K .chunks-parted))
 
     -- ---- what the bytes say
 
@@ -241,7 +254,7 @@ module _ (s : BuddySettings) (t : Tables) (fit : BuddyIn s) (lengths : Lengths s
       booked-store : Stores.Sound (s .minimal) (levelOps (s .pairs) (few-pairs s fit)) (storeOf s (few-pairs s fit) booked) T
       booked-store =
           sound-as (s .minimal) (levelOps (s .pairs) (few-pairs s fit)) (minimal-pos s fit) _ (storeOf s (few-pairs s fit) booked) T A refl
-          (λ i h. let l : i < levelsMost = omega (arith, K .levels-most) in part-set s i (nodesFrom s + k) (cut .node) (cut .room) l (omega arith) ∙ levels i l)
+          (λ i h. levels i (omega (arith, K .levels-most)))
           loaned live (λ b. refl) top
 
       pub booked-sound : Sound s (bookedTables s c o size cut t)
@@ -249,24 +262,26 @@ module _ (s : BuddySettings) (t : Tables) (fit : BuddyIn s) (lengths : Lengths s
       booked-sound =
           let X = store-trees s (few-pairs s fit) booked T fit booked-long booked-store sizes (K .levels-most) in
           let n : ℕ = s .store .loans in
+          let parted = entered-parted (t .loans) (t .index) n (placesIn t) few (K .loans-parted) (givenIn t) new (lengths .loans) (omega (arith, lengths .index)) place refl some in
           record {
             signed =
                 record {
                   head = K .signed .head;
                   loans = entered-mark (placesIn t) (t .index) new (t .loans) ∙ K .signed .loans;
                   chunks = K .signed .chunks;
-                  index = entered-index-mark n (placesIn t) (givenIn t + 1) (t .index) ∙ K .signed .index;
-                  room = getD-set-other (cut .room) (nodesFrom s + k) markAt (cut .node) 0 (λ e. omega arith) ∙ own ∙ K .signed .room;
+                  index = front markAt (omega arith) ∙ entered-index-mark n (placesIn t) (givenIn t + 1) (t .index) ∙ K .signed .index;
+                  room = own ∙ K .signed .room;
                 };
             levels-least = K .levels-least;
             levels-most = K .levels-most;
             loans-parted =
                 subst (λ (p : ℕ). BookParted (booked .loans) (booked .index) n p) (sym count-places)
-                (entered-parted (t .loans) (t .index) n (placesIn t) few (K .loans-parted) (givenIn t) new (lengths .loans) (omega (arith, lengths .index)) place refl some);
+                (parted-front n q (booked .loans) entries (booked .index) (parted .limit) front parted);
             chained =
                 subst (λ (p : ℕ). BookChained (booked .loans) (booked .index) n p (givenIn booked)) (sym count-places)
                 (subst (λ (g : ℕ). BookChained (booked .loans) (booked .index) n q g) (sym count-given)
-                (entered-chained (t .loans) (t .index) n (placesIn t) few (K .loans-parted) (givenIn t) new (lengths .loans) (omega (arith, lengths .index)) place refl some (K .chained)));
+                (chained-front n q (booked .loans) entries (booked .index) (parted .limit) front (givenIn t + 1)
+                (entered-chained (t .loans) (t .index) n (placesIn t) few (K .loans-parted) (givenIn t) new (lengths .loans) (omega (arith, lengths .index)) place refl some (K .chained))));
             chunks-parted = chunks-parted;
             memories-differ = K .memories-differ;
             good = X .1;

@@ -21,7 +21,7 @@ use Rattle.slab.specs.declared.Taken.{Taken}
 use Rattle.slab.proofs.Links.{place-none}
 use Rattle.slab.proofs.Places.{parted-fresh, parted-same}
 use Rattle.store_rules.specs.Loans.{loanWords}
-use Rattle.book_rules.proofs.Firsts.{fresh-wide, fresh-vacated, fresh-first}
+use Rattle.book_rules.proofs.Firsts.{fresh-vacated, fresh-first}
 use Rattle.book_rules.proofs.Keeps.{BookChained, BookParted, fresh-chained}
 use Rattle.buddy_trees.specs.Trees.{Tree, free}
 use Rattle.buddy_rules.specs.Nodes.{Ent}
@@ -32,7 +32,7 @@ use Rattle.buddy_rules.specs.Level.{levelWords, headerWords, ringAt, usedAt, va
 use Rattle.buddy_rules.proofs.Fresh.{empty-none, empty-good, fresh-length, fresh-head, fresh-taken, fresh-none, fresh-good}
 use Rattle.buddy_rules.proofs.Ops.{levelOps}
 use Rattle.buddy_rules.proofs.Parts.{part-length, part-word, part-head, part-taken}
-use Rattle.buddy_rules.specs.Tables.{Tables, tables, Lengths, chunkWords, treeWords, levelsAt, givenIn, levelsIn, chunkPlacesIn, levelFrom, chunksFrom, placeAt, topAt, placeWords, nodesFrom, loanIn, liveIn, heldIn, highIn, topIn, vacantChunk, chunkAfter, chunkSlab, vacantLoan, loanAfter, initialLevels, marks}
+use Rattle.buddy_rules.specs.Tables.{Tables, tables, Lengths, chunkWords, bookWords, treeWords, levelsAt, givenIn, levelsIn, chunkPlacesIn, levelFrom, chunksFrom, placeAt, topAt, placeWords, loanIn, liveIn, heldIn, highIn, topIn, vacantChunk, chunkAfter, chunkSlab, vacantLoan, loanAfter, initialLevels, marks}
 use Rattle.buddy_rules.specs.Sound.{Sound}
 use Rattle.buddy_rules.proofs.Abstract.{storeOf, levels-in, sound-store, Sizes, store-trees}
 use Rattle.buddy_rules.proofs.Walks.{minimal-pos}
@@ -110,7 +110,7 @@ module _ (s : BuddySettings) (t : Tables) (fit : BuddyIn s) (lengths : Lengths s
         head = refl;
         loans = blank-long (loanWords + loanWords * s .store .loans) (marks .loans) 0;
         chunks = blank-long (chunkWords + chunkWords * s .store .chunks) (marks .chunks) 0;
-        index = fresh-wide (marks .index) (s .store .loans);
+        index = blank-long (bookWords s) (marks .index) 0;
         room = blank-long (treeWords s) (marks .room) 0;
       }
 
@@ -158,10 +158,10 @@ module _ (s : BuddySettings) (t : Tables) (fit : BuddyIn s) (lengths : Lengths s
         levels-most = few;
         loans-parted =
             subst (λ (p : ℕ). BookParted (u .loans) (u .index) (s .store .loans) p) (sym (fresh-places s))
-            (subst (λ (v : ℕ). Parted (vacantLoan u) (loanAfter u) (record { places = 0; vacant = v }) (s .store .loans)) (sym (fresh-vacated (marks .index) (s .store .loans))) (parted-fresh (vacantLoan u) (loanAfter u) (s .store .loans)));
+            (subst (λ (v : ℕ). Parted (vacantLoan u) (loanAfter u) (record { places = 0; vacant = v }) (s .store .loans)) (sym (fresh-vacated (marks .index) (s .store .loans) (bookWords s) (omega arith))) (parted-fresh (vacantLoan u) (loanAfter u) (s .store .loans)));
         chained =
             subst (λ (p : ℕ). BookChained (u .loans) (u .index) (s .store .loans) p (givenIn u)) (sym (fresh-places s))
-            (fresh-chained (u .loans) (u .index) (s .store .loans) (givenIn u) (fresh-first (marks .index) (s .store .loans)));
+            (fresh-chained (u .loans) (u .index) (s .store .loans) (givenIn u) (fresh-first (marks .index) (s .store .loans) (bookWords s) (omega arith)));
         chunks-parted =
             subst (λ (p : ℕ). Parted (vacantChunk u) (chunkAfter s u) (record { places = p; vacant = chunkSlab s u .vacant }) (s .store .chunks)) (sym (fresh-chunk-places s))
             (subst (λ (v : ℕ). Parted (vacantChunk u) (chunkAfter s u) (record { places = 0; vacant = v }) (s .store .chunks)) (sym none-vacated) (parted-fresh (vacantChunk u) (chunkAfter s u) (s .store .chunks)));
@@ -201,11 +201,6 @@ module _ (s : BuddySettings) (t : Tables) (fit : BuddyIn s) (lengths : Lengths s
       top : (c : ℕ) → topIn s grown c ≡ topIn s t c
       top c = ap (λ (w : ℕ). cond (heldIn t c) w 0) (made .past (cellOf (placeAt s topAt) placeWords c) (omega arith))
 
-      loaned : (k : ℕ) → loanIn s grown k ≡ loanIn s t k
-      loaned k =
-          let e = made .past (nodesFrom s + k) (omega arith) in
-          (λ j. record { chunk = loanIn s t k .chunk; at = loanIn s t k .at; lev = loanIn s t k .lev; node = e j })
-
       grown-store : Stores.Sound (s .minimal) (levelOps (s .pairs) small) (storeOf s small grown) (λ (c : ℕ). cond (heldIn t c) (sound .standing .trees c) free)
       grown-store =
           let O = levelOps (s .pairs) small in
@@ -215,7 +210,7 @@ module _ (s : BuddySettings) (t : Tables) (fit : BuddyIn s) (lengths : Lengths s
           let A : Stores.Sound (s .minimal) O u T = sound-levels (s .minimal) O (minimal-pos s fit) (storeOf s small t) T (sound-store s small t fit lengths sound) W (λ i h. made .below i h) in
           let fresh : (i : ℕ) → levelsIn t ≤ i → i < n → W i ≡ freshLevel 0 (part (s .pairs) i (t .room)) = λ i k h. made .inside i k (omega arith) in
           let B = grown-sound (s .minimal) O (minimal-pos s fit) u T A n more (λ i k h. level-good (t .room) i (W i) (lengths .room) (omega arith) (fresh i k h)) (λ i p k h. level-none (t .room) i p (W i) (lengths .room) (omega arith) (fresh i k h)) in
-          sound-as (s .minimal) O (minimal-pos s fit) (grownTo (s .minimal) O n u) (storeOf s small grown) T B count (λ i h. refl) loaned (λ k. refl) (λ c. refl) top
+          sound-as (s .minimal) O (minimal-pos s fit) (grownTo (s .minimal) O n u) (storeOf s small grown) T B count (λ i h. refl) (λ k. refl) (λ k. refl) (λ c. refl) top
 
       sizes : Sizes s grown
       sizes = record { chunks = λ c h. let r = sound .standing .sized c h in (r .0, r .1, r .2); loans = sound .standing .loans-sized }

@@ -26,7 +26,7 @@ use Rattle.buddy_trees.specs.Trees.{bytes}
 use Rattle.buddy_trees.proofs.Bytes.{bytes-pos}
 use Rattle.buddy_rules.specs.Stores.{with}
 use Rattle.buddy_rules.specs.Level.{pairTaken, part}
-use Rattle.buddy_rules.specs.Tables.{Tables, tables, Lengths, chunkPlacesAt, memoryAt, chunkSizeAt, chunkWords, levelsIn, chunkPlacesIn, memoryIn, chunkSizeIn, levelFrom, chunksFrom, placeAt, topAt, afterAt, placeWords, nodesFrom, loanIn, heldIn, highIn, topIn, vacantChunk, chunkAfter, chunkSlab, initialLevels}
+use Rattle.buddy_rules.specs.Tables.{Tables, tables, Lengths, chunkPlacesAt, memoryAt, chunkSizeAt, chunkWords, levelsIn, chunkPlacesIn, memoryIn, chunkSizeIn, levelFrom, chunksFrom, placeAt, topAt, afterAt, placeWords, heldIn, highIn, topIn, vacantChunk, chunkAfter, chunkSlab, initialLevels}
 use Rattle.buddy_rules.specs.Sound.{Sound}
 use Rattle.buddy_rules.proofs.Walks.{minimal-pos, level-bytes}
 use Rattle.buddy_outcomes.specs.Ask.{chunkTaken}
@@ -134,13 +134,6 @@ module _ (s : BuddySettings) (t : Tables) (fit : BuddyIn s) (lengths : Lengths s
 
     tree-top : getD (chunked .room) (cellOf (placeAt s topAt) placeWords (chunkTaken s t .place)) 0 ≡ topWord
     tree-top = getD-set-same (set (t .room) (chunksFrom s) link) topCell topWord 0 (omega (arith, length-set (t .room) (chunksFrom s) link, lengths .room))
-
-    -- ---- the loans are the same
-
-    pub chunked-loan : (j : ℕ) → loanIn s chunked j ≡ loanIn s t j
-    chunked-loan j =
-        let e = tree-other (nodesFrom s + j) (λ e. omega arith) (λ e. omega arith) in
-        (λ i. record { chunk = loanIn s t j .chunk; at = loanIn s t j .at; lev = loanIn s t j .lev; node = e i })
 
     -- ---- words of the chunks
 

@@ -116,7 +116,7 @@ module _ (s : BuddySettings) (t : Tables) (fit : BuddyIn s) (lengths : Lengths s
       let d = levelsIn g - lev - 1 in
       let r = served-rings s (few-pairs s fit) g fit g-lengths g-sound W rings (u .room) (chunked-lengths s g fit g-lengths memory z .room) (chunked-level s g fit g-lengths memory z) lev d c k top
       (λ i x y. Delivered.pair s t fit lengths sound size mask z b i x y) in
-      booked-rings s u (g-sound .levels-most) c 0 (sizeFor s size mask) _ _ r
+      booked-rings s u c 0 (sizeFor s size mask) _ _ r
 
 -- ---- a delivery
 

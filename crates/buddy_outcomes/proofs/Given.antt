@@ -23,6 +23,7 @@ use Rattle.store_rules.specs.Loans.{loanWords, serialAt, sizeAt, offsetAt}
 use Rattle.store_rules.specs.declared.Loan.{Loan}
 use Rattle.book_rules.specs.Book.{indexWords, ledTo, serialOf, wordTo, struck, struckIndex}
 use Rattle.book_rules.proofs.Changed.{vacant-now}
+use Rattle.book_rules.proofs.Columns.{struck-behind}
 use Rattle.book_rules.proofs.Keeps.{BookChained, BookParted, freeIn, found, struck-long, struck-wide, struck-chained, struck-parted}
 use Rattle.book_rules.proofs.Owns.{struck-mark, struck-index-mark, word-past-mark}
 use Rattle.buddy_trees.specs.Trees.{Tree, remove, bytes}
@@ -33,7 +34,7 @@ use Rattle.buddy_rules.specs.Stores as Stores
 use Rattle.buddy_rules.proofs.Returned.{returned-sound}
 use Rattle.buddy_rules.specs.Level.{part}
 use Rattle.buddy_rules.proofs.Ops.{levelOps}
-use Rattle.buddy_rules.specs.Tables.{Tables, Lengths, givenIn, levelsIn, placesIn, chunkPlacesIn, memoryIn, chunkSizeIn, chunksFrom, nodesFrom, loanCell, loanIn, liveIn, heldIn, highIn, topIn, vacantChunk, vacantLoan}
+use Rattle.buddy_rules.specs.Tables.{Tables, Lengths, givenIn, levelsIn, placesIn, chunkPlacesIn, memoryIn, chunkSizeIn, chunksFrom, nodesFrom, nodeOfLoan, loanCell, loanIn, liveIn, heldIn, highIn, topIn, vacantChunk, vacantLoan}
 use Rattle.buddy_rules.specs.Sound.{Sound}
 use Rattle.buddy_rules.specs.Moves.{Climbed, climbed}
 use Rattle.buddy_rules.proofs.Abstract.{storeOf, treeIn, sound-store, Sizes, store-trees}
@@ -45,7 +46,7 @@ use Rattle.buddy_outcomes.proofs.Agree.{Agree, agree-sound}
 use Rattle.buddy_outcomes.proofs.Heads.{struck-given, struck-places}
 use Rattle.buddy_outcomes.proofs.Loaned.{live-used, on-loan-is}
 use Rattle.buddy_outcomes.proofs.Written.{OfLoan}
-use Rattle.buddy_outcomes.proofs.Vacated.{Past, tablesBy, part-by, word-by, tree-by, chunks-by, memory-by, still-held, high-by, top-by, parted-by, chunks-mark-by, tree-mark-by}
+use Rattle.buddy_outcomes.proofs.Vacated.{Past, tablesBy, part-by, tree-by, chunks-by, memory-by, still-held, high-by, top-by, parted-by, chunks-mark-by, tree-mark-by}
 
 module _ (s : BuddySettings) (t : Tables) (fit : BuddyIn s) (lengths : Lengths s t) (sound : Sound s t) (b : Block) (on : onLoanOk s b t ≡ true) where
   abbrev w : ℕ
@@ -178,7 +179,7 @@ module _ (s : BuddySettings) (t : Tables) (fit : BuddyIn s) (lengths : Lengths s
     climb-is : Climbs r
     climb-is =
         let z = climbed-is s small t fit lengths sound k live in
-        subst (λ (y : ℕ). Climbs (climbed (s .pairs) (levelsIn t - levelOf y (s .minimal)) (levelOf y (s .minimal)) (getD (t .room) (nodesFrom s + k) 0) (t .room))) (says .size)
+        subst (λ (y : ℕ). Climbs (climbed (s .pairs) (levelsIn t - levelOf y (s .minimal)) (levelOf y (s .minimal)) (nodeOfLoan s t k) (t .room))) (says .size)
         (record { freed = z .0; levels = z .1; same = z .2; long = z .3 })
 
     past : Past s t c (r .room)
@@ -198,7 +199,7 @@ module _ (s : BuddySettings) (t : Tables) (fit : BuddyIn s) (lengths : Lengths s
         let chunk = cell-left f Loans.chunkAt j (omega arith) o in
         let at = cell-left f offsetAt j (omega arith) o in
         let size = cell-left f sizeAt j (omega arith) o in
-        let node = word-by s t c (r .room) loans′ index′ lengths past f (nodesFrom s + j) (omega arith) (λ z. omega (arith, past .inside)) in
+        let node = struck-behind n (t .index) (nodesFrom s + (j + 1)) (omega arith) w word-in room in
         (λ i. record { chunk = chunk i; at = at i; lev = levelOf (size i) (s .minimal); node = node i })
 
     -- ---- the store that the tables hold is the one with the loan returned

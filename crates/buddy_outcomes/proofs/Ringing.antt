@@ -5,7 +5,7 @@ use mathlib.Core.Logic.{_⊎_, ⊎-elim}
 use mathlib.Core.List.{List, [], _∷_, _++_}
 use Prim.Native.Nat.{ℕ, suc, _+_, _-_, _/_, _≤_, _<_}
 use native.Mathlib.Omega.{arith}
-use lib.ListN.{getD, set}
+use lib.ListN.{set}
 use borrow.Author.Tests.{eq-eqb, ne-eqb}
 use Rattle.lists.specs.Members.{NotIn}
 use Rattle.lists.proofs.Bools.{told}
@@ -30,7 +30,7 @@ use Rattle.buddy_rules.proofs.Ringed.{ringed-one, out-of, part-ringed, ringed-p
 use Rattle.buddy_rules.specs.Moves.{sideIn, Cut, splitDown, readyNode, climbed}
 use Rattle.buddy_rules.specs.Rings.{Rings, ringsLent, ringsBack}
 use Rattle.buddy_rules.specs.Sound.{Sound}
-use Rattle.buddy_rules.specs.Tables.{Tables, Lengths, levelsIn, placesIn, levelFrom, pairsIn, nodesFrom, chunksFrom, loanIn}
+use Rattle.buddy_rules.specs.Tables.{Tables, Lengths, levelsIn, placesIn, levelFrom, pairsIn, nodeOfLoan, chunksFrom, loanIn}
 use Rattle.buddy_rules.proofs.Ringing.{ringsOf, sound-rings, lent-here, lent-new, lent-other, back-joins, back-here, back-below, loan-under, climbed-rings, lent-rings}
 use Rattle.buddy_outcomes.specs.Ask as Ask
 use Rattle.buddy_outcomes.specs.Ask.{Found, at, sizeFor, levelFor, foundFrom, bookedTables, headEnt, takenTables, askOf}
@@ -57,10 +57,9 @@ module _ (s : BuddySettings) (t : Tables) where
   booked-levels c o size cut = refl
 
   -- a loan entered in the book leaves the rings that the tree has then
-  pub booked-rings : levelsIn t ≤ levelsMost → (c o size : ℕ) (cut : Cut) (Q : ℕ → List ℕ) → ((l : ℕ) → l < levelsIn t → Ringed (levelFrom s l) (s .pairs) (cut .room) (Q l)) → Rings s (bookedTables s c o size cut t) Q
+  pub booked-rings : (c o size : ℕ) (cut : Cut) (Q : ℕ → List ℕ) → ((l : ℕ) → l < levelsIn t → Ringed (levelFrom s l) (s .pairs) (cut .room) (Q l)) → Rings s (bookedTables s c o size cut t) Q
   unfolding bookedTables
-  booked-rings most c o size cut Q r l h =
-      ringed-set s l (nodesFrom s + takenOf (placesIn t) (t .index) .place) (cut .node) (cut .room) (Q l) (omega arith) (omega arith) (r l h)
+  booked-rings c o size cut Q r = r
 
 module _ (s : BuddySettings) (t : Tables) (fit : BuddyIn s) (lengths : Lengths s t) (sound : Sound s t) (size mask i : ℕ) (w : Takes s size mask t i) (W : ℕ → List ℕ) (rings : Rings s t W) where
   abbrev lev : ℕ
@@ -83,7 +82,7 @@ module _ (s : BuddySettings) (t : Tables) (fit : BuddyIn s) (lengths : Lengths s
       let p = Taken.pair s t fit lengths sound size mask i (w .found) (w .aligned) (w .sized) (w .room) in
       let d = i - lev in
       subst (λ (x : ℕ). Rings s (tablesAt x (i - lev)) (ringsLent newPlaces lev x W)) h
-      (booked-rings s t (sound .levels-most) _ _ (sizeFor s size mask) _ (ringsLent newPlaces lev (up d lev) W)
+      (booked-rings s t _ _ (sizeFor s size mask) _ (ringsLent newPlaces lev (up d lev) W)
       (lent-rings s (few-pairs s fit) t fit lengths sound W rings lev d (takenOf (placesIn t) (t .index) .place) (omega (arith, h, f .1)) (rw h (f .2)) p))
 
 -- an ask that says a block: the level that the search found gives its head, each level below it down to the block's has a new pair
@@ -158,7 +157,7 @@ module _ (s : BuddySettings) (a : Account) (size mask : ℕ) (t : Tables) (seria
 
 -- the node of the block that comes back, and its level
 abbrev pub nodeBack : BuddySettings → Block → Tables → ℕ
-nodeBack s b t = getD (t .room) (nodesFrom s + ledTo (t .index) (wordFor s b t)) 0
+nodeBack s b t = nodeOfLoan s t (ledTo (t .index) (wordFor s b t))
 
 abbrev pub levelBack : BuddySettings → Block → ℕ
 levelBack s b = levelOf (b .size) (s .minimal)

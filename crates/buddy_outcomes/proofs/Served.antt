@@ -39,7 +39,7 @@ use Rattle.buddy_outcomes.proofs.Changed.{few-pairs}
 use Rattle.buddy_outcomes.proofs.Rounds.{size-level, size-units}
 use Rattle.buddy_outcomes.proofs.Booked.{booked-lengths, booked-sound}
 use Rattle.buddy_outcomes.proofs.Taken.{place-dead, level-empty, level-room}
-use Rattle.buddy_outcomes.proofs.Chunked.{chunked, chunked-lengths, chunked-level, chunked-loan, taken-dead, chunked-high, chunked-top, chunked-kept}
+use Rattle.buddy_outcomes.proofs.Chunked.{chunked, chunked-lengths, chunked-level, taken-dead, chunked-high, chunked-top, chunked-kept}
 use Rattle.words.specs.Words.{markAt}
 
 module _ (s : BuddySettings) (t : Tables) (fit : BuddyIn s) (lengths : Lengths s t) (sound : Sound s t) (size lev d memory z : ℕ)
@@ -103,9 +103,7 @@ module _ (s : BuddySettings) (t : Tables) (fit : BuddyIn s) (lengths : Lengths s
 
   loans-as : (j : ℕ) → with (loanIn s u) k made j
       ≡ with (loanIn s t) k (newLoan (s .minimal) (levelOps (s .pairs) (few-pairs s fit)) (storeOf s (few-pairs s fit) t) lev c) j
-  loans-as j =
-      ap (λ (x : Nodes.Loan). cond (eqb j k) x (loanIn s u j)) loan-is
-      ∙ ap (λ (x : Nodes.Loan). cond (eqb j k) (newLoan (s .minimal) (levelOps (s .pairs) (few-pairs s fit)) (storeOf s (few-pairs s fit) t) lev c) x) (chunked-loan s t fit lengths memory z chunk-room j)
+  loans-as j = ap (λ (x : Nodes.Loan). cond (eqb j k) x (loanIn s t j)) loan-is
 
   high-as : (b : ℕ) → highIn s u b ≡ with (highIn s t) c (up (suc d) lev) b
   high-as b = chunked-high s t fit lengths memory z chunk-room sound tall is-chunk b ∙ ap (λ (x : ℕ). with (highIn s t) c x b) top

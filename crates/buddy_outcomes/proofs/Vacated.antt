@@ -76,7 +76,7 @@ module _ (s : BuddySettings) (t : Tables) (c : ℕ) (tree loans index : List ℕ
         part-past (s .pairs) i (chunksFrom s) (recordOf c) linked k ∙ part-past (s .pairs) i after (getD tree (chunksFrom s) 0) tree (omega arith)
     part-by false i h = refl
 
-    pub word-by : (f : Bool) (j : ℕ) → chunksFrom s < j → (j ≡ cellOf (placeAt s afterAt) placeWords c → ⊥) → getD (tablesBy f .room) j 0 ≡ getD (t .room) j 0
+    word-by : (f : Bool) (j : ℕ) → chunksFrom s < j → (j ≡ cellOf (placeAt s afterAt) placeWords c → ⊥) → getD (tablesBy f .room) j 0 ≡ getD (t .room) j 0
     unfolding vacatedTree
     word-by true j h n =
         getD-set-other linked (chunksFrom s) j (recordOf c) 0 (λ e. omega arith)

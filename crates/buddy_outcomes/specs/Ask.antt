@@ -140,15 +140,15 @@ unfoldable pub grownTables : BuddySettings → ℕ → Tables → Tables
 grownTables s n t =
     tables (set (t .head) levelsAt n) (t .loans) (t .chunks) (t .index) (freshLevels s (levelsIn t) (n - levelsIn t) (t .room))
 
--- a loan of this chunk, offset and size is entered in the book, and its node beside the tree, which is then `tree`
+-- a loan of this chunk, offset and size is entered in the book, and its node beside it; the tree is as the cut leaves it
 unfoldable pub bookedTables : BuddySettings → ℕ → ℕ → ℕ → Cut → Tables → Tables
 bookedTables s c o size cut t =
     tables
     (t .head)
     (entered (placesIn t) (t .index) (loan (givenIn t + 1) c o size) (t .loans))
     (t .chunks)
-    (enteredIndex (s .store .loans) (placesIn t) (givenIn t + 1) (t .index))
-    (set (cut .room) (nodesFrom s + takenOf (placesIn t) (t .index) .place) (cut .node))
+    (set (enteredIndex (s .store .loans) (placesIn t) (givenIn t + 1) (t .index)) (nodesFrom s + (takenOf (placesIn t) (t .index) .place + 1)) (cut .node))
+    (cut .room)
 
 -- the head pair's entry of level i, whose ready side serves
 abbrev pub headEnt : BuddySettings → Tables → ℕ → Ent

@@ -8,9 +8,8 @@ use Rattle.counter.specs.Paper as Paper
 use Rattle.counter.specs.Table.{buddyOk}
 use Rattle.counter.specs.declared.settings.BuddySettings.{BuddySettings}
 use Rattle.store_rules.specs.Loans.{loanWords}
-use Rattle.book_rules.specs.Book.{freshIndex}
 pub use Rattle.store_rules.specs.Tables.{Begun, begun}
-use Rattle.buddy_rules.specs.Tables.{Tables, tables, marks, lengthsOk, chunkWords, treeWords, initialLevels}
+use Rattle.buddy_rules.specs.Tables.{Tables, tables, marks, lengthsOk, chunkWords, bookWords, treeWords, initialLevels}
 
 -- the mark, and "Initial levels"
 abbrev pub freshHead : BuddySettings → List ℕ
@@ -23,7 +22,7 @@ freshTables s =
     (freshHead s)
     (blank (loanWords + loanWords * s .store .loans) (marks .loans) 0)
     (blank (chunkWords + chunkWords * s .store .chunks) (marks .chunks) 0)
-    (freshIndex (marks .index) (s .store .loans))
+    (blank (bookWords s) (marks .index) 0)
     (blank (treeWords s) (marks .room) 0)
 
 -- 1, but for the account, which set-up does not take

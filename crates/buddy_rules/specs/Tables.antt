@@ -74,8 +74,20 @@ memoryIn t c = getD (t .chunks) (cellOf memoryAt chunkWords c) 0
 abbrev pub chunkSizeIn : Tables → ℕ → ℕ
 chunkSizeIn t c = getD (t .chunks) (cellOf chunkSizeAt chunkWords c) 0
 
+-- ---- index: the book's entries, and behind them a column of the loans' nodes, a word for each record of the loans
+
+abbrev pub nodesFrom : BuddySettings → ℕ
+nodesFrom s = indexWords (s .store .loans)
+
+-- how many words the index takes
+abbrev pub columns : ℕ
+columns = 1
+
+abbrev pub bookWords : BuddySettings → ℕ
+bookWords s = indexWords (s .store .loans) + columns * (s .store .loans + 1)
+
 -- ---- tree, in records of eight words: the table's own; the levels one after the other; of the chunk places first their own, which
--- begins with the place vacated last, then for each its top node's word and the vacant place after it; for each loan place its node
+-- begins with the place vacated last, then for each its top node's word and the vacant place after it
 
 abbrev pub levelFrom : BuddySettings → ℕ → ℕ
 levelFrom s l = levelStart (s .pairs) l
@@ -95,11 +107,8 @@ afterAt = 1
 abbrev pub placeAt : BuddySettings → ℕ → ℕ
 placeAt s f = chunksFrom s + (placeWords + f)
 
-abbrev pub nodesFrom : BuddySettings → ℕ
-nodesFrom s = chunksFrom s + (placeWords + placeWords * s .store .chunks)
-
 abbrev pub treeWords : BuddySettings → ℕ
-treeWords s = nodesFrom s + s .store .loans
+treeWords s = chunksFrom s + (placeWords + placeWords * s .store .chunks)
 
 -- ---- 1: "a lent table of the wrong length"
 
@@ -108,7 +117,7 @@ lengthsRow s t =
     eqb (length (t .head)) headWords
     ∷ eqb (length (t .loans)) (loanWords + loanWords * s .store .loans)
     ∷ eqb (length (t .chunks)) (chunkWords + chunkWords * s .store .chunks)
-    ∷ eqb (length (t .index)) (indexWords (s .store .loans))
+    ∷ eqb (length (t .index)) (bookWords s)
     ∷ eqb (length (t .room)) (treeWords s)
     ∷ []
 
@@ -119,7 +128,7 @@ pub record Lengths (s : BuddySettings) (t : Tables) : Type 0 where
   pub head : length (t .head) ≡ headWords
   pub loans : length (t .loans) ≡ loanWords + loanWords * s .store .loans
   pub chunks : length (t .chunks) ≡ chunkWords + chunkWords * s .store .chunks
-  pub index : length (t .index) ≡ indexWords (s .store .loans)
+  pub index : length (t .index) ≡ bookWords s
   pub room : length (t .room) ≡ treeWords s
 
 -- ---- what they say
@@ -132,9 +141,9 @@ pairsIn s t l p = pairIn (levelFrom s l) (t .room) p
 abbrev pub loanCell : Tables → ℕ → ℕ → ℕ
 loanCell t f k = getD (t .loans) (cellOf f loanWords k) 0
 
--- the node of the loan at a place
+-- the node of the loan at a place, whose record is the next
 abbrev pub nodeOfLoan : BuddySettings → Tables → ℕ → ℕ
-nodeOfLoan s t k = getD (t .room) (nodesFrom s + k) 0
+nodeOfLoan s t k = getD (t .index) (nodesFrom s + (k + 1)) 0
 
 abbrev pub loanIn : BuddySettings → Tables → ℕ → Loan
 loanIn s t k =

@@ -27,6 +27,8 @@ pub const PLACE_WORDS: usize = 8;
 pub const TOP_AT: usize = 0;
 
 pub const AFTER_AT: usize = 1;
+// Columns behind the entries of the index: for each record of the loans its node.
+pub const COLUMNS: usize = 1;
 // The tag of a pair: its place is vacant, both its nodes are taken, or which of them is ready; specs/Nodes has the same names.
 pub const VACANT: u64 = 0;
 

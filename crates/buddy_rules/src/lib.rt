@@ -8,6 +8,7 @@ pub use layout::CHUNK_PLACES_AT;
 pub use layout::CHUNK_SIZE_AT;
 pub use layout::CHUNK_WORDS;
 pub use layout::CHUNKS_MARK;
+pub use layout::COLUMNS;
 pub use layout::EXHAUSTED;
 pub use layout::FREE_WORD;
 pub use layout::HEAD_MARK;

@@ -62,6 +62,6 @@ module _ (s : BuddySettings) (k : ℕ) (loans : List ℕ) (l : Loan) (is : l ≡
   offset-is : l .offset ≡ getD loans (cellOf offsetAt loanWords k) 0
   offset-is = ap (λ (x : Loan). x .offset) is ∙ sym (cell-row loans offsetAt loanWords k)
 
-  pub units-told : (r : Bool) → r ≡ (eqb (l .size) 0 || units s l) → r ≡ unitsOk s (partTables 0 loans [] []) k
+  pub units-told : (r : Bool) → r ≡ (eqb (l .size) 0 || units s l) → r ≡ unitsOk s (partTables 0 loans [] [] []) k
   unfolding unitsOk
   units-told r e = e ∙ rw (lt-ltb k (getD loans placesAt 0) used, sym size-is, sym offset-is) (twice (eqb (l .size) 0) (units s l))

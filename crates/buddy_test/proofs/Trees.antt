@@ -15,47 +15,47 @@ use Rattle.buddy_rules.proofs.Tests.{every-same}
 use Rattle.buddy_walk.proofs.Shows.{chunk-shows}
 use Rattle.buddy_leads.proofs.Shows.{pairs-shown, loans-shown}
 
-module _ (s : BuddySettings) (levels places held : ℕ) (loans chunks tree : List ℕ) where
+module _ (s : BuddySettings) (levels places held : ℕ) (loans chunks index tree : List ℕ) where
   abbrev chunksPart : Bool
-  chunksPart = every (chunkOk s (partTables levels loans chunks tree)) held
+  chunksPart = every (chunkOk s (partTables levels loans chunks index tree)) held
 
   abbrev pairsPart : Bool
   pairsPart = every (λ (l : ℕ). every (pairOk (partSettings (s .minimal) (s .pairs) 0) (levelPart levels chunks tree) l) (getD tree (levelStart (s .pairs) l + usedAt) 0)) levels
 
   abbrev loansPart : Bool
-  loansPart = every (loanOk (partSettings (s .minimal) (s .pairs) (s .store .chunks)) (partTables levels loans chunks tree)) places
+  loansPart = every (loanOk (partSettings (s .minimal) (s .pairs) (s .store .loans)) (partTables levels loans chunks index tree)) places
 
 parts : (s : BuddySettings) (t : Tables)
-    → treesOk s t ≡ (chunksPart s (levelsIn t) (placesIn t) (chunkPlacesIn t) (t .loans) (t .chunks) (t .room)
-    && (pairsPart s (levelsIn t) (placesIn t) (chunkPlacesIn t) (t .loans) (t .chunks) (t .room) && loansPart s (levelsIn t) (placesIn t) (chunkPlacesIn t) (t .loans) (t .chunks) (t .room)))
+    → treesOk s t ≡ (chunksPart s (levelsIn t) (placesIn t) (chunkPlacesIn t) (t .loans) (t .chunks) (t .index) (t .room)
+    && (pairsPart s (levelsIn t) (placesIn t) (chunkPlacesIn t) (t .loans) (t .chunks) (t .index) (t .room) && loansPart s (levelsIn t) (placesIn t) (chunkPlacesIn t) (t .loans) (t .chunks) (t .index) (t .room)))
 unfolding treesOk
 parts s t =
-    let chunked : every (chunkOk s t) (chunkPlacesIn t) ≡ chunksPart s (levelsIn t) (placesIn t) (chunkPlacesIn t) (t .loans) (t .chunks) (t .room) =
-    every-same (chunkOk s t) (chunkOk s (partTables (levelsIn t) (t .loans) (t .chunks) (t .room))) (chunkPlacesIn t) (λ c h. chunk-shows s t c) in
+    let chunked : every (chunkOk s t) (chunkPlacesIn t) ≡ chunksPart s (levelsIn t) (placesIn t) (chunkPlacesIn t) (t .loans) (t .chunks) (t .index) (t .room) =
+    every-same (chunkOk s t) (chunkOk s (partTables (levelsIn t) (t .loans) (t .chunks) (t .index) (t .room))) (chunkPlacesIn t) (λ c h. chunk-shows s t c) in
     λ j. chunked j && (pairs-shown s t j && loans-shown s t j)
 
 -- so it reads no more than these
-pub trees-shown : (s : BuddySettings) (t : Tables) → treesOk s t ≡ treesOk s (partTables (levelsIn t) (t .loans) (t .chunks) (t .room))
-trees-shown s t = parts s t ∙ sym (parts s (partTables (levelsIn t) (t .loans) (t .chunks) (t .room)))
+pub trees-shown : (s : BuddySettings) (t : Tables) → treesOk s t ≡ treesOk s (partTables (levelsIn t) (t .loans) (t .chunks) (t .index) (t .room))
+trees-shown s t = parts s t ∙ sym (parts s (partTables (levelsIn t) (t .loans) (t .chunks) (t .index) (t .room)))
 
 -- in turn, with what the code was told
-module _ (s : BuddySettings) (levels places held : ℕ) (loans chunks tree : List ℕ) (counted : places ≡ getD loans placesAt 0) (count : held ≡ getD chunks chunkPlacesAt 0) where
+module _ (s : BuddySettings) (levels places held : ℕ) (loans chunks index tree : List ℕ) (counted : places ≡ getD loans placesAt 0) (count : held ≡ getD chunks chunkPlacesAt 0) where
   abbrev whole : Bool
-  whole = treesOk s (partTables levels loans chunks tree)
+  whole = treesOk s (partTables levels loans chunks index tree)
 
   abbrev one : Bool
-  one = chunksPart s levels places held loans chunks tree
+  one = chunksPart s levels places held loans chunks index tree
 
   abbrev two : Bool
-  two = pairsPart s levels places held loans chunks tree
+  two = pairsPart s levels places held loans chunks index tree
 
   abbrev three : Bool
-  three = loansPart s levels places held loans chunks tree
+  three = loansPart s levels places held loans chunks index tree
 
   is : whole ≡ (one && (two && three))
   is =
-      parts s (partTables levels loans chunks tree)
-      ∙ (λ j. chunksPart s levels (sym counted j) (sym count j) loans chunks tree && (two && loansPart s levels (sym counted j) (sym count j) loans chunks tree))
+      parts s (partTables levels loans chunks index tree)
+      ∙ (λ j. chunksPart s levels (sym counted j) (sym count j) loans chunks index tree && (two && loansPart s levels (sym counted j) (sym count j) loans chunks index tree))
 
   module _ (c : Bool) (cs : c ≡ one) where
     pub chunks-fail : not c ≡ true → false ≡ whole

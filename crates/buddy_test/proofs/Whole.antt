@@ -34,7 +34,7 @@ memories-shown : (s : BuddySettings) (t : Tables) → memoriesOk s t ≡ memorie
 unfolding memoriesOk
 memories-shown s t = refl
 
-units-shown : (s : BuddySettings) (t : Tables) → every (unitsOk s t) (placesIn t) ≡ every (unitsOk s (partTables 0 (t .loans) [] [])) (placesIn t)
+units-shown : (s : BuddySettings) (t : Tables) → every (unitsOk s t) (placesIn t) ≡ every (unitsOk s (partTables 0 (t .loans) [] [] [])) (placesIn t)
 unfolding unitsOk
 units-shown s t = refl
 
@@ -62,10 +62,10 @@ module _ (s : BuddySettings) (head loans chunks index tree : List ℕ) where
   goodPart levels = every (λ (l : ℕ). goodOk (levelStart (s .pairs) l) (s .pairs) tree) levels
 
   abbrev treesPart : ℕ → Bool
-  treesPart levels = treesOk s (partTables levels loans chunks tree)
+  treesPart levels = treesOk s (partTables levels loans chunks index tree)
 
   abbrev unitsPart : ℕ → Bool
-  unitsPart places = every (unitsOk s (partTables 0 loans [] [])) places
+  unitsPart places = every (unitsOk s (partTables 0 loans [] [] [])) places
 
   -- the row is its parts
   parts : whole ≡ (headPart && (keptPart (placesIn t) (givenIn t) && (placesPart && (memoriesPart

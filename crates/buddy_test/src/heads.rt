@@ -114,7 +114,7 @@ fn is_units(s: BuddySettings, l: Loan) -> bool
 // Whether each loan in the first n places is.
 pub fn are_units(s: BuddySettings, n: u64, loans: &[u64]) -> bool
     requires { ⌜ BuddyIn s × (n ≤ loansMost) × (n ≡ getD (now loans) placesAt 0) ⌝ }
-    ensures { λ r. ⌜ r ≡ every (unitsOk s (partTables 0 (now (loans .entry)) [] [])) n ⌝ }
+    ensures { λ r. ⌜ r ≡ every (unitsOk s (partTables 0 (now (loans .entry)) [] [] [])) n ⌝ }
 {
     let mut k = 0;
     while k < n {

@@ -9,7 +9,7 @@ ghost use Prim.Native.Nat.{_+_, _≤_, _<_};
 ghost use lib.ListN.{getD};
 ghost use Rattle.buddy_rules.specs.Level.{usedAt, levelStart};
 ghost use Rattle.store_rules.specs.Loans.{placesAt};
-ghost use Rattle.buddy_rules.specs.Tables.{tables, chunkPlacesAt};
+ghost use Rattle.buddy_rules.specs.Tables.{tables, chunkPlacesAt, Lengths};
 ghost use Rattle.buddy_rules.specs.Test.{treesOk, soundOk};
 ghost use Rattle.buddy_levels.specs.Seen.{partTables};
 use buddy_rules::CHUNK_PLACES_AT;
@@ -26,13 +26,14 @@ fn are_trees(
     held: u64,
     loans: &[u64],
     chunks: &[u64],
+    index: &[u64],
     tree: &[u64],
 ) -> bool
     requires { ⌜ BuddyIn s × (levels ≤ levelsMost) × (places ≤ loansMost) × (held ≤ chunksMost) × ((l : _) → l < levels → getD (now tree) (levelStart (s .pairs) l + usedAt) 0 ≤ s .pairs) × (places ≡ getD (now loans) placesAt 0) × (held ≡ getD (now chunks) chunkPlacesAt 0) ⌝ }
-    ensures { λ r. ⌜ r ≡ treesOk s (partTables levels (now (loans .entry)) (now (chunks .entry)) (now (tree .entry))) ⌝ }
+    ensures { λ r. ⌜ r ≡ treesOk s (partTables levels (now (loans .entry)) (now (chunks .entry)) (now (index .entry)) (now (tree .entry))) ⌝ }
 {
     let own = s.store;
-    if !buddy_walk::are_chunks(s, levels, places, held, loans, chunks, tree) {
+    if !buddy_walk::are_chunks(s, levels, places, held, loans, chunks, index, tree) {
         return false;
     }
     if !buddy_leads::are_pairs(s.minimal, s.pairs, levels, held, chunks, tree) {
@@ -41,12 +42,13 @@ fn are_trees(
     buddy_leads::are_lent(
         s.minimal,
         s.pairs,
-        own.chunks,
+        own.loans,
         levels,
         held,
         places,
         loans,
         chunks,
+        index,
         tree,
     )
 }
@@ -60,7 +62,7 @@ pub fn is_sound(
     index: &[u64],
     tree: &[u64],
 ) -> bool
-    requires { ⌜ BuddyIn s ⌝ }
+    requires { ⌜ BuddyIn s × Lengths s (tables (now head) (now loans) (now chunks) (now index) (now tree)) ⌝ }
     ensures { λ r. ⌜ r ≡ soundOk s (tables (now (head .entry)) (now (loans .entry)) (now (chunks .entry)) (now (index .entry)) (now (tree .entry))) ⌝ }
 {
     if !heads::is_head(s, head, loans, chunks, index, tree) {
@@ -88,7 +90,7 @@ pub fn is_sound(
     if !heads::are_good(s.pairs, levels, tree) {
         return false;
     }
-    if !are_trees(s, levels, places, held, loans, chunks, tree) {
+    if !are_trees(s, levels, places, held, loans, chunks, index, tree) {
         return false;
     }
     heads::are_units(s, places, loans)

@@ -20,7 +20,7 @@ use Rattle.buddy_levels.specs.Seen.{partSettings, loanPart}
 use Rattle.buddy_rules.specs.Tables.{Tables, placesIn, levelFrom, nodesFrom, loanCell}
 use Rattle.buddy_rules.specs.Test.{leafOk, entryOk, nodeOk}
 use Rattle.buddy_walk.specs.Walks.{halvesOk}
-use Rattle.buddy_walk.proofs.Shows.{entry-shows}
+use Rattle.buddy_walk.proofs.Shows.{entry-shows, leaf-shows}
 
 -- ---- the tag
 
@@ -47,9 +47,9 @@ module _ (s : BuddySettings) (t : Tables) where
   unfolding leafOk
   leaf-past k c l o n h = rw (le-ltb k (placesIn t) h)
 
-  -- the loan that the words of its place say, its size, and the node that the tree has for it
+  -- the loan that the words of its place say, its size, and the node that the index has for it
   module _ (k c l o n : ℕ) (r : Loan) (z i v : ℕ) (is : r ≡ row loanRow k (t .loans)) (size : z ≡ bytes (s .minimal) l)
-      (from : i ≡ nodesFrom s) (node : v ≡ getD (t .room) (i + k) 0) where
+      (at : i ≡ nodesFrom s + (k + 1)) (node : v ≡ getD (t .index) i 0) where
     cell : (f : ℕ) → getD (drop (loanWords * k) (t .loans)) f 0 ≡ loanCell t f k
     cell f = sym (cell-row (t .loans) f loanWords k)
 
@@ -65,7 +65,7 @@ module _ (s : BuddySettings) (t : Tables) where
     pub leaf-is : k < placesIn t
         → (not (eqb (r .size) 0) && ((eqb (r .chunk) c && (eqb (r .offset) o && eqb (r .size) z)) && eqb v n)) ≡ leafOk s t k c l o n
     unfolding leafOk
-    leaf-is h = rw (lt-ltb k (placesIn t) h, chunk, offset, long, size, node, from) (simp and-assoc)
+    leaf-is h = rw (lt-ltb k (placesIn t) h, chunk, offset, long, size, node, at) (simp and-assoc)
 
   -- ---- a node
 
@@ -79,10 +79,10 @@ module _ (s : BuddySettings) (t : Tables) where
     told : (x : Bool) → q ≡ x → saysLoan w ≡ x
     told x e = sym says ∙ e
 
-    pub node-loan : (l k : ℕ) (r : Bool) → q ≡ true → k ≡ loanSaid w → r ≡ leafOk s t k c l o n → r ≡ nodeOk s t l c o n w
+    pub node-loan : (l k : ℕ) (r : Bool) → q ≡ true → k ≡ loanSaid w → r ≡ leafOk (partSettings (s .minimal) 0 (s .store .loans)) (loanPart (t .loans) (t .index) []) k c l o n → r ≡ nodeOk s t l c o n w
     unfolding nodeOk
-    node-loan zero k r e j h = rw (ne-eqb w freeWord some, told true e, ← j) h
-    node-loan (suc l) k r e j h = rw (ne-eqb w freeWord some, told true e, ← j) h
+    node-loan zero k r e j h = rw (ne-eqb w freeWord some, told true e, ← j) (h ∙ sym (leaf-shows s t k c zero o n))
+    node-loan (suc l) k r e j h = rw (ne-eqb w freeWord some, told true e, ← j) (h ∙ sym (leaf-shows s t k c (suc l) o n))
 
     pub node-low : (l : ℕ) → q ≡ false → l ≡ 0 → false ≡ nodeOk s t l c o n w
     unfolding nodeOk
@@ -98,7 +98,7 @@ module _ (s : BuddySettings) (t : Tables) where
 
   -- ---- a pair, whose level begins at b and whose entry is e; r is what the entry's test says, which reads only the entry
 
-  module _ (l c o n p b : ℕ) (e : Ent) (r : Bool) (from : b ≡ levelFrom s l) (is : e ≡ pairIn b (t .room) p) (tested : r ≡ entryOk (partSettings 0 0 0) (loanPart [] []) e c o n) where
+  module _ (l c o n p b : ℕ) (e : Ent) (r : Bool) (from : b ≡ levelFrom s l) (is : e ≡ pairIn b (t .room) p) (tested : r ≡ entryOk (partSettings 0 0 0) (loanPart [] [] []) e c o n) where
     abbrev leftOk : Bool
     leftOk = nodeOk s t l c o (nodeOf p L) (e .left)
 
@@ -107,7 +107,7 @@ module _ (s : BuddySettings) (t : Tables) where
 
     halves-of : (r && (leftOk && rightOk)) ≡ halvesOk s t l c o n p
     halves-of =
-        ap (λ (z : Bool). z && (leftOk && rightOk)) (tested ∙ entry-shows (partSettings 0 0 0) (loanPart [] []) s t e c o n)
+        ap (λ (z : Bool). z && (leftOk && rightOk)) (tested ∙ entry-shows (partSettings 0 0 0) (loanPart [] [] []) s t e c o n)
         ∙ ap (λ (z : Ent). entryOk s t z c o n && (nodeOk s t l c o (nodeOf p L) (z .left) && nodeOk s t l c (o + bytes (s .minimal) l) (nodeOf p R) (z .right)))
         (is ∙ ap (λ (z : ℕ). pairIn z (t .room) p) from)
 

@@ -94,7 +94,7 @@ module _ (s : BuddySettings) (t : Tables) (c z : ℕ) (used : c < chunkPlacesIn 
       chunk-off e = ends-no (eqb z y) (ltb 0 h) (leb f h) (leb h (levelsIn t)) (eqb w freeWord) _ e ∙ row
 
       pub chunk-walk : (r : Bool) → levelOk ≡ true → wrong ≡ false
-          → r ≡ nodeOk (partSettings (s .minimal) (s .pairs) (s .store .chunks)) (loanPart (t .loans) (t .room)) h c 0 nowhere w → r ≡ chunkOk s t c
+          → r ≡ nodeOk (partSettings (s .minimal) (s .pairs) (s .store .loans)) (loanPart (t .loans) (t .index) (t .room)) h c 0 nowhere w → r ≡ chunkOk s t c
       chunk-walk r e g k = k ∙ sym (node-shows s t h c 0 nowhere w) ∙ last-is (eqb z y) (ltb 0 h) (leb f h) (leb h (levelsIn t)) (eqb w freeWord) _ e g ∙ row
 
 -- ---- what the calls ask for
@@ -106,6 +106,6 @@ pub whole-room : (u h : ℕ) → h ≤ levelsMost → bytes u h ≤ bytes u leve
 unfolding bytes
 whole-room u h e = mul-le-mul-left u (pow-mono {j = 32} e)
 
-pub small-in : (s : BuddySettings) (places : ℕ) (loans : List ℕ) → BuddyIn s → places ≤ loansMost → places ≡ getD loans placesAt 0 → Small (s .minimal) (s .pairs) (s .store .chunks) places loans
+pub small-in : (s : BuddySettings) (places : ℕ) (loans : List ℕ) → BuddyIn s → places ≤ loansMost → places ≡ getD loans placesAt 0 → Small (s .minimal) (s .pairs) (s .store .loans) places loans
 small-in s places loans fit few count =
-    record { short = power-top (fit .minimal); few-pairs = fit .pairs-most; few-chunks = fit .store .chunks-most; few-places = few; counted = count }
+    record { short = power-top (fit .minimal); few-pairs = fit .pairs-most; few-loans = fit .store .loans-most; few-places = few; counted = count }

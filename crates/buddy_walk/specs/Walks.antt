@@ -4,7 +4,7 @@ use mathlib.Core.Bool.{Bool, _&&_}
 use mathlib.Core.List.{List}
 use Prim.Native.Nat.{ℕ, _+_, _^_, _≤_}
 use lib.ListN.{getD}
-use Rattle.counter.specs.Limits.{pairsMost, loansMost, chunksMost, minimalBits}
+use Rattle.counter.specs.Limits.{pairsMost, loansMost, minimalBits}
 use Rattle.counter.specs.declared.settings.BuddySettings.{BuddySettings}
 use Rattle.store_rules.specs.Loans.{placesAt}
 use Rattle.buddy_trees.specs.Trees.{bytes}
@@ -20,9 +20,9 @@ halvesOk s t l c o n p =
     && nodeOk s t l c (o + bytes (s .minimal) l) (nodeOf p R) (pairsIn s t l p .right))
 
 -- the numbers are those of settings in the table, and the loan places those that the loans tell
-pub record Small (minimal pairs chunks places : ℕ) (loans : List ℕ) : Type 0 where
+pub record Small (minimal pairs most places : ℕ) (loans : List ℕ) : Type 0 where
   pub short : minimal ≤ 2 ^ minimalBits
   pub few-pairs : pairs ≤ pairsMost
-  pub few-chunks : chunks ≤ chunksMost
+  pub few-loans : most ≤ loansMost
   pub few-places : places ≤ loansMost
   pub counted : places ≡ getD loans placesAt 0

@@ -27,10 +27,11 @@ fn is_chunk(
     c: u64,
     loans: &[u64],
     chunks: &[u64],
+    index: &[u64],
     tree: &[u64],
 ) -> bool
     requires { ⌜ BuddyIn s × (levels ≤ levelsMost) × (places ≤ loansMost) × (c < chunksMost) × (places ≡ getD (now loans) placesAt 0) × (c < getD (now chunks) chunkPlacesAt 0) ⌝ }
-    ensures { λ r. ⌜ r ≡ chunkOk s (partTables levels (now (loans .entry)) (now (chunks .entry)) (now (tree .entry))) c ⌝ }
+    ensures { λ r. ⌜ r ≡ chunkOk s (partTables levels (now (loans .entry)) (now (chunks .entry)) (now (index .entry)) (now (tree .entry))) c ⌝ }
 {
     let size = words::cell(chunks, CHUNK_SIZE_AT, CHUNK_WORDS, c as usize);
     if size == 0 {
@@ -54,7 +55,7 @@ fn is_chunk(
     crate::walk::is_node(
         s.minimal,
         s.pairs,
-        own.chunks,
+        own.loans,
         places,
         high,
         c,
@@ -62,6 +63,7 @@ fn is_chunk(
         NOWHERE,
         top,
         loans,
+        index,
         tree,
     )
 }
@@ -74,14 +76,15 @@ pub fn are_chunks(
     n: u64,
     loans: &[u64],
     chunks: &[u64],
+    index: &[u64],
     tree: &[u64],
 ) -> bool
     requires { ⌜ BuddyIn s × (levels ≤ levelsMost) × (places ≤ loansMost) × (n ≤ chunksMost) × (places ≡ getD (now loans) placesAt 0) × (n ≡ getD (now chunks) chunkPlacesAt 0) ⌝ }
-    ensures { λ r. ⌜ r ≡ every (chunkOk s (partTables levels (now (loans .entry)) (now (chunks .entry)) (now (tree .entry)))) n ⌝ }
+    ensures { λ r. ⌜ r ≡ every (chunkOk s (partTables levels (now (loans .entry)) (now (chunks .entry)) (now (index .entry)) (now (tree .entry)))) n ⌝ }
 {
     let mut c = 0;
     while c < n {
-        if !is_chunk(s, levels, places, c, loans, chunks, tree) {
+        if !is_chunk(s, levels, places, c, loans, chunks, index, tree) {
             return false;
         }
         c += 1;

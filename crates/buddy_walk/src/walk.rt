@@ -3,7 +3,9 @@ ghost use mathlib.Core.Path.{_≡_};
 ghost use mathlib.Core.List.{[]};
 ghost use Prim.Native.Nat.{_+_, _*_, _^_, _≤_, _<_};
 ghost use lib.Dec.{eqb};
-ghost use Rattle.counter.specs.Limits.{levelsMost};
+ghost use lib.ListN.{getD};
+ghost use Rattle.counter.specs.Limits.{levelsMost, loansMost, minimalBits};
+ghost use Rattle.store_rules.specs.Loans.{placesAt};
 ghost use Rattle.buddy_trees.specs.Trees.{bytes};
 ghost use Rattle.buddy_rules.specs.Nodes.{freeWord, tagOf};
 ghost use Rattle.buddy_levels.specs.Pairs.{entFrom};
@@ -19,8 +21,7 @@ use buddy_rules::RIGHT_READY;
 // Whether a loan place has the loan of this node.
 fn is_leaf(
     minimal: u64,
-    pairs: usize,
-    chunks: usize,
+    most: usize,
     places: u64,
     level: u64,
     chunk: u64,
@@ -28,19 +29,19 @@ fn is_leaf(
     node: u64,
     place: u64,
     loans: &[u64],
-    tree: &[u64],
+    index: &[u64],
 ) -> bool
-    requires { ⌜ Small minimal pairs chunks places (now loans) × (level ≤ levelsMost) ⌝ }
-    ensures { λ r. ⌜ r ≡ leafOk (partSettings minimal pairs chunks) (loanPart (now (loans .entry)) (now (tree .entry))) place chunk level offset node ⌝ }
+    requires { ⌜ (minimal ≤ 2 ^ minimalBits) × (most ≤ loansMost) × (places ≤ loansMost) × (places ≡ getD (now loans) placesAt 0) × (level ≤ levelsMost) ⌝ }
+    ensures { λ r. ⌜ r ≡ leafOk (partSettings minimal 0 most) (loanPart (now (loans .entry)) (now (index .entry)) []) place chunk level offset node ⌝ }
 {
     if places <= place {
         return false;
     }
     let l = book::loan_at(loans, place as usize);
-    let at = buddy_levels::nodes_from(pairs, chunks) + place as usize;
+    let at = buddy_levels::node_at(most, place);
     let size = buddy_levels::node_bytes(minimal, level);
     let stands = (l.chunk == chunk) & ((l.offset == offset) & (l.size == size));
-    (l.size != 0) & (stands & (words::word(tree, at) == node))
+    (l.size != 0) & (stands & (words::word(index, at) == node))
 }
 
 // The tag of a pair whose left and right nodes have these words.
@@ -59,7 +60,7 @@ fn tag_of(left: u64, right: u64) -> u64
 
 // Whether a pair is that of this node, and ready where one of its nodes is free; not both, since they would be joined.
 fn is_entry(e: Pair, chunk: u64, offset: u64, node: u64) -> bool
-    ensures { λ r. ⌜ r ≡ entryOk (partSettings 0 0 0) (loanPart [] []) (entFrom e) chunk offset node ⌝ }
+    ensures { λ r. ⌜ r ≡ entryOk (partSettings 0 0 0) (loanPart [] [] []) (entFrom e) chunk offset node ⌝ }
 {
     let free = (e.left == FREE_WORD) & (e.right == FREE_WORD);
     let stands = (e.chunk == chunk) & ((e.off == offset) & (e.up == node));
@@ -70,7 +71,7 @@ fn is_entry(e: Pair, chunk: u64, offset: u64, node: u64) -> bool
 pub fn is_node(
     minimal: u64,
     pairs: usize,
-    chunks: usize,
+    most: usize,
     places: u64,
     level: u64,
     chunk: u64,
@@ -78,10 +79,11 @@ pub fn is_node(
     node: u64,
     word: u64,
     loans: &[u64],
+    index: &[u64],
     tree: &[u64],
 ) -> bool
-    requires { ⌜ Small minimal pairs chunks places (now loans) × (level ≤ levelsMost) × (offset + bytes minimal level ≤ bytes minimal levelsMost) ⌝ }
-    ensures { λ r. ⌜ r ≡ nodeOk (partSettings minimal pairs chunks) (loanPart (now (loans .entry)) (now (tree .entry))) level chunk offset node word ⌝ }
+    requires { ⌜ Small minimal pairs most places (now loans) × (level ≤ levelsMost) × (offset + bytes minimal level ≤ bytes minimal levelsMost) ⌝ }
+    ensures { λ r. ⌜ r ≡ nodeOk (partSettings minimal pairs most) (loanPart (now (loans .entry)) (now (index .entry)) (now (tree .entry))) level chunk offset node word ⌝ }
 {
     if word == FREE_WORD {
         return true;
@@ -89,8 +91,7 @@ pub fn is_node(
     if buddy_levels::says_loan(word) {
         return is_leaf(
             minimal,
-            pairs,
-            chunks,
+            most,
             places,
             level,
             chunk,
@@ -98,7 +99,7 @@ pub fn is_node(
             node,
             buddy_levels::loan_said(word),
             loans,
-            tree,
+            index,
         );
     }
     if level == 0 {
@@ -107,7 +108,7 @@ pub fn is_node(
     is_pair(
         minimal,
         pairs,
-        chunks,
+        most,
         places,
         level - 1,
         chunk,
@@ -115,6 +116,7 @@ pub fn is_node(
         node,
         buddy_levels::pair_said(word),
         loans,
+        index,
         tree,
     )
 }
@@ -123,7 +125,7 @@ pub fn is_node(
 fn is_pair(
     minimal: u64,
     pairs: usize,
-    chunks: usize,
+    most: usize,
     places: u64,
     level: u64,
     chunk: u64,
@@ -131,10 +133,11 @@ fn is_pair(
     node: u64,
     p: u64,
     loans: &[u64],
+    index: &[u64],
     tree: &[u64],
 ) -> bool
-    requires { ⌜ Small minimal pairs chunks places (now loans) × (level < levelsMost) × (offset + 2 * bytes minimal level ≤ bytes minimal levelsMost) × (p < 2 ^ 63) ⌝ }
-    ensures { λ r. ⌜ r ≡ halvesOk (partSettings minimal pairs chunks) (loanPart (now (loans .entry)) (now (tree .entry))) level chunk offset node p ⌝ }
+    requires { ⌜ Small minimal pairs most places (now loans) × (level < levelsMost) × (offset + 2 * bytes minimal level ≤ bytes minimal levelsMost) × (p < 2 ^ 63) ⌝ }
+    ensures { λ r. ⌜ r ≡ halvesOk (partSettings minimal pairs most) (loanPart (now (loans .entry)) (now (index .entry)) (now (tree .entry))) level chunk offset node p ⌝ }
 {
     let base = buddy_levels::level_from(pairs, level as usize);
     let e = buddy_levels::pair_in(tree, base, p);
@@ -144,7 +147,7 @@ fn is_pair(
     if !is_node(
         minimal,
         pairs,
-        chunks,
+        most,
         places,
         level,
         chunk,
@@ -152,6 +155,7 @@ fn is_pair(
         buddy_levels::left_node(p),
         e.left,
         loans,
+        index,
         tree,
     ) {
         return false;
@@ -160,7 +164,7 @@ fn is_pair(
     is_node(
         minimal,
         pairs,
-        chunks,
+        most,
         places,
         level,
         chunk,
@@ -168,6 +172,7 @@ fn is_pair(
         buddy_levels::right_node(p),
         e.right,
         loans,
+        index,
         tree,
     )
 }

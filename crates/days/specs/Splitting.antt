@@ -28,7 +28,7 @@ use Rattle.buddy_trees.specs.Trees.{bytes}
 use Rattle.buddy_rules.specs.Level.{dropped, backed, acquired, added, freshLevel}
 use Rattle.buddy_rules.specs.Level as Level
 use Rattle.buddy_rules.specs.LevelTest.{along, goodOk}
-use Rattle.buddy_rules.specs.Tables.{Tables, tables, lengthsOk, treeWords, memories}
+use Rattle.buddy_rules.specs.Tables.{Tables, tables, lengthsOk, bookWords, treeWords, memories}
 use Rattle.buddy_rules.specs.Test.{leafOk, entryOk, nodeOk, chunkOk, leadsOk, pairOk, loanOk, treesOk, memoriesOk, unitsOk, soundOk}
 use Rattle.buddy_rules.specs.Moves.{climbed, worded, splitDown, splitChunk}
 use Rattle.buddy_outcomes.specs.Gate.{inTableOk, heldCount, heldBytes, accountOk, gateOf}
@@ -46,7 +46,7 @@ halves = record { store = record { number = 7; memtype = 0; properties = 1; heap
 -- a store as it is set up, whatever stood in its tables
 abbrev pub empty : Tables
 empty =
-    setUpOf halves (tables (replicate 2 9) (replicate 20 9) (replicate 6 9) (replicate 15 9) (replicate (treeWords halves) 9)) .tables
+    setUpOf halves (tables (replicate 2 9) (replicate 20 9) (replicate 6 9) (replicate (bookWords halves) 9) (replicate (treeWords halves) 9)) .tables
 
 -- the day's calls, each on what the one before left
 abbrev pub asked : Out Tables

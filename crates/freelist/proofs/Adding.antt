@@ -8,7 +8,6 @@ use native.Mathlib.Omega.{arith}
 use lib.ListN.{length, getD, length-append}
 use Rattle.words.specs.Rows.{rows}
 use Rattle.words.proofs.Records.{length-rows}
-use Rattle.rounding_rules.specs.Growth.{doubled}
 use Rattle.rounding_rules.proofs.Raising.{down-enough}
 use Rattle.slab.specs.declared.Taken.{Taken}
 use Rattle.counter.specs.declared.account.KeptOrder.{KeptOrder}
@@ -17,7 +16,6 @@ use Rattle.counter.specs.declared.account.Heap.{Heap}
 use Rattle.counter.specs.declared.settings.FreeListSettings.{FreeListSettings}
 use Rattle.counter.proofs.Tables.{alignment-yes}
 use Rattle.store_rules.specs.Orders.{buy}
-use Rattle.store_rules.specs.Loans.{givenAt, placesAt}
 use Rattle.book_rules.specs.Book.{takenOf}
 use Rattle.book_rules.specs.Ready.{Opens}
 use Rattle.freelist_rules.specs.declared.Gap.{Gap}

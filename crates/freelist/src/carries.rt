@@ -80,7 +80,19 @@ pub fn carry_ask(
         Plan::Refuse(refusal) => store::refuse_ask(refusal),
         Plan::Take(k) => {
             let loan = k.loan;
-            let l = freelist_place::lend(s, k.region, k.start, loan, loans, chunks, index, regions);
+            let book = loan.slab;
+            let l = freelist_place::lend(
+                s,
+                k.region,
+                k.start,
+                loan.place,
+                book.places,
+                book.vacant,
+                loans,
+                chunks,
+                index,
+                regions,
+            );
             store::answer_block(l)
         }
         Plan::Buy(b) => {
@@ -109,11 +121,23 @@ fn keep_chunk(
 {
     let order = k.order;
     let loan = b.loan;
+    let book = loan.slab;
     let i = freelist_regions::region_count(regions);
     let start = rounding::lower_to_unit(order.size - b.size, b.mask);
     let charged = store_accounts::charged(share, order.size);
     freelist_place::add_chunk(s, memory, order.size, head, chunks, index, regions);
-    let l = freelist_place::lend(s, i, start, loan, loans, chunks, index, regions);
+    let l = freelist_place::lend(
+        s,
+        i,
+        start,
+        loan.place,
+        book.places,
+        book.vacant,
+        loans,
+        chunks,
+        index,
+        regions,
+    );
     store::deliver_block(charged, l)
 }
 

@@ -6,11 +6,10 @@ ghost use lib.Dec.{ltb};
 ghost use lib.ListN.{getD};
 ghost use Rattle.counter.specs.Limits.{spent};
 ghost use Rattle.counter.specs.Gate.{first};
-ghost use Rattle.counter.specs.InTable.{FreeListIn};
 ghost use Rattle.store_rules.specs.Loans.{givenAt, placesAt};
 ghost use Rattle.book_rules.specs.Book.{takenOf};
 ghost use Rattle.freelist_rules.specs.Place.{nowhere, at, sizeFor};
-ghost use Rattle.freelist_rules.specs.Tables.{tables};
+ghost use Rattle.freelist_rules.specs.Tables.{tables, RegionsFit};
 ghost use Rattle.freelist_outcomes.specs.Ask.{sizeOk, roomOk, lateRow, planned, decideAsk};
 ghost use Rattle.freelist_decide.specs.Plans.{planOf, Carries, Planned};
 use counter::FreeListSettings;
@@ -129,7 +128,7 @@ pub fn decide(
     index: &[u64],
     regions: &[u64],
 ) -> Plan
-    requires { ⌜ FreeListIn s ⌝ }
+    requires { ⌜ RegionsFit s (now regions) ⌝ }
     ensures { λ r. ⌜ planOf r ≡ decideAsk s h objects size mask (tables (now (head .entry)) (now (loans .entry)) (now (chunks .entry)) (now (index .entry)) (now (regions .entry))) ⌝ }
     ensures { λ r. ⌜ Planned s size mask (tables (now (head .entry)) (now (loans .entry)) (now (chunks .entry)) (now (index .entry)) (now (regions .entry))) r ⌝ }
 {

@@ -21,6 +21,7 @@ use Rattle.store_rules.specs.Loans.{loanRow}
 use Rattle.store_rules.specs.declared.Loan.{Loan}
 use Rattle.store_rules.specs.declared.Region.{Region}
 use Rattle.book_rules.specs.Book.{takenOf, entered, enteredIndex}
+use Rattle.book_rules.proofs.Columns.{entered-behind}
 use Rattle.book_rules.proofs.Keeps.{freeIn, taken-where, entered-wide}
 use Rattle.freelist_rules.specs.declared.Gap.{Gap}
 use Rattle.freelist_rules.specs.Pieces.{lo, hi}
@@ -33,7 +34,7 @@ use Rattle.freelist_rules.specs.Threads.{threadWords, afterIn, beforeIn, thread
 use Rattle.freelist_rules.proofs.Along.{size-is}
 use Rattle.freelist_rules.proofs.Base.{at-in, rising-low}
 use Rattle.freelist_rules.proofs.Booked.{entered-here, entered-other}
-use Rattle.freelist_rules.proofs.Columns.{leads-stays, entered-behind}
+use Rattle.freelist_rules.proofs.Columns.{leads-stays}
 use Rattle.freelist_rules.proofs.Facts.{apart-from, region-home}
 use Rattle.freelist_rules.proofs.GapLists.{Order, as-member, free-length, free-at, front-last, cut-fronts, cut-wholes}
 use Rattle.freelist_rules.proofs.Gaps.{begins, stops}

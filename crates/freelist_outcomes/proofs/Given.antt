@@ -23,6 +23,7 @@ use Rattle.store_rules.specs.declared.Loan.{Loan}
 use Rattle.store_rules.proofs.Loaned.{loan-same}
 use Rattle.book_rules.specs.Book.{indexWords, ledTo, serialOf, firstIn, nextIn, wordTo, struck, struckIndex}
 use Rattle.book_rules.proofs.Changed.{cleared, serial-kept, vacant-now}
+use Rattle.book_rules.proofs.Columns.{parted-front, chained-front}
 use Rattle.book_rules.proofs.Decides.{serial-once}
 use Rattle.book_rules.proofs.Keeps.{BookChained, BookParted, freeIn, found, struck-long, struck-wide, struck-chained, struck-parted}
 use Rattle.book_rules.proofs.Owns.{struck-mark, struck-own, struck-index-mark, word-past-mark}
@@ -38,7 +39,6 @@ use Rattle.freelist_rules.specs.Threads.{beforeIn, freeOf, Fronts, insertGap, w
 use Rattle.store_rules.specs.declared.Region.{Region}
 use Rattle.freelist_rules.proofs.Search.{same-loan}
 use Rattle.freelist_rules.proofs.Base.{at-in}
-use Rattle.freelist_rules.proofs.Columns.{parted-front, chained-front}
 use Rattle.freelist_rules.proofs.Fits.{are-lengths, regions-fit, laid-long, laid-count, laid-whole, laid-gaps, laid-regions, laid-mark}
 use Rattle.freelist_rules.proofs.GapLists.{free-length, insert-free}
 use Rattle.freelist_rules.proofs.Gaps.{LoansRise}

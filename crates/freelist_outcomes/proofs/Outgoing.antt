@@ -20,6 +20,7 @@ use Rattle.store_rules.specs.Views.{Matches}
 use Rattle.store_rules.specs.declared.Chunk.{Chunk}
 use Rattle.store_rules.specs.declared.Loan.{Loan}
 use Rattle.book_rules.specs.Book.{indexWords, ledTo, serialOf, wordTo, struck, struckIndex}
+use Rattle.book_rules.proofs.Columns.{struck-behind}
 use Rattle.book_rules.proofs.Keeps.{freeIn, found, struck-wide}
 use Rattle.freelist_rules.specs.declared.Gap.{Gap}
 use Rattle.freelist_rules.specs.Join.{insert}
@@ -30,7 +31,7 @@ use Rattle.freelist_rules.specs.Tables.{Tables, Lengths, SoundTables, placesIn,
 use Rattle.freelist_rules.specs.Threads.{afterIn, beforeIn, unthreaded, loanBy, Leads, Threaded, regionIn, Fronts, insertGap, around, wholes}
 use Rattle.freelist_rules.proofs.Along.{size-is, order-once}
 use Rattle.freelist_rules.proofs.Booked.{struck-other}
-use Rattle.freelist_rules.proofs.Columns.{leads-stays, struck-behind}
+use Rattle.freelist_rules.proofs.Columns.{leads-stays}
 use Rattle.freelist_rules.proofs.Facts.{apart-from, loan-some, loan-home}
 use Rattle.freelist_rules.proofs.GapLists.{Order, as-member, insert-fronts}
 use Rattle.freelist_rules.proofs.Gaps.{begins}

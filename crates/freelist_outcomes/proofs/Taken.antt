@@ -18,6 +18,7 @@ use Rattle.slab.specs.Slab.{nowhere}
 use Rattle.store_rules.specs.Loans.{givenAt, placesAt, loansOf}
 use Rattle.store_rules.specs.declared.Loan.{Loan}
 use Rattle.book_rules.specs.Book.{indexWords, takenOf, entered, enteredIndex}
+use Rattle.book_rules.proofs.Columns.{parted-front, chained-front}
 use Rattle.book_rules.proofs.Entering.{entered-amid}
 use Rattle.book_rules.proofs.Keeps.{BookChained, BookParted, entered-long, entered-wide, entered-chained, entered-parted}
 use Rattle.book_rules.proofs.Owns.{entered-mark, entered-index-mark}
@@ -32,7 +33,6 @@ use Rattle.freelist_rules.specs.Threads.{threadWords, afterIn, freeOf, Fronts, 
 use Rattle.store_rules.specs.declared.Region.{Region}
 use Rattle.freelist_rules.proofs.Base.{rising-low, rising-apart}
 use Rattle.freelist_rules.proofs.Enters.{put-amid}
-use Rattle.freelist_rules.proofs.Columns.{parted-front, chained-front}
 use Rattle.freelist_rules.proofs.Fits.{regions-length, laid-long, laid-count, laid-whole, laid-gaps, laid-regions, laid-mark}
 use Rattle.freelist_rules.proofs.GapLists.{free-length, cut-free}
 use Rattle.freelist_rules.proofs.Gaps.{begins, stops}

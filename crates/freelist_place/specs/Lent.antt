@@ -25,6 +25,10 @@ blockFrom s start t i = region (getD (storeOf s t .regions) i noRegion .chunk) s
 abbrev pub lentFrom : FreeListSettings → ℕ → Tables → ℕ → Loan
 lentFrom s start t i = lentLoan (storeOf s t .given + 1) (blockFrom s start t i)
 
+-- the place that a loan takes in the book, and the slab from then on
+abbrev pub taken : ℕ → ℕ → ℕ → Taken
+taken place places vacant = record { place = place; slab = record { places = places; vacant = vacant } }
+
 -- the index with a loan of this serial at the place that it takes, the first of its chain
 unfoldable pub enteredAt : ℕ → Taken → ℕ → List ℕ → List ℕ
 enteredAt n k serial index =

@@ -8,11 +8,12 @@ ghost use Rattle.store_rules.specs.Loans.{givenAt};
 ghost use Rattle.freelist_rules.specs.Records.{region};
 ghost use Rattle.freelist_rules.specs.Place.{lentLoan};
 ghost use Rattle.freelist_rules.specs.Tables.{tables};
-ghost use Rattle.freelist_place.specs.Lent.{lentFrom, lentTables};
+ghost use Rattle.freelist_place.specs.Lent.{lentFrom, lentTables, taken};
 ghost use Rattle.freelist_place.specs.Ready.{Lends};
 use counter::FreeListSettings;
 use freelist_rules::Gap;
 use freelist_rules::WHOLE_AT;
+use slab::Slab;
 use slab::Taken;
 use store_rules::GIVEN_AT;
 use store_rules::Loan;
@@ -32,20 +33,23 @@ fn loan_of(start: u64, loans: &[u64], g: Gap) -> Loan
     }
 }
 
-// Region i serves an ask from `start` on, and the loan takes its place in the book. `loan` is that place.
+// Region i serves an ask from `start` on, and the loan takes its place in the book: `place`, after which so many places are used
+// and `vacant` is the next one vacant. Numbers, not the struct that a plan holds them in: that would be laid out in memory anew.
 pub fn lend(
     s: FreeListSettings,
     i: usize,
     start: u64,
-    loan: Taken,
+    place: u64,
+    places: u64,
+    vacant: u64,
     loans: &mut [u64],
     chunks: &[u64],
     index: &mut [u64],
     regions: &mut [u64],
 ) -> Loan
-    requires { ⌜ Lends s i start (loan .place) (now loans) (now chunks) (now index) (now regions) ⌝ }
+    requires { ⌜ Lends s i start place (now loans) (now chunks) (now index) (now regions) ⌝ }
     ensures { λ r. ⌜ r ≡ lentFrom s start (tables [] (now (loans .entry)) (now (chunks .entry)) (now (index .entry)) (now (regions .entry))) i ⌝ }
-    ensures { λ _. ⌜ tables [] (now (loans .exit)) (now (chunks .entry)) (now (index .exit)) (now (regions .exit)) ≡ lentTables s start loan (tables [] (now (loans .entry)) (now (chunks .entry)) (now (index .entry)) (now (regions .entry))) i ⌝ }
+    ensures { λ _. ⌜ tables [] (now (loans .exit)) (now (chunks .entry)) (now (index .exit)) (now (regions .exit)) ≡ lentTables s start (taken place places vacant) (tables [] (now (loans .entry)) (now (chunks .entry)) (now (index .entry)) (now (regions .entry))) i ⌝ }
 {
     let own = s.store;
     let g = freelist_regions::gap_at(regions, i);
@@ -56,8 +60,15 @@ pub fn lend(
         end: g.end,
     };
     let left = crate::wholes::without(chunks, words::word(regions, WHOLE_AT), free);
-    let r = slab::record_of(loan.place);
+    let r = slab::record_of(place);
     crate::counted::cut(s, regions, i, start, r, left);
+    let loan = Taken {
+        place: place,
+        slab: Slab {
+            places: places,
+            vacant: vacant,
+        },
+    };
     book::enter_at(loans, index, own.loans, loan, l);
     crate::threads::thread(index, own.loans, g.front, r);
     l

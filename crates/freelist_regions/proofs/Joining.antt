@@ -70,7 +70,7 @@ module _ (t : List ℕ) (n k : ℕ) (b : Region) (r u : ℕ) (room : regionWords
   fits′ : regionWords + regionWords * length qs ≤ length t
   fits′ = omega (arith, fits, many, ap length (insert-free b r u gs), free-length (insertGap b r u gs))
 
-  pub reach-some : before ≡ true → 0 < k
+  reach-some : before ≡ true → 0 < k
   reach-some = before-some b r u k gs most rise lower higher before next n long p q isP isQ eb en
 
   pub can-settle : CanSettle before next n k t

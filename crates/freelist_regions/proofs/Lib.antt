@@ -3,6 +3,7 @@ pub mod Asking
 pub mod Cutting
 pub mod Halves
 pub mod Joining
+pub mod Passing
 pub mod Renaming
 pub mod Settling
 pub mod Shapes

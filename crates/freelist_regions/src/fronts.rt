@@ -5,8 +5,9 @@ ghost use lib.ListN.{length};
 ghost use Rattle.words.specs.Rows.{rows, laid};
 ghost use Rattle.freelist_rules.specs.Records.{gapRow, regionWords};
 ghost use Rattle.freelist_rules.specs.Threads.{renamedFrom};
+use crate::records::put_word_at;
+use crate::records::word_at;
 use freelist_rules::REGION_FRONT_AT;
-use freelist_rules::REGION_WORDS;
 
 // Of n regions those from `from` on that name a as the record of the loan in front name b from now on, up to the first that
 // does not.
@@ -16,9 +17,9 @@ pub fn rename(t: &mut [u64], n: usize, from: usize, a: u64, b: u64)
 {
     let mut i = from;
     while i < n {
-        let front = words::cell(t, REGION_FRONT_AT, REGION_WORDS, i);
+        let front = word_at(t, REGION_FRONT_AT, i);
         if front == a {
-            words::put_cell(t, REGION_FRONT_AT, REGION_WORDS, i, b);
+            put_word_at(t, REGION_FRONT_AT, i, b);
             i += 1;
         } else {
             return;

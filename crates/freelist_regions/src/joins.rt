@@ -4,8 +4,9 @@ ghost use mathlib.Core.Bool.{true, cond, _&&_};
 ghost use Prim.Native.Nat.{_+_, _*_, _-_, _^_, _≤_, _<_};
 ghost use lib.Dec.{ltb};
 ghost use lib.ListN.{length};
+ghost use Rattle.words.specs.Words.{cellOf};
 ghost use Rattle.words.specs.Rows.{row, rows, laid};
-ghost use Rattle.freelist_rules.specs.Records.{gapRow, regionWords};
+ghost use Rattle.freelist_rules.specs.Records.{gapRow, regionWords, regionEndAt};
 ghost use Rattle.freelist_rules.specs.Pieces.{lo, hi, Rising};
 ghost use Rattle.freelist_rules.specs.Join.{meets, insert};
 ghost use Rattle.freelist_rules.specs.Threads.{regionIn, freeOf, insertGap, around};
@@ -13,7 +14,7 @@ ghost use Rattle.freelist_regions.specs.Order.{RegionsStand, LowPlace};
 ghost use Rattle.freelist_regions.specs.Settled.{reached, settled, behind, CanSettle};
 use crate::fronts::rename;
 use crate::records::put_gap;
-use crate::records::region_at;
+use crate::records::word_at;
 use crate::stands::stands_at;
 use freelist_rules::Gap;
 use freelist_rules::REGION_CHUNK_AT;
@@ -28,19 +29,15 @@ pub struct Joined {
     pub region: Region,
 }
 
-fn touch(r: Region, b: Region) -> bool
-    ensures { λ t. ⌜ t ≡ meets r b ⌝ }
-{
-    (r.chunk == b.chunk) & (r.end == b.start)
-}
-
 // Whether the region before place k ends where b starts.
 fn touches_before(t: &[u64], k: usize, b: Region) -> bool
+    requires { ⌜ regionWords + regionWords * k ≤ length (now t) ⌝ }
     ensures { λ r. ⌜ r ≡ (ltb 0 k && meets (regionIn (row gapRow (k - 1) (now (t .entry)))) b) ⌝ }
 {
     if 0 < k {
-        let r = region_at(t, k - 1);
-        touch(r, b)
+        let chunk = word_at(t, REGION_CHUNK_AT, k - 1);
+        let end = word_at(t, REGION_END_AT, k - 1);
+        (chunk == b.chunk) & (end == b.start)
     } else {
         false
     }
@@ -48,11 +45,13 @@ fn touches_before(t: &[u64], k: usize, b: Region) -> bool
 
 // Whether b ends where the region at k, of n, starts.
 fn touches_next(t: &[u64], n: usize, k: usize, b: Region) -> bool
+    requires { ⌜ regionWords + regionWords * n ≤ length (now t) ⌝ }
     ensures { λ r. ⌜ r ≡ (ltb k n && meets b (regionIn (row gapRow k (now (t .entry))))) ⌝ }
 {
     if k < n {
-        let r = region_at(t, k);
-        touch(b, r)
+        let chunk = word_at(t, REGION_CHUNK_AT, k);
+        let start = word_at(t, REGION_START_AT, k);
+        (b.chunk == chunk) & (b.end == start)
     } else {
         false
     }
@@ -60,11 +59,11 @@ fn touches_next(t: &[u64], n: usize, k: usize, b: Region) -> bool
 
 // Where the region that b is part of starts.
 fn start_of(t: &[u64], k: usize, b: Region, before: bool) -> u64
-    requires { ⌜ (before ≡ true → 0 < k) ⌝ }
+    requires { ⌜ (before ≡ true → 0 < k) × (regionWords + regionWords * k ≤ length (now t)) ⌝ }
     ensures { λ r. ⌜ r ≡ cond before (row gapRow (k - 1) (now (t .entry)) .start) (b .start) ⌝ }
 {
     if before {
-        let start = words::cell(t, REGION_START_AT, REGION_WORDS, k - 1);
+        let start = word_at(t, REGION_START_AT, k - 1);
         return start;
     }
     b.start
@@ -72,10 +71,11 @@ fn start_of(t: &[u64], k: usize, b: Region, before: bool) -> u64
 
 // And where it ends.
 fn end_of(t: &[u64], k: usize, b: Region, next: bool) -> u64
+    requires { ⌜ (next ≡ true → cellOf regionEndAt regionWords k < length (now t)) ⌝ }
     ensures { λ r. ⌜ r ≡ cond next (row gapRow k (now (t .entry)) .end) (b .end) ⌝ }
 {
     if next {
-        let end = words::cell(t, REGION_END_AT, REGION_WORDS, k);
+        let end = word_at(t, REGION_END_AT, k);
         return end;
     }
     b.end
@@ -83,7 +83,7 @@ fn end_of(t: &[u64], k: usize, b: Region, next: bool) -> u64
 
 // The region that b is part of then, between its neighbours before k and at k, by which of them it touches.
 fn reach(t: &[u64], k: usize, b: Region, before: bool, next: bool) -> Region
-    requires { ⌜ (before ≡ true → 0 < k) ⌝ }
+    requires { ⌜ (before ≡ true → 0 < k) × (regionWords + regionWords * k ≤ length (now t)) × (next ≡ true → cellOf regionEndAt regionWords k < length (now t)) ⌝ }
     ensures { λ r. ⌜ r ≡ reached before next (regionIn (row gapRow (k - 1) (now (t .entry)))) (regionIn (row gapRow k (now (t .entry)))) b ⌝ }
 {
     Region {
@@ -133,7 +133,7 @@ pub fn join_region(t: &mut [u64], n: usize, b: Region, loan: u64, front: u64) ->
     ensures { λ r. ⌜ r .region ≡ around b (freeOf (rows gapRow n (now (t .entry)))) ⌝ }
     ensures { λ _. ⌜ now (t .exit) ≡ laid gapRow (insertGap b loan front (rows gapRow n (now (t .entry)))) (now (t .entry)) ⌝ }
 {
-    let k = stands_at(t, REGION_CHUNK_AT, REGION_WORDS, n, b.chunk, b.start);
+    let k = stands_at(t, n, b.chunk, b.start);
     let before = touches_before(t, k, b);
     let next = touches_next(t, n, k, b);
     let region = reach(t, k, b, before, next);

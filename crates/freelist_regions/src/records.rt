@@ -1,7 +1,11 @@
-// Records read and written whole. A record past the end of its table reads as zeros, and a write there does nothing.
+// Records read and written whole, gaps where the table has them. Any other past the end of its table reads as zeros, and a write
+// there does nothing.
 ghost use mathlib.Core.Path.{_≡_};
+ghost use Prim.Native.Nat.{_<_};
+ghost use lib.ListN.{length, getD, set};
+ghost use Rattle.words.specs.Words.{cellOf};
 ghost use Rattle.words.specs.Rows.{row, written};
-ghost use Rattle.freelist_rules.specs.Records.{chunkRow, gapRow};
+ghost use Rattle.freelist_rules.specs.Records.{chunkRow, gapRow, regionWords, regionEndAt, regionFrontAt};
 ghost use Rattle.freelist_rules.specs.Threads.{regionIn};
 ghost use Rattle.freelist_regions.specs.Ended.{endedAt};
 use freelist_rules::CHUNK_BYTES_AT;
@@ -17,6 +21,14 @@ use freelist_rules::REGION_WORDS;
 use store_rules::Chunk;
 use store_rules::Region;
 
+// The word of region i, where the table has it: `at` is where that of the first region stands.
+pub fn word_at(t: &[u64], at: usize, i: usize) -> u64
+    requires { ⌜ cellOf at regionWords i < length (now t) ⌝ }
+    ensures { λ r. ⌜ r ≡ getD (now (t .entry)) (cellOf at regionWords i) 0 ⌝ }
+{
+    t[at + REGION_WORDS * i]
+}
+
 pub fn region_at(t: &[u64], i: usize) -> Region
     ensures { λ r. ⌜ r ≡ regionIn (row gapRow i (now (t .entry))) ⌝ }
 {
@@ -27,31 +39,44 @@ pub fn region_at(t: &[u64], i: usize) -> Region
     }
 }
 
+// A gap that the table has.
 pub fn gap_at(t: &[u64], i: usize) -> Gap
+    requires { ⌜ cellOf regionFrontAt regionWords i < length (now t) ⌝ }
     ensures { λ r. ⌜ r ≡ row gapRow i (now (t .entry)) ⌝ }
 {
     Gap {
-        chunk: words::cell(t, REGION_CHUNK_AT, REGION_WORDS, i),
-        start: words::cell(t, REGION_START_AT, REGION_WORDS, i),
-        end: words::cell(t, REGION_END_AT, REGION_WORDS, i),
-        front: words::cell(t, REGION_FRONT_AT, REGION_WORDS, i),
+        chunk: word_at(t, REGION_CHUNK_AT, i),
+        start: word_at(t, REGION_START_AT, i),
+        end: word_at(t, REGION_END_AT, i),
+        front: word_at(t, REGION_FRONT_AT, i),
     }
 }
 
+// A word of region i written, where the table has it.
+pub fn put_word_at(t: &mut [u64], at: usize, i: usize, v: u64)
+    requires { ⌜ cellOf at regionWords i < length (now t) ⌝ }
+    ensures { λ _. ⌜ now (t .exit) ≡ set (now (t .entry)) (cellOf at regionWords i) v ⌝ }
+{
+    t[at + REGION_WORDS * i] = v;
+}
+
+// A gap written where the table has room for it.
 pub fn put_gap(t: &mut [u64], i: usize, g: Gap)
+    requires { ⌜ cellOf regionFrontAt regionWords i < length (now t) ⌝ }
     ensures { λ _. ⌜ now (t .exit) ≡ written gapRow i g (now (t .entry)) ⌝ }
 {
-    words::put_cell(t, REGION_CHUNK_AT, REGION_WORDS, i, g.chunk);
-    words::put_cell(t, REGION_START_AT, REGION_WORDS, i, g.start);
-    words::put_cell(t, REGION_END_AT, REGION_WORDS, i, g.end);
-    words::put_cell(t, REGION_FRONT_AT, REGION_WORDS, i, g.front);
+    put_word_at(t, REGION_CHUNK_AT, i, g.chunk);
+    put_word_at(t, REGION_START_AT, i, g.start);
+    put_word_at(t, REGION_END_AT, i, g.end);
+    put_word_at(t, REGION_FRONT_AT, i, g.front);
 }
 
 // Region i ends at `place` from now on.
 pub fn end_at(t: &mut [u64], i: usize, place: u64)
+    requires { ⌜ cellOf regionEndAt regionWords i < length (now t) ⌝ }
     ensures { λ _. ⌜ now (t .exit) ≡ endedAt i place (now (t .entry)) ⌝ }
 {
-    words::put_cell(t, REGION_END_AT, REGION_WORDS, i, place);
+    put_word_at(t, REGION_END_AT, i, place);
 }
 
 pub fn chunk_at(t: &[u64], i: usize) -> Chunk

@@ -1,34 +1,42 @@
-// Where a place of a chunk stands among records sorted by chunk and place, by halves.
+// Where a place of a chunk stands among the free regions, which are sorted by chunk and start: by halves.
 ghost use mathlib.Core.Path.{_≡_};
-ghost use Prim.Native.Nat.{_≤_, _<_};
-ghost use Rattle.words.specs.Words.{widest};
+ghost use Prim.Native.Nat.{_+_, _*_, _≤_, _<_};
+ghost use lib.ListN.{length};
+ghost use Rattle.words.specs.Words.{cellOf};
+ghost use Rattle.freelist_rules.specs.Records.{regionWords, regionChunkAt, regionStartAt};
 ghost use Rattle.freelist_regions.specs.Stand.{after, Parting, Parts};
+use crate::records::word_at;
+use freelist_rules::REGION_CHUNK_AT;
+use freelist_rules::REGION_START_AT;
 
-// Whether the record at i comes after the place of the chunk: its chunk stands at `at`, its place in the next word.
-fn is_after(t: &[u64], at: usize, w: usize, i: usize, chunk: u64, place: u64) -> bool
-    requires { ⌜ (at < widest) × (0 < w) × (w ≤ widest) ⌝ }
-    ensures { λ r. ⌜ r ≡ after (now (t .entry)) at w chunk place i ⌝ }
+// Whether region i comes after the place of the chunk.
+fn is_after(t: &[u64], i: usize, chunk: u64, place: u64) -> bool
+    requires { ⌜ cellOf regionStartAt regionWords i < length (now t) ⌝ }
+    ensures { λ r. ⌜ r ≡ after (now (t .entry)) regionChunkAt regionWords chunk place i ⌝ }
 {
-    let c = words::cell(t, at, w, i);
-    let p = words::cell(t, at + 1, w, i);
+    let c = word_at(t, REGION_CHUNK_AT, i);
+    let p = word_at(t, REGION_START_AT, i);
     (chunk < c) | ((chunk == c) & (place < p))
 }
 
-// Where those of the first n records that come after the place begin.
-pub fn stands_at(t: &[u64], at: usize, w: usize, n: usize, chunk: u64, place: u64) -> usize
-    requires { ⌜ (at < widest) × (0 < w) × (w ≤ widest) ⌝ }
-    requires { ⌜ Parting (after (now t) at w chunk place) n ⌝ }
-    ensures { λ r. ⌜ Parts (after (now (t .entry)) at w chunk place) n r ⌝ }
+// Where those of the first n regions that come after the place begin. How many turns it takes n alone says, and each moves one
+// number: no jump that a processor would have to guess.
+pub fn stands_at(t: &[u64], n: usize, chunk: u64, place: u64) -> usize
+    requires { ⌜ regionWords + regionWords * n ≤ length (now t) ⌝ }
+    requires { ⌜ Parting (after (now t) regionChunkAt regionWords chunk place) n ⌝ }
+    ensures { λ r. ⌜ Parts (after (now (t .entry)) regionChunkAt regionWords chunk place) n r ⌝ }
 {
     let mut lo = 0;
-    let mut hi = n;
-    while lo < hi {
-        let mid = lo + (hi - lo) / 2;
-        if is_after(t, at, w, mid, chunk, place) {
-            hi = mid;
+    let mut left = n + 1;
+    while 1 < left {
+        let half = left / 2;
+        let mid = lo + half;
+        lo = if is_after(t, mid - 1, chunk, place) {
+            lo
         } else {
-            lo = mid + 1;
-        }
+            mid
+        };
+        left -= half;
     }
     lo
 }

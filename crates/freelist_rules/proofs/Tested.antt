@@ -39,15 +39,15 @@ use Rattle.freelist_rules.proofs.Threading.{records-count, records-are,
 
 -- the test of the fronts
 
-fronts-yes : (loans records : List ℕ) (gs : List Gap) → frontsOk loans records gs ≡ true → Fronts loans records gs
+pub fronts-yes : (loans records : List ℕ) (gs : List Gap) → frontsOk loans records gs ≡ true → Fronts loans records gs
 unfolding frontsOk
 fronts-yes loans records [] e g m = absurd (List·Memᴰ·not-nil m)
 fronts-yes loans records (h ∷ gs) e g m =
     ⊎-elim (λ q. rw q (eqb-true _ _ (and-left _ _ e))) (λ k. fronts-yes loans records gs (and-right (eqb (h .front) (frontOf loans 0 records (regionIn h))) _ e) g k) (List·Memᴰ·cases-cons m)
 
-fronts-all : (loans records : List ℕ) (gs : List Gap) → Fronts loans records gs → frontsOk loans records gs ≡ true
+pub fronts-all : (loans records : List ℕ) (gs : List Gap) → Fronts loans records gs → frontsOk loans records gs ≡ true
 unfolding frontsOk
-fronts-all loans records [] f = eq-eqb 0 0 refl
+fronts-all loans records [] f = refl
 fronts-all loans records (h ∷ gs) f = and-both _ _ (eq-eqb _ _ (f h (List·Memᴰ·head refl))) (fronts-all loans records gs (λ g m. f g (List·Memᴰ·tail m)))
 
 -- the test of all

@@ -1,11 +1,11 @@
 -- The loans of a free list by place: each record of the loans leads to the one behind it, by chunk and offset, and back; record 0
 -- stands before the first and behind the last. A free region names the record of the loan in front of it.
 use mathlib.Core.Path.{_≡_}
-use mathlib.Core.Bool.{Bool, false, cond, _&&_}
+use mathlib.Core.Bool.{Bool, true, false, cond, _&&_}
 use mathlib.Core.List.{List, [], _∷_, _++_, map}
 use Prim.Native.Nat.{ℕ, zero, suc, _+_, _-_, _*_, _≤_, _<_}
 use lib.Dec.{eqb, ltb}
-use lib.ListN.{length, getD, set, take, drop}
+use lib.ListN.{getD, set, take, drop}
 use Rattle.lists.specs.Members.{Mem}
 use Rattle.words.specs.Rows.{row, removeAt}
 use Rattle.slab.specs.Slab.{vacantAt}
@@ -157,5 +157,5 @@ leadsOk after before free places u (r ∷ rs) =
 
 -- each gap names the loan in front of it
 unfoldable pub frontsOk : List ℕ → List ℕ → List Gap → Bool
-frontsOk loans records [] = eqb 0 0
+frontsOk loans records [] = true
 frontsOk loans records (g ∷ gs) = eqb (g .front) (frontOf loans 0 records (regionIn g)) && frontsOk loans records gs

@@ -1,8 +1,8 @@
 -- Each group of tests, as the code takes it: what it comes to by what the code has read, and what it says where it holds.
-use mathlib.Core.Path.{_≡_, refl, sym, _∙_}
+use mathlib.Core.Path.{_≡_, refl, sym, ap, _∙_}
 use mathlib.Core.Bool.{Bool, true, false, _&&_}
-use mathlib.Core.List.{List, []}
-use Prim.Native.Nat.{ℕ, zero, suc, _+_, _*_, _≤_}
+use mathlib.Core.List.{List}
+use Prim.Native.Nat.{ℕ, zero, suc, _+_, _-_, _*_, _≤_, _<_}
 use native.Mathlib.Omega.{arith}
 use lib.Bits.{bitAnd}
 use lib.Dec.{eqb, leb, ltb}
@@ -16,22 +16,22 @@ use Rattle.words.proofs.Records.{cell-row}
 use Rattle.counter.specs.InTable.{FreeListIn}
 use Rattle.counter.specs.Limits.{chunkSizeMost}
 use Rattle.counter.specs.declared.settings.FreeListSettings.{FreeListSettings}
-use Rattle.slab.specs.Slab.{vacantAt, linkAt}
-use Rattle.slab.specs.Test.{partedOk}
+use Rattle.slab.specs.Slab.{vacantAt}
+use Rattle.slab.specs.Test.{vacancies}
 use Rattle.distinct.specs.Column.{column, columnFrom}
-use Rattle.store_rules.specs.Loans.{givenAt, placesAt, loanWords, sizeAt}
+use Rattle.store_rules.specs.Loans.{givenAt, placesAt, loanWords, sizeAt, loansOf}
 use Rattle.store_rules.specs.declared.Loan.{Loan}
 use Rattle.rounding_rules.proofs.Masks.{masked}
-use Rattle.book_rules.specs.Book.{entryWords, vacatedAt, vacantAfterAt, ledTo, nextIn, serialOf, firstIn}
-use Rattle.book_rules.specs.Chains.{chainsOk}
+use Rattle.book_rules.specs.Kept.{keptOk}
+use Rattle.book_rules.proofs.Keeping.{kept-most, kept-over}
 use Rattle.freelist_rules.specs.Records.{chunkRow, chunkMemoryAt, chunkWords}
 use Rattle.freelist_rules.specs.Pieces.{All}
-use Rattle.freelist_rules.specs.Tables.{tables, chunksIn, regionsMost, partedIn, marks, Tables, signedOk}
-use Rattle.freelist_rules.specs.Walk.{sizedOk, numbersRise, chunkOk, loanOk, apart, memories}
+use Rattle.freelist_rules.specs.Tables.{chunksIn, regionsMost, marks, Tables, signedOk}
+use Rattle.freelist_rules.specs.Walk.{allOk, sizedOk, numbersRise, chunkOk, loanOk, apart, memories}
 use Rattle.store_rules.specs.declared.Chunk.{Chunk}
 use Rattle.freelist_rules.proofs.Decides.{all-yes, apart-yes, apart-all, sized-yes}
 use Rattle.freelist_rules.proofs.Facts.{sized-low}
-use Rattle.freelist_test.specs.Parts.{counted, headOk, bookOk, eachOk, chunksOk}
+use Rattle.freelist_test.specs.Parts.{counted, headOk, lentOk, liveIn, eachOk, chunksOk}
 
 -- ---- the memories, as the code reads them
 
@@ -109,34 +109,50 @@ pub head-chunks : (s : FreeListSettings) (t : Tables) (n : ℕ) → headOk s t n
 unfolding headOk
 head-chunks s t n e = leb-true _ _ (and-right (signedOk marks t) _ (and-left _ (leb n (regionsMost s)) e))
 
--- ---- the book, as the code reads it
+pub head-regions : (s : FreeListSettings) (t : Tables) (n : ℕ) → headOk s t n ≡ true → n ≤ regionsMost s
+unfolding headOk
+head-regions s t n e = leb-true _ _ (and-right (signedOk marks t && leb (chunksIn t) (s .store .chunks)) _ e)
 
-abbrev partedBy : FreeListSettings → List ℕ → List ℕ → ℕ → ℕ → Bool
-partedBy s loans index n v =
-    partedOk (vacantAt loans sizeAt loanWords) (linkAt index vacantAfterAt entryWords) (record { places = n; vacant = v }) (s .store .loans)
+-- ---- the loans and their book, by the numbers that the code reads
 
-abbrev chainedBy : FreeListSettings → List ℕ → List ℕ → ℕ → ℕ → Bool
-chainedBy s loans index n given =
-    chainsOk (vacantAt loans sizeAt loanWords) (firstIn index) (nextIn index) (serialOf loans) (s .store .loans) n given
+module _ (s : FreeListSettings) (loans index : List ℕ) where
+  abbrev lentBy : ℕ → ℕ → Bool
+  lentBy places given =
+      keptOk loans index (s .store .loans) places given && allOk (loanOk s (counted given 0 0)) (loansOf places loans)
 
-pub parted-most : (s : FreeListSettings) (loans index : List ℕ) (r : Bool) (n v : ℕ) → r ≡ partedBy s loans index n v → r ≡ true → n ≤ s .store .loans
-unfolding partedOk
-parted-most s loans index r n v e t = leb-true _ _ (and-left (leb n (s .store .loans)) _ (sym e ∙ t))
+  module _ (places given : ℕ) (ps : places ≡ getD loans placesAt 0) (gs : given ≡ getD loans givenAt 0) where
+    lent-is : lentBy places given ≡ lentOk s loans index
+    unfolding lentOk
+    lent-is = (λ j. lentBy (ps j) (gs j))
 
-module _ (s : FreeListSettings) (loans index : List ℕ) (r : Bool) (n v : ℕ) (ns : n ≡ getD loans placesAt 0) (vs : v ≡ ledTo index vacatedAt) (told : r ≡ partedBy s loans index n v) where
-  book-parted : r ≡ partedIn s (tables [] loans [] index [])
-  book-parted = told ∙ (λ j. partedBy s loans index (ns j) (vs j))
+    -- the loans are right where each is and the book is
+    pub lent-told : (ok r : Bool) → ok ≡ allOk (loanOk s (counted given 0 0)) (loansOf places loans) → ok ≡ true → r ≡ keptOk loans index (s .store .loans) places given → r ≡ lentOk s loans index
+    lent-told ok r os t rs = by r ∙ (λ j. rs j && (sym t ∙ os) j) ∙ lent-is
+      where
+        by : (r : Bool) → r ≡ (r && true)
+        by true = refl
+        by false = refl
 
-  pub book-torn : r ≡ false → false ≡ bookOk s loans index
-  unfolding bookOk
-  book-torn e = rw (sym book-parted ∙ e) refl
+    pub lent-not : (ok : Bool) → ok ≡ allOk (loanOk s (counted given 0 0)) (loansOf places loans) → ok ≡ false → false ≡ lentOk s loans index
+    lent-not ok os f = by (keptOk loans index (s .store .loans) places given) ∙ (λ j. keptOk loans index (s .store .loans) places given && (sym f ∙ os) j) ∙ lent-is
+      where
+        by : (r : Bool) → false ≡ (r && false)
+        by true = refl
+        by false = refl
 
-  pub book-told : r ≡ true → (given : ℕ) (q : Bool) → given ≡ getD loans givenAt 0 → q ≡ chainedBy s loans index n given → q ≡ bookOk s loans index
-  unfolding bookOk
-  book-told e given q gs f =
-      f ∙ (λ j. chainedBy s loans index (ns j) (gs j)) ∙ rw (sym book-parted ∙ e) refl
+  -- there are more places than the limit
+  pub lent-over : (places : ℕ) → places ≡ getD loans placesAt 0 → s .store .loans < places → false ≡ lentOk s loans index
+  lent-over places ps h =
+      let given = getD loans givenAt 0 in
+      (λ j. kept-over loans index (s .store .loans) places given h j && allOk (loanOk s (counted given 0 0)) (loansOf places loans)) ∙ lent-is places given ps refl
 
--- its places are within their limit
-pub book-most : (s : FreeListSettings) (loans index : List ℕ) → bookOk s loans index ≡ true → getD loans placesAt 0 ≤ s .store .loans
-unfolding bookOk
-book-most s loans index e = parted-most s loans index true (getD loans placesAt 0) (ledTo index vacatedAt) (sym (and-left _ _ e)) refl
+  -- they are no more
+  pub lent-few : lentOk s loans index ≡ true → getD loans placesAt 0 ≤ s .store .loans
+  unfolding lentOk
+  lent-few e = kept-most loans index (s .store .loans) (getD loans placesAt 0) (getD loans givenAt 0) (and-left _ _ e)
+
+-- the places that are not vacant
+pub live-told : (loans : List ℕ) (places vacant : ℕ) → places ≡ getD loans placesAt 0 → vacant ≡ vacancies (vacantAt loans sizeAt loanWords) places → places - vacant ≡ liveIn loans
+live-told loans places vacant ps vs =
+    let e = vs ∙ ap (vacancies (vacantAt loans sizeAt loanWords)) ps in
+    (λ j. ps j - e j)

@@ -10,8 +10,12 @@ use lib.Dec.{eqb, ltb}
 use lib.ListN.{drop}
 use lib.Seq.{drop-drop}
 use Rattle.words.specs.Rows.{Layout, row, rows}
+use Rattle.words.proofs.Records.{cell-row}
 use Rattle.counter.specs.declared.settings.FreeListSettings.{FreeListSettings}
-use Rattle.store_rules.specs.Loans.{loanRow, onLoan, loansOf}
+use Rattle.slab.specs.Slab.{vacantAt}
+use Rattle.slab.specs.Test.{vacancies}
+use Rattle.slab.proofs.Steps.{vacancies-more, vacancies-same}
+use Rattle.store_rules.specs.Loans.{loanWords, sizeAt, loanRow, onLoan, loansOf}
 use Rattle.store_rules.specs.declared.Loan.{Loan}
 use Rattle.freelist_rules.specs.Records.{chunkRow}
 use Rattle.freelist_rules.specs.Walk.{allOk, numbersRise, chunkOk}
@@ -81,7 +85,7 @@ module _ (f : Loan → Bool) (t : List ℕ) (n : ℕ) where
   abbrev pub loansFrom : ℕ → Bool
   loansFrom p = allOk f (onLoan (rest loanRow t n p))
 
-  pub loans-start : allOk f (loansOf n t) ≡ loansFrom 0
+  pub loans-start : allOk f (loansOf n t) ≡ (true && loansFrom 0)
   unfolding loansOf
   loans-start = ap (λ (ls : List Loan). allOk f (onLoan ls)) (rest-all loanRow t n)
 
@@ -91,21 +95,35 @@ module _ (f : Loan → Bool) (t : List ℕ) (n : ℕ) where
         ap (λ (ls : List Loan). allOk f (onLoan ls))
         (rest-next loanRow t n p h ∙ ap (λ (d : Loan). d ∷ rest loanRow t n (p + 1)) (sym is))
 
-    pub loan-on : (eqb (l .size) 0 || ok) ≡ true → loansFrom p ≡ loansFrom (p + 1)
-    loan-on e = loan-opened ∙ by (eqb (l .size) 0) ok told e
+    loan-turn : loansFrom p ≡ ((eqb (l .size) 0 || ok) && loansFrom (p + 1))
+    loan-turn = loan-opened ∙ by (eqb (l .size) 0) ok told
       where
-        by : (v ok : Bool) → ok ≡ f l → (v || ok) ≡ true → allOk f (cond v (onLoan (rest loanRow t n (p + 1))) (l ∷ onLoan (rest loanRow t n (p + 1)))) ≡ loansFrom (p + 1)
-        by true ok g e = refl
-        by false true g e = rw (sym g) refl
-        by false false g e = let z : false ≡ true = e in cc
+        by : (v ok : Bool) → ok ≡ f l → allOk f (cond v (onLoan (rest loanRow t n (p + 1))) (l ∷ onLoan (rest loanRow t n (p + 1)))) ≡ ((v || ok) && loansFrom (p + 1))
+        by true ok g = refl
+        by false ok g = rw (sym g) refl
 
-    pub loan-not : (eqb (l .size) 0 || ok) ≡ false → loansFrom p ≡ false
-    loan-not e = loan-opened ∙ by (eqb (l .size) 0) ok told e
+    -- `all` is what all come to, and `so` what those before p did
+    pub loan-next : (all so : Bool) → all ≡ (so && loansFrom p) → all ≡ ((so && (eqb (l .size) 0 || ok)) && loansFrom (p + 1))
+    loan-next all so e = e ∙ ap (λ (b : Bool). so && b) loan-turn ∙ regroup so (eqb (l .size) 0 || ok) (loansFrom (p + 1))
       where
-        by : (v ok : Bool) → ok ≡ f l → (v || ok) ≡ false → allOk f (cond v (onLoan (rest loanRow t n (p + 1))) (l ∷ onLoan (rest loanRow t n (p + 1)))) ≡ false
-        by true ok g e = let z : true ≡ false = e in cc
-        by false true g e = let z : true ≡ false = e in cc
-        by false false g e = rw (sym g) refl
+        regroup : (a b c : Bool) → (a && (b && c)) ≡ ((a && b) && c)
+        regroup true b c = refl
+        regroup false b c = refl
 
-  pub loans-end : (p : ℕ) → n ≤ p → loansFrom p ≡ true
-  loans-end p h = ap (λ (ls : List Loan). allOk f (onLoan ls)) (rest-none loanRow t n p h)
+  pub loans-end : (p : ℕ) → n ≤ p → (all so : Bool) → all ≡ (so && loansFrom p) → so ≡ all
+  loans-end p h all so e =
+      sym (e ∙ ap (λ (ls : List Loan). so && allOk f (onLoan ls)) (rest-none loanRow t n p h) ∙ by so)
+    where
+      by : (so : Bool) → (so && true) ≡ so
+      by true = refl
+      by false = refl
+
+-- the vacant places counted, one more
+pub vacant-next : (t : List ℕ) (p : ℕ) (l : Loan) (v d : ℕ) → l ≡ row loanRow p t → v ≡ vacancies (vacantAt t sizeAt loanWords) p → d ≡ cond (eqb (l .size) 0) 1 0
+    → v + d ≡ vacancies (vacantAt t sizeAt loanWords) (p + 1)
+vacant-next t p l v d is vs ds =
+    by (eqb (l .size) 0) (ap (λ (x : ℕ). eqb x 0) (ap (λ (x : Loan). x .size) is ∙ sym (cell-row t sizeAt loanWords p))) ds
+  where
+    by : (b : Bool) → b ≡ vacantAt t sizeAt loanWords p → d ≡ cond b 1 0 → v + d ≡ vacancies (vacantAt t sizeAt loanWords) (p + 1)
+    by true e ds = omega (arith, vs, ds, vacancies-more (vacantAt t sizeAt loanWords) p (sym e))
+    by false e ds = omega (arith, vs, ds, vacancies-same (vacantAt t sizeAt loanWords) p (sym e))

@@ -1,11 +1,8 @@
-// The marks, the counts, and the book of loans.
+// The marks, and the counts of chunks and regions.
 ghost use mathlib.Core.Path.{_≡_};
 ghost use Rattle.counter.specs.InTable.{FreeListIn};
 ghost use Rattle.freelist_rules.specs.Tables.{tables, marks, signedOk};
-ghost use Rattle.freelist_test.specs.Parts.{headOk, bookOk};
-use book::ENTRY_WORDS;
-use book::VACANT_AFTER_AT;
-use book::VACATED_AT;
+ghost use Rattle.freelist_test.specs.Parts.{headOk};
 use counter::FreeListSettings;
 use freelist_rules::CHUNKS_AT;
 use freelist_rules::CHUNKS_MARK;
@@ -13,11 +10,6 @@ use freelist_rules::HEAD_MARK;
 use freelist_rules::INDEX_MARK;
 use freelist_rules::LOANS_MARK;
 use freelist_rules::ROOM_MARK;
-use slab::Slab;
-use store_rules::GIVEN_AT;
-use store_rules::LOAN_WORDS;
-use store_rules::PLACES_AT;
-use store_rules::SIZE_AT;
 use words::MARK_AT;
 
 // Whether each table begins with its mark.
@@ -49,33 +41,4 @@ pub fn is_head(
     let signed = is_signed(head, loans, chunks, index, regions);
     let k = words::word(chunks, CHUNKS_AT);
     signed & (k <= store.chunks as u64) & (n <= most as u64)
-}
-
-// Whether the places of the loans are parted into used and vacant ones, and the chains lead to each loan.
-pub fn is_book(s: FreeListSettings, loans: &[u64], index: &[u64]) -> bool
-    requires { ⌜ FreeListIn s ⌝ }
-    ensures { λ r. ⌜ r ≡ bookOk s (now (loans .entry)) (now (index .entry)) ⌝ }
-{
-    let store = s.store;
-    let most = store.loans;
-    let n = words::word(loans, PLACES_AT);
-    let last = slab::led_to(index, VACATED_AT);
-    let places = Slab {
-        places: n,
-        vacant: last,
-    };
-    let parted = slab::is_parted(
-        places,
-        most as u64,
-        loans,
-        SIZE_AT,
-        LOAN_WORDS,
-        index,
-        VACANT_AFTER_AT,
-        ENTRY_WORDS,
-    );
-    if !parted {
-        return false;
-    }
-    book::is_chained(loans, index, most, n, words::word(loans, GIVEN_AT))
 }

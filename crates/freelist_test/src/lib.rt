@@ -1,9 +1,9 @@
-// The test of a free-list store's tables: its marks and counts, the book of its loans, its chunks and its loans, and that
-// loans and free regions fill the chunks. It reads each table as it stands, so that no word in one can make it fail.
+// The test of a free-list store's tables: its marks and counts, its loans and their book, its chunks, and that loans and free
+// regions fill the chunks. It reads each table as it stands, so that no word in one can make it fail.
 mod blocks;
 mod chunks;
 mod heads;
-mod walks;
+mod loans;
 
 ghost use mathlib.Core.Path.{_≡_};
 ghost use mathlib.Core.Bool.{true};
@@ -13,7 +13,6 @@ use counter::FreeListSettings;
 use freelist_rules::CHUNK_SIZE_AT;
 use freelist_rules::CHUNKS_AT;
 use freelist_rules::MADE_AT;
-use store_rules::GIVEN_AT;
 use store_rules::PLACES_AT;
 
 // Whether the tables hold a sound store. The tests that read least come first, and each relies on those before it.
@@ -32,7 +31,8 @@ pub fn is_sound(
     if !heads::is_head(s, head, loans, chunks, index, regions, n as u64) {
         return false;
     }
-    if !heads::is_book(s, loans, index) {
+    let lent = loans::are_lent(s, loans, index);
+    if !lent.ok {
         return false;
     }
     let k = words::word(chunks, CHUNKS_AT) as usize;
@@ -41,10 +41,8 @@ pub fn is_sound(
     if !chunks::are_chunks(s, made, size, chunks, k) {
         return false;
     }
-    let given = words::word(loans, GIVEN_AT);
+    let own = s.store;
     let places = words::word(loans, PLACES_AT) as usize;
-    if !blocks::are_loans(s, given, loans, places) {
-        return false;
-    }
-    walks::is_walked(s, chunks, k, loans, places, index, regions, n)
+    let live = lent.live as usize;
+    freelist_walk::walk(chunks, k, loans, places, index, own.loans, regions, n, live)
 }

@@ -1,8 +1,7 @@
 -- What is left to test at the beginning is what the walk is to test.
-use mathlib.Core.Path.{_≡_, refl, sym, ap, _∙_, subst}
+use mathlib.Core.Path.{_≡_, sym, ap, _∙_}
 use mathlib.Core.Bool.{Bool, true, _&&_}
-use mathlib.Core.Logic.{⊎-elim}
-use mathlib.Core.List.{List, [], _∷_, map, List·Memᴰ·head, List·Memᴰ·tail, List·Memᴰ·cases-cons, List·Memᴰ·not-nil}
+use mathlib.Core.List.{List, map}
 use Prim.Native.Nat.{ℕ, _≤_}
 use native.Mathlib.Omega.{arith}
 use lib.Dec.{eqb}
@@ -13,25 +12,13 @@ use Rattle.slab.specs.Slab.{vacantAt}
 use Rattle.store_rules.specs.Loans.{loanWords, sizeAt}
 use Rattle.store_rules.specs.declared.Chunk.{Chunk}
 use Rattle.freelist_rules.specs.declared.Gap.{Gap}
-use Rattle.freelist_rules.specs.Threads.{afterIn, beforeIn, loanBy, regionIn, freeOf, frontOf, Fronts, wholes, leadsOk, frontsOk}
+use Rattle.freelist_rules.specs.Threads.{afterIn, beforeIn, loanBy, freeOf, wholes, leadsOk, frontsOk}
 use Rattle.freelist_rules.specs.Walk.{fillsOk}
 use Rattle.freelist_rules.proofs.Threads.{no-zero, followed-leads, leads-ok, ok-leads}
 use Rattle.freelist_rules.proofs.Turns.{rest-start}
+use Rattle.freelist_rules.proofs.Tested.{fronts-yes, fronts-all}
 use Rattle.freelist_walk.specs.Left.{ground, Left}
 use Rattle.freelist_walk.specs.Walked.{met, walkOk}
-
-fronts-yes : (loans records : List ℕ) (gs : List Gap) → frontsOk loans records gs ≡ true → Fronts loans records gs
-unfolding frontsOk
-fronts-yes loans records [] e g m = absurd (List·Memᴰ·not-nil m)
-fronts-yes loans records (h ∷ gs) e g m =
-    let a = and-left (eqb (h .front) (frontOf loans 0 records (regionIn h))) (frontsOk loans records gs) e in
-    let b = and-right (eqb (h .front) (frontOf loans 0 records (regionIn h))) (frontsOk loans records gs) e in
-    ⊎-elim (λ k. subst (λ (d : Gap). d .front ≡ frontOf loans 0 records (regionIn d)) (sym k) (eqb-true (h .front) (frontOf loans 0 records (regionIn h)) a)) (fronts-yes loans records gs b g) (List·Memᴰ·cases-cons m)
-
-fronts-all : (loans records : List ℕ) (gs : List Gap) → Fronts loans records gs → frontsOk loans records gs ≡ true
-unfolding frontsOk
-fronts-all loans records [] f = eq-eqb 0 0 refl
-fronts-all loans records (h ∷ gs) f = and-both _ _ (eq-eqb (h .front) _ (f h (List·Memᴰ·head refl))) (fronts-all loans records gs (λ g m. f g (List·Memᴰ·tail m)))
 
 module _ (n : ℕ) (cs : List Chunk) (loans : List ℕ) (places : ℕ) (index : List ℕ) (gs : List Gap) (live whole : ℕ) where
   abbrev leads : List ℕ → Bool

@@ -1,17 +1,19 @@
 -- A turn, in the code's words.
-use mathlib.Core.Path.{_≡_, sym, ap, _∙_, subst}
+use mathlib.Core.Path.{_≡_, refl, sym, ap, _∙_, subst}
 use mathlib.Core.Bool.{Bool, true, false, _&&_}
 use mathlib.Core.Logic.{_⊎_, inl, inr, ⊎-elim}
 use mathlib.Core.List.{List, [], _∷_, List·Memᴰ, List·Memᴰ·tail}
 use Prim.Native.Nat.{ℕ, zero, suc, _+_, _-_, _≤_, _<_}
 use native.Mathlib.Omega.{arith}
 use lib.Dec.{eqb, leb, ltb}
-use lib.ListN.{drop}
+use lib.ListN.{drop, getD}
 use lib.Seq.{drop-cons}
 use borrow.Author.Tests.{eq-eqb, eqb-true, lt-ltb, ltb-true, le-leb, leb-true}
 use Rattle.lists.proofs.Bools.{and-left, and-right, and-both, told, true-false}
+use Rattle.words.specs.Words.{cellOf}
 use Rattle.words.specs.Rows.{row, rows}
-use Rattle.words.proofs.Records.{length-rows, getD-rows}
+use Rattle.words.proofs.Records.{cell-row, length-rows, getD-rows}
+use Rattle.store_rules.specs.Loans.{loanWords, chunkAt}
 use Rattle.store_rules.specs.declared.Chunk.{Chunk}
 use Rattle.store_rules.specs.declared.Loan.{Loan}
 use Rattle.freelist_rules.specs.declared.Gap.{Gap}
@@ -23,7 +25,7 @@ use Rattle.freelist_rules.proofs.Base.{at-in, rising-mono, rising-apart}
 use Rattle.freelist_rules.proofs.Decides.{numbers-yes}
 use Rattle.freelist_rules.proofs.Facts.{Small, ChunksRise}
 use Rattle.freelist_walk.specs.Left.{Ground, Between, allOf, Left}
-use Rattle.freelist_walk.specs.Turn.{GapPassed, LoanPassed, overLoan, overChunk, groundOf, LeftAt, Stands, Turned}
+use Rattle.freelist_walk.specs.Turn.{GapPassed, LoanPassed, overLoan, overChunk, groundOf, LeftAt, Stands, nextOk, Turned}
 use Rattle.freelist_walk.specs.declared.passes.Passed.{Passed}
 use Rattle.freelist_walk.specs.declared.turns.Reached.{Reached}
 use Rattle.freelist_walk.proofs.Passing.{between-one}
@@ -73,18 +75,44 @@ module _ (chunks : List ℕ) (k i : ℕ) (c : Chunk) (h : i < k) (is : c ≡ row
 
 -- ---- what is tested before a loan is passed
 
-module _ (left r places x y : ℕ) where
-  abbrev pub test : Bool
-  test = (ltb 0 left && ltb 0 r) && (leb r places && eqb x y)
+module _ (left r places : ℕ) (loans : List ℕ) (c : ℕ) where
+  abbrev x : ℕ
+  x = loanBy loans r .chunk
 
-  pub test-yes : test ≡ true → (0 < left) × (0 < r) × (r ≤ places) × (x ≡ y)
+  pub test-yes : nextOk left r places loans c ≡ true → (0 < left) × (0 < r) × (r ≤ places) × (x ≡ c)
+  unfolding nextOk
   test-yes e =
-      let a = and-left (ltb 0 left && ltb 0 r) (leb r places && eqb x y) e in
-      let b = and-right (ltb 0 left && ltb 0 r) (leb r places && eqb x y) e in
-      (ltb-true 0 left (and-left (ltb 0 left) (ltb 0 r) a), ltb-true 0 r (and-right (ltb 0 left) (ltb 0 r) a), leb-true r places (and-left (leb r places) (eqb x y) b), eqb-true x y (and-right (leb r places) (eqb x y) b))
+      let a = and-left (ltb 0 left && ltb 0 r) (leb r places && eqb x c) e in
+      let b = and-right (ltb 0 left && ltb 0 r) (leb r places && eqb x c) e in
+      (ltb-true 0 left (and-left (ltb 0 left) (ltb 0 r) a), ltb-true 0 r (and-right (ltb 0 left) (ltb 0 r) a), leb-true r places (and-left (leb r places) (eqb x c) b), eqb-true x c (and-right (leb r places) (eqb x c) b))
 
-  test-all : 0 < left → 0 < r → r ≤ places → x ≡ y → test ≡ true
-  test-all a b c d = rw (lt-ltb 0 left a, lt-ltb 0 r b, le-leb r places c, eq-eqb x y d)
+  test-all : 0 < left → 0 < r → r ≤ places → x ≡ c → nextOk left r places loans c ≡ true
+  unfolding nextOk
+  test-all a b d e = rw (lt-ltb 0 left a, lt-ltb 0 r b, le-leb r places d, eq-eqb x c e)
+
+  -- in the code's words: where the first three hold, the record is there, and is read
+  pub next-there : ((ltb 0 left && ltb 0 r) && leb r places) ≡ true → (0 < r) × (r ≤ places)
+  next-there e =
+      let a = and-left (ltb 0 left && ltb 0 r) (leb r places) e in
+      (ltb-true 0 r (and-right (ltb 0 left) (ltb 0 r) a), leb-true r places (and-right (ltb 0 left && ltb 0 r) (leb r places) e))
+
+  pub next-read : (w : ℕ) → ((ltb 0 left && ltb 0 r) && leb r places) ≡ true → w ≡ getD loans (cellOf chunkAt loanWords (r - 1)) 0 → eqb w c ≡ nextOk left r places loans c
+  unfolding nextOk
+  next-read w e f = ap (λ (v : ℕ). eqb v c) (f ∙ cell-row loans chunkAt loanWords (r - 1)) ∙ by (ltb 0 left && ltb 0 r) (leb r places) (eqb x c) e
+    where
+      by : (a b d : Bool) → (a && b) ≡ true → d ≡ (a && (b && d))
+      by true true d e = refl
+      by true false d e = absurd (true-false false e refl)
+      by false b d e = absurd (true-false false e refl)
+
+  pub next-none : ((ltb 0 left && ltb 0 r) && leb r places) ≡ false → false ≡ nextOk left r places loans c
+  unfolding nextOk
+  next-none e = by (ltb 0 left && ltb 0 r) (leb r places) (eqb x c) e
+    where
+      by : (a b d : Bool) → (a && b) ≡ false → false ≡ (a && (b && d))
+      by true true d e = absurd (true-false true refl e)
+      by true false d e = refl
+      by false b d e = refl
 
 pub all-one : (p z : ℕ) → allOf p z ≤ 1
 all-one p z = ⊎-elim (λ e. rw e (omega arith)) (λ e. rw e (omega arith)) (told (eqb p 0 && ltb 0 z))
@@ -122,12 +150,12 @@ module _ (most k : ℕ) (chunks loans : List ℕ) (places : ℕ) (index regions 
   back-here L = subst (λ (xs : List Chunk). Left t xs (s .byte) (s .last) (s .left) (drop (s .region) gs) (s .whole)) (sym (chunks-from chunks k (s .chunk) c h is rise small)) L
 
   -- a loan is passed
-  module _ (yes : test (s .left) r places (l .chunk) (c .number) ≡ true) (p : Passed) (w : LoanPassed (c .size) (s .byte) (s .last) l gs (s .region) p) (back : ℕ) (led : back ≡ beforeIn most index r) where
+  module _ (yes : nextOk (s .left) r places loans (c .number) ≡ true) (p : Passed) (w : LoanPassed (c .size) (s .byte) (s .last) l gs (s .region) p) (back : ℕ) (led : back ≡ beforeIn most index r) where
     abbrev past : Reached
     past = overLoan s r back p
 
     said : (0 < s .left) × (0 < r) × (r ≤ places) × (l .chunk ≡ c .number)
-    said = test-yes (s .left) r places (l .chunk) (c .number) yes
+    said = test-yes (s .left) r places loans (c .number) yes
 
     abbrev Went : Type 0
     Went = Over t c ds (s .byte) (s .last) (s .left) (drop (s .region) gs) (s .whole) r
@@ -172,12 +200,12 @@ module _ (most k : ℕ) (chunks loans : List ℕ) (places : ℕ) (index regions 
         }
 
   -- what is left of a chunk is passed
-  module _ (no : test (s .left) r places (l .chunk) (c .number) ≡ false) (p : Passed) (w : GapPassed (c .number) (s .byte) (c .size) (s .last) gs (s .region) p) where
+  module _ (no : nextOk (s .left) r places loans (c .number) ≡ false) (p : Passed) (w : GapPassed (c .number) (s .byte) (c .size) (s .last) gs (s .region) p) where
     abbrev over : Reached
     over = overChunk s (c .size) p
 
     none : None t c (s .last) (s .left)
-    none b d e f = true-false _ (test-all (s .left) r places (l .chunk) (c .number) b (omega arith) (omega arith) (ap (λ (x : ℕ). loanBy loans x .chunk) next ∙ f)) no
+    none b d e f = true-false _ (test-all (s .left) r places loans (c .number) b (omega arith) (omega arith) (ap (λ (x : ℕ). loanBy loans x .chunk) next ∙ f)) no
 
     abbrev Gone : Type 0
     Gone = Through t c ds (s .byte) (s .last) (s .left) (drop (s .region) gs) (s .whole)
@@ -207,12 +235,12 @@ module _ (most k : ℕ) (chunks loans : List ℕ) (places : ℕ) (index regions 
         }
 
   -- the same of a loan that was read, and of what is made of it
-  pub loan-turned : (d : Loan) → d ≡ loanBy loans r → test (s .left) r places (d .chunk) (c .number) ≡ true → (p : Passed) → LoanPassed (c .size) (s .byte) (s .last) d gs (s .region) p → (back : ℕ) → back ≡ beforeIn most index r
+  pub loan-turned : nextOk (s .left) r places loans (c .number) ≡ true → (d : Loan) → d ≡ loanBy loans r → (p : Passed) → LoanPassed (c .size) (s .byte) (s .last) d gs (s .region) p → (back : ℕ) → back ≡ beforeIn most index r
       → (x : Reached) → x ≡ overLoan s r back p → Turned k n (groundOf most k chunks loans places index regions n) s x
-  loan-turned d e q p w back led x f =
+  loan-turned q d e p w back led x f =
       subst (Turned k n t s) (sym f)
-      (turned-loan (subst (λ (y : Loan). test (s .left) r places (y .chunk) (c .number) ≡ true) e q) p (subst (λ (y : Loan). LoanPassed (c .size) (s .byte) (s .last) y gs (s .region) p) e w) back led)
+      (turned-loan q p (subst (λ (y : Loan). LoanPassed (c .size) (s .byte) (s .last) y gs (s .region) p) e w) back led)
 
-  pub chunk-turned : (d : Loan) → d ≡ loanBy loans r → test (s .left) r places (d .chunk) (c .number) ≡ false → (p : Passed) → GapPassed (c .number) (s .byte) (c .size) (s .last) gs (s .region) p
+  pub chunk-turned : nextOk (s .left) r places loans (c .number) ≡ false → (p : Passed) → GapPassed (c .number) (s .byte) (c .size) (s .last) gs (s .region) p
       → (x : Reached) → x ≡ overChunk s (c .size) p → Turned k n (groundOf most k chunks loans places index regions n) s x
-  chunk-turned d e q p w x f = subst (Turned k n t s) (sym f) (turned-chunk (subst (λ (y : Loan). test (s .left) r places (y .chunk) (c .number) ≡ false) e q) p w)
+  chunk-turned q p w x f = subst (Turned k n t s) (sym f) (turned-chunk q p w)

@@ -2,15 +2,17 @@
 use mathlib.Core.Path.{_≡_}
 use mathlib.Core.Bool.{Bool, true, _&&_}
 use mathlib.Core.List.{List}
-use Prim.Native.Nat.{ℕ, _+_, _-_, _≤_, _<_}
+use Prim.Native.Nat.{ℕ, _+_, _-_, _*_, _≤_, _<_}
 use lib.Dec.{eqb, leb, ltb}
 use lib.ListN.{length, drop, getD}
 use Rattle.words.specs.Rows.{rows}
+use Rattle.counter.specs.Limits.{loansMost, chunksMost}
+use Rattle.store_rules.specs.Loans.{loanWords}
 use Rattle.store_rules.specs.declared.Loan.{Loan}
 use Rattle.freelist_rules.specs.declared.Gap.{Gap}
-use Rattle.freelist_rules.specs.Records.{chunkRow, gapRow}
+use Rattle.freelist_rules.specs.Records.{chunkWords, regionWords, chunkRow, gapRow}
 use Rattle.freelist_rules.specs.Tables.{wholeAt}
-use Rattle.freelist_rules.specs.Threads.{afterIn, beforeIn}
+use Rattle.freelist_rules.specs.Threads.{threadWords, afterIn, beforeIn, loanBy}
 use Rattle.freelist_walk.specs.Left.{Ground, ground, Between, allOf, Left}
 use Rattle.freelist_walk.specs.declared.passes.Passed.{Passed}
 use Rattle.freelist_walk.specs.declared.turns.Reached.{Reached}
@@ -77,6 +79,21 @@ pub record Stands (k n places : ℕ) (s : Reached) : Type 0 where
   pub region : s .region ≤ n
   pub last : s .last ≤ places
   pub whole : s .whole ≤ s .chunk
+
+-- the first k chunks, the first `places` loans, an index of `most` loans and the first n regions are in their tables, and no more than
+-- the limits allow
+pub record Laid (most k n places : ℕ) (chunks loans index regions : List ℕ) : Type 0 where
+  pub chunks-most : k ≤ chunksMost
+  pub loans-most : most ≤ loansMost
+  pub few : places ≤ most
+  pub chunks-long : chunkWords + chunkWords * k ≤ length chunks
+  pub loans-long : loanWords + loanWords * places ≤ length loans
+  pub index-long : threadWords most ≤ length index
+  pub regions-long : regionWords + regionWords * n ≤ length regions
+
+-- record r is that of a loan, of so many that are left in the first `places` places, and of chunk c
+unfoldable pub nextOk : ℕ → ℕ → ℕ → List ℕ → ℕ → Bool
+nextOk left r places loans c = (ltb 0 left && ltb 0 r) && (leb r places && eqb (loanBy loans r .chunk) c)
 
 -- how many turns are left at most
 abbrev pub togo : ℕ → Reached → ℕ

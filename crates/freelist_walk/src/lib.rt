@@ -7,14 +7,15 @@ mod turns;
 ghost use mathlib.Core.Path.{_≡_};
 ghost use mathlib.Core.Bool.{true};
 ghost use Prim.Native.Nat.{_≤_};
-ghost use lib.ListN.{getD};
-ghost use Rattle.counter.specs.Limits.{loansMost, chunksMost, chunkSizeMost};
+ghost use lib.ListN.{length, getD};
+ghost use Rattle.counter.specs.Limits.{loansMost, chunkSizeMost};
 ghost use Rattle.words.specs.Rows.{rows};
 ghost use Rattle.freelist_rules.specs.Records.{chunkRow, gapRow};
 ghost use Rattle.freelist_rules.specs.Pieces.{All};
 ghost use Rattle.freelist_rules.specs.Tables.{wholeAt};
+ghost use Rattle.freelist_rules.specs.Threads.{threadWords};
 ghost use Rattle.freelist_rules.specs.Walk.{numbersRise};
-ghost use Rattle.freelist_walk.specs.Turn.{doneAt};
+ghost use Rattle.freelist_walk.specs.Turn.{Laid, doneAt};
 ghost use Rattle.freelist_walk.specs.Walked.{walkOk};
 use freelist_rules::WHOLE_AT;
 use records::record_after;
@@ -24,7 +25,7 @@ use turns::turn;
 
 // Nothing is left to pass.
 fn is_done(index: &[u64], most: usize, regions: &[u64], n: usize, s: Reached) -> bool
-    requires { ⌜ (s .last ≤ most) × (most ≤ loansMost) ⌝ }
+    requires { ⌜ (s .last ≤ most) × (most ≤ loansMost) × (threadWords most ≤ length (now index)) ⌝ }
     ensures { λ r. ⌜ r ≡ doneAt most (now (index .entry)) (now (regions .entry)) n s ⌝ }
 {
     let next = record_after(index, most, s.last);
@@ -46,7 +47,7 @@ pub fn walk(
     n: usize,
     live: usize,
 ) -> bool
-    requires { ⌜ (k ≤ chunksMost) × (places ≤ most) × (most ≤ loansMost) × (live ≤ places) ⌝ }
+    requires { ⌜ Laid most k n places (now chunks) (now loans) (now index) (now regions) × (live ≤ places) ⌝ }
     requires { ⌜ numbersRise 1 (rows chunkRow k (now chunks)) ≡ true ⌝ }
     requires { ⌜ All (λ c. c .size ≤ chunkSizeMost) (rows chunkRow k (now chunks)) ⌝ }
     ensures { λ r. ⌜ r ≡ walkOk most (rows chunkRow k (now (chunks .entry))) (now (loans .entry)) places (now (index .entry)) (rows gapRow n (now (regions .entry))) live (getD (now (regions .entry)) wholeAt 0) ⌝ }

@@ -1,11 +1,12 @@
 // A piece passed: the gap that lies before it is the next region, with the loan in front of it, or nothing lies there.
 ghost use mathlib.Core.Path.{_≡_};
-ghost use Prim.Native.Nat.{_≤_};
+ghost use Prim.Native.Nat.{_+_, _*_, _≤_};
+ghost use lib.ListN.{length};
 ghost use Rattle.words.specs.Rows.{rows};
-ghost use Rattle.freelist_rules.specs.Records.{region, gapRow};
+ghost use Rattle.freelist_rules.specs.Records.{regionWords, region, gapRow};
 ghost use Rattle.freelist_rules.specs.Threads.{gap};
 ghost use Rattle.freelist_walk.specs.Turn.{sameGap, within, GapPassed, LoanPassed};
-use crate::records::gap_at;
+use freelist_regions::gap_at;
 use freelist_rules::Gap;
 use store_rules::Loan;
 
@@ -32,7 +33,7 @@ pub fn pass_gap(
     to: u64,
     last: usize,
 ) -> Passed
-    requires { ⌜ d ≤ n ⌝ }
+    requires { ⌜ (d ≤ n) × (regionWords + regionWords * n ≤ length (now t)) ⌝ }
     ensures { λ r. ⌜ GapPassed chunk from to last (rows gapRow n (now (t .entry))) d r ⌝ }
 {
     if to <= from {
@@ -78,7 +79,7 @@ pub fn pass_loan(
     l: Loan,
     last: usize,
 ) -> Passed
-    requires { ⌜ d ≤ n ⌝ }
+    requires { ⌜ (d ≤ n) × (regionWords + regionWords * n ≤ length (now t)) ⌝ }
     ensures { λ r. ⌜ LoanPassed size from last l (rows gapRow n (now (t .entry))) d r ⌝ }
 {
     if is_within(l, size) {

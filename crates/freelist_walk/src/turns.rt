@@ -1,21 +1,24 @@
 // A turn of the walk passes one loan, or what is left of one chunk.
 ghost use mathlib.Core.Path.{_≡_};
 ghost use mathlib.Core.Bool.{true};
-ghost use Prim.Native.Nat.{_≤_, _<_};
-ghost use Rattle.counter.specs.Limits.{loansMost, chunksMost, chunkSizeMost};
+ghost use Prim.Native.Nat.{_+_, _*_, _≤_, _<_};
+ghost use lib.ListN.{length};
+ghost use Rattle.counter.specs.Limits.{chunksMost, chunkSizeMost};
 ghost use Rattle.words.specs.Rows.{rows};
+ghost use Rattle.store_rules.specs.Loans.{loanWords};
 ghost use Rattle.freelist_rules.specs.Records.{chunkRow};
 ghost use Rattle.freelist_rules.specs.Pieces.{All};
 ghost use Rattle.freelist_rules.specs.Walk.{numbersRise};
 ghost use Rattle.freelist_walk.specs.Left.{allOf};
-ghost use Rattle.freelist_walk.specs.Turn.{overLoan, overChunk, groundOf, Stands, Turned};
+ghost use Rattle.freelist_walk.specs.Turn.{overLoan, overChunk, groundOf, Stands, Laid, nextOk, Turned};
 use crate::passes::Passed;
 use crate::passes::pass_gap;
 use crate::passes::pass_loan;
-use crate::records::chunk_at;
-use crate::records::loan_by;
+use crate::records::chunk_in;
 use crate::records::record_after;
 use crate::records::record_before;
+use store_rules::CHUNK_AT;
+use store_rules::LOAN_WORDS;
 
 // How far the walk has come: at a byte of a chunk, behind the loan of record `last`, with so many loans left, with the region that
 // is next, and with so many whole ones met. Not ok: it has ended with a no.
@@ -68,6 +71,17 @@ fn over_chunk(s: Reached, size: u64, p: Passed) -> Reached
     }
 }
 
+// Whether record r is that of a loan, of so many that are left, and of the chunk with this number. Only then is a record read.
+fn is_next(loans: &[u64], places: usize, left: usize, r: usize, number: u64) -> bool
+    requires { ⌜ loanWords + loanWords * places ≤ length (now loans) ⌝ }
+    ensures { λ x. ⌜ x ≡ nextOk left r places (now (loans .entry)) number ⌝ }
+{
+    if ((0 < left) & (0 < r)) & (r <= places) {
+        return loans[CHUNK_AT + LOAN_WORDS * (r - 1)] == number;
+    }
+    false
+}
+
 // One turn: the next loan, where it is one of this chunk, or else what is left of the chunk.
 pub fn turn(
     chunks: &[u64],
@@ -80,16 +94,16 @@ pub fn turn(
     n: usize,
     s: Reached,
 ) -> Reached
-    requires { ⌜ (s .chunk < k) × (k ≤ chunksMost) × (places ≤ most) × (most ≤ loansMost) ⌝ }
-    requires { ⌜ Stands k n places s ⌝ }
+    requires { ⌜ Laid most k n places (now chunks) (now loans) (now index) (now regions) ⌝ }
+    requires { ⌜ (s .chunk < k) × Stands k n places s ⌝ }
     requires { ⌜ numbersRise 1 (rows chunkRow k (now chunks)) ≡ true ⌝ }
     requires { ⌜ All (λ c. c .size ≤ chunkSizeMost) (rows chunkRow k (now chunks)) ⌝ }
     ensures { λ r. ⌜ Turned k n (groundOf most k (now (chunks .entry)) (now (loans .entry)) places (now (index .entry)) (now (regions .entry)) n) s r ⌝ }
 {
-    let c = chunk_at(chunks, s.chunk);
+    let c = chunk_in(chunks, s.chunk);
     let r = record_after(index, most, s.last);
-    let l = loan_by(loans, r);
-    if ((0 < s.left) & (0 < r)) & ((r <= places) & (l.chunk == c.number)) {
+    if is_next(loans, places, s.left, r, c.number) {
+        let l = book::loan_in(loans, r - 1);
         let p = pass_loan(regions, n, s.region, c.size, s.byte, l, s.last);
         let back = record_before(index, most, r);
         return over_loan(s, r, back, p);

@@ -86,8 +86,8 @@ fn buddy_lengths(loans: usize, chunks: usize, pairs: usize) -> Lengths
         head: buddy_rules::HEAD_WORDS,
         loans: store_rules::LOAN_WORDS + store_rules::LOAN_WORDS * loans,
         chunks: buddy_rules::CHUNK_WORDS + buddy_rules::CHUNK_WORDS * chunks,
-        index: book::ENTRY_WORDS + book::ENTRY_WORDS * loans,
-        own: buddy_levels::nodes_from(pairs, chunks) + loans,
+        index: book::ENTRY_WORDS + book::ENTRY_WORDS * loans + buddy_rules::COLUMNS * (loans + 1),
+        own: buddy_levels::tree_words(pairs, chunks),
     }
 }
 

@@ -127,7 +127,7 @@ pub fn count_vacant(records: &[u64], mark: usize, width: usize, n: u64) -> u64
 }
 
 // Whether the chain from h on leads through k vacant places below n, and ends there.
-fn chain_leads(
+pub fn chain_leads(
     records: &[u64],
     mark: usize,
     width: usize,

@@ -1,7 +1,7 @@
-//! The calls that `bench` times, made for an emulator to count: those of one batch, of the store that
-//! the first argument numbers, with as many blocks on loan as the second says, on the side that the
-//! third numbers: ours in their three forms, then the crate's. What is counted lies between calls of
-//! `counted_from` and `counted_to`, returns and asks in turn. It prints how many of each there were.
+//! The calls that `bench` times, made to be counted: those of one batch, of the store that the first
+//! argument numbers, with one large chunk and as many blocks on loan as the second says, on the side
+//! that the third numbers: ours in their three forms, then the crate's; they go back in random order.
+//! What is counted lies in `counted_returns` and `counted_asks`. It prints how many of each there were.
 
 // Shared with `bench`, which uses more of them.
 #[allow(dead_code)]
@@ -11,36 +11,67 @@ mod side;
 #[path = "bench/stores.rs"]
 mod stores;
 
-/// In place of the clock: the marks.
+/// In place of the clock: functions by whose names the counted work is found.
 mod clock {
     use std::hint::black_box;
 
-    #[no_mangle]
-    #[inline(never)]
-    extern "C" fn counted_from() {
-        black_box(0);
+    /// Whether work is counted, and whether it is returns next: they and asks come in turn.
+    pub struct Clock {
+        counts: bool,
+        are_returns: bool,
+    }
+
+    impl Clock {
+        /// What comes before the batches is not counted.
+        pub fn first() -> Clock {
+            Clock { counts: false, are_returns: true }
+        }
+
+        pub fn suited_to(_: f64) -> Clock {
+            Clock { counts: true, are_returns: true }
+        }
+
+        pub fn time<T>(&mut self, work: impl FnOnce() -> T) -> f64 {
+            let (mut work, mut done) = (Some(work), None);
+            let mut work = || done = work.take().map(|work| work());
+            match (self.counts, self.are_returns) {
+                (false, _) => work(),
+                (true, true) => counted_returns(&mut work),
+                (true, false) => counted_asks(&mut work),
+            }
+            self.are_returns = !self.are_returns;
+            0.0
+        }
     }
 
     #[no_mangle]
     #[inline(never)]
-    extern "C" fn counted_to() {
-        black_box(1);
+    fn counted_returns(work: &mut dyn FnMut()) {
+        work();
+        counted_to(0);
     }
 
-    pub fn timed<T>(work: impl FnOnce() -> T) -> f64 {
-        counted_from();
-        let done = work();
-        counted_to();
-        drop(done);
-        0.0
+    #[no_mangle]
+    #[inline(never)]
+    fn counted_asks(work: &mut dyn FnMut()) {
+        work();
+        counted_to(1);
+    }
+
+    /// Ends what is counted, for one who sees where a function begins but not where it ends. The two
+    /// above tell it apart, or they would be made one.
+    #[no_mangle]
+    #[inline(never)]
+    fn counted_to(kind: u8) {
+        black_box(kind);
     }
 }
 
 use {
     compare::bare::Bare,
-    side::{Lender, Ours, Side},
+    side::{Churn, Ours, Side},
     std::env,
-    stores::{settings, KINDS, OURS},
+    stores::{settings, ENGINES, OURS},
 };
 
 fn main() {
@@ -49,21 +80,16 @@ fn main() {
     let &[store, live, side] = &numbers[..] else {
         panic!("store, blocks on loan and side are told by three numbers");
     };
-    let settings = settings(KINDS[store].1);
+    let (_, [one_chunk, _]) = ENGINES[store];
+    let settings = settings(one_chunk);
     let calls = match OURS.get(side) {
-        Some(engines) => count(Ours::set_up(engines, &settings), live).1,
+        Some(engines) => Side::new(Ours::set_up(engines, &settings), live, Churn::Random).batch(),
         None => {
-            let (mut of_crate, calls) = count(Bare::set_up(&settings), live);
-            of_crate.cleanup();
+            let mut of_crate = Side::new(Bare::set_up(&settings), live, Churn::Random);
+            let calls = of_crate.batch();
+            of_crate.close();
             calls
         }
     };
     println!("calls {calls}");
-}
-
-/// A batch of a side, closed then, and how many calls of each kind were in it.
-fn count<L: Lender>(lender: L, live: usize) -> (L, usize) {
-    let mut side = Side::new(lender, live);
-    let calls = side.batch();
-    (side.close(), calls)
 }

@@ -9,9 +9,9 @@ loan-at-requires c κs = search needs
 returns : tie.Need-returns
 returns c =
     let l = c .before .before in
-    let o = l .before .before .before .before in
+    let o = l .before .before .before .before .before in
     let a = o .args in
-    lent-none (a .minimal) (a .pairs) (a .most) (a .levels) (a .place) (a .loans .now) (a .chunks .now) (a .tree .now) (o .pre .5) (l .loan-at .result) (l .loan-at .ensures) (c .if1 .taken)
+    lent-none (a .minimal) (a .pairs) (a .most) (a .levels) (a .place) (a .loans .now) (a .chunks .now) (a .index .now) (a .tree .now) (o .pre .5) (l .loan-at .result) (l .loan-at .ensures) (c .if1 .taken)
 
 level-requires : tie.Need-level-requires
 level-requires c κs = search needs
@@ -19,11 +19,8 @@ level-requires c κs = search needs
 cast-level : tie.Need-cast-level
 cast-level c = search needs
 
-nodes-from-requires : tie.Need-nodes-from-requires
-nodes-from-requires c κs = search needs
-
-add-word : tie.Need-add-word
-add-word c = search needs
+node-at-requires : tie.Need-node-at-requires
+node-at-requires c κs = search needs
 
 word-requires : tie.Need-word-requires
 word-requires c κs = search needs
@@ -42,9 +39,9 @@ returns-2 c =
     let v = n .before in
     let i = v .before in
     let l = i .before .before in
-    let o = l .before .before .before .before in
+    let o = l .before .before .before .before .before in
     let a = o .args in
-    lent-is (a .minimal) (a .pairs) (a .most) (a .levels) (a .place) (a .loans .now) (a .chunks .now) (a .tree .now) (o .pre .5) (l .loan-at .result) (l .loan-at .ensures) _ _ _ _ _ (i .if1 .left) (v .level .ensures) (n .nodes-from .ensures .0) (w .word .ensures) (k .loan-word .ensures) (c .leads-to .ensures)
+    lent-is (a .minimal) (a .pairs) (a .most) (a .levels) (a .place) (a .loans .now) (a .chunks .now) (a .index .now) (a .tree .now) (o .pre .5) (l .loan-at .result) (l .loan-at .ensures) _ _ _ _ _ (i .if1 .left) (v .level .ensures) (n .node-at .ensures) (w .word .ensures) (k .loan-word .ensures) (c .leads-to .ensures)
 
 pub is-loan-led-spec : {M : Type 1} → statement M
 is-loan-led-spec =
@@ -54,8 +51,7 @@ is-loan-led-spec =
     returns
     level-requires
     cast-level
-    nodes-from-requires
-    add-word
+    node-at-requires
     word-requires
     loan-word-requires
     leads-to-requires

@@ -75,7 +75,7 @@ are-memories-requires c κs =
     let h = i1 .before in
     let o = h .before .before .before .before .before .before in
     let a = o .args in
-    (held-few (a .s) (a .head .now) (a .loans .now) (a .chunks .now) (a .index .now) (a .tree .now) (h .is-head .result) (h .is-head .ensures) (i1 .if1 .left) (w1 .word .result) (w2 .word2 .result) (w3 .word3 .result) (w4 .word4 .result) (w1 .word .ensures) (w2 .word2 .ensures) (w3 .word3 .ensures) (w4 .word4 .ensures) (k .is-kept .result) (k .is-kept .ensures) (i2 .if2 .left) (p .are-places .result) (p .are-places .ensures) (c .if3 .left) (o .pre), w3 .word3 .ensures)
+    (held-few (a .s) (a .head .now) (a .loans .now) (a .chunks .now) (a .index .now) (a .tree .now) (h .is-head .result) (h .is-head .ensures) (i1 .if1 .left) (w1 .word .result) (w2 .word2 .result) (w3 .word3 .result) (w4 .word4 .result) (w1 .word .ensures) (w2 .word2 .ensures) (w3 .word3 .ensures) (w4 .word4 .ensures) (k .is-kept .result) (k .is-kept .ensures) (i2 .if2 .left) (p .are-places .result) (p .are-places .ensures) (c .if3 .left) (o .pre .0), w3 .word3 .ensures)
 
 returns-4 : tie.Need-returns-4
 returns-4 c =
@@ -111,7 +111,7 @@ are-good-requires c κs =
     let h = i1 .before in
     let o = h .before .before .before .before .before .before in
     let a = o .args in
-    (o .pre .pairs-most, levels-few (a .s) (a .head .now) (a .loans .now) (a .chunks .now) (a .index .now) (a .tree .now) (h .is-head .result) (h .is-head .ensures) (i1 .if1 .left) (w1 .word .result) (w2 .word2 .result) (w3 .word3 .result) (w4 .word4 .result) (w1 .word .ensures) (w2 .word2 .ensures) (w3 .word3 .ensures) (w4 .word4 .ensures))
+    (o .pre .0 .pairs-most, levels-few (a .s) (a .head .now) (a .loans .now) (a .chunks .now) (a .index .now) (a .tree .now) (h .is-head .result) (h .is-head .ensures) (i1 .if1 .left) (w1 .word .result) (w2 .word2 .result) (w3 .word3 .result) (w4 .word4 .result) (w1 .word .ensures) (w2 .word2 .ensures) (w3 .word3 .ensures) (w4 .word4 .ensures))
 
 returns-5 : tie.Need-returns-5
 returns-5 c =
@@ -151,10 +151,10 @@ are-trees-requires c κs =
     let h = i1 .before in
     let o = h .before .before .before .before .before .before in
     let a = o .args in (
-      o .pre,
+      o .pre .0,
       levels-few (a .s) (a .head .now) (a .loans .now) (a .chunks .now) (a .index .now) (a .tree .now) (h .is-head .result) (h .is-head .ensures) (i1 .if1 .left) (w1 .word .result) (w2 .word2 .result) (w3 .word3 .result) (w4 .word4 .result) (w1 .word .ensures) (w2 .word2 .ensures) (w3 .word3 .ensures) (w4 .word4 .ensures),
-      places-few (a .s) (a .head .now) (a .loans .now) (a .chunks .now) (a .index .now) (a .tree .now) (h .is-head .result) (h .is-head .ensures) (i1 .if1 .left) (w1 .word .result) (w2 .word2 .result) (w3 .word3 .result) (w4 .word4 .result) (w1 .word .ensures) (w2 .word2 .ensures) (w3 .word3 .ensures) (w4 .word4 .ensures) (k .is-kept .result) (k .is-kept .ensures) (i2 .if2 .left) (o .pre),
-      held-few (a .s) (a .head .now) (a .loans .now) (a .chunks .now) (a .index .now) (a .tree .now) (h .is-head .result) (h .is-head .ensures) (i1 .if1 .left) (w1 .word .result) (w2 .word2 .result) (w3 .word3 .result) (w4 .word4 .result) (w1 .word .ensures) (w2 .word2 .ensures) (w3 .word3 .ensures) (w4 .word4 .ensures) (k .is-kept .result) (k .is-kept .ensures) (i2 .if2 .left) (p .are-places .result) (p .are-places .ensures) (i3 .if3 .left) (o .pre),
+      places-few (a .s) (a .head .now) (a .loans .now) (a .chunks .now) (a .index .now) (a .tree .now) (h .is-head .result) (h .is-head .ensures) (i1 .if1 .left) (w1 .word .result) (w2 .word2 .result) (w3 .word3 .result) (w4 .word4 .result) (w1 .word .ensures) (w2 .word2 .ensures) (w3 .word3 .ensures) (w4 .word4 .ensures) (k .is-kept .result) (k .is-kept .ensures) (i2 .if2 .left) (o .pre .0),
+      held-few (a .s) (a .head .now) (a .loans .now) (a .chunks .now) (a .index .now) (a .tree .now) (h .is-head .result) (h .is-head .ensures) (i1 .if1 .left) (w1 .word .result) (w2 .word2 .result) (w3 .word3 .result) (w4 .word4 .result) (w1 .word .ensures) (w2 .word2 .ensures) (w3 .word3 .ensures) (w4 .word4 .ensures) (k .is-kept .result) (k .is-kept .ensures) (i2 .if2 .left) (p .are-places .result) (p .are-places .ensures) (i3 .if3 .left) (o .pre .0),
       used-few (a .s) (a .head .now) (a .loans .now) (a .chunks .now) (a .index .now) (a .tree .now) (h .is-head .result) (h .is-head .ensures) (i1 .if1 .left) (w1 .word .result) (w2 .word2 .result) (w3 .word3 .result) (w4 .word4 .result) (w1 .word .ensures) (w2 .word2 .ensures) (w3 .word3 .ensures) (w4 .word4 .ensures) (k .is-kept .result) (k .is-kept .ensures) (i2 .if2 .left) (p .are-places .result) (p .are-places .ensures) (i3 .if3 .left) (m .are-memories .result) (m .are-memories .ensures) (i4 .if4 .left) (g .are-good .result) (g .are-good .ensures) (c .if5 .left),
       w2 .word2 .ensures,
       w3 .word3 .ensures,
@@ -202,7 +202,7 @@ are-units-requires c κs =
     let h = i1 .before in
     let o = h .before .before .before .before .before .before in
     let a = o .args in
-    (o .pre, places-few (a .s) (a .head .now) (a .loans .now) (a .chunks .now) (a .index .now) (a .tree .now) (h .is-head .result) (h .is-head .ensures) (i1 .if1 .left) (w1 .word .result) (w2 .word2 .result) (w3 .word3 .result) (w4 .word4 .result) (w1 .word .ensures) (w2 .word2 .ensures) (w3 .word3 .ensures) (w4 .word4 .ensures) (k .is-kept .result) (k .is-kept .ensures) (i2 .if2 .left) (o .pre), w2 .word2 .ensures)
+    (o .pre .0, places-few (a .s) (a .head .now) (a .loans .now) (a .chunks .now) (a .index .now) (a .tree .now) (h .is-head .result) (h .is-head .ensures) (i1 .if1 .left) (w1 .word .result) (w2 .word2 .result) (w3 .word3 .result) (w4 .word4 .result) (w1 .word .ensures) (w2 .word2 .ensures) (w3 .word3 .ensures) (w4 .word4 .ensures) (k .is-kept .result) (k .is-kept .ensures) (i2 .if2 .left) (o .pre .0), w2 .word2 .ensures)
 
 returns-7 : tie.Need-returns-7
 returns-7 c =

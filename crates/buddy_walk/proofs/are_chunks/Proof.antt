@@ -11,10 +11,10 @@ use Rattle.buddy_walk.proofs.are_chunks.Statement.{statement}
 use Rattle.buddy_walk.proofs.are_chunks.Tie as tie
 
 abbrev Inv-loop : tie.InvT-loop
-Inv-loop s levels places n loans chunks tree c₀ c = (c ≤ n) × (every (chunkOk s (partTables levels loans chunks tree)) c ≡ true)
+Inv-loop s levels places n loans chunks index tree c₀ c = (c ≤ n) × (every (chunkOk s (partTables levels loans chunks index tree)) c ≡ true)
 
 abbrev μ-loop : tie.MeasureT-loop
-μ-loop s levels places n loans chunks tree c₀ c = n - c
+μ-loop s levels places n loans chunks index tree c₀ c = n - c
 
 loop-holds : tie.Need-loop-holds Inv-loop μ-loop
 loop-holds c = (omega arith, refl)
@@ -26,8 +26,8 @@ returns : tie.Need-returns Inv-loop μ-loop
 returns c =
     let k = c .before in
     let o = k .before .before in
-    let a = o .before .before .before .before .args in
-    let t = chunkOk (a .s) (partTables (a .levels) (a .loans .now) (a .chunks .now) (a .tree .now)) in
+    let a = o .before .before .before .before .before .args in
+    let t = chunkOk (a .s) (partTables (a .levels) (a .loans .now) (a .chunks .now) (a .index .now) (a .tree .now)) in
     sym (every-stop t (a .n) (o .loop .c) (k .before .loop-test .taken) (sym (k .is-chunk .ensures) ∙ not-yes _ (c .if1 .taken)))
 
 add-c : tie.Need-add-c Inv-loop μ-loop
@@ -40,15 +40,15 @@ loop-again : tie.Need-loop-again Inv-loop μ-loop
 loop-again c =
     let k = c .before in
     let o = k .before .before in
-    let a = o .before .before .before .before .args in
-    let t = chunkOk (a .s) (partTables (a .levels) (a .loans .now) (a .chunks .now) (a .tree .now)) in
+    let a = o .before .before .before .before .before .args in
+    let t = chunkOk (a .s) (partTables (a .levels) (a .loans .now) (a .chunks .now) (a .index .now) (a .tree .now)) in
     (omega arith, every-next t (o .loop .c) (o .loop .inv .1) (sym (k .is-chunk .ensures) ∙ not-no _ (c .if1 .left)))
 
 returns-2 : tie.Need-returns-2 Inv-loop μ-loop
 returns-2 c =
     let o = c .before in
-    let a = o .before .before .before .before .args in
-    let t = chunkOk (a .s) (partTables (a .levels) (a .loans .now) (a .chunks .now) (a .tree .now)) in
+    let a = o .before .before .before .before .before .args in
+    let t = chunkOk (a .s) (partTables (a .levels) (a .loans .now) (a .chunks .now) (a .index .now) (a .tree .now)) in
     let e : a .n ≡ o .loop .c = omega arith in
     sym (ap (every t) e ∙ o .loop .inv .1)
 

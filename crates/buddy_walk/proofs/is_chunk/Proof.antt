@@ -15,9 +15,9 @@ cell-requires c κs = search needs
 returns : tie.Need-returns
 returns c =
     let n = c .before in
-    let o = n .before .before .before .before in
+    let o = n .before .before .before .before .before in
     let a = o .args in
-    chunk-none (a .s) (partTables (a .levels) (a .loans .now) (a .chunks .now) (a .tree .now)) (a .c) (n .cell .result) (o .pre .5) (n .cell .ensures) (c .if1 .taken)
+    chunk-none (a .s) (partTables (a .levels) (a .loans .now) (a .chunks .now) (a .index .now) (a .tree .now)) (a .c) (n .cell .result) (o .pre .5) (n .cell .ensures) (c .if1 .taken)
 
 level-requires : tie.Need-level-requires
 level-requires c κs = search needs
@@ -37,9 +37,9 @@ returns-2 c =
     let h = f .before in
     let i = h .before in
     let n = i .before in
-    let o = n .before .before .before .before in
+    let o = n .before .before .before .before .before in
     let a = o .args in
-    chunk-high (a .s) (partTables (a .levels) (a .loans .now) (a .chunks .now) (a .tree .now)) (a .c) (n .cell .result) (o .pre .5) (n .cell .ensures)
+    chunk-high (a .s) (partTables (a .levels) (a .loans .now) (a .chunks .now) (a .index .now) (a .tree .now)) (a .c) (n .cell .result) (o .pre .5) (n .cell .ensures)
     (i .if1 .left) (h .level .result) (f .level2 .result) (h .level .ensures) (f .level2 .ensures) (not-yes _ (c .if2 .taken))
 
 chunks-from-requires : tie.Need-chunks-from-requires
@@ -59,7 +59,7 @@ node-bytes-requires c κs =
     let g = c .before .before in
     let f = g .before in
     let h = f .before in
-    let p = h .before .before .before .before .before .before in
+    let p = h .before .before .before .before .before .before .before in
     (power-top (p .pre .0 .minimal), omega (arith, level-low (h .level .result) (f .level2 .result) (p .args .levels) (not-no _ (g .if2 .left))))
 
 returns-3 : tie.Need-returns-3
@@ -71,9 +71,9 @@ returns-3 c =
     let h = f .before in
     let i = h .before in
     let n = i .before in
-    let o = n .before .before .before .before in
+    let o = n .before .before .before .before .before in
     let a = o .args in
-    chunk-off (a .s) (partTables (a .levels) (a .loans .now) (a .chunks .now) (a .tree .now)) (a .c) (n .cell .result) (o .pre .5) (n .cell .ensures)
+    chunk-off (a .s) (partTables (a .levels) (a .loans .now) (a .chunks .now) (a .index .now) (a .tree .now)) (a .c) (n .cell .result) (o .pre .5) (n .cell .ensures)
     (i .if1 .left) (h .level .result) (f .level2 .result) (h .level .ensures) (f .level2 .ensures)
     (b .chunks-from .result) (m .before .cell2 .result) (m .node-bytes .result) (b .chunks-from .ensures .0) (m .before .cell2 .ensures) (m .node-bytes .ensures .0) (c .if3 .taken)
 
@@ -85,7 +85,7 @@ is-node-requires c κs =
     let f = g .before in
     let h = f .before in
     let i = h .before in
-    let p = i .before .before .before .before .before in
+    let p = i .before .before .before .before .before .before in
     let a = p .args in
     let low : h .level .result ≤ levelsMost = omega (arith, level-low (h .level .result) (f .level2 .result) (a .levels) (not-no _ (g .if2 .left))) in
     (small-in (a .s) (a .places) (a .loans .now) (p .pre .0) (p .pre .2) (p .pre .4), low, omega (arith, whole-room (a .s .minimal) (h .level .result) low))
@@ -100,9 +100,9 @@ returns-4 c =
     let h = f .before in
     let i = h .before in
     let n = i .before in
-    let o = n .before .before .before .before in
+    let o = n .before .before .before .before .before in
     let a = o .args in
-    chunk-walk (a .s) (partTables (a .levels) (a .loans .now) (a .chunks .now) (a .tree .now)) (a .c) (n .cell .result) (o .pre .5) (n .cell .ensures)
+    chunk-walk (a .s) (partTables (a .levels) (a .loans .now) (a .chunks .now) (a .index .now) (a .tree .now)) (a .c) (n .cell .result) (o .pre .5) (n .cell .ensures)
     (i .if1 .left) (h .level .result) (f .level2 .result) (h .level .ensures) (f .level2 .ensures)
     (b .chunks-from .result) (m .before .cell2 .result) (m .node-bytes .result) (b .chunks-from .ensures .0) (m .before .cell2 .ensures) (m .node-bytes .ensures .0)
     (c .is-node .result) (not-no _ (g .if2 .left)) (t .if3 .left) (c .is-node .ensures)

@@ -15,13 +15,13 @@ loop-holds : tie.Need-loop-holds Inv-loop μ-loop
 loop-holds c =
     let s = c .before .before .before .before in
     let a = s .args in
-    going-starts (a .most) (a .k) (a .chunks .now) (a .loans .now) (a .places) (a .index .now) (a .regions .now) (a .n) (a .live) (s .pre .0 .3)
+    going-starts (a .most) (a .k) (a .chunks .now) (a .loans .now) (a .places) (a .index .now) (a .regions .now) (a .n) (a .live) (s .pre .0 .1)
 
 turn-requires : tie.Need-turn-requires Inv-loop μ-loop
 turn-requires c κs =
     let l = c .before .before in
     let s = l .before .before .before .before .before in
-    ((omega arith, s .pre .0 .0, s .pre .0 .1, s .pre .0 .2), (l .loop .inv .stands, (s .pre .1 .0, s .pre .1 .1)))
+    (s .pre .0 .0, ((omega arith, l .loop .inv .stands), (s .pre .1 .0, s .pre .1 .1)))
 
 returns : tie.Need-returns Inv-loop μ-loop
 returns c =
@@ -44,7 +44,7 @@ is-done-requires : tie.Need-is-done-requires Inv-loop μ-loop
 is-done-requires c κs =
     let l = c .before .before in
     let s = l .before .before .before .before .before in
-    (omega (arith, l .loop .inv .stands .last, s .pre .0 .1), s .pre .0 .2)
+    (omega (arith, l .loop .inv .stands .last, s .pre .0 .0 .few), s .pre .0 .0 .loans-most, s .pre .0 .0 .index-long)
 
 returns-2 : tie.Need-returns-2 Inv-loop μ-loop
 returns-2 c =

@@ -1,9 +1,9 @@
-//! The sides that are timed. So many blocks are on loan, and in each round a quarter of them is
-//! returned in random order and as many are asked for again. The blocks share one chunk, so that no
-//! timed call needs the device.
+//! The sides that are timed. So many blocks are on loan, and in each round as many as a quarter of them
+//! go back in some order and are asked for again. No timed call needs the device: there is room before,
+//! and a block of each chunk stays on loan.
 
 use {
-    crate::clock::timed,
+    crate::clock::Clock,
     compare::{
         bare::{Bare, BareBlock},
         random::Random,
@@ -19,15 +19,36 @@ use {
 
 /// Of the blocks on loan, one in so many is exchanged in a round.
 const EXCHANGED: usize = 4;
+/// Rounds before the first batch, so that none is timed in the dense store of the beginning.
+const SETTLING: usize = 16;
 /// Calls of each kind in a batch, about: cheap and dear ones are in each batch alike.
 const BATCH: usize = 1_000;
 const SIZE_LIMIT: u64 = 1_024;
+/// What is held for each block on loan: with less, gaps between blocks could be too small for another.
+const ROOM: u64 = 2 * SIZE_LIMIT;
+
+/// The answers that are an order, and a return that releases nothing.
+const ORDER: u64 = 2;
+const RETURNED: [u64; 2] = [3, 0];
+
+/// The order in which blocks go back: any, the newest first, or the oldest first.
+#[derive(Clone, Copy)]
+pub enum Churn {
+    Random,
+    Stack,
+    Queue,
+}
+
+pub const CHURNS: [(&str, Churn); 3] =
+    [("random", Churn::Random), ("stack", Churn::Stack), ("queue", Churn::Queue)];
 
 /// What the stores of both sides do.
 pub trait Lender {
     type Lent;
-    /// The first block, for which the device gives the one chunk.
-    fn first(&mut self) -> Self::Lent;
+    /// A block, for which the device gives a chunk if it has to.
+    fn fill(&mut self, size: u64) -> Self::Lent;
+    /// There is room now: a later call that needs memory of the device ends the run.
+    fn rest_device(&mut self);
     /// A block that there is room for.
     fn ask(&mut self, size: u64) -> Self::Lent;
     fn take_back(&mut self, block: Self::Lent);
@@ -35,31 +56,49 @@ pub trait Lender {
     fn place(block: &Self::Lent) -> (u64, u64, u64);
 }
 
-/// A store of ours with its account.
+/// A store of ours with its account, and the numbers of its memory, which do not rise.
 pub struct Ours {
     store: Store,
     account: Account,
+    memories: Random,
 }
 
-/// A side with its blocks on loan, and the nanoseconds of a call in its best batches. Sides of as
-/// many blocks have the same random numbers, and so the same calls.
+/// A side with its blocks on loan, the oldest first but for random churn, and the nanoseconds of a call
+/// in its best batches. Sides of as many blocks have the same random numbers, and so the same calls.
 pub struct Side<L: Lender> {
     lender: L,
+    pins: Vec<L::Lent>,
     blocks: Vec<L::Lent>,
     random: Random,
+    churn: Churn,
     exchanged: usize,
+    clock: Clock,
     pub ask: f64,
     pub take_back: f64,
 }
 
 impl<L: Lender> Side<L> {
     /// A side of a store that was set up, with so many blocks on loan.
-    pub fn new(mut lender: L, live: usize) -> Side<L> {
-        let mut random = Random::new(1, live as u64);
-        let mut blocks = vec![lender.first()];
-        blocks.extend(sizes(&mut random, live - 1).into_iter().map(|size| lender.ask(size)));
-        let (ask, take_back) = (f64::INFINITY, f64::INFINITY);
-        Side { lender, blocks, random, exchanged: live / EXCHANGED, ask, take_back }
+    pub fn new(mut lender: L, live: usize, churn: Churn) -> Side<L> {
+        let pins = make_room(&mut lender, live);
+        let mut side = Side {
+            lender,
+            pins,
+            blocks: Vec::with_capacity(live),
+            random: Random::new(1, live as u64),
+            churn,
+            exchanged: live / EXCHANGED,
+            clock: Clock::first(),
+            ask: f64::INFINITY,
+            take_back: f64::INFINITY,
+        };
+        for size in side.sizes(live - side.pins.len()) {
+            side.blocks.push(side.lender.ask(size));
+        }
+        let times = (0..SETTLING).map(|_| side.round());
+        let shortest = times.map(|(take_back, ask)| take_back + ask).fold(f64::INFINITY, f64::min);
+        side.clock = Clock::suited_to(shortest);
+        side
     }
 
     /// Times a batch of rounds. Answers how many calls of each kind were in it.
@@ -67,9 +106,9 @@ impl<L: Lender> Side<L> {
         let rounds = BATCH / self.exchanged;
         let (mut ask, mut take_back) = (0.0, 0.0);
         for _ in 0..rounds {
-            self.shuffle();
-            take_back += self.time_returns();
-            ask += self.time_asks();
+            let (returns, asks) = self.round();
+            take_back += returns;
+            ask += asks;
         }
         let calls = rounds * self.exchanged;
         self.ask = self.ask.min(ask / calls as f64);
@@ -77,14 +116,32 @@ impl<L: Lender> Side<L> {
         calls
     }
 
-    fn time_returns(&mut self) -> f64 {
-        let blocks = self.blocks.split_off(self.blocks.len() - self.exchanged);
-        timed(|| blocks.into_iter().for_each(|block| self.lender.take_back(block)))
+    /// Times the returns and the asks of a round.
+    fn round(&mut self) -> (f64, f64) {
+        let (mut due, lender) = (self.due(), &mut self.lender);
+        // Drained, so that the list is not freed while the clock runs.
+        let returns = self.clock.time(|| due.drain(..).for_each(|block| lender.take_back(block)));
+        let (sizes, lender) = (self.sizes(self.exchanged), &mut self.lender);
+        let asked = sizes.iter().map(|&size| lender.ask(size));
+        let asks = self.clock.time(|| self.blocks.extend(asked));
+        (returns, asks)
     }
 
-    fn time_asks(&mut self) -> f64 {
-        let sizes = sizes(&mut self.random, self.exchanged);
-        timed(|| self.blocks.extend(sizes.iter().map(|&size| self.lender.ask(size))))
+    /// The blocks that go back in a round, in that order.
+    fn due(&mut self) -> Vec<L::Lent> {
+        let kept = self.blocks.len() - self.exchanged;
+        match self.churn {
+            Churn::Random => {
+                self.shuffle();
+                self.blocks.split_off(kept)
+            }
+            Churn::Stack => self.blocks.drain(kept..).rev().collect(),
+            Churn::Queue => self.blocks.drain(..self.exchanged).collect(),
+        }
+    }
+
+    fn sizes(&mut self, count: usize) -> Vec<u64> {
+        (0..count).map(|_| self.random.within(1..=SIZE_LIMIT)).collect()
     }
 
     fn shuffle(&mut self) {
@@ -94,15 +151,39 @@ impl<L: Lender> Side<L> {
         }
     }
 
-    /// The places of the blocks on loan.
-    pub fn places(&self) -> impl Iterator<Item = (u64, u64, u64)> + '_ {
-        self.blocks.iter().map(L::place)
+    /// How many chunks are held.
+    pub fn chunks(&self) -> usize {
+        self.pins.len()
     }
 
-    /// Returns all.
-    pub fn close(mut self) -> L {
-        self.blocks.drain(..).for_each(|block| self.lender.take_back(block));
-        self.lender
+    /// The places of the blocks on loan.
+    pub fn places(&self) -> impl Iterator<Item = (u64, u64, u64)> + '_ {
+        self.pins.iter().chain(&self.blocks).map(L::place)
+    }
+}
+
+/// Makes room for so many blocks, by lending as much and taking it back: all but the first block of
+/// each chunk, which keeps it from being released.
+fn make_room<L: Lender>(lender: &mut L, live: usize) -> Vec<L::Lent> {
+    let (mut pins, mut others): (Vec<L::Lent>, _) = (Vec::new(), Vec::new());
+    for _ in 0..live {
+        let block = lender.fill(ROOM);
+        match pins.last() {
+            Some(pin) if L::place(pin).0 == L::place(&block).0 => others.push(block),
+            _ => pins.push(block),
+        }
+    }
+    others.into_iter().for_each(|block| lender.take_back(block));
+    lender.rest_device();
+    pins
+}
+
+impl Side<Bare> {
+    /// Returns all and cleans up: the crate tells of blocks that are lost.
+    pub fn close(mut self) {
+        let blocks = self.pins.drain(..).chain(self.blocks.drain(..));
+        blocks.for_each(|block| self.lender.take_back(block));
+        self.lender.cleanup();
     }
 }
 
@@ -110,7 +191,8 @@ impl Ours {
     pub fn set_up(engines: &Engines, settings: &Settings) -> Ours {
         let header = settings.header();
         let store = Store::open(engines, &header).expect("settings within the table");
-        Ours { store, account: Account::new(&header).expect("an account within the table") }
+        let account = Account::new(&header).expect("an account within the table");
+        Ours { store, account, memories: Random::new(1, 0) }
     }
 
     /// The answer to an ask while the order of an earlier one is open.
@@ -129,18 +211,25 @@ impl Ours {
 impl Lender for Ours {
     type Lent = Block;
 
-    fn first(&mut self) -> Block {
-        let order = self.store.ask(&mut self.account, 1, 0);
-        assert_eq!(order[0], 2, "the first ask leads to an order");
-        block_of(self.store.deliver(&mut self.account, Outcome::NotWanted, 0))
+    fn fill(&mut self, size: u64) -> Block {
+        let answer = self.store.ask(&mut self.account, size, 0);
+        if answer[0] != ORDER {
+            return block_of(answer);
+        }
+        let memory = self.memories.word();
+        block_of(self.store.deliver(&mut self.account, Outcome::NotWanted, memory))
     }
+
+    /// An order is no block, which an ask has to give.
+    fn rest_device(&mut self) {}
 
     fn ask(&mut self, size: u64) -> Block {
         block_of(self.store.ask(&mut self.account, size, 0))
     }
 
     fn take_back(&mut self, block: Block) {
-        assert_eq!(self.store.take_back(&mut self.account, block)[0], 3, "a return");
+        let answer = self.store.take_back(&mut self.account, block);
+        assert_eq!(answer[..2], RETURNED, "a return that releases nothing");
     }
 
     fn place(block: &Block) -> (u64, u64, u64) {
@@ -151,8 +240,12 @@ impl Lender for Ours {
 impl Lender for Bare {
     type Lent = BareBlock;
 
-    fn first(&mut self) -> BareBlock {
-        self.alloc(1, 0)
+    fn fill(&mut self, size: u64) -> BareBlock {
+        self.alloc(size, 0)
+    }
+
+    fn rest_device(&mut self) {
+        Bare::rest_device(self);
     }
 
     fn ask(&mut self, size: u64) -> BareBlock {
@@ -173,8 +266,4 @@ fn block_of(answer: &Answer) -> Block {
         panic!("no block: {answer:?}");
     };
     Block { serial, chunk, offset, size }
-}
-
-fn sizes(random: &mut Random, count: usize) -> Vec<u64> {
-    (0..count).map(|_| random.within(1..=SIZE_LIMIT)).collect()
 }

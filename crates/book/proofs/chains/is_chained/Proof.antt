@@ -6,19 +6,16 @@ use Rattle.book_rules.proofs.Following.{vacancies-most, chains-counted}
 use Rattle.book.proofs.chains.is_chained.Statement.{statement}
 use Rattle.book.proofs.chains.is_chained.Tie as tie
 
-count-vacant-requires : tie.Need-count-vacant-requires
-count-vacant-requires c κs = search needs
-
 sub-left-of : tie.Need-sub-left-of
 sub-left-of c =
-    let a = c .before .before .before .args in
-    omega (arith, c .count-vacant .ensures, vacancies-most (vacantAt (a .loans .now) sizeAt loanWords) (a .places))
+    let s = c .before .before in
+    omega (arith, s .pre .1, vacancies-most (vacantAt (s .args .loans .now) sizeAt loanWords) (s .args .places))
 
 left-of-requires : tie.Need-left-of-requires
 left-of-requires c κs = search needs
 
 returns : tie.Need-returns
-returns c = chains-counted _ _ _ _ _ _ _ _ _ (c .before .count-vacant .ensures) (c .left-of .ensures)
+returns c = chains-counted _ _ _ _ _ _ _ _ _ (c .before .before .before .pre .1) (c .left-of .ensures)
 
 pub is-chained-spec : {M : Type 1} → statement M
-is-chained-spec = tie.close (tie.spec count-vacant-requires sub-left-of left-of-requires returns)
+is-chained-spec = tie.close (tie.spec sub-left-of left-of-requires returns)

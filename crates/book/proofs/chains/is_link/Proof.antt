@@ -1,30 +1,48 @@
-use mathlib.Core.Path.{sym, _∙_}
+use mathlib.Core.Path.{sym}
+use borrow.Author.Needs.{needs}
 use borrow.Author.Tests.{eq-eqb, ne-eqb}
 use Rattle.book_rules.proofs.Following.{link-past, link-vacant, link-read}
-use borrow.Author.Needs.{needs}
 use Rattle.book.proofs.chains.is_link.Statement.{statement}
 use Rattle.book.proofs.chains.is_link.Tie as tie
 
 returns : tie.Need-returns
 returns c = sym (link-past _ _ _ _ _ _ _ _ _ (c .if1 .taken))
 
-cell-requires : tie.Need-cell-requires
-cell-requires c κs = search needs
+mul-if2 : tie.Need-mul-if2
+mul-if2 c = search needs
+
+add-if2 : tie.Need-add-if2
+add-if2 c = search needs
+
+mul-if2-2 : tie.Need-mul-if2-2
+mul-if2-2 c = search needs
+
+shared-slice-read-if2 : tie.Need-shared-slice-read-if2
+shared-slice-read-if2 c = search needs
 
 returns-2 : tie.Need-returns-2
-returns-2 c = sym (link-vacant _ _ _ _ _ _ _ _ _ (c .before .before .if1 .left) (eq-eqb _ _ (sym (c .before .cell .ensures) ∙ c .if2 .taken)))
+returns-2 c = sym (link-vacant _ _ _ _ _ _ _ _ _ (c .before .before .if1 .left) (eq-eqb _ _ (c .if2 .taken)))
 
-cell-requires-2 : tie.Need-cell-requires-2
-cell-requires-2 c κs = search needs
+serial-of-requires : tie.Need-serial-of-requires
+serial-of-requires c κs = search needs
 
 rem-result : tie.Need-rem-result
 rem-result c = search needs
 
 returns-3 : tie.Need-returns-3
 returns-3 c =
-    let used = ne-eqb _ _ (λ z. c .before .if2 .left (c .before .before .cell .ensures ∙ z)) in
-    link-read _ _ _ _ _ _ _ _ _ _ (c .before .before .before .if1 .left) used (c .cell2 .ensures)
+    link-read _ _ _ _ _ _ _ _ _ _ (c .before .before .before .if1 .left) (ne-eqb _ _ (c .before .if2 .left)) (c .serial-of .ensures)
 
 pub is-link-spec : {M : Type 1} → statement M
 is-link-spec =
-    tie.close (tie.spec returns cell-requires returns-2 cell-requires-2 rem-result returns-3)
+    tie.close
+    (tie.spec
+    returns
+    mul-if2
+    add-if2
+    mul-if2-2
+    shared-slice-read-if2
+    returns-2
+    serial-of-requires
+    rem-result
+    returns-3)

@@ -5,7 +5,7 @@ use Rattle.slab.specs.Slab.{vacantAt}
 use Rattle.store_rules.specs.Loans.{loanWords, sizeAt}
 use Rattle.book_rules.specs.Book.{serialOf, firstIn, nextIn}
 use Rattle.book_rules.specs.Chains.{leftAfter}
-use Rattle.book_rules.proofs.Following.{link-alone, link-serial, after-end, after-none, after-torn, after-on}
+use Rattle.book_rules.proofs.Following.{link-alone, link-serial, link-below, after-end, after-none, after-torn, after-on}
 use borrow.Author.Needs.{needs}
 use Rattle.book.proofs.chains.left_after.Statement.{statement}
 use Rattle.book.proofs.chains.left_after.Tie as tie
@@ -29,16 +29,21 @@ returns c =
 is-link-requires : tie.Need-is-link-requires Inv-loop μ-loop
 is-link-requires c κs = search needs
 
-cell-requires : tie.Need-cell-requires Inv-loop μ-loop
-cell-requires c κs = search needs
+serial-of-requires : tie.Need-serial-of-requires Inv-loop μ-loop
+serial-of-requires c κs =
+    let s = c .before .before .before .before .before .before .before in
+    omega (arith, s .pre .loans-long, s .pre .few, link-below _ _ _ _ _ _ _ _ _ (sym (c .before .is-link .ensures) ∙ c .if2 .taken))
 
 sub-most : tie.Need-sub-most Inv-loop μ-loop
 sub-most c =
     let e = sym (c .before .before .is-link .ensures) ∙ c .before .if2 .taken in
-    omega (arith, c .cell .ensures, link-serial _ _ _ _ _ _ _ _ _ e)
+    omega (arith, c .serial-of .ensures, link-serial _ _ _ _ _ _ _ _ _ e)
 
-link-requires : tie.Need-link-requires Inv-loop μ-loop
-link-requires c κs = search needs
+next-of-requires : tie.Need-next-of-requires Inv-loop μ-loop
+next-of-requires c κs =
+    let i = c .before in
+    let s = i .before .before .before .before .before .before .before in
+    omega (arith, s .pre .index-long, s .pre .few, link-below _ _ _ _ _ _ _ _ _ (sym (i .before .is-link .ensures) ∙ i .if2 .taken))
 
 sub-left : tie.Need-sub-left Inv-loop μ-loop
 sub-left c = search needs
@@ -51,7 +56,7 @@ loop-again c =
     let b = c .before .before .before .before .before .before .loop in
     let o : 0 < b .left = omega arith in
     let e = sym (c .before .before .before .is-link .ensures) ∙ c .before .before .if2 .taken in
-    b .inv ∙ after-on _ _ _ _ _ _ _ _ _ _ _ _ (c .before .before .before .before .before .loop-test .taken) o (link-alone _ _ _ _ _ _ _ _ _ _ _ ∙ e) (c .before .cell .ensures) (c .link .ensures)
+    b .inv ∙ after-on _ _ _ _ _ _ _ _ _ _ _ _ (c .before .before .before .before .before .loop-test .taken) o (link-alone _ _ _ _ _ _ _ _ _ _ _ ∙ e) (c .before .serial-of .ensures) (c .next-of .ensures)
 
 returns-2 : tie.Need-returns-2 Inv-loop μ-loop
 returns-2 c =
@@ -74,9 +79,9 @@ left-after-spec =
     loop-holds
     returns
     is-link-requires
-    cell-requires
+    serial-of-requires
     sub-most
-    link-requires
+    next-of-requires
     sub-left
     loop-less
     loop-again

@@ -14,14 +14,11 @@ level-requires c κs = search needs
 cast-level : tie.Need-cast-level
 cast-level c = search needs
 
-nodes-from-requires : tie.Need-nodes-from-requires
-nodes-from-requires c κs = search needs
-
 led-to-requires : tie.Need-led-to-requires
 led-to-requires c κs = search needs
 
-add-word : tie.Need-add-word
-add-word c = search needs
+node-at-requires : tie.Need-node-at-requires
+node-at-requires c κs = search needs
 
 word-requires-2 : tie.Need-word-requires-2
 word-requires-2 c κs = search needs
@@ -49,12 +46,12 @@ returns c =
     let m = c .before .before in
     let k = m .before .before .before .before .before .before in
     let n = k .before .before .before in
-    let v = n .before .before in
-    let f = v .before .before in
-    let l = f .before in
+    let q = n .before in
+    let v = q .before .before in
+    let l = v .before .before in
     let w = l .before in
     let a = w .before .before .before .before .before .before .args in
-    let climb = climb-is (a .s) (a .b) (a .at) (a .head .now) (a .index .now) (a .tree .now) _ _ _ _ _ (w .word .ensures) (l .level .ensures) (f .nodes-from .ensures .0) (v .led-to .ensures) (n .word2 .ensures) in
+    let climb = climb-is (a .s) (a .b) (a .at) (a .head .now) (a .index .now) (a .tree .now) _ _ _ _ _ (w .word .ensures) (l .level .ensures) (v .led-to .ensures) (q .node-at .ensures) (n .word2 .ensures) in
     (m .climb .ensures .0 ∙ ap (λ (x : Climbed). x .freed) climb, (m .climb .ensures .1 ∙ ap (λ (x : Climbed). x .room) climb, (k .strike .ensures .0, k .strike .ensures .1)))
 
 pub strike-out-spec : {M : Type 1} → statement M
@@ -64,9 +61,8 @@ strike-out-spec =
     word-requires
     level-requires
     cast-level
-    nodes-from-requires
     led-to-requires
-    add-word
+    node-at-requires
     word-requires-2
     strike-requires
     sub-climb

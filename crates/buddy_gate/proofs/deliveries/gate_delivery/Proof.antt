@@ -37,7 +37,8 @@ gate-kept-requires : tie.Need-gate-kept-requires
 gate-kept-requires c κs =
     let i = c .before .before .before .before .before .before .before in
     let a = i .before .before .before .before .before .before .before .args in
-    lent-in (a .s) (holder (a .s .store) (a .share)) (tables (a .head .now) (a .loans .now) (a .chunks .now) (a .index .now) (a .tree .now)) (sym (i .before .is-in-table .ensures) ∙ not-no _ (i .if1 .left)) .settings
+    let fit = lent-in (a .s) (holder (a .s .store) (a .share)) (tables (a .head .now) (a .loans .now) (a .chunks .now) (a .index .now) (a .tree .now)) (sym (i .before .is-in-table .ensures) ∙ not-no _ (i .if1 .left)) in
+    (fit .settings, fit .lengths)
 
 returns-3 : tie.Need-returns-3
 returns-3 c =

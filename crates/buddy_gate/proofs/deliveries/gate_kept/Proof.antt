@@ -23,8 +23,8 @@ is-still-requires c κs =
     let n = c .before in
     let b = n .before .before .before .before .before .before in
     let a = b .args in
-    let sound = tables-yes (a .s) (tables (a .head .now) (a .loans .now) (a .chunks .now) (a .index .now) (a .tree .now)) (b .pre) (sym (n .is-sound .ensures) ∙ not-no _ (c .if1 .left)) in
-    (b .pre, sound .levels-most)
+    let sound = tables-yes (a .s) (tables (a .head .now) (a .loans .now) (a .chunks .now) (a .index .now) (a .tree .now)) (b .pre .0) (sym (n .is-sound .ensures) ∙ not-no _ (c .if1 .left)) in
+    (b .pre .0, sound .levels-most)
 
 enum-told : tie.Need-enum-told
 enum-told c = search needs
@@ -38,8 +38,8 @@ is-covered-requires c κs =
     let n = i .before in
     let b = n .before .before .before .before .before .before in
     let a = b .args in
-    let sound = tables-yes (a .s) (tables (a .head .now) (a .loans .now) (a .chunks .now) (a .index .now) (a .tree .now)) (b .pre) (sym (n .is-sound .ensures) ∙ not-no _ (i .if1 .left)) in
-    (places-few (a .s) (tables (a .head .now) (a .loans .now) (a .chunks .now) (a .index .now) (a .tree .now)) (b .pre) sound, sizes-low (a .s) (tables (a .head .now) (a .loans .now) (a .chunks .now) (a .index .now) (a .tree .now)) (b .pre) sound)
+    let sound = tables-yes (a .s) (tables (a .head .now) (a .loans .now) (a .chunks .now) (a .index .now) (a .tree .now)) (b .pre .0) (sym (n .is-sound .ensures) ∙ not-no _ (i .if1 .left)) in
+    (places-few (a .s) (tables (a .head .now) (a .loans .now) (a .chunks .now) (a .index .now) (a .tree .now)) (b .pre .0) sound, sizes-low (a .s) (tables (a .head .now) (a .loans .now) (a .chunks .now) (a .index .now) (a .tree .now)) (b .pre .0) sound)
 
 returns-2 : tie.Need-returns-2
 returns-2 c =

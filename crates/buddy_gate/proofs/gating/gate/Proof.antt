@@ -28,7 +28,8 @@ gate-store-requires : tie.Need-gate-store-requires
 gate-store-requires c κs =
     let l = c .before .before .before .before in
     let a = l .before .before .before .before .before .before .args in
-    lent-in (a .s) (holder (a .s .store) (a .share)) (tables (a .head .now) (a .loans .now) (a .chunks .now) (a .index .now) (a .tree .now)) (sym (l .is-in-table .ensures) ∙ and-left _ (a .list) (not-no _ (c .before .before .before .if1 .left))) .settings
+    let fit = lent-in (a .s) (holder (a .s .store) (a .share)) (tables (a .head .now) (a .loans .now) (a .chunks .now) (a .index .now) (a .tree .now)) (sym (l .is-in-table .ensures) ∙ and-left _ (a .list) (not-no _ (c .before .before .before .if1 .left))) in
+    (fit .settings, fit .lengths)
 
 returns-3 : tie.Need-returns-3
 returns-3 c =

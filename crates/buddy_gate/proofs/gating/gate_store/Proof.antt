@@ -22,8 +22,8 @@ is-covered-requires c κs =
     let b = n .before .before .before .before .before .before in
     let a = b .args in
     let t = tables (a .head .now) (a .loans .now) (a .chunks .now) (a .index .now) (a .tree .now) in
-    let sound = tables-yes (a .s) t (b .pre) (sym (n .is-sound .ensures) ∙ not-no _ (c .if1 .left)) in
-    (places-few (a .s) t (b .pre) sound, sizes-low (a .s) t (b .pre) sound)
+    let sound = tables-yes (a .s) t (b .pre .0) (sym (n .is-sound .ensures) ∙ not-no _ (c .if1 .left)) in
+    (places-few (a .s) t (b .pre .0) sound, sizes-low (a .s) t (b .pre .0) sound)
 
 returns-2 : tie.Need-returns-2
 returns-2 c =

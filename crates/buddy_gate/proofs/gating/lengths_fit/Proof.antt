@@ -4,8 +4,8 @@ use Rattle.buddy_gate.proofs.Gates.{lengths-is}
 use Rattle.buddy_gate.proofs.gating.lengths_fit.Statement.{statement}
 use Rattle.buddy_gate.proofs.gating.lengths_fit.Tie as tie
 
-nodes-from-requires : tie.Need-nodes-from-requires
-nodes-from-requires c κs = search needs
+tree-words-requires : tie.Need-tree-words-requires
+tree-words-requires c κs = search needs
 
 mul-result : tie.Need-mul-result
 mul-result c = search needs
@@ -28,17 +28,23 @@ add-result-3 c = search needs
 add-result-4 : tie.Need-add-result-4
 add-result-4 c = search needs
 
+mul-result-4 : tie.Need-mul-result-4
+mul-result-4 c = search needs
+
+add-result-5 : tie.Need-add-result-5
+add-result-5 c = search needs
+
 returns : tie.Need-returns
 returns c =
     let k = c .before .before .before .before in
     let a = k .before .before .before .before .before .before .before .args in
-    lengths-is (a .s) (tables (a .head .now) (a .loans .now) (a .chunks .now) (a .index .now) (a .tree .now)) _ (k .nodes-from .ensures .0)
+    lengths-is (a .s) (tables (a .head .now) (a .loans .now) (a .chunks .now) (a .index .now) (a .tree .now)) _ (k .tree-words .ensures .0)
 
 pub lengths-fit-spec : {M : Type 1} → statement M
 lengths-fit-spec =
     tie.close
     (tie.spec
-    nodes-from-requires
+    tree-words-requires
     mul-result
     add-result
     mul-result-2
@@ -46,4 +52,6 @@ lengths-fit-spec =
     mul-result-3
     add-result-3
     add-result-4
+    mul-result-4
+    add-result-5
     returns)

@@ -12,8 +12,8 @@ put-blank-requires c κs = search needs
 put-blank-requires-2 : tie.Need-put-blank-requires-2
 put-blank-requires-2 c κs = search needs
 
-fresh-index-requires : tie.Need-fresh-index-requires
-fresh-index-requires c κs = search needs
+put-blank-requires-3 : tie.Need-put-blank-requires-3
+put-blank-requires-3 c κs = search needs
 
 same-length : tie.Need-same-length
 same-length c = search needs
@@ -29,9 +29,9 @@ returns c =
     let i = c .before .before in
     let k = i .before .before .before .before in
     let l = k .before .before .before .before in
-    let o = l .before .before .before .before .before .before in (
+    let o = l .before .before .before .before .before in (
       l .put-blank .ensures ∙ ap (λ (n : ℕ). blank n (marks .loans) 0) (o .pre .0),
-      (k .put-blank2 .ensures ∙ ap (λ (n : ℕ). blank n (marks .chunks) 0) (o .pre .1), i .fresh-index .ensures),
+      (k .put-blank2 .ensures ∙ ap (λ (n : ℕ). blank n (marks .chunks) 0) (o .pre .1), i .put-blank3 .ensures ∙ ap (λ (n : ℕ). blank n (marks .index) 0) (o .pre .2)),
     )
 
 pub fresh-rows-spec : {M : Type 1} → statement M
@@ -40,7 +40,7 @@ fresh-rows-spec =
     (tie.spec
     put-blank-requires
     put-blank-requires-2
-    fresh-index-requires
+    put-blank-requires-3
     same-length
     same-length-2
     same-length-3

@@ -1,13 +1,12 @@
 use borrow.Author.Needs.{needs}
-use Rattle.buddy_lend.proofs.Booked.{node-put}
+use mathlib.Core.Path.{ap, _∙_}
+use Prim.Native.Nat.{ℕ}
+use lib.ListN.{set}
 use Rattle.buddy_lend.proofs.booking.put_node.Statement.{statement}
 use Rattle.buddy_lend.proofs.booking.put_node.Tie as tie
 
-nodes-from-requires : tie.Need-nodes-from-requires
-nodes-from-requires c κs = search needs
-
-add-at : tie.Need-add-at
-add-at c = search needs
+node-at-requires : tie.Need-node-at-requires
+node-at-requires c κs = search needs
 
 put-requires : tie.Need-put-requires
 put-requires c κs = search needs
@@ -20,7 +19,7 @@ returns c =
     let p = c .before .before in
     let f = p .before .before in
     let a = f .before .before .before .args in
-    node-put (a .s) _ (a .place) (a .node) (a .tree .now) _ (f .nodes-from .ensures .0) (p .put .ensures)
+    p .put .ensures ∙ ap (λ (at : ℕ). set (a .index .now) at (a .node)) (f .node-at .ensures)
 
 pub put-node-spec : {M : Type 1} → statement M
-put-node-spec = tie.close (tie.spec nodes-from-requires add-at put-requires same-length returns)
+put-node-spec = tie.close (tie.spec node-at-requires put-requires same-length returns)

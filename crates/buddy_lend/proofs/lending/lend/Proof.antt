@@ -45,18 +45,18 @@ take-side-requires c κs =
       ),
     )
 
+enter-at-requires : tie.Need-enter-at-requires
+enter-at-requires c κs =
+    let b = c .before .before .before .before .before .before .before .before .before .before .before .before .before .before .before .before .before in
+    let a = b .args in
+    subst (λ (x : Taken). Opens (a .s .store .loans) (x .place) (a .loans .now) (a .index .now)) (sym (b .pre .2)) (b .pre .0 .enters .opens)
+
 put-node-requires : tie.Need-put-node-requires
 put-node-requires c κs =
-    let b = c .before .before .before .before .before .before .before .before .before .before .before .before .before .before .before .before in
+    let b = c .before .before .before .before .before .before .before .before .before .before .before .before .before .before .before .before .before .before .before .before .before .before .before in
     let a = b .args in
     let place = place-in (a .s) (a .loans .now) (a .index .now) _ (b .pre .2) (b .pre .0 .enters .opens .place) in
     (b .pre .0 .enters .fit, omega (arith, place, b .pre .0 .enters .fit .store .loans-most))
-
-enter-at-requires : tie.Need-enter-at-requires
-enter-at-requires c κs =
-    let b = c .before .before .before .before .before .before .before .before .before .before .before .before .before .before .before .before .before .before .before .before .before in
-    let a = b .args in
-    subst (λ (x : Taken). Opens (a .s .store .loans) (x .place) (a .loans .now) (a .index .now)) (sym (b .pre .2)) (b .pre .0 .enters .opens)
 
 same-length : tie.Need-same-length
 same-length c = search needs
@@ -69,8 +69,8 @@ same-length-3 c = search needs
 
 returns : tie.Need-returns
 returns c =
-    let d = c .before .before .before .before in
-    let m = c .before .before .before .before .before .before .before .before .before in
+    let d = c .before .before .before .before .before .before .before .before in
+    let m = c .before .before in
     let n = c .before .before .before .before .before .before .before .before .before .before .before .before .before .before in
     let g = c .before .before .before .before .before .before .before .before .before .before .before .before .before .before .before .before .before in
     let o = c .before .before .before .before .before .before .before .before .before .before .before .before .before .before .before .before .before .before .before in
@@ -78,9 +78,9 @@ returns c =
     let f = c .before .before .before .before .before .before .before .before .before .before .before .before .before .before .before .before .before .before .before .before .before .before in
     let b = c .before .before .before .before .before .before .before .before .before .before .before .before .before .before .before .before .before .before .before .before .before .before .before .before .before .before in
     let a = b .args in
-    let booked = booked-done (a .s) (a .loans .now) (a .index .now) _ (b .pre .2) _ (ap (λ (x : ℕ). x + 1) (g .word .ensures)) _ [] _ _ _ _ (m .put-node .ensures) (d .enter-at .ensures .0) (d .enter-at .ensures .1) in (
+    let booked = booked-done (a .s) (a .loans .now) (a .index .now) _ (b .pre .2) _ (ap (λ (x : ℕ). x + 1) (g .word .ensures)) _ [] _ _ _ _ (d .enter-at .ensures .0) (d .enter-at .ensures .1) (m .put-node .ensures) in (
       loan-is (a .s) (a .from) (a .tree .now) _ (f .level-from .ensures .0) _ (b .pre .1) _ (e .pair-at .ensures) (a .size) (a .loans .now) _ (o .side-from .ensures) _ (g .word .ensures),
-      lent-done (a .s) (a .from) (a .tree .now) _ (f .level-from .ensures .0) _ (b .pre .1) _ (e .pair-at .ensures) (a .size) (a .loans .now) _ (o .side-from .ensures) _ (g .word .ensures) (a .level) (a .index .now) _ (b .pre .2) _ _ _ _ _ (n .take-side .ensures .0) (n .take-side .ensures .1) booked,
+      lent-done (a .s) (a .from) (a .tree .now) _ (f .level-from .ensures .0) _ (b .pre .1) _ (e .pair-at .ensures) (a .size) (a .loans .now) _ (o .side-from .ensures) _ (g .word .ensures) (a .level) (a .index .now) _ (b .pre .2) _ _ _ _ (n .take-side .ensures .0) (n .take-side .ensures .1) booked,
     )
 
 pub lend-spec : {M : Type 1} → statement M
@@ -93,8 +93,8 @@ lend-spec =
     word-requires
     add-t21
     take-side-requires
-    put-node-requires
     enter-at-requires
+    put-node-requires
     same-length
     same-length-2
     same-length-3

@@ -59,18 +59,18 @@ split-chunk-requires c κs =
       now (λ (x n : ℕ) (t : List ℕ). Roomy (a .s .pairs) (a .level) x 0 (leftNext (a .s .pairs) (up (n - a .level - 1) (a .level)) t) (n - a .level - 1) (added (levelFrom (a .s) (up (n - a .level - 1) (a .level))) x 0 nowhere freeWord t)) (b .pre .0 .roomy),
     )
 
+enter-at-requires : tie.Need-enter-at-requires
+enter-at-requires c κs =
+    let b = c .before .before .before .before .before .before .before .before .before .before .before .before .before .before .before .before .before .before .before .before .before .before in
+    let a = b .args in
+    subst (λ (x : Taken). Opens (a .s .store .loans) (x .place) (a .loans .now) (a .index .now)) (sym (b .pre .1)) (b .pre .0 .enters .opens)
+
 put-node-requires : tie.Need-put-node-requires
 put-node-requires c κs =
-    let b = c .before .before .before .before .before .before .before .before .before .before .before .before .before .before .before .before .before .before .before .before .before in
+    let b = c .before .before .before .before .before .before .before .before .before .before .before .before .before .before .before .before .before .before .before .before .before .before .before .before .before .before .before .before in
     let a = b .args in
     let place = place-in (a .s) (a .loans .now) (a .index .now) _ (b .pre .1) (b .pre .0 .enters .opens .place) in
     (b .pre .0 .enters .fit, omega (arith, place, b .pre .0 .enters .fit .store .loans-most))
-
-enter-at-requires : tie.Need-enter-at-requires
-enter-at-requires c κs =
-    let b = c .before .before .before .before .before .before .before .before .before .before .before .before .before .before .before .before .before .before .before .before .before .before .before .before .before .before in
-    let a = b .args in
-    subst (λ (x : Taken). Opens (a .s .store .loans) (x .place) (a .loans .now) (a .index .now)) (sym (b .pre .1)) (b .pre .0 .enters .opens)
 
 same-length : tie.Need-same-length
 same-length c = search needs
@@ -86,17 +86,17 @@ same-length-4 c = search needs
 
 returns : tie.Need-returns
 returns c =
-    let d = c .before .before .before .before in
-    let q = c .before .before .before .before .before .before .before .before .before in
+    let d = c .before .before .before .before .before .before .before .before in
+    let q = c .before .before in
     let n = c .before .before .before .before .before .before .before .before .before .before .before .before .before .before in
     let g = c .before .before .before .before .before .before .before .before .before .before .before .before .before .before .before .before in
     let m = c .before .before .before .before .before .before .before .before .before .before .before .before .before .before .before .before .before .before .before .before .before .before in
     let w = c .before .before .before .before .before .before .before .before .before .before .before .before .before .before .before .before .before .before .before .before .before .before .before .before .before in
     let b = c .before .before .before .before .before .before .before .before .before .before .before .before .before .before .before .before .before .before .before .before .before .before .before .before .before .before .before .before .before .before .before in
     let a = b .args in
-    let booked = booked-done (a .s) (a .loans .now) (a .index .now) _ (b .pre .1) _ (ap (λ (x : ℕ). x + 1) (g .word2 .ensures)) _ (a .head .now) _ _ _ _ (q .put-node .ensures) (d .enter-at .ensures .0) (d .enter-at .ensures .1) in (
+    let booked = booked-done (a .s) (a .loans .now) (a .index .now) _ (b .pre .1) _ (ap (λ (x : ℕ). x + 1) (g .word2 .ensures)) _ (a .head .now) _ _ _ _ (d .enter-at .ensures .0) (d .enter-at .ensures .1) (q .put-node .ensures) in (
       loan-done (a .s) (a .memory) (a .bytes) (a .head .now) (a .loans .now) (a .chunks .now) (a .index .now) (a .tree .now) _ _ (m .add-chunk .ensures) _ (w .word .ensures) _ (ap (λ (x : Taken). x .place) (b .pre .2)) (a .level) (a .size) _ (g .word2 .ensures),
-      served-done (a .s) (a .memory) (a .bytes) (a .head .now) (a .loans .now) (a .chunks .now) (a .index .now) (a .tree .now) _ _ (m .add-chunk .ensures) _ (w .word .ensures) _ (ap (λ (x : Taken). x .place) (b .pre .2)) (a .level) _ (b .pre .1) (a .size) _ _ _ _ _ (n .split-chunk .ensures .0) (n .split-chunk .ensures .1) booked,
+      served-done (a .s) (a .memory) (a .bytes) (a .head .now) (a .loans .now) (a .chunks .now) (a .index .now) (a .tree .now) _ _ (m .add-chunk .ensures) _ (w .word .ensures) _ (ap (λ (x : Taken). x .place) (b .pre .2)) (a .level) _ (b .pre .1) (a .size) _ _ _ _ (n .split-chunk .ensures .0) (n .split-chunk .ensures .1) booked,
     )
 
 pub serve-spec : {M : Type 1} → statement M
@@ -110,8 +110,8 @@ serve-spec =
     sub-above
     sub-above-2
     split-chunk-requires
-    put-node-requires
     enter-at-requires
+    put-node-requires
     same-length
     same-length-2
     same-length-3

@@ -13,7 +13,7 @@ use Rattle.buddy_test.proofs.heads.are_units.Statement.{statement}
 use Rattle.buddy_test.proofs.heads.are_units.Tie as tie
 
 abbrev Inv-loop : tie.InvT-loop
-Inv-loop s n loans k₀ k = (k ≤ n) × (every (unitsOk s (partTables 0 loans [] [])) k ≡ true)
+Inv-loop s n loans k₀ k = (k ≤ n) × (every (unitsOk s (partTables 0 loans [] [] [])) k ≡ true)
 
 abbrev μ-loop : tie.MeasureT-loop
 μ-loop s n loans k₀ k = n - k
@@ -35,7 +35,7 @@ returns c =
     let q = o .before .before in
     let a = q .args in
     let e = units-told (a .s) (o .loop .k) (a .loans .now) (l .loan-at .result) (l .loan-at .ensures) (omega (arith, l .before .loop-test .taken, q .pre .2)) (u .is-units .result) (u .is-units .ensures) in
-    sym (every-stop (unitsOk (a .s) (partTables 0 (a .loans .now) [] [])) (a .n) (o .loop .k) (l .before .loop-test .taken) (sym e ∙ not-yes _ (c .if1 .taken)))
+    sym (every-stop (unitsOk (a .s) (partTables 0 (a .loans .now) [] [] [])) (a .n) (o .loop .k) (l .before .loop-test .taken) (sym e ∙ not-yes _ (c .if1 .taken)))
 
 add-k : tie.Need-add-k Inv-loop μ-loop
 add-k c = search needs
@@ -51,14 +51,14 @@ loop-again c =
     let q = o .before .before in
     let a = q .args in
     let e = units-told (a .s) (o .loop .k) (a .loans .now) (l .loan-at .result) (l .loan-at .ensures) (omega (arith, l .before .loop-test .taken, q .pre .2)) (u .is-units .result) (u .is-units .ensures) in
-    (omega arith, every-next (unitsOk (a .s) (partTables 0 (a .loans .now) [] [])) (o .loop .k) (o .loop .inv .1) (sym e ∙ not-no _ (c .if1 .left)))
+    (omega arith, every-next (unitsOk (a .s) (partTables 0 (a .loans .now) [] [] [])) (o .loop .k) (o .loop .inv .1) (sym e ∙ not-no _ (c .if1 .left)))
 
 returns-2 : tie.Need-returns-2 Inv-loop μ-loop
 returns-2 c =
     let o = c .before in
     let a = o .before .before .args in
     let e : o .loop .k ≡ a .n = omega arith in
-    sym (o .loop .inv .1) ∙ ap (every (unitsOk (a .s) (partTables 0 (a .loans .now) [] []))) e
+    sym (o .loop .inv .1) ∙ ap (every (unitsOk (a .s) (partTables 0 (a .loans .now) [] [] []))) e
 
 pub are-units-spec : {M : Type 1} → statement M
 are-units-spec =

@@ -29,23 +29,23 @@ use Rattle.buddy_walk.proofs.walk.is_leaf.Reads as is-leaf-reads
 use Rattle.buddy_walk.proofs.walk.+is_node+is_pair.{statement}
 use Rattle.buddy_walk.proofs.walk.+is_node+is_pair.Tie.{close}
 
-abbrev μ-is-node : Measures 2 is-node-kinds.ps ℕ
+abbrev μ-is-node : Measures 3 is-node-kinds.ps ℕ
 μ-is-node κs a = 2 * a .1 .1 .1 .1 .0
 
-abbrev μ-is-pair : Measures 2 is-pair-kinds.ps ℕ
+abbrev μ-is-pair : Measures 3 is-pair-kinds.ps ℕ
 μ-is-pair κs a = 2 * a .1 .1 .1 .1 .0 + 1
 
-abbrev is-node-at : ℕ → In 2 is-node-kinds.ps
-is-node-at t = and 2 is-node-kinds.ps (is 2 is-node-kinds.ps μ-is-node t) is-node.Pre
+abbrev is-node-at : ℕ → In 3 is-node-kinds.ps
+is-node-at t = and 3 is-node-kinds.ps (is 3 is-node-kinds.ps μ-is-node t) is-node.Pre
 
-abbrev is-node-below : ℕ → In 2 is-node-kinds.ps
-is-node-below t = and 2 is-node-kinds.ps (falls 2 is-node-kinds.ps _<_ μ-is-node t) is-node.Pre
+abbrev is-node-below : ℕ → In 3 is-node-kinds.ps
+is-node-below t = and 3 is-node-kinds.ps (falls 3 is-node-kinds.ps _<_ μ-is-node t) is-node.Pre
 
-abbrev is-pair-at : ℕ → In 2 is-pair-kinds.ps
-is-pair-at t = and 2 is-pair-kinds.ps (is 2 is-pair-kinds.ps μ-is-pair t) is-pair.Pre
+abbrev is-pair-at : ℕ → In 3 is-pair-kinds.ps
+is-pair-at t = and 3 is-pair-kinds.ps (is 3 is-pair-kinds.ps μ-is-pair t) is-pair.Pre
 
-abbrev is-pair-below : ℕ → In 2 is-pair-kinds.ps
-is-pair-below t = and 2 is-pair-kinds.ps (falls 2 is-pair-kinds.ps _<_ μ-is-pair t) is-pair.Pre
+abbrev is-pair-below : ℕ → In 3 is-pair-kinds.ps
+is-pair-below t = and 3 is-pair-kinds.ps (falls 3 is-pair-kinds.ps _<_ μ-is-pair t) is-pair.Pre
 
 is-node-returns : (t : ℕ) → is-node-lts.Need-returns (
   says-loan-reads.Asked,
@@ -60,8 +60,8 @@ is-node-returns : (t : ℕ) → is-node-lts.Need-returns (
   is-pair.Post,
 ) (is-node-at t) is-node.Post
 is-node-returns t c =
-    let a = c .before .before .before .args in
-    node-free (partSettings (a .minimal) (a .pairs) (a .chunks)) (loanPart (a .loans .now) (a .tree .now)) (a .level) (a .chunk) (a .offset) (a .node) (a .word) (c .if1 .taken)
+    let a = c .before .before .before .before .args in
+    node-free (partSettings (a .minimal) (a .pairs) (a .most)) (loanPart (a .loans .now) (a .index .now) (a .tree .now)) (a .level) (a .chunk) (a .offset) (a .node) (a .word) (c .if1 .taken)
 
 is-node-says-loan-requires : (t : ℕ) → is-node-lts.Need-says-loan-requires (
   says-loan-reads.Asked,
@@ -122,8 +122,8 @@ is-node-returns-2 t c =
     let i = k .before in
     let q = i .before in
     let f = q .before in
-    let a = f .before .before .before .args in
-    node-loan (partSettings (a .minimal) (a .pairs) (a .chunks)) (loanPart (a .loans .now) (a .tree .now)) (a .chunk) (a .offset) (a .node) (a .word) (f .if1 .left) (q .says-loan .result) (q .says-loan .ensures)
+    let a = f .before .before .before .before .args in
+    node-loan (partSettings (a .minimal) (a .pairs) (a .most)) (loanPart (a .loans .now) (a .index .now) (a .tree .now)) (a .chunk) (a .offset) (a .node) (a .word) (f .if1 .left) (q .says-loan .result) (q .says-loan .ensures)
     (a .level) (k .loan-said .result) (c .is-leaf .result) (i .if2 .taken) (k .loan-said .ensures) (c .is-leaf .ensures)
 
 is-node-returns-3 : (t : ℕ) → is-node-lts.Need-returns-3 (
@@ -142,8 +142,8 @@ is-node-returns-3 t c =
     let i = c .before in
     let q = i .before in
     let f = q .before in
-    let a = f .before .before .before .args in
-    node-low (partSettings (a .minimal) (a .pairs) (a .chunks)) (loanPart (a .loans .now) (a .tree .now)) (a .chunk) (a .offset) (a .node) (a .word) (f .if1 .left) (q .says-loan .result) (q .says-loan .ensures) (a .level) (i .if2 .left) (c .if3 .taken)
+    let a = f .before .before .before .before .args in
+    node-low (partSettings (a .minimal) (a .pairs) (a .most)) (loanPart (a .loans .now) (a .index .now) (a .tree .now)) (a .chunk) (a .offset) (a .node) (a .word) (f .if1 .left) (q .says-loan .result) (q .says-loan .ensures) (a .level) (i .if2 .left) (c .if3 .taken)
 
 is-node-sub-is-pair : (t : ℕ) → is-node-lts.Need-sub-is-pair (
   says-loan-reads.Asked,
@@ -175,7 +175,7 @@ is-node-pair-said-requires t c κs =
     let i = c .before in
     let q = i .before in
     let f = q .before in
-    split-some (f .before .before .before .args .word) (q .says-loan .result) (f .if1 .left) (q .says-loan .ensures) (i .if2 .left)
+    split-some (f .before .before .before .before .args .word) (q .says-loan .result) (f .if1 .left) (q .says-loan .ensures) (i .if2 .left)
 
 is-node-is-pair-requires : (t : ℕ) → is-node-lts.Need-is-pair-requires (
   says-loan-reads.Asked,
@@ -191,7 +191,7 @@ is-node-is-pair-requires : (t : ℕ) → is-node-lts.Need-is-pair-requires (
 ) (is-node-at t) is-node.Post
 is-node-is-pair-requires t c κs =
     let n = c .before in
-    let f = n .before .before .before .before .before .before in
+    let f = n .before .before .before .before .before .before .before in
     let a = f .args in
     let r = halves-room (a .minimal) (a .level) (a .offset) (bytes (a .minimal) levelsMost) (n .if3 .left) (f .pre .1 .2) in
     search needs
@@ -214,8 +214,8 @@ is-node-returns-4 t c =
     let i = n .before in
     let q = i .before in
     let f = q .before in
-    let a = f .before .before .before .args in
-    node-split (partSettings (a .minimal) (a .pairs) (a .chunks)) (loanPart (a .loans .now) (a .tree .now)) (a .chunk) (a .offset) (a .node) (a .word) (f .if1 .left) (q .says-loan .result) (q .says-loan .ensures)
+    let a = f .before .before .before .before .args in
+    node-split (partSettings (a .minimal) (a .pairs) (a .most)) (loanPart (a .loans .now) (a .index .now) (a .tree .now)) (a .chunk) (a .offset) (a .node) (a .word) (f .if1 .left) (q .says-loan .result) (q .says-loan .ensures)
     (a .level) (m .pair-said .result) (c .is-pair .result) (i .if2 .left) (n .if3 .left) (m .pair-said .ensures) (c .is-pair .ensures)
 
 is-pair-level-from-requires : (t : ℕ) → is-pair-lts.Need-level-from-requires (
@@ -292,8 +292,8 @@ is-pair-returns t c =
     let i = c .before in
     let p = i .before in
     let b = p .before in
-    let a = b .before .before .before .args in
-    halves-entry (partSettings (a .minimal) (a .pairs) (a .chunks)) (loanPart (a .loans .now) (a .tree .now)) (a .level) (a .chunk) (a .offset) (a .node) (a .p) (b .level-from .result) (entFrom (p .pair-in .result)) (i .is-entry .result)
+    let a = b .before .before .before .before .args in
+    halves-entry (partSettings (a .minimal) (a .pairs) (a .most)) (loanPart (a .loans .now) (a .index .now) (a .tree .now)) (a .level) (a .chunk) (a .offset) (a .node) (a .p) (b .level-from .result) (entFrom (p .pair-in .result)) (i .is-entry .result)
     (b .level-from .ensures .0) (p .pair-in .ensures) (i .is-entry .ensures) (not-yes _ (c .if1 .taken))
 
 is-pair-left-node-requires : (t : ℕ) → is-pair-lts.Need-left-node-requires (
@@ -355,8 +355,8 @@ is-pair-returns-2 t c =
     let i = f .before in
     let p = i .before in
     let b = p .before in
-    let a = b .before .before .before .args in
-    halves-left (partSettings (a .minimal) (a .pairs) (a .chunks)) (loanPart (a .loans .now) (a .tree .now)) (a .level) (a .chunk) (a .offset) (a .node) (a .p) (b .level-from .result) (entFrom (p .pair-in .result)) (i .is-entry .result)
+    let a = b .before .before .before .before .args in
+    halves-left (partSettings (a .minimal) (a .pairs) (a .most)) (loanPart (a .loans .now) (a .index .now) (a .tree .now)) (a .level) (a .chunk) (a .offset) (a .node) (a .p) (b .level-from .result) (entFrom (p .pair-in .result)) (i .is-entry .result)
     (b .level-from .ensures .0) (p .pair-in .ensures) (i .is-entry .ensures)
     (l .left-node .result) (n .is-node .result) (not-no _ (f .if1 .left)) (l .left-node .ensures) (n .is-node .ensures) (not-yes _ (c .if2 .taken))
 
@@ -395,7 +395,7 @@ is-pair-add-right : (t : ℕ) → is-pair-lts.Need-add-right (
   right-node-reads.Learnt,
 ) (is-pair-at t) is-pair.Post
 is-pair-add-right t c =
-    let f = c .before .before .before .before .before .before .before .before .before .before in
+    let f = c .before .before .before .before .before .before .before .before .before .before .before in
     let a = f .args in
     let m = node-bytes-most (a .minimal) levelsMost (f .pre .1 .0 .short) (omega arith) in
     search needs
@@ -462,8 +462,8 @@ is-pair-returns-3 t c =
     let i = f .before in
     let p = i .before in
     let b = p .before in
-    let a = b .before .before .before .args in
-    halves-right (partSettings (a .minimal) (a .pairs) (a .chunks)) (loanPart (a .loans .now) (a .tree .now)) (a .level) (a .chunk) (a .offset) (a .node) (a .p) (b .level-from .result) (entFrom (p .pair-in .result)) (i .is-entry .result)
+    let a = b .before .before .before .before .args in
+    halves-right (partSettings (a .minimal) (a .pairs) (a .most)) (loanPart (a .loans .now) (a .index .now) (a .tree .now)) (a .level) (a .chunk) (a .offset) (a .node) (a .p) (b .level-from .result) (entFrom (p .pair-in .result)) (i .is-entry .result)
     (b .level-from .ensures .0) (p .pair-in .ensures) (i .is-entry .ensures)
     (l .left-node .result) (n .is-node .result) (not-no _ (f .if1 .left)) (l .left-node .ensures) (n .is-node .ensures)
     (r .right-node .result) (m .node-bytes .result) (c .is-node2 .result) (not-no _ (g .if2 .left)) (r .right-node .ensures) (m .node-bytes .ensures .0) (c .is-node2 .ensures)

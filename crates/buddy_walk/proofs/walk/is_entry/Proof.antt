@@ -13,7 +13,7 @@ returns : tie.Need-returns
 returns c =
     let g = c .before .tag-of in
     let a = c .before .before .before .before .before .before .before .args in
-    entry-is (partSettings 0 0 0) (loanPart [] []) (entFrom (a .e)) (a .chunk) (a .offset) (a .node) (g .result) (g .ensures)
+    entry-is (partSettings 0 0 0) (loanPart [] [] []) (entFrom (a .e)) (a .chunk) (a .offset) (a .node) (g .result) (g .ensures)
 
 pub is-entry-spec : {M : Type 1} → statement M
 is-entry-spec = tie.close (tie.spec tag-of-requires returns)

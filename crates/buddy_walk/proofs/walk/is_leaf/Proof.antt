@@ -1,4 +1,5 @@
 use borrow.Author.Needs.{needs}
+use mathlib.Core.List.{[]}
 use native.Mathlib.Omega.{arith}
 use Rattle.buddy_levels.specs.Seen.{partSettings, loanPart}
 use Rattle.buddy_walk.proofs.Downs.{leaf-past, leaf-is}
@@ -9,16 +10,13 @@ returns : tie.Need-returns
 returns c =
     let o = c .before .before .before in
     let a = o .args in
-    leaf-past (partSettings (a .minimal) (a .pairs) (a .chunks)) (loanPart (a .loans .now) (a .tree .now)) (a .place) (a .chunk) (a .level) (a .offset) (a .node) (omega (arith, c .if1 .taken, o .pre .0 .counted))
+    leaf-past (partSettings (a .minimal) 0 (a .most)) (loanPart (a .loans .now) (a .index .now) []) (a .place) (a .chunk) (a .level) (a .offset) (a .node) (omega (arith, c .if1 .taken, o .pre .3))
 
 loan-at-requires : tie.Need-loan-at-requires
 loan-at-requires c κs = search needs
 
-nodes-from-requires : tie.Need-nodes-from-requires
-nodes-from-requires c κs = search needs
-
-add-at : tie.Need-add-at
-add-at c = search needs
+node-at-requires : tie.Need-node-at-requires
+node-at-requires c κs = search needs
 
 node-bytes-requires : tie.Need-node-bytes-requires
 node-bytes-requires c κs = search needs
@@ -34,8 +32,8 @@ returns-2 c =
     let i = l .before in
     let o = i .before .before .before in
     let a = o .args in
-    leaf-is (partSettings (a .minimal) (a .pairs) (a .chunks)) (loanPart (a .loans .now) (a .tree .now)) (a .place) (a .chunk) (a .level) (a .offset) (a .node)
-    (l .loan-at .result) (b .node-bytes .result) (n .nodes-from .result) (c .word .result) (l .loan-at .ensures) (b .node-bytes .ensures .0) (n .nodes-from .ensures .0) (c .word .ensures) (omega (arith, i .if1 .left, o .pre .0 .counted))
+    leaf-is (partSettings (a .minimal) 0 (a .most)) (loanPart (a .loans .now) (a .index .now) []) (a .place) (a .chunk) (a .level) (a .offset) (a .node)
+    (l .loan-at .result) (b .node-bytes .result) (n .node-at .result) (c .word .result) (l .loan-at .ensures) (b .node-bytes .ensures .0) (n .node-at .ensures) (c .word .ensures) (omega (arith, i .if1 .left, o .pre .3))
 
 pub is-leaf-spec : {M : Type 1} → statement M
 is-leaf-spec =
@@ -43,8 +41,7 @@ is-leaf-spec =
     (tie.spec
     returns
     loan-at-requires
-    nodes-from-requires
-    add-at
+    node-at-requires
     node-bytes-requires
     word-requires
     returns-2)

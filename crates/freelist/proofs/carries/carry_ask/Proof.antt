@@ -19,7 +19,7 @@ enum-known-plan-2 c = search needs
 
 lend-requires : tie.Need-lend-requires
 lend-requires c κs =
-    let i = c .before .before .before .before .before in
+    let i = c .before .before .before .before .before .before in
     let b = i .before .before .before .before .before .before .before in
     let a = b .args in
     subst (λ (p : Plan). AskReady (a .s) (tables (a .head .now) (a .loans .now) (a .chunks .now) (a .index .now) (a .regions .now)) p) (i .plan2 .given .1) (b .pre)
@@ -54,7 +54,7 @@ same-length-3 c = search needs
 returns-2 : tie.Need-returns-2
 returns-2 c =
     let l = c .before .before .before .before .before .before .before in
-    let i = l .before .before .before .before .before .before in
+    let i = l .before .before .before .before .before .before .before in
     let a = i .before .before .before .before .before .before .before .args in
     λ account size mask k.
     let e = subst (λ (p : Plan). Planned (a .s) size mask (tables (a .head .now) (a .loans .now) (a .chunks .now) (a .index .now) (a .regions .now)) p) (i .plan2 .given .1) k in

@@ -1,5 +1,4 @@
 use borrow.Author.Needs.{needs}
-use mathlib.Core.Path.{_∙_}
 use Rattle.freelist.proofs.Arriving.{lends-now, kept-done}
 use Rattle.freelist.proofs.carries.keep_chunk.Statement.{statement}
 use Rattle.freelist.proofs.carries.keep_chunk.Tie as tie
@@ -9,25 +8,25 @@ region-count-requires c κs = search needs
 
 sub-lower-to-unit : tie.Need-sub-lower-to-unit
 sub-lower-to-unit c =
-    c .before .before .before .before .before .before .before .before .before .before .before .pre .small
+    c .before .before .before .before .before .before .before .before .before .before .before .before .pre .small
 
 lower-to-unit-requires : tie.Need-lower-to-unit-requires
 lower-to-unit-requires c κs =
-    c .before .before .before .before .before .before .before .before .before .before .before .pre .aligned
+    c .before .before .before .before .before .before .before .before .before .before .before .before .pre .aligned
 
 charged-requires : tie.Need-charged-requires
 charged-requires c κs = search needs
 
 add-chunk-requires : tie.Need-add-chunk-requires
 add-chunk-requires c κs =
-    c .before .before .before .before .before .before .before .before .before .before .before .before .before .before .before .before .before .pre .adds
+    c .before .before .before .before .before .before .before .before .before .before .before .before .before .before .before .before .before .before .pre .adds
 
 lend-requires : tie.Need-lend-requires
 lend-requires c κs =
     let d = c .before .before .before .before .before .before .before .before .before .before in
     let u = d .before .before .before .before .before .before in
     let n = u .before .before .before in
-    let b = n .before .before .before .before .before .before .before .before .before in
+    let b = n .before .before .before .before .before .before .before .before .before .before in
     let a = b .args in
     lends-now (a .s) (a .share) (a .k) (a .memory) (a .b) (a .head .now) (a .loans .now) (a .chunks .now) (a .regions .now) (a .index .now) (b .pre) _ _ _ _ _ (n .region-count .ensures) (u .lower-to-unit .ensures) (d .add-chunk .ensures)
 
@@ -56,7 +55,7 @@ returns c =
     let g = d .before .before .before .before .before in
     let u = g .before in
     let n = u .before .before .before in
-    let b = n .before .before .before .before .before .before .before .before .before in
+    let b = n .before .before .before .before .before .before .before .before .before .before in
     let a = b .args in
     kept-done (a .s) (a .share) (a .k) (a .memory) (a .b) (a .head .now) (a .loans .now) (a .chunks .now) (a .regions .now) (a .index .now) (b .pre) _ _ _ _ _ _ _ _ _ _ _ _ _ (n .region-count .ensures) (u .lower-to-unit .ensures) (g .charged .ensures) (d .add-chunk .ensures) (l .lend .ensures .0) (l .lend .ensures .1) (c .deliver-block .ensures .0) (c .deliver-block .ensures .1) (c .deliver-block .ensures .2)
 

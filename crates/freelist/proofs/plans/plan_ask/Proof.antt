@@ -4,6 +4,7 @@ use mathlib.Core.Bool.{true}
 use Rattle.counter.specs.Gate.{verdictOf}
 use Rattle.store_rules.proofs.Holders.{holder}
 use Rattle.freelist_rules.specs.Tables.{tables}
+use Rattle.freelist_rules.proofs.Fits.{regions-fit}
 use Rattle.freelist_outcomes.proofs.Passing.{gate-passed}
 use Rattle.freelist.proofs.Planned.{ask-shut, ask-go}
 use Rattle.freelist.proofs.plans.plan_ask.Statement.{statement}
@@ -23,7 +24,9 @@ decide-requires c κs =
     let e = c .before in
     let g = e .before .before in
     let a = g .before .before .before .before .before .before .args in
-    gate-passed (a .s) (holder (a .s .store) (a .share)) (tables (a .head .now) (a .loans .now) (a .chunks .now) (a .index .now) (a .regions .now)) true (sym (ap verdictOf (e .enum-told .given .1)) ∙ g .gate .ensures) .settings
+    let t = tables (a .head .now) (a .loans .now) (a .chunks .now) (a .index .now) (a .regions .now) in
+    let p = gate-passed (a .s) (holder (a .s .store) (a .share)) t true (sym (ap verdictOf (e .enum-told .given .1)) ∙ g .gate .ensures) in
+    regions-fit (a .s) t (p .settings) (p .lengths) (p .sound)
 
 returns : tie.Need-returns
 returns c =

@@ -1,5 +1,6 @@
 use borrow.Author.Needs.{needs}
 use mathlib.Core.Path.{sym, ap, _∙_}
+use native.Mathlib.Omega.{arith}
 use Rattle.lists.proofs.Bools.{not-yes, not-no}
 use Rattle.counter.proofs.Tables.{alignment-yes}
 use Rattle.freelist_regions.specs.Found.{foundOf}
@@ -32,13 +33,13 @@ size-for-requires : tie.Need-size-for-requires
 size-for-requires c κs =
     let z = c .before in
     let b = z .before .before .before .before .before .before .before .before in
-    (b .pre, size-most (b .args .s) (b .args .size) (sym (z .is-size .ensures) ∙ not-no _ (c .if2 .left)))
+    (b .pre .settings, size-most (b .args .s) (b .args .size) (sym (z .is-size .ensures) ∙ not-no _ (c .if2 .left)))
 
 mask-for-requires : tie.Need-mask-for-requires
 mask-for-requires c κs =
     let m = c .before .before .before .before in
     let b = m .before .before .before .before .before .before in
-    (b .pre, alignment-yes (b .args .mask) (sym (m .is-alignment .ensures) ∙ not-no _ (c .before .before .before .if1 .left)))
+    (b .pre .settings, alignment-yes (b .args .mask) (sym (m .is-alignment .ensures) ∙ not-no _ (c .before .before .before .if1 .left)))
 
 region-count-requires : tie.Need-region-count-requires
 region-count-requires c κs = search needs
@@ -47,7 +48,7 @@ find-fit-requires : tie.Need-find-fit-requires
 find-fit-requires c κs =
     let m = c .before .before .before .before .before .before in
     let b = m .before .before .before .before .before .before in
-    both-ones (b .args .s) (b .pre) (b .args .mask) _ (alignment-yes (b .args .mask) (sym (m .is-alignment .ensures) ∙ not-no _ (c .before .before .before .before .before .if1 .left))) (c .before .mask-for .ensures)
+    (both-ones (b .args .s) (b .pre .settings) (b .args .mask) _ (alignment-yes (b .args .mask) (sym (m .is-alignment .ensures) ∙ not-no _ (c .before .before .before .before .before .if1 .left))) (c .before .mask-for .ensures), omega (arith, c .region-count .ensures, b .pre .long, b .pre .count))
 
 enum-known-found : tie.Need-enum-known-found
 enum-known-found c = search needs

@@ -3,6 +3,7 @@ use mathlib.Core.Path.{sym, ap, _∙_}
 use native.Mathlib.Omega.{arith}
 use Rattle.lists.proofs.Bools.{not-yes, not-no}
 use Rattle.freelist_rules.specs.Tables.{tables}
+use Rattle.freelist_rules.proofs.Fits.{regions-fit}
 use Rattle.freelist_rules.proofs.Tested.{tables-yes}
 use Rattle.freelist_rules.proofs.Summing.{chunks-low}
 use Rattle.freelist_decide.specs.Plans.{planOf}
@@ -20,7 +21,13 @@ returns c =
     (kept-torn (a .s) (a .h) (a .objects) (a .k) (tables (a .head .now) (a .loans .now) (a .chunks .now) (a .index .now) (a .regions .now)) (sym (n .is-sound .ensures) ∙ not-yes _ (c .if1 .taken)), tt)
 
 decide-requires : tie.Need-decide-requires
-decide-requires c κs = search needs
+decide-requires c κs =
+    let i = c .before in
+    let n = i .before in
+    let b = n .before .before .before .before .before .before in
+    let a = b .args in
+    let t = tables (a .head .now) (a .loans .now) (a .chunks .now) (a .index .now) (a .regions .now) in
+    regions-fit (a .s) t (b .pre .0) (b .pre .1) (tables-yes (a .s) t (b .pre .0) (sym (n .is-sound .ensures) ∙ not-no _ (i .if1 .left)))
 
 enum-told : tie.Need-enum-told
 enum-told c = search needs

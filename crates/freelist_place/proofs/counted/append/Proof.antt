@@ -1,4 +1,5 @@
 use borrow.Author.Needs.{needs}
+use native.Mathlib.Omega.{arith}
 use mathlib.Core.Path.{refl}
 use Rattle.freelist_place.proofs.Counting.{few, whole-few, appended-done}
 use Rattle.freelist_place.proofs.counted.append.Statement.{statement}
@@ -11,7 +12,7 @@ word-requires-2 : tie.Need-word-requires-2
 word-requires-2 c κs = search needs
 
 put-gap-requires : tie.Need-put-gap-requires
-put-gap-requires c κs = search needs
+put-gap-requires c κs = let h = c .before .before .before .before .before .before .pre in omega (arith, c .before .before .before .word .ensures, h .0 .long, h .1)
 
 add-count-regions : tie.Need-add-count-regions
 add-count-regions c =

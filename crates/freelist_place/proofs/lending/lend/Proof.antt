@@ -1,17 +1,19 @@
 use borrow.Author.Needs.{needs}
+use native.Mathlib.Omega.{arith}
+use Rattle.freelist_place.specs.Lent.{taken}
 use Rattle.freelist_place.proofs.Serving.{start-within, loan-done, threads, lent-done}
 use Rattle.freelist_place.proofs.lending.lend.Statement.{statement}
 use Rattle.freelist_place.proofs.lending.lend.Tie as tie
 
 gap-at-requires : tie.Need-gap-at-requires
-gap-at-requires c κs = search needs
+gap-at-requires c κs = let h = c .before .before .before .before .before .before .pre in omega (arith, h .here, h .fit .long, h .fit .count)
 
 loan-of-requires : tie.Need-loan-of-requires
 loan-of-requires c κs =
     let g = c .before in
     let o = g .before .before .before .before .before .before .before in
     let a = o .args in
-    (o .pre .serial, start-within (a .s) (a .i) (a .start) (a .loan) (a .loans .now) (a .chunks .now) (a .index .now) (a .regions .now) (o .pre) _ (g .gap-at .ensures))
+    (o .pre .serial, start-within (a .s) (a .i) (a .start) (taken (a .place) (a .places) (a .vacant)) (a .loans .now) (a .chunks .now) (a .index .now) (a .regions .now) (o .pre) _ (g .gap-at .ensures))
 
 word-requires : tie.Need-word-requires
 word-requires c κs = search needs
@@ -36,7 +38,7 @@ thread-requires c κs =
     let g = l .before .before in
     let o = g .before .before .before .before .before .before .before in
     let a = o .args in
-    threads (a .s) (a .i) (a .start) (a .loan) (a .loans .now) (a .chunks .now) (a .index .now) (a .regions .now) (o .pre) _ (g .gap-at .ensures) _ (l .loan-of .ensures) _ (e .enter-at .ensures .1) _ (r .record-of .ensures)
+    threads (a .s) (a .i) (a .start) (taken (a .place) (a .places) (a .vacant)) (a .loans .now) (a .chunks .now) (a .index .now) (a .regions .now) (o .pre) _ (g .gap-at .ensures) _ (l .loan-of .ensures) _ (e .enter-at .ensures .1) _ (r .record-of .ensures)
 
 same-length : tie.Need-same-length
 same-length c = search needs
@@ -59,7 +61,7 @@ returns c =
     let g = l .before .before in
     let o = g .before .before .before .before .before .before .before in
     let a = o .args in
-    (loan-done (a .s) (a .i) (a .start) (a .loan) (a .loans .now) (a .chunks .now) (a .index .now) (a .regions .now) (o .pre) _ (g .gap-at .ensures) _ (l .loan-of .ensures), lent-done (a .s) (a .i) (a .start) (a .loan) (a .loans .now) (a .chunks .now) (a .index .now) (a .regions .now) (o .pre) _ (g .gap-at .ensures) _ (l .loan-of .ensures) _ (e .enter-at .ensures .1) _ _ _ _ _ _ (w .word .ensures) (b .without .ensures) (r .record-of .ensures) (q .cut .ensures) (e .enter-at .ensures .0) (t .thread .ensures))
+    (loan-done (a .s) (a .i) (a .start) (taken (a .place) (a .places) (a .vacant)) (a .loans .now) (a .chunks .now) (a .index .now) (a .regions .now) (o .pre) _ (g .gap-at .ensures) _ (l .loan-of .ensures), lent-done (a .s) (a .i) (a .start) (taken (a .place) (a .places) (a .vacant)) (a .loans .now) (a .chunks .now) (a .index .now) (a .regions .now) (o .pre) _ (g .gap-at .ensures) _ (l .loan-of .ensures) _ (e .enter-at .ensures .1) _ _ _ _ _ _ (w .word .ensures) (b .without .ensures) (r .record-of .ensures) (q .cut .ensures) (e .enter-at .ensures .0) (t .thread .ensures))
 
 pub lend-spec : {M : Type 1} → statement M
 lend-spec =

@@ -16,11 +16,11 @@ abbrev μ-loop : tie.MeasureT-loop
 loop-holds : tie.Need-loop-holds Inv-loop μ-loop
 loop-holds c = (c .before .pre .0, refl, refl)
 
-cell-requires : tie.Need-cell-requires Inv-loop μ-loop
-cell-requires c κs = search needs
+word-at-requires : tie.Need-word-at-requires Inv-loop μ-loop
+word-at-requires c κs = search needs
 
-put-cell-requires : tie.Need-put-cell-requires Inv-loop μ-loop
-put-cell-requires c κs = search needs
+put-word-at-requires : tie.Need-put-word-at-requires Inv-loop μ-loop
+put-word-at-requires c κs = search needs
 
 add-i : tie.Need-add-i Inv-loop μ-loop
 add-i c = search needs
@@ -37,7 +37,7 @@ loop-again c =
     let a = s .args in (
       omega arith,
       search needs,
-      rest-next (a .n) (l .loop .i) (a .a) (a .b) (l .loop .t) (omega (arith, l .loop .inv .1, s .pre .1)) (search needs) _ (f .cell .ensures) (p .before .before .if1 .taken) _ (p .put-cell .ensures) ∙ l .loop .inv .2,
+      rest-next (a .n) (l .loop .i) (a .a) (a .b) (l .loop .t) (omega (arith, l .loop .inv .1, s .pre .1)) (search needs) _ (f .word-at .ensures) (p .before .before .if1 .taken) _ (p .put-word-at .ensures) ∙ l .loop .inv .2,
     )
 
 same-length : tie.Need-same-length Inv-loop μ-loop
@@ -48,7 +48,7 @@ returns c =
     let l = c .before .before .before .before in
     let s = l .before .before in
     let a = s .args in
-    sym (rest-stop (a .n) (l .loop .i) (a .a) (a .b) (l .loop .t) (omega (arith, l .loop .inv .1, s .pre .1)) (search needs) _ (c .before .cell .ensures) (c .if1 .left)) ∙ l .loop .inv .2
+    sym (rest-stop (a .n) (l .loop .i) (a .a) (a .b) (l .loop .t) (omega (arith, l .loop .inv .1, s .pre .1)) (search needs) _ (c .before .word-at .ensures) (c .if1 .left)) ∙ l .loop .inv .2
 
 same-length-2 : tie.Need-same-length-2 Inv-loop μ-loop
 same-length-2 c = c .before .loop .inv .1
@@ -67,8 +67,8 @@ rename-spec =
     Inv-loop
     μ-loop
     loop-holds
-    cell-requires
-    put-cell-requires
+    word-at-requires
+    put-word-at-requires
     add-i
     loop-less
     loop-again

@@ -1,6 +1,7 @@
 use borrow.Author.Needs.{needs}
+use native.Mathlib.Omega.{arith}
 use Rattle.freelist_regions.proofs.Standing.{regions-part}
-use Rattle.freelist_regions.proofs.Joining.{reach-some, can-settle, can-rename, joined}
+use Rattle.freelist_regions.proofs.Joining.{can-settle, can-rename, joined}
 use Rattle.freelist_regions.proofs.joins.join_region.Statement.{statement}
 use Rattle.freelist_regions.proofs.joins.join_region.Tie as tie
 
@@ -23,7 +24,8 @@ reach-requires c κs =
     let o = p .before .before in
     let s = o .before .before .before in
     let a = s .args in
-    reach-some (a .t .now) (a .n) (o .stands-at .result) (a .b) (a .loan) (a .front) (s .pre .0) (s .pre .1) (s .pre .2) (s .pre .3) (s .pre .4) (o .stands-at .ensures) (p .touches-before .result) (q .touches-next .result) (p .touches-before .ensures) (q .touches-next .ensures)
+    let z = can-settle (a .t .now) (a .n) (o .stands-at .result) (a .b) (a .loan) (a .front) (s .pre .0) (s .pre .1) (s .pre .2) (s .pre .3) (s .pre .4) (o .stands-at .ensures) (p .touches-before .result) (q .touches-next .result) (p .touches-before .ensures) (q .touches-next .ensures) in
+    (z .some, omega (arith, z .most, z .room), λ e. let h = z .under e in omega (arith, h, z .room))
 
 settle-requires : tie.Need-settle-requires
 settle-requires c κs =

@@ -15,7 +15,10 @@ sub-put-gap : tie.Need-sub-put-gap
 sub-put-gap c = c .before .before .before .before .before .before .before .before .pre .some (c .before .before .before .before .before .before .if1 .taken)
 
 put-gap-requires : tie.Need-put-gap-requires
-put-gap-requires c κs = search needs
+put-gap-requires c κs =
+    let s = c .before .before .before .before .before .before .before .before in
+    let h = s .pre .some (c .before .before .before .before .before .before .if1 .taken) in
+    omega (arith, h, s .pre .most, s .pre .room)
 
 sub-result : tie.Need-sub-result
 sub-result c = let s = c .before .before .before .before .before .before .before .before .before .before .before in some _ _ (s .pre .under (c .before .before .before .before .before .before .before .before .if2 .taken))
@@ -33,7 +36,10 @@ sub-put-gap-2 : tie.Need-sub-put-gap-2
 sub-put-gap-2 c = c .before .before .before .before .pre .some (c .before .before .if1 .taken)
 
 put-gap-requires-2 : tie.Need-put-gap-requires-2
-put-gap-requires-2 c κs = search needs
+put-gap-requires-2 c κs =
+    let s = c .before .before .before .before in
+    let h = s .pre .some (c .before .before .if1 .taken) in
+    omega (arith, h, s .pre .most, s .pre .room)
 
 same-length-2 : tie.Need-same-length-2
 same-length-2 c = search needs
@@ -45,7 +51,10 @@ returns-2 c =
     settles-before (a .before) (a .next) (a .n) (a .k) (a .t .now) (s .pre) (a .g) (c .before .before .before .before .before .if1 .taken) (c .before .before .before .before .if2 .left) _ (c .before .before .put-gap2 .ensures)
 
 put-gap-requires-3 : tie.Need-put-gap-requires-3
-put-gap-requires-3 c κs = search needs
+put-gap-requires-3 c κs =
+    let s = c .before .before .before .before in
+    let h = s .pre .under (c .before .if3 .taken) in
+    omega (arith, h, s .pre .room)
 
 same-length-3 : tie.Need-same-length-3
 same-length-3 c = search needs
@@ -60,7 +69,10 @@ open-row-requires : tie.Need-open-row-requires
 open-row-requires c κs = search needs
 
 put-gap-requires-4 : tie.Need-put-gap-requires-4
-put-gap-requires-4 c κs = search needs
+put-gap-requires-4 c κs =
+    let s = c .before .before .before .before .before .before .before .before in
+    let h = s .pre .more (c .before .before .before .before .before .before .if1 .left) (c .before .before .before .before .before .if3 .left) in
+    omega (arith, h, s .pre .most)
 
 add-result : tie.Need-add-result
 add-result c = search needs

@@ -8,6 +8,7 @@ use native.Mathlib.Omega.{arith}
 use Rattle.lists.proofs.Bools.{lt-or-le}
 use Rattle.rounding_rules.proofs.Raising.{down-enough}
 use Rattle.store_rules.specs.declared.Region.{Region}
+use Rattle.freelist_rules.specs.Records.{region}
 use Rattle.freelist_rules.specs.Place.{cut, fitsIn}
 use Rattle.freelist_regions.proofs.search.is_long.Statement.{statement}
 use Rattle.freelist_regions.proofs.search.is_long.Tie as tie
@@ -27,7 +28,7 @@ wrapping-sub-u64-requires c κs = search needs
 returns : tie.Need-returns
 returns c =
     let a = c .before .args in
-    λ e mask. short mask (a .size) (c .wrapping-sub-u64 .result) (a .r) (omega arith) (omega arith) (c .wrapping-sub-u64 .ensures) (leb-false _ _ e)
+    λ e mask chunk. short mask (a .size) (c .wrapping-sub-u64 .result) (region chunk (a .start) (a .end)) (omega arith) (omega arith) (c .wrapping-sub-u64 .ensures) (leb-false _ _ e)
 
 pub is-long-spec : {M : Type 1} → statement M
 is-long-spec = tie.close (tie.spec wrapping-sub-u64-requires returns)

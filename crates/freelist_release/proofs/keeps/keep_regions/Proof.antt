@@ -1,8 +1,13 @@
 use borrow.Author.Needs.{needs}
-use Prim.Native.Nat.{_-_, _≤_}
+use mathlib.Core.Path.{_≡_}
+use mathlib.Core.Bool.{Bool}
+use mathlib.Core.List.{List}
+use Prim.Native.Nat.{ℕ, _+_, _*_, _-_, _≤_}
 use native.Mathlib.Omega.{arith}
+use lib.ListN.{length}
 use Rattle.words.specs.Rows.{rows}
-use Rattle.freelist_rules.specs.Records.{chunkRow, gapRow}
+use Rattle.freelist_rules.specs.Records.{chunkRow, gapRow, regionWords}
+use Rattle.store_rules.specs.declared.Chunk.{Chunk}
 use Rattle.freelist_rules.specs.Threads.{stayingGaps}
 use Rattle.freelist_release.proofs.Keeping.{kept-none, kept-length}
 use Rattle.freelist_release.proofs.Turns.{KeptRegions, region-past, region-more, regions-done}
@@ -42,11 +47,23 @@ loop-again c =
       region-past (rows chunkRow (a .k) (a .chunks .now)) (a .spare) (a .regions .now) (a .n) (l .loop .regions) (l .loop .i) (l .loop .kept) (l .loop .inv .1) (search needs) (s .pre .0) _ (g .goes-at .ensures) (c .if1 .taken),
     )
 
+-- the table is as long as it was
+long : (cs : List Chunk) (spare : Bool) (t u : List ℕ) (n i kept : ℕ) → KeptRegions cs spare t n u i kept → i ≤ n → regionWords + regionWords * n ≤ length t → length u ≡ length t
+long cs spare t u n i kept now h room = kept-length gapRow (stayingGaps cs spare) (rows gapRow n t) t u i kept now n h room
+
 gap-at-requires : tie.Need-gap-at-requires Inv-loop μ-loop
-gap-at-requires c κs = search needs
+gap-at-requires c κs =
+    let l = c .before .before .before .before .before in
+    let s = l .before .before .before in
+    let a = s .args in
+    omega (arith, s .pre .0, long (rows chunkRow (a .k) (a .chunks .now)) (a .spare) (a .regions .now) (l .loop .regions) (a .n) (l .loop .i) (l .loop .kept) (l .loop .inv .1) (search needs) (s .pre .0))
 
 put-gap-requires : tie.Need-put-gap-requires Inv-loop μ-loop
-put-gap-requires c κs = search needs
+put-gap-requires c κs =
+    let l = c .before .before .before .before .before .before .before in
+    let s = l .before .before .before in
+    let a = s .args in
+    omega (arith, s .pre .0, l .loop .inv .1 .within, long (rows chunkRow (a .k) (a .chunks .now)) (a .spare) (a .regions .now) (l .loop .regions) (a .n) (l .loop .i) (l .loop .kept) (l .loop .inv .1) (search needs) (s .pre .0))
 
 add-kept : tie.Need-add-kept Inv-loop μ-loop
 add-kept c = let l = c .before .before .before .before .before .before .before .before .before .before in omega (arith, l .loop .inv .1 .within)
@@ -75,7 +92,7 @@ same-length c =
     let l = c .before in
     let s = l .before .before .before in
     let a = s .args in
-    kept-length gapRow (stayingGaps (rows chunkRow (a .k) (a .chunks .now)) (a .spare)) (rows gapRow (a .n) (a .regions .now)) (a .regions .now) (l .loop .regions) (l .loop .i) (l .loop .kept) (l .loop .inv .1) (a .n) (search needs) (s .pre .0)
+    long (rows chunkRow (a .k) (a .chunks .now)) (a .spare) (a .regions .now) (l .loop .regions) (a .n) (l .loop .i) (l .loop .kept) (l .loop .inv .1) (search needs) (s .pre .0)
 
 returns : tie.Need-returns Inv-loop μ-loop
 returns c =
