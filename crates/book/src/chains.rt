@@ -116,5 +116,5 @@ fn is_link(loans: &[u64], n: u64, places: u64, i: u64, most: u64, p: u64) -> boo
         return false;
     }
     let s = serial_of(loans, p as usize);
-    (0 < s) & ((s <= most) & (s % n == i))
+    (0 < s) & ((s <= most) & (rounding::remainder(s, n) == i))
 }

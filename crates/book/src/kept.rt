@@ -1,6 +1,7 @@
 // The test of a book.
 ghost use mathlib.Core.Path.{_≡_};
-ghost use Prim.Native.Nat.{_+_, _*_, _≤_, _<_};
+ghost use mathlib.Core.Bool.{true};
+ghost use Prim.Native.Nat.{_+_, _-_, _*_, _≤_, _<_};
 ghost use lib.ListN.{length};
 ghost use Rattle.counter.specs.Limits.{loansMost};
 ghost use Rattle.slab.specs.Slab.{vacantAt};
@@ -15,16 +16,27 @@ use crate::VACATED_AT;
 use store_rules::LOAN_WORDS;
 use store_rules::SIZE_AT;
 
-// Whether the places of the loans are parted into used and vacant ones, and the chains lead to each loan.
-pub fn is_kept(loans: &[u64], index: &[u64], n: usize, places: u64, given: u64) -> bool
+// Whether a book is right, and how many loans it has where it is.
+pub struct Kept {
+    pub ok: bool,
+    pub live: u64,
+}
+
+// Whether the places of the loans are parted into used and vacant ones, and the chains lead to each loan; the vacant ones are
+// counted once.
+pub fn are_kept(loans: &[u64], index: &[u64], n: usize, places: u64, given: u64) -> Kept
     requires { ⌜ (0 < n) × (n ≤ loansMost) × (length (now loans) ≡ loanWords + loanWords * n) × (indexWords n ≤ length (now index)) ⌝ }
-    ensures { λ r. ⌜ r ≡ keptOk (now (loans .entry)) (now (index .entry)) n places given ⌝ }
+    ensures { λ r. ⌜ r .ok ≡ keptOk (now (loans .entry)) (now (index .entry)) n places given ⌝ }
+    ensures { λ r. ⌜ (r .ok ≡ true → r .live ≡ places - vacancies (vacantAt (now (loans .entry)) sizeAt loanWords) places) × (r .live ≤ places) ⌝ }
 {
     if (n as u64) < places {
-        return false;
+        return Kept { ok: false, live: 0 };
     }
-    let vacant = slab::count_vacant(loans, SIZE_AT, LOAN_WORDS, places);
-    is_led(loans, index, n, places, given, vacant)
+    let vacant = count_vacant(loans, places);
+    Kept {
+        ok: is_led(loans, index, n, places, given, vacant),
+        live: places - vacant,
+    }
 }
 
 // The same of places that are not too many, of which so many are vacant.
@@ -48,4 +60,20 @@ pub fn is_led(loans: &[u64], index: &[u64], n: usize, places: u64, given: u64, v
         return false;
     }
     crate::chains::is_chained(loans, index, n, places, given, vacant)
+}
+
+// How many of the first n places are vacant, of a table that has them all.
+fn count_vacant(loans: &[u64], n: u64) -> u64
+    requires { ⌜ loanWords + loanWords * n ≤ length (now loans) ⌝ }
+    ensures { λ r. ⌜ r ≡ vacancies (vacantAt (now (loans .entry)) sizeAt loanWords) n ⌝ }
+{
+    let mut count = 0;
+    let mut p = 0;
+    while p < n {
+        if loans[SIZE_AT + LOAN_WORDS * p as usize] == 0 {
+            count += 1;
+        }
+        p += 1;
+    }
+    count
 }

@@ -2,7 +2,8 @@
 mod chains;
 mod kept;
 
-pub use kept::is_kept;
+pub use kept::Kept;
+pub use kept::are_kept;
 pub use kept::is_led;
 ghost use mathlib.Core.Path.{_≡_};
 ghost use Prim.Native.Nat.{_%_, _≤_, _<_};
@@ -12,7 +13,7 @@ ghost use Rattle.words.specs.Words.{cellOf};
 ghost use Rattle.words.specs.Rows.{row, written};
 ghost use Rattle.slab.specs.Slab.{recordOf};
 ghost use Rattle.store_rules.specs.Loans.{placesAt, loanWords, serialAt, sizeAt, loanRow};
-ghost use Rattle.book_rules.specs.Ready.{Opens, Strikes};
+ghost use Rattle.book_rules.specs.Ready.{Reads, Opens, Strikes};
 ghost use Rattle.book_rules.specs.Book.{entryWords, vacatedAt, vacantAfterAt, indexWords, firstOf, nextOf, takenOf, counted, wordTo, struck, struckIndex};
 use slab::NOWHERE;
 use slab::Slab;
@@ -46,6 +47,33 @@ pub fn next_place(places: u64, index: &[u64]) -> Taken
         vacant: slab::led_to(index, VACATED_AT),
     };
     s.insert(index, VACANT_AFTER_AT, ENTRY_WORDS)
+}
+
+// The same of an index that has an entry for each of these places.
+pub fn next_place_in(places: u64, index: &[u64]) -> Taken
+    requires { ⌜ indexWords places ≤ length (now index) ⌝ }
+    ensures { λ r. ⌜ r ≡ takenOf places (now (index .entry)) ⌝ }
+{
+    let last = slab::place_of(index[VACATED_AT]);
+    if last < places {
+        let after = VACANT_AFTER_AT + ENTRY_WORDS * last as usize;
+        let next = slab::place_of(index[after]);
+        return Taken {
+            place: last,
+            slab: Slab {
+                places: places,
+                vacant: next,
+            },
+        };
+    }
+    let more = std::num::wrapping_add_u64(places, 1);
+    Taken {
+        place: places,
+        slab: Slab {
+            places: more,
+            vacant: last,
+        },
+    }
 }
 
 // The loan at a place. One test serves for its four words.
@@ -114,7 +142,7 @@ pub fn enter_at(loans: &mut [u64], index: &mut [u64], n: usize, t: Taken, l: Loa
     ensures { λ _. ⌜ now (index .exit) ≡ set (set (set (now (index .entry)) vacatedAt (recordOf (t .slab .vacant))) (nextOf (t .place)) (getD (now (index .entry)) (firstOf (l .serial % n)) 0)) (firstOf (l .serial % n)) (recordOf (t .place)) ⌝ }
 {
     let s = t.slab;
-    let i = l.serial % n as u64;
+    let i = rounding::remainder(l.serial, n as u64);
     let first = first_word(index, n, l.serial);
     count(loans, l.serial, s.places);
     write_loan(loans, t.place as usize, l);
@@ -126,7 +154,7 @@ fn first_word(index: &[u64], n: usize, serial: u64) -> u64
     requires { ⌜ (0 < n) × (n ≤ loansMost) × (indexWords n ≤ length (now index)) ⌝ }
     ensures { λ r. ⌜ r ≡ getD (now (index .entry)) (firstOf (serial % n)) 0 ⌝ }
 {
-    let i = serial % n as u64;
+    let i = rounding::remainder(serial, n as u64);
     let at = FIRST_AT + ENTRY_WORDS * i as usize;
     index[at]
 }
@@ -146,18 +174,18 @@ fn put_first(index: &mut [u64], i: usize, p: u64, first: u64, vacated: u64)
 // The word of the index that leads to the loan with this serial, or NOWHERE. At most `places` turns, so that links that lead round in
 // a ring end too.
 pub fn word_to(loans: &[u64], index: &[u64], n: usize, places: u64, serial: u64) -> u64
-    requires { ⌜ (0 < n) × (n ≤ loansMost) × (places ≤ loansMost) ⌝ }
+    requires { ⌜ Reads n places (now loans) (now index) ⌝ }
     ensures { λ r. ⌜ r ≡ wordTo (now (loans .entry)) (now (index .entry)) n places serial ⌝ }
 {
-    let i = serial % n as u64;
+    let i = rounding::remainder(serial, n as u64);
     let mut at = FIRST_AT + ENTRY_WORDS * i as usize;
     let mut left = places;
     while 0 < left {
-        let p = slab::led_to(index, at);
+        let p = slab::place_of(index[at]);
         if places <= p {
             return NOWHERE;
         }
-        if words::word(loans, SERIAL_AT + LOAN_WORDS * p as usize) == serial {
+        if loans[SERIAL_AT + LOAN_WORDS * p as usize] == serial {
             return at as u64;
         }
         at = NEXT_AT + ENTRY_WORDS * p as usize;

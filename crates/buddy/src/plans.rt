@@ -14,6 +14,8 @@ ghost use Rattle.buddy.specs.Deliveries.{deliveryOf};
 ghost use Rattle.buddy.specs.Ready.{Delivers};
 use buddy_decide::Buying;
 use buddy_decide::Plan;
+use buddy_decide::Tried;
+use buddy_decide::decide_buy;
 use buddy_gate::Passing;
 use counter::Block;
 use counter::BuddySettings;
@@ -47,6 +49,7 @@ pub fn plan_set_up(
     Gate::Shut(Refusal::Setup)
 }
 
+// Heap, objects and chunks are looked at only where a chunk is needed.
 pub fn plan_ask(
     s: BuddySettings,
     share: Share,
@@ -65,19 +68,15 @@ pub fn plan_ask(
     match g {
         Gate::Shut(refusal) => Plan::Refuse(refusal),
         Gate::Go => {
-            let heap = share.heap;
-            buddy_decide::decide(
-                s,
-                heap,
-                share.objects,
-                size,
-                mask,
-                head,
-                loans,
-                chunks,
-                index,
-                tree,
-            )
+            let tried = buddy_decide::try_held(s, size, mask, head, loans, index, tree);
+            match tried {
+                Tried::Refuse(refusal) => Plan::Refuse(refusal),
+                Tried::Take(t) => Plan::Take(t),
+                Tried::Need(n) => {
+                    let heap = share.heap;
+                    decide_buy(s, heap, share.objects, n, head, loans, chunks, index, tree)
+                }
+            }
         }
     }
 }

@@ -14,6 +14,7 @@ use Rattle.book_rules.specs.Book.{ledTo, struck, struckIndex}
 use Rattle.buddy_rules.specs.Level.{levelStart}
 use Rattle.buddy_rules.specs.Tables.{Tables, tables, levelsAt, chunkWords, chunkSizeAt, afterAt, placeWords, nodesFrom}
 use Rattle.buddy_rules.specs.Moves.{Climbed, climbed}
+use Rattle.buddy_moves.specs.Footing.{Footing}
 use Rattle.buddy_outcomes.specs.Return.{climbFor, vacatedTree, givenTables}
 
 -- a chunk's place vacated
@@ -27,11 +28,17 @@ vacated-done s c at last r tree t₁ t′ e f g k h =
     ∙ (λ j. set (set tree (cellOf (e j + (placeWords + afterAt)) placeWords c) (getD tree (e j) 0)) (e j) (recordOf c))
 
 module _ (s : BuddySettings) (b : Block) (w : ℕ) (head index tree : List ℕ) (levels level k at node : ℕ) (top : levels ≡ getD head levelsAt 0) (low : level ≡ levelOf (b .size) (s .minimal)) (leads : k ≡ ledTo index w) (beside : at ≡ nodesFrom s + (k + 1)) (reads : node ≡ getD index at 0) where
+  node-is : node ≡ getD index (nodesFrom s + (ledTo index w + 1)) 0
+  node-is = reads ∙ ap (λ (i : ℕ). getD index i 0) beside ∙ ap (λ (x : ℕ). getD index (nodesFrom s + (x + 1)) 0) leads
+
   -- the climb from the node that was read
   pub climb-is : climbed (s .pairs) (levels - level) level node tree ≡ climbFor s b w (tables head [] [] index tree)
-  climb-is =
-      let e : node ≡ getD index (nodesFrom s + (ledTo index w + 1)) 0 = reads ∙ ap (λ (i : ℕ). getD index i 0) beside ∙ ap (λ (x : ℕ). getD index (nodesFrom s + (x + 1)) 0) leads in
-      (λ j. climbed (s .pairs) (top j - low j) (low j) (e j) tree)
+  climb-is = λ j. climbed (s .pairs) (top j - low j) (low j) (node-is j) tree
+
+  -- its way up
+  pub climb-foot : Footing (s .pairs) (getD head levelsAt 0 - levelOf (b .size) (s .minimal)) (levelOf (b .size) (s .minimal)) (getD index (nodesFrom s + (ledTo index w + 1)) 0) tree
+      → Footing (s .pairs) (levels - level) level node tree
+  climb-foot h = rw (top, low, node-is) h
 
 -- the tables when the block is taken back, by what the climb came to
 module _ (s : BuddySettings) (b : Block) (w : ℕ) (head loans chunks index tree t₁ : List ℕ) (freed : Bool) where

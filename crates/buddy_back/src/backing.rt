@@ -46,16 +46,17 @@ pub fn strike_out(
     index: &mut [u64],
     tree: &mut [u64],
 ) -> bool
-    requires { ⌜ Backs s b at (tables (now head) (now loans) [] (now index) []) ⌝ }
+    requires { ⌜ Backs s b at (tables (now head) (now loans) [] (now index) (now tree)) ⌝ }
     ensures { λ r. ⌜ r ≡ climbFor s b at (tables (now (head .entry)) [] [] (now (index .entry)) (now (tree .entry))) .freed ⌝ }
     ensures { λ _. ⌜ now (tree .exit) ≡ climbFor s b at (tables (now (head .entry)) [] [] (now (index .entry)) (now (tree .entry))) .room ⌝ }
     ensures { λ _. ⌜ (now (loans .exit) ≡ struck at (now (index .entry)) (now (loans .entry))) × (now (index .exit) ≡ struckIndex at (now (index .entry))) ⌝ }
 {
     let own = s.store;
-    let levels = words::word(head, LEVELS_AT) as usize;
+    let levels = head[LEVELS_AT] as usize;
     let level = rounding::level(b.size, s.minimal) as usize;
-    let p = slab::led_to(index, at);
-    let node = words::word(index, buddy_levels::node_at(own.loans, p));
+    let p = slab::place_of(index[at]);
+    let from = buddy_levels::node_at(own.loans, p);
+    let node = index[from];
     book::strike(loans, index, at, p);
     buddy_moves::climb(tree, s.pairs, level, levels - level, node)
 }

@@ -2,5 +2,6 @@
 pub mod Asking
 pub mod Known
 pub mod Reading
+pub mod Seeing
 pub mod Shows
 pub mod Tests

@@ -3,16 +3,18 @@ ghost use mathlib.Core.Path.{_≡_};
 ghost use mathlib.Core.Bool.{true};
 ghost use mathlib.Core.List.{List, []};
 ghost use Prim.Native.Nat.{ℕ, _≤_, _<_};
-ghost use lib.ListN.{getD};
+ghost use lib.ListN.{length, getD};
 ghost use Rattle.rounding_rules.specs.Raising.{levelOf};
 ghost use Rattle.counter.specs.Gate.{first};
 ghost use Rattle.counter.specs.InTable.{BuddyIn};
 ghost use Rattle.counter.specs.Limits.{levelsMost};
-ghost use Rattle.store_rules.specs.Loans.{placesAt};
-ghost use Rattle.book_rules.specs.Book.{takenOf};
+ghost use Rattle.store_rules.specs.Loans.{givenAt, placesAt};
+ghost use Rattle.book_rules.specs.Book.{indexWords, takenOf};
 ghost use Rattle.buddy_rules.specs.Level.{ringHead};
 ghost use Rattle.buddy_rules.specs.Tables.{tables, levelsAt, levelFrom};
+ghost use Rattle.buddy_levels.specs.Stands.{Takes};
 ghost use Rattle.buddy_outcomes.specs.Ask.{nowhere, grownTo, fitsAt, lateRow, orderBytes, planned, decideAsk};
+ghost use Rattle.buddy_decide.specs.Sees.{Sees};
 ghost use Rattle.buddy_decide.specs.Plans.{planOf, PlannedAt, Planned, placesRoom, TryTake, TrySized, TryOf};
 use crate::plans::Buying;
 use crate::plans::Needing;
@@ -32,9 +34,18 @@ use store_rules::PLACES_AT;
 
 // The place of the book that a loan takes next.
 fn next_loan(loans: &[u64], index: &[u64]) -> Taken
+    requires { ⌜ (placesAt < length (now loans)) × (indexWords (getD (now loans) placesAt 0) ≤ length (now index)) ⌝ }
     ensures { λ r. ⌜ r ≡ takenOf (getD (now (loans .entry)) placesAt 0) (now (index .entry)) ⌝ }
 {
-    book::next_place(words::word(loans, PLACES_AT), index)
+    book::next_place_in(loans[PLACES_AT], index)
+}
+
+// How many serials are given.
+fn given_in(loans: &[u64]) -> u64
+    requires { ⌜ givenAt < length (now loans) ⌝ }
+    ensures { λ r. ⌜ r ≡ getD (now (loans .entry)) givenAt 0 ⌝ }
+{
+    loans[GIVEN_AT]
 }
 
 // The head pair of a level serves, whatever the chunks.
@@ -49,10 +60,10 @@ fn try_take(
     index: &[u64],
     tree: &[u64],
 ) -> Tried
-    requires { ⌜ BuddyIn s × (getD (now head) levelsAt 0 ≤ levelsMost) × (level ≤ from) × (from ≤ levelsMost) × (pair ≡ ringHead (levelFrom s from) (now tree)) ⌝ }
+    requires { ⌜ Sees s (now head) (now loans) (now index) (now tree) × (level ≤ from) × (from ≤ levelsMost) × (pair ≡ ringHead (levelFrom s from) (now tree)) ⌝ }
     ensures { λ r. ⌜ ((chunks : List ℕ) → TryTake s size level from (tables (now (head .entry)) (now (loans .entry)) chunks (now (index .entry)) (now (tree .entry))) r) ⌝ }
 {
-    let levels = words::word(head, LEVELS_AT);
+    let levels = head[LEVELS_AT];
     let loan = next_loan(loans, index);
     let own = s.store;
     if own.loans as u64 <= loan.place {
@@ -61,7 +72,7 @@ fn try_take(
     if !crate::seeking::has_pairs(s.pairs, level, from - level, levels, tree) {
         return Tried::Refuse(Refusal::Full);
     }
-    if words::word(loans, GIVEN_AT) == u64::MAX {
+    if given_in(loans) == u64::MAX {
         return Tried::Refuse(Refusal::Count);
     }
     Tried::Take(Taking {
@@ -83,7 +94,7 @@ fn has_room(
     head: &[u64],
     tree: &[u64],
 ) -> bool
-    requires { ⌜ BuddyIn s × (getD (now head) levelsAt 0 ≤ levelsMost) × (level ≤ top) × (top ≤ levelsMost) ⌝ }
+    requires { ⌜ BuddyIn s × (getD (now head) levelsAt 0 ≤ levelsMost) × (level ≤ top) × (top ≤ levelsMost) × ((l : ℕ) → l < getD (now head) levelsAt 0 → Takes (levelFrom s l) (now tree)) ⌝ }
     ensures { λ r. ⌜ r ≡ placesRoom s level top loan chunk (tables (now (head .entry)) [] [] [] (now (tree .entry))) ⌝ }
 {
     let own = s.store;
@@ -104,7 +115,7 @@ pub fn decide_buy(
     index: &[u64],
     tree: &[u64],
 ) -> Plan
-    requires { ⌜ BuddyIn s × (getD (now head) levelsAt 0 ≤ levelsMost) × (n .level < levelsMost) × (n .order ≡ orderBytes s (n .level) (tables (now head) [] [] [] [])) × (n .levels ≡ grownTo (n .level) (tables (now head) [] [] [] [])) ⌝ }
+    requires { ⌜ Sees s (now head) (now loans) (now index) (now tree) × (n .level < levelsMost) × (n .order ≡ orderBytes s (n .level) (tables (now head) [] [] [] [])) × (n .levels ≡ grownTo (n .level) (tables (now head) [] [] [] [])) ⌝ }
     ensures { λ r. ⌜ planOf r ≡ planned s (n .level) (tables (now (head .entry)) (now (loans .entry)) (now (chunks .entry)) (now (index .entry)) (now (tree .entry))) nowhere (first (lateRow s h objects (n .level) (tables (now (head .entry)) (now (loans .entry)) (now (chunks .entry)) (now (index .entry)) (now (tree .entry))) nowhere)) ⌝ }
     ensures { λ r. ⌜ PlannedAt s (n .size) (n .level) (tables (now (head .entry)) (now (loans .entry)) (now (chunks .entry)) (now (index .entry)) (now (tree .entry))) r ⌝ }
 {
@@ -139,14 +150,14 @@ fn try_sized(
     index: &[u64],
     tree: &[u64],
 ) -> Tried
-    requires { ⌜ BuddyIn s × (getD (now head) levelsAt 0 ≤ levelsMost) × (fitsAt levelsMost s size ≡ true → levelOf size (s .minimal) < levelsMost) ⌝ }
+    requires { ⌜ Sees s (now head) (now loans) (now index) (now tree) × (fitsAt levelsMost s size ≡ true → levelOf size (s .minimal) < levelsMost) ⌝ }
     ensures { λ r. ⌜ ((chunks : List ℕ) → TrySized s size (levelOf size (s .minimal)) (tables (now (head .entry)) (now (loans .entry)) chunks (now (index .entry)) (now (tree .entry))) r) ⌝ }
 {
     if buddy_levels::node_bytes(s.minimal, LEVELS_MOST as u64) <= size {
         return Tried::Refuse(Refusal::Size);
     }
     let level = rounding::level(size, s.minimal) as u64;
-    let levels = words::word(head, LEVELS_AT);
+    let levels = head[LEVELS_AT];
     let found = crate::seeking::seek(s.minimal, s.pairs, level, levels, tree);
     match found {
         Found::At(pair, from) => try_take(s, size, level, from, pair, head, loans, index, tree),
@@ -169,7 +180,7 @@ pub fn try_held(
     index: &[u64],
     tree: &[u64],
 ) -> Tried
-    requires { ⌜ BuddyIn s × (getD (now head) levelsAt 0 ≤ levelsMost) ⌝ }
+    requires { ⌜ Sees s (now head) (now loans) (now index) (now tree) ⌝ }
     ensures { λ r. ⌜ ((chunks : List ℕ) → TryOf s size mask (tables (now (head .entry)) (now (loans .entry)) chunks (now (index .entry)) (now (tree .entry))) r) ⌝ }
 {
     if !counter::is_alignment(mask) {
@@ -198,7 +209,7 @@ pub fn decide(
     index: &[u64],
     tree: &[u64],
 ) -> Plan
-    requires { ⌜ BuddyIn s × (getD (now head) levelsAt 0 ≤ levelsMost) ⌝ }
+    requires { ⌜ Sees s (now head) (now loans) (now index) (now tree) ⌝ }
     ensures { λ r. ⌜ planOf r ≡ decideAsk s h objects size mask (tables (now (head .entry)) (now (loans .entry)) (now (chunks .entry)) (now (index .entry)) (now (tree .entry))) ⌝ }
     ensures { λ r. ⌜ Planned s size mask (tables (now (head .entry)) (now (loans .entry)) (now (chunks .entry)) (now (index .entry)) (now (tree .entry))) r ⌝ }
 {

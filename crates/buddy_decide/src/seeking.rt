@@ -1,9 +1,12 @@
 // The search upward for a level with a ready side, and whether there are pairs for the split down.
 ghost use mathlib.Core.Path.{_≡_};
 ghost use mathlib.Core.List.{[]};
-ghost use Prim.Native.Nat.{_+_, _^_, max, _≤_, _<_};
+ghost use Prim.Native.Nat.{ℕ, _+_, _^_, max, _≤_, _<_};
+ghost use lib.ListN.{length};
 ghost use Rattle.counter.specs.Limits.{levelsMost, pairsMost, minimalBits};
+ghost use Rattle.buddy_rules.specs.Level.{levelStart};
 ghost use Rattle.buddy_levels.specs.Seen.{partSettings, levelPart};
+ghost use Rattle.buddy_levels.specs.Stands.{Takes};
 ghost use Rattle.buddy_outcomes.specs.Ask.{pairsRoom, chunkTaken};
 ghost use Rattle.buddy_decide.specs.Sought.{sought};
 use buddy_levels::RING_AT;
@@ -35,7 +38,7 @@ fn grown(level: u64, levels: u64) -> u64
 // From this level on: the first with a ready side ends the search. Where none has, the chunk to order is a node of the level
 // above the top.
 pub fn seek(minimal: u64, pairs: usize, level: u64, levels: u64, tree: &[u64]) -> Found
-    requires { ⌜ (minimal ≤ 2 ^ minimalBits) × (pairs ≤ pairsMost) × (level < levelsMost) × (levels ≤ levelsMost) ⌝ }
+    requires { ⌜ (minimal ≤ 2 ^ minimalBits) × (pairs ≤ pairsMost) × (level < levelsMost) × (levels ≤ levelsMost) × (levelStart pairs levelsMost ≤ length (now tree)) ⌝ }
     ensures { λ r. ⌜ r ≡ sought minimal pairs level levels (now (tree .entry)) ⌝ }
 {
     let mut l = level;
@@ -44,7 +47,7 @@ pub fn seek(minimal: u64, pairs: usize, level: u64, levels: u64, tree: &[u64]) -
             let top = grown(level, levels);
             break Found::Order(buddy_levels::node_bytes(minimal, top), top);
         }
-        let head = slab::led_to(tree, level_from(pairs, l as usize) + RING_AT);
+        let head = slab::place_of(tree[level_from(pairs, l as usize) + RING_AT]);
         if head != NOWHERE {
             break Found::At(head, l);
         }
@@ -56,6 +59,7 @@ pub fn seek(minimal: u64, pairs: usize, level: u64, levels: u64, tree: &[u64]) -
 // Whether each of n levels from this one on has a place for a new pair; one that is not there yet has.
 pub fn has_pairs(pairs: usize, level: u64, n: u64, levels: u64, tree: &[u64]) -> bool
     requires { ⌜ (pairs ≤ pairsMost) × (levels ≤ levelsMost) × (level + n ≤ levelsMost) ⌝ }
+    requires { ⌜ ((l : ℕ) → l < levels → Takes (levelStart pairs l) (now tree)) ⌝ }
     ensures { λ r. ⌜ r ≡ pairsRoom (partSettings 0 pairs 0) (levelPart levels [] (now (tree .entry))) level n ⌝ }
 {
     let mut i = 0;

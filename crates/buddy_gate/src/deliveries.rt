@@ -1,14 +1,12 @@
 // The gate of a delivery: the tests 1 to 4, of which 3 tests the kept ask again. What that ask needs goes on to what carries it out.
 ghost use mathlib.Core.Path.{_≡_};
-ghost use Prim.Native.Nat.{_≤_};
-ghost use lib.ListN.{getD};
 ghost use Rattle.counter.specs.InTable.{BuddyIn};
-ghost use Rattle.counter.specs.Limits.{levelsMost};
 ghost use Rattle.store_rules.specs.Orders.{leadsTo};
 ghost use Rattle.store_rules.proofs.Holders.{holding};
-ghost use Rattle.buddy_rules.specs.Tables.{tables, levelsAt, Lengths};
+ghost use Rattle.buddy_rules.specs.Tables.{tables, Lengths};
 ghost use Rattle.buddy_outcomes.specs.Ask.{decideAsk};
 ghost use Rattle.buddy_outcomes.specs.Deliver.{deliverGateOf};
+ghost use Rattle.buddy_decide.specs.Sees.{Sees};
 ghost use Rattle.buddy_gate.specs.Gates.{keptGate, stillOf, StillBuys, passingOf, PassingBuys, OpenBuys};
 use buddy_decide::Buying;
 use buddy_decide::Plan;
@@ -42,7 +40,7 @@ fn is_still(
     index: &[u64],
     tree: &[u64],
 ) -> Still
-    requires { ⌜ BuddyIn s × (getD (now head) levelsAt 0 ≤ levelsMost) ⌝ }
+    requires { ⌜ Sees s (now head) (now loans) (now index) (now tree) ⌝ }
     ensures { λ r. ⌜ stillOf r ≡ leadsTo (s .store) (k .order) (decideAsk s h objects (k .ask .size) (k .ask .mask) (tables (now (head .entry)) (now (loans .entry)) (now (chunks .entry)) (now (index .entry)) (now (tree .entry)))) ⌝ }
     ensures { λ r. ⌜ StillBuys s k (tables (now (head .entry)) (now (loans .entry)) (now (chunks .entry)) (now (index .entry)) (now (tree .entry))) r ⌝ }
 {

@@ -2,6 +2,7 @@
 use mathlib.Core.Path.{_≡_, refl, ap, _∙_}
 use mathlib.Core.List.{List, []}
 use Prim.Native.Nat.{ℕ, _+_, _%_, _<_}
+use native.Mathlib.Omega.{arith}
 use lib.ListN.{getD, set}
 use Rattle.words.specs.Rows.{written}
 use Rattle.counter.specs.declared.settings.BuddySettings.{BuddySettings}
@@ -18,6 +19,10 @@ module _ (s : BuddySettings) (loans index : List ℕ) (taken : Taken) (next : ta
   -- the place that the loan takes is one of the store's
   pub place-in : takenOf (getD loans placesAt 0) index .place < s .store .loans → taken .place < s .store .loans
   place-in h = let e : taken .place ≡ takenOf (getD loans placesAt 0) index .place = ap (λ (x : Taken). x .place) next in rw e h
+
+  -- and so is its node's word
+  pub node-in : (n : ℕ) → nodesFrom s + (takenOf (getD loans placesAt 0) index .place + 1) < n → nodesFrom s + (taken .place + 1) < n
+  node-in n h = let e : taken .place ≡ takenOf (getD loans placesAt 0) index .place = ap (λ (x : Taken). x .place) next in omega (arith, e, h)
 
   module _ (l : Loan) (serial : l .serial ≡ getD loans givenAt 0 + 1) (node : ℕ) (head tree : List ℕ) where
     abbrev Places : ℕ

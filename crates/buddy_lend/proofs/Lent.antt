@@ -4,7 +4,6 @@ use mathlib.Core.List.{List, []}
 use Prim.Native.Nat.{ℕ, _+_, _-_, _^_, _≤_, _<_}
 use lib.ListN.{getD}
 use borrow.Author.Tests.{eq-eqb, ne-eqb}
-use Rattle.counter.specs.Limits.{pairsMost}
 use Rattle.counter.specs.declared.settings.BuddySettings.{BuddySettings}
 use Rattle.slab.specs.declared.Taken.{Taken}
 use Rattle.store_rules.specs.Loans.{givenAt, placesAt, loan}
@@ -15,6 +14,7 @@ use Rattle.buddy_rules.specs.Nodes.{freeWord, leftReady, Ent}
 use Rattle.buddy_rules.specs.Levels.{sideOf, baseOf}
 use Rattle.buddy_rules.specs.Level.{tagAt, pairCell, entOf, ringHead, acquired, levelStart}
 use Rattle.buddy_levels.specs.Pairs.{entFrom}
+use Rattle.buddy_levels.specs.Stands.{Stands, Leaves}
 use Rattle.buddy_levels.specs.declared.pairs.Pair.{Pair}
 use Rattle.buddy_rules.specs.Tables.{Tables, tables, levelFrom}
 use Rattle.buddy_rules.specs.Moves.{Cut, splitDown, readyNode}
@@ -29,12 +29,20 @@ module _ (u : ℕ) (e : Pair) (l : ℕ) where
   pub right-from : (e .tag ≡ leftReady → ⊥) → (b : ℕ) → b ≡ bytes u l → e .off + b ≡ baseOf u (entFrom e) l
   right-from h b q = ap (λ (x : ℕ). e .off + x) q ∙ sym (simp (ne-eqb (e .tag) leftReady h))
 
+-- the head pair stands in the tree, and can leave its ring
+pub head-leaves : (s : BuddySettings) (i : ℕ) (tree : List ℕ) (h : ℕ) → h ≡ ringHead (levelFrom s i) tree → Leaves (levelFrom s i) (ringHead (levelFrom s i) tree) tree → Leaves (levelStart (s .pairs) i) h tree
+head-leaves s i tree h ring l = subst (λ (x : ℕ). Leaves (levelStart (s .pairs) i) x tree) (sym ring) l
+
+pub head-stands : (s : BuddySettings) (i : ℕ) (tree : List ℕ) (base : ℕ) → base ≡ levelStart (s .pairs) i → (h : ℕ) → h ≡ ringHead (levelFrom s i) tree
+    → Leaves (levelFrom s i) (ringHead (levelFrom s i) tree) tree → Stands base h tree
+head-stands s i tree base at h ring l = subst (λ (x : ℕ). Stands x h tree) (sym at) (head-leaves s i tree h ring l .own)
+
 module _ (s : BuddySettings) (i : ℕ) (tree : List ℕ) (base : ℕ) (at : base ≡ levelStart (s .pairs) i) (h : ℕ) (ring : h ≡ ringHead (levelFrom s i) tree) (e : Pair) (reads : entFrom e ≡ entOf base tree h) where
   -- the head pair's entry
   pub ent-is : entFrom e ≡ entOf (levelFrom s i) tree (ringHead (levelFrom s i) tree)
   ent-is = reads ∙ (λ j. entOf (at j) tree (ring j))
 
-  pub pair-low : ringHead (levelFrom s i) tree < pairsMost → h < pairsMost
+  pub pair-low : ringHead (levelFrom s i) tree < s .pairs → h < s .pairs
   pair-low l = rw ring l
 
   pub off-low : entOf (levelFrom s i) tree (ringHead (levelFrom s i) tree) .off ≤ 2 ^ 62 → e .off ≤ 2 ^ 62

@@ -1,10 +1,11 @@
 -- A chunk added, and its left end lent, leave the tables as they are defined.
 use mathlib.Core.Path.{_≡_, sym, ap, subst, _∙_}
 use mathlib.Core.List.{List, []}
-use Prim.Native.Nat.{ℕ, _+_, _-_, _<_}
-use lib.ListN.{getD, set}
+use Prim.Native.Nat.{ℕ, _+_, _-_, _≤_, _<_}
+use native.Mathlib.Omega.{arith}
+use lib.ListN.{length, getD, set}
 use Rattle.words.specs.Words.{cellOf}
-use Rattle.counter.specs.Limits.{levelsMost, pairsMost}
+use Rattle.counter.specs.Limits.{levelsMost}
 use Rattle.counter.specs.declared.settings.BuddySettings.{BuddySettings}
 use Rattle.slab.specs.Slab.{recordOf}
 use Rattle.slab.specs.declared.Taken.{Taken}
@@ -15,6 +16,9 @@ use Rattle.buddy_rules.specs.Level.{pairTaken, levelStart}
 use Rattle.buddy_rules.specs.Tables.{Tables, tables, levelsAt, chunkPlacesAt, chunkWords, memoryAt, chunkSizeAt, levelFrom, chunksFrom, placeAt, topAt, placeWords}
 use Rattle.buddy_rules.specs.Moves.{Cut, splitChunk}
 use Rattle.buddy_levels.specs.Seen.{partSettings}
+use Rattle.buddy_levels.specs.Stands.{Takes}
+use Rattle.buddy_levels.proofs.Standing.{taken-takes}
+use Rattle.buddy_moves.proofs.Moved.{in-level}
 use Rattle.buddy_outcomes.specs.Ask.{chunkTaken, bookedTables}
 use Rattle.buddy_outcomes.specs.Deliver.{chunkTables, servedTables}
 
@@ -26,11 +30,19 @@ module _ (pairs at : ℕ) (e : at ≡ levelStart pairs levelsMost) (tree : List 
       g ∙ (λ j. set (f j) (cellOf (at + (placeWords + topAt)) placeWords c) (h j)) ∙ (λ j. set (set tree (e j) (k j)) (cellOf (e j + (placeWords + topAt)) placeWords c) (splitWord p))
 
 module _ (s : BuddySettings) (head tree : List ℕ) where
+  -- the top level's words are there
+  pub top-takes : (levels : ℕ) → levels ≡ getD head levelsAt 0 → (b : ℕ) → b ≡ levelStart (s .pairs) (levels - 1) → 0 < getD head levelsAt 0 → getD head levelsAt 0 ≤ levelsMost
+      → pairTaken (levelFrom s (getD head levelsAt 0 - 1)) tree .place < s .pairs → chunksFrom s ≤ length tree → Takes b tree
+  top-takes levels top b at o h p long =
+      let e : b ≡ levelFrom s (getD head levelsAt 0 - 1) = at ∙ ap (λ (x : ℕ). levelStart (s .pairs) (x - 1)) top in
+      let q : pairTaken b tree .place < s .pairs = rw e p in
+      taken-takes b tree (omega (arith, in-level (s .pairs) (getD head levelsAt 0 - 1) (pairTaken b tree .place) (omega (arith, o, h)) q, e, long))
+
   module _ (levels : ℕ) (top : levels ≡ getD head levelsAt 0) (b : ℕ) (at : b ≡ levelStart (s .pairs) (levels - 1)) (p : Taken) (next : p ≡ pairTaken b tree) where
     top-is : p ≡ pairTaken (levelFrom s (getD head levelsAt 0 - 1)) tree
     top-is = next ∙ ap (λ (x : ℕ). pairTaken x tree) (at ∙ ap (λ (x : ℕ). levelStart (s .pairs) (x - 1)) top)
 
-    pub top-low : pairTaken (levelFrom s (getD head levelsAt 0 - 1)) tree .place < pairsMost → p .place < pairsMost
+    pub top-low : pairTaken (levelFrom s (getD head levelsAt 0 - 1)) tree .place < s .pairs → p .place < s .pairs
     top-low h = let q : p .place ≡ pairTaken (levelFrom s (getD head levelsAt 0 - 1)) tree .place = ap (λ (x : Taken). x .place) top-is in rw q h
 
     module _ (c : Taken) (chunks : List ℕ) (taken : c ≡ chunkTaken s (tables head [] chunks [] tree)) where

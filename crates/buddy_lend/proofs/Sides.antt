@@ -2,10 +2,10 @@
 use mathlib.Core.Path.{_≡_, sym, ap, subst, _∙_}
 use mathlib.Core.Bool.{Bool, true, false}
 use mathlib.Core.List.{List}
-use Prim.Native.Nat.{ℕ, _-_}
+use Prim.Native.Nat.{ℕ, _-_, _<_}
 use native.Mathlib.Omega.{arith}
 use lib.ListN.{getD, set}
-use Rattle.buddy_rules.specs.Nodes.{freeWord, loanWord, Side, L, R, nodeOf}
+use Rattle.buddy_rules.specs.Nodes.{freeWord, loanWord, Side, L, R, nodeOf, pairOf}
 use Rattle.buddy_rules.specs.Levels.{sideBy, sideOf}
 use Rattle.buddy_rules.proofs.Climbs.{node-pair, node-side}
 use Rattle.buddy_rules.specs.Level.{tagAt, sideAt, pairCell, ringHead, acquired, levelStart}
@@ -36,6 +36,10 @@ module _ (pairs i : ℕ) (tree : List ℕ) where
     node-right n e q = node-is n (q ∙ ap (λ (x : Bool). nodeOf h (sideBy x)) (sym e))
 
   module _ (lev c o k n b : ℕ) (ready : n ≡ readyNode pairs i tree) (at : b ≡ Base) where
+    -- a node of the head pair
+    pub node-low : Head < pairs → pairOf n < pairs
+    node-low h = let q : pairOf n ≡ Head = ap (λ (x : ℕ). pairOf x) ready ∙ node-pair Head Ready in rw q h
+
     abbrev cutFrom : ℕ → List ℕ → Cut
     cutFrom m t = splitDown pairs lev c o k m (i - lev) t
 

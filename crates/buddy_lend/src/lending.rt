@@ -48,10 +48,10 @@ pub fn lend(
     ensures { λ _. ⌜ tables [] (now (loans .exit)) [] (now (index .exit)) (now (tree .exit)) ≡ takenTables s size level (tables [] (now (loans .entry)) [] (now (index .entry)) (now (tree .entry))) from ⌝ }
 {
     let base = buddy_levels::level_from(s.pairs, from);
-    let e = buddy_levels::pair_at(tree, base, pair);
+    let e = buddy_levels::standing_pair(tree, base, pair);
     let offset = side_from(s, e, from as u64);
     let l = Loan {
-        serial: words::word(loans, GIVEN_AT) + 1,
+        serial: loans[GIVEN_AT] + 1,
         chunk: e.chunk,
         offset: offset,
         size: size,

@@ -2,7 +2,7 @@
 ghost use mathlib.Core.Path.{_≡_};
 ghost use mathlib.Core.List.{[]};
 ghost use Prim.Native.Nat.{_+_, _-_, _≤_, _<_};
-ghost use lib.ListN.{getD, set};
+ghost use lib.ListN.{length, getD, set};
 ghost use Rattle.counter.specs.InTable.{BuddyIn};
 ghost use Rattle.counter.specs.Limits.{levelsMost, pairsMost};
 ghost use Rattle.words.specs.Words.{cellOf};
@@ -64,7 +64,7 @@ fn add_chunk(
     chunks: &mut [u64],
     tree: &mut [u64],
 )
-    requires { ⌜ BuddyIn s × (0 < getD (now head) levelsAt 0) × (getD (now head) levelsAt 0 ≤ levelsMost) × (pairTaken (levelFrom s (getD (now head) levelsAt 0 - 1)) (now tree) .place < pairsMost) × (chunk ≡ chunkTaken s (tables (now head) [] (now chunks) [] (now tree))) ⌝ }
+    requires { ⌜ BuddyIn s × (0 < getD (now head) levelsAt 0) × (getD (now head) levelsAt 0 ≤ levelsMost) × (pairTaken (levelFrom s (getD (now head) levelsAt 0 - 1)) (now tree) .place < s .pairs) × (chunk ≡ chunkTaken s (tables (now head) [] (now chunks) [] (now tree))) × (chunksFrom s ≤ length (now tree)) ⌝ }
     ensures { λ _. ⌜ tables (now (head .entry)) [] (now (chunks .exit)) [] (now (tree .exit)) ≡ chunkTables s memory bytes (tables (now (head .entry)) [] (now (chunks .entry)) [] (now (tree .entry))) ⌝ }
 {
     let levels = words::word(head, LEVELS_AT);

@@ -1,11 +1,12 @@
 -- What the code of a level has done where it returns.
-use mathlib.Core.Path.{_≡_, ap, _∙_}
+use mathlib.Core.Path.{_≡_, sym, ap, _∙_}
 use mathlib.Core.Bool.{Bool, true, false}
 use mathlib.Core.List.{List}
-use Prim.Native.Nat.{ℕ, _+_}
+use Prim.Native.Nat.{ℕ, _+_, _%_, _^_, _≤_, _<_}
 use lib.ListN.{getD, set}
 use Rattle.slab.specs.Slab.{placeOf, recordOf, inserted}
 use Rattle.slab.specs.declared.Taken.{Taken}
+use Rattle.slab.proofs.Places.{insert-first, insert-next}
 use Rattle.ring_rules.specs.Ring.{alone}
 use Rattle.buddy_rules.specs.Nodes.{freeWord, vacant, exhausted, leftReady, rightReady}
 use Rattle.buddy_rules.specs.Levels.{sideBy, sideOf}
@@ -85,6 +86,18 @@ module _ (b : ℕ) (t : List ℕ) where
 
   pub taken-read : (u v : ℕ) (k : Taken) → u ≡ getD t (b + usedAt) 0 → v ≡ placeOf (getD t (b + vacatedAt) 0) → k ≡ inserted (record { places = u; vacant = v }) t (fieldAt b offAt) pairWords → k ≡ pairTaken b t
   taken-read u v k d e f = f ∙ (λ j. inserted (record { places = d j; vacant = e j }) t (fieldAt b offAt) pairWords)
+
+  -- as the code of a level whose words are there tells it
+  module _ (u v : ℕ) (d : u ≡ getD t (b + usedAt) 0) (e : v ≡ placeOf (getD t (b + vacatedAt) 0)) where
+    pub taken-last : v < u → (w x : ℕ) → w ≡ getD t (pairCell b offAt v) 0 → x ≡ placeOf w → record { place = v; slab = record { places = u; vacant = x } } ≡ pairTaken b t
+    taken-last h w x g f =
+        taken-read u v _ d e
+        (ap (λ (z : ℕ). record { place = v; slab = record { places = u; vacant = z } }) (f ∙ ap placeOf g) ∙ sym (insert-first (record { places = u; vacant = v }) t (fieldAt b offAt) pairWords h))
+
+    pub taken-next : u ≤ v → (m : ℕ) → m ≡ (u + 1) % 2 ^ 64 → record { place = u; slab = record { places = m; vacant = v } } ≡ pairTaken b t
+    taken-next h m f =
+        taken-read u v _ d e
+        (ap (λ (z : ℕ). record { place = u; slab = record { places = z; vacant = v } }) f ∙ sym (insert-next (record { places = u; vacant = v }) t (fieldAt b offAt) pairWords h))
 
   module _ (k : Taken) (s : k ≡ pairTaken b t) where
     pub taken-place : k .place ≡ pairTaken b t .place

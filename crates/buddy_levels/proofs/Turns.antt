@@ -1,29 +1,29 @@
 -- What the code of a level's test shows: each turn of its walk, and each of its answers.
 use mathlib.Core.Path.{_≡_, refl, sym, ap, _∙_}
-use mathlib.Core.Bool.{Bool, true, false, _&&_}
+use mathlib.Core.Bool.{Bool, true, false, _&&_, _||_, not}
 use mathlib.Core.List.{List}
 use Prim.Native.Nat.{ℕ, zero, suc, _+_, _-_, _≤_, _<_}
 use native.Mathlib.Omega.{arith}
 use native.Mathlib.Numerals.{sub-one}
+use lib.Dec.{eqb, leb}
 use lib.ListN.{getD}
-use borrow.Author.Tests.{eq-eqb, ne-eqb}
-use Rattle.slab.specs.Slab.{placeOf}
-use Rattle.slab.specs.Test.{partedOk}
+use borrow.Author.Tests.{eqb-false, le-leb, lt-leb}
+use Rattle.lists.proofs.Bools.{true-false}
+use Rattle.slab.specs.Slab.{nowhere, placeOf}
+use Rattle.slab.specs.Test.{offChain}
+use Rattle.slab.proofs.Steps.{or-no-left, or-no-right}
+use Rattle.slab.proofs.OffChain.{off-leads}
 use Rattle.ring_rules.specs.Test.{ringLength}
-use Rattle.buddy_rules.specs.Level.{
-  ringAt,
-  usedAt,
-  vacatedAt,
-  nextAt,
-  prevAt,
-  pairWords,
-  fieldAt,
-  ringHead,
-  slabIn,
-  vacantIn,
-  vacantAfter,
-}
-use Rattle.buddy_rules.specs.LevelTest.{along, readyIn, readyAfter, readies, ringed, goodOk}
+use Rattle.ring_rules.proofs.Decides.{ring-length-most}
+use Rattle.buddy_rules.specs.Level.{ringAt, usedAt, vacatedAt, nextAt, prevAt, pairWords, fieldAt, ringHead, slabIn, vacantIn, vacantAfter}
+use Rattle.buddy_rules.specs.LevelTest.{along, readyIn, readyAfter, ringed, inUse, levelOk}
+
+-- of a row of tests one of two in the middle fails
+torn : (a i r c : Bool) → (i || r) ≡ true → (a && (not i && (not r && c))) ≡ false
+torn false i r c o = refl
+torn true true r c o = refl
+torn true false true c o = refl
+torn true false false c o = absurd (true-false false o refl)
 
 -- the walk, with k places to go from p on
 module _ (f : ℕ → Bool) (next : ℕ → ℕ) (p k : ℕ) where
@@ -45,28 +45,38 @@ module _ (f : ℕ → Bool) (next : ℕ → ℕ) (p k : ℕ) where
   unfolding along
   along-done o = let z : k ≡ 0 = omega arith in rw z refl
 
--- the whole test: u places were ever used and v was vacated last, and q says whether they part
-module _ (b pairs : ℕ) (t : List ℕ) (u v : ℕ) (q : Bool) (d : u ≡ getD t (b + usedAt) 0) (e : v ≡ placeOf (getD t (b + vacatedAt) 0))
-    (parts : q ≡ partedOk (vacantIn b t) (vacantAfter b t) (record { places = u; vacant = v }) pairs) where
-  told : (a : Bool) → q ≡ a → partedOk (vacantIn b t) (vacantAfter b t) (slabIn b t) pairs ≡ a
-  told a h = sym (λ j. partedOk (vacantIn b t) (vacantAfter b t) (record { places = d j; vacant = e j }) pairs) ∙ sym parts ∙ h
+-- u places were ever used and v was vacated last
+pub used-is : (b : ℕ) (t : List ℕ) (u v i : ℕ) → u ≡ getD t (b + usedAt) 0 → v ≡ placeOf (getD t (b + vacatedAt) 0) → i ≡ offChain (vacantIn b t) (vacantAfter b t) u v u → i ≡ inUse b t
+unfolding inUse
+used-is b t u v i d e f = f ∙ (λ j. offChain (vacantIn b t) (vacantAfter b t) (d j) (e j) (d j))
 
-  pub good-torn : q ≡ false → false ≡ goodOk b pairs t
-  unfolding goodOk
-  good-torn h = sym (simp (told false h))
+-- the whole test: u places were ever used
+module _ (b pairs : ℕ) (t : List ℕ) (u : ℕ) (d : u ≡ getD t (b + usedAt) 0) where
+  pub level-over : pairs < u → false ≡ levelOk b pairs t
+  unfolding levelOk
+  level-over h = sym (rw (← d, lt-leb u pairs h))
 
-  -- n stand in the ring, and k are ready
-  module _ (n k : ℕ) (f : n ≡ ringLength (b + ringAt) (fieldAt b nextAt) (fieldAt b prevAt) pairWords u t) (g : k ≡ readies b t u) (h : q ≡ true) where
-    rung : ringed b t ≡ n
-    rung = sym (f ∙ ap (λ (w : ℕ). ringLength (b + ringAt) (fieldAt b nextAt) (fieldAt b prevAt) pairWords w t) d)
+  -- i of them are in use and r stand in the ring
+  module _ (i r : ℕ) (e : i ≡ inUse b t) (f : r ≡ ringLength (b + ringAt) (fieldAt b nextAt) (fieldAt b prevAt) pairWords u t) where
+    pub rung : r ≡ ringed b t
+    rung = f ∙ ap (λ (w : ℕ). ringLength (b + ringAt) (fieldAt b nextAt) (fieldAt b prevAt) pairWords w t) d
 
-    some : readies b t (getD t (b + usedAt) 0) ≡ k
-    some = sym (g ∙ ap (readies b t) d)
+    pub level-torn : (eqb i nowhere || eqb r nowhere) ≡ true → false ≡ levelOk b pairs t
+    unfolding levelOk
+    level-torn o = sym (rw (← e, ← rung) (torn (leb (getD t (b + usedAt) 0) pairs) (eqb i nowhere) (eqb r nowhere) _ o))
 
-    pub good-lost : (n ≡ k → ⊥) → false ≡ goodOk b pairs t
-    unfolding goodOk
-    good-lost o = sym (rw (told true h, rung, some, ne-eqb n k o))
+    module _ (few : u ≤ pairs) (o : (eqb i nowhere || eqb r nowhere) ≡ false) where
+      pub level-all : (x : ℕ) (a : Bool) → x ≡ ringHead b t → a ≡ along (readyIn b t) (readyAfter b t) x r → a ≡ levelOk b pairs t
+      unfolding levelOk
+      level-all x a g h = h ∙ sym (rw (← e, ← rung, ← d, ← g, le-leb u pairs few, or-no-left (eqb i nowhere) (eqb r nowhere) o, or-no-right (eqb i nowhere) (eqb r nowhere) o))
 
-    pub good-all : n ≡ k → (x : ℕ) (r : Bool) → x ≡ ringHead b t → r ≡ along (readyIn b t) (readyAfter b t) x n → r ≡ goodOk b pairs t
-    unfolding goodOk
-    good-all o x r i j = j ∙ sym (rw (told true h, rung, some, eq-eqb n k o, i))
+      pub used-few : i ≤ pairs
+      unfolding inUse
+      used-few =
+          let some : inUse b t ≡ nowhere → ⊥ = λ z. eqb-false i nowhere (or-no-left (eqb i nowhere) (eqb r nowhere) o) (e ∙ z) in
+          omega (arith, e, d, off-leads (vacantIn b t) (vacantAfter b t) (getD t (b + usedAt) 0) (slabIn b t .vacant) (getD t (b + usedAt) 0) some .0)
+
+      pub ready-few : r ≤ pairs
+      ready-few =
+          let some : ringed b t ≡ nowhere → ⊥ = λ z. eqb-false r nowhere (or-no-right (eqb i nowhere) (eqb r nowhere) o) (rung ∙ z) in
+          omega (arith, rung, d, ring-length-most (b + ringAt) (fieldAt b nextAt) (fieldAt b prevAt) pairWords (getD t (b + usedAt) 0) t some)

@@ -1,9 +1,11 @@
-// The test of a level, linear in the pair places ever used.
+// The test of a level, linear in the pair places ever used: its chain and its ring are followed, and no place is looked at beside them.
 ghost use mathlib.Core.Path.{_≡_};
+ghost use mathlib.Core.Bool.{true};
 ghost use Prim.Native.Nat.{_+_, _≤_};
+ghost use lib.ListN.{length, getD};
 ghost use Rattle.ring_rules.specs.Test.{ringLength};
-ghost use Rattle.buddy_rules.specs.Level.{baseMost, ringAt, nextAt, prevAt, pairWords, fieldAt};
-ghost use Rattle.buddy_rules.specs.LevelTest.{along, readyIn, readyAfter, readies, goodOk};
+ghost use Rattle.buddy_rules.specs.Level.{baseMost, levelWords, ringAt, usedAt, nextAt, prevAt, pairWords, fieldAt};
+ghost use Rattle.buddy_rules.specs.LevelTest.{along, readyIn, readyAfter, ringed, inUse, levelOk};
 use crate::HEADER_WORDS;
 use crate::NEXT_AT;
 use crate::OFF_AT;
@@ -15,27 +17,60 @@ use crate::USED_AT;
 use crate::VACATED_AT;
 use crate::field;
 use buddy_rules::EXHAUSTED;
-use slab::Slab;
+use slab::NOWHERE;
 
-// Whether the ring has exactly the ready pairs, and used and vacant places part, of which there are at most `pairs`.
-pub fn is_good(tree: &[u64], base: usize, pairs: u64) -> bool
-    requires { ⌜ base ≤ baseMost ⌝ }
-    ensures { λ r. ⌜ r ≡ goodOk base pairs (now (tree .entry)) ⌝ }
+// Whether levels are right, and, where they are, how many pairs are in use and how many of them stand in the rings.
+pub struct Tested {
+    pub ok: bool,
+    pub used: u64,
+    pub ready: u64,
+}
+
+// Whether a level of at most `pairs` places is right: its chain and its ring end within its places, and the ring's pairs are ready.
+pub fn test_level(tree: &[u64], base: usize, pairs: u64) -> Tested
+    requires { ⌜ (base ≤ baseMost) × (base + levelWords pairs ≤ length (now tree)) ⌝ }
+    ensures { λ r. ⌜ r .ok ≡ levelOk base pairs (now (tree .entry)) ⌝ }
+    ensures { λ r. ⌜ (r .ok ≡ true → (r .used ≡ inUse base (now (tree .entry))) × (r .ready ≡ ringed base (now (tree .entry)))) × (r .used ≤ pairs) × (r .ready ≤ pairs) ⌝ }
 {
-    let used = words::word(tree, base + USED_AT);
-    let s = Slab {
-        places: used,
-        vacant: slab::led_to(tree, base + VACATED_AT),
+    let no = Tested {
+        ok: false,
+        used: 0,
+        ready: 0,
     };
+    let places = tree[base + USED_AT];
+    if pairs < places {
+        return no;
+    }
+    let used = count_used(tree, base, places);
+    let ready = ring_size(tree, base, places);
+    if (used == NOWHERE) | (ready == NOWHERE) {
+        return no;
+    }
+    Tested {
+        ok: all_ready(tree, base, slab::led_to(tree, base + RING_AT), ready),
+        used: used,
+        ready: ready,
+    }
+}
+
+// How many pairs are in use: of the places ever used those that the chain of the vacated ones leaves over, NOWHERE where it is torn.
+fn count_used(tree: &[u64], base: usize, places: u64) -> u64
+    requires { ⌜ (base ≤ baseMost) × (base + levelWords places ≤ length (now tree)) × (places ≡ getD (now tree) (base + usedAt) 0) ⌝ }
+    ensures { λ r. ⌜ r ≡ inUse base (now (tree .entry)) ⌝ }
+{
+    let last = slab::led_to(tree, base + VACATED_AT);
     let mark = base + (HEADER_WORDS + TAG_AT);
     let after = base + (HEADER_WORDS + OFF_AT);
-    if slab::is_parted(s, pairs, tree, mark, PAIR_WORDS, tree, after, PAIR_WORDS) {
-        let n = ring_size(tree, base, used);
-        if n == count_ready(tree, base, used) {
-            return all_ready(tree, base, slab::led_to(tree, base + RING_AT), n);
-        }
-    }
-    false
+    slab::off_chain(
+        tree,
+        mark,
+        PAIR_WORDS,
+        tree,
+        after,
+        PAIR_WORDS,
+        places,
+        last,
+    )
 }
 
 // How many pairs stand in the ring, all of them below `used`: NOWHERE where it is torn.
@@ -53,22 +88,6 @@ fn ring_size(tree: &[u64], base: usize, used: u64) -> u64
         PAIR_WORDS as u64,
         used,
     )
-}
-
-// How many of the first n pairs are ready.
-fn count_ready(tree: &[u64], base: usize, n: u64) -> u64
-    requires { ⌜ base ≤ baseMost ⌝ }
-    ensures { λ r. ⌜ r ≡ readies base (now (tree .entry)) n ⌝ }
-{
-    let mut count = 0;
-    let mut p = 0;
-    while p < n {
-        if EXHAUSTED < field(tree, base, TAG_AT, p) {
-            count += 1;
-        }
-        p += 1;
-    }
-    count
 }
 
 // Whether the pair h and those after it in the ring, k of them, are ready.

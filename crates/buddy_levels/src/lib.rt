@@ -1,11 +1,13 @@
 // A level of a buddy store's pairs in words, which begin at `base` of a lent table: its ring of ready pairs and its vacant
-// places. What is done to it is defined for all words, so none that the table holds can make any of these fail.
+// places. What is done to it is defined for all words; what a gate stands before asks that the pairs it touches are there, and
+// looks at no bound.
 mod good;
 mod nodes;
 mod pairs;
 mod shape;
 
-pub use good::is_good;
+pub use good::Tested;
+pub use good::test_level;
 pub use nodes::is_left;
 pub use nodes::left_node;
 pub use nodes::loan_said;
@@ -17,7 +19,7 @@ pub use nodes::says_loan;
 pub use nodes::split_word;
 pub use pairs::Pair;
 pub use pairs::pair_at;
-pub use pairs::pair_in;
+pub use pairs::standing_pair;
 pub use shape::chunks_from;
 pub use shape::level_from;
 pub use shape::node_at;
@@ -29,6 +31,7 @@ ghost use lib.ListN.{getD, set};
 ghost use Rattle.buddy_rules.specs.Nodes.{freeWord, rightReady};
 ghost use Rattle.buddy_rules.specs.Levels.{sideBy, sideOf};
 ghost use Rattle.ring_rules.specs.Ring.{alone};
+ghost use Rattle.buddy_levels.specs.Stands.{Stands, Leaves, Joins, Takes};
 ghost use Rattle.buddy_rules.specs.Level.{baseMost, pairWords, tagAt, chunkAt, offAt, leftAt, rightAt, nextAt, prevAt, upAt, ringAt, fieldAt, pairCell, ringHead, leaves, joins, pairTaken, dropped, backed, acquired, entered, added, freshLevel};
 use buddy_rules::EXHAUSTED;
 use buddy_rules::FREE_WORD;
@@ -75,17 +78,27 @@ pub fn field(tree: &[u64], base: usize, f: usize, p: u64) -> u64
     words::cell(tree, base + (HEADER_WORDS + f), PAIR_WORDS, p as usize)
 }
 
+// Field f of a pair that the table has.
+pub fn field_in(tree: &[u64], base: usize, f: usize, p: u64) -> u64
+    requires { ⌜ (f < pairWords) × Stands base p (now tree) ⌝ }
+    ensures { λ r. ⌜ r ≡ getD (now (tree .entry)) (pairCell base f p) 0 ⌝ }
+{
+    let at = base + (HEADER_WORDS + f) + PAIR_WORDS * p as usize;
+    tree[at]
+}
+
 // The same written.
-pub fn put_field(tree: &mut [u64], base: usize, f: usize, p: u64, v: u64)
-    requires { ⌜ (base ≤ baseMost) × (f < pairWords) ⌝ }
+pub fn put_field_in(tree: &mut [u64], base: usize, f: usize, p: u64, v: u64)
+    requires { ⌜ (f < pairWords) × Stands base p (now tree) ⌝ }
     ensures { λ _. ⌜ now (tree .exit) ≡ set (now (tree .entry)) (pairCell base f p) v ⌝ }
 {
-    words::put_cell(tree, base + (HEADER_WORDS + f), PAIR_WORDS, p as usize, v);
+    let at = base + (HEADER_WORDS + f) + PAIR_WORDS * p as usize;
+    tree[at] = v;
 }
 
 // Pair p leaves the ring.
 fn leave(tree: &mut [u64], base: usize, p: u64)
-    requires { ⌜ base ≤ baseMost ⌝ }
+    requires { ⌜ Leaves base p (now tree) ⌝ }
     ensures { λ _. ⌜ now (tree .exit) ≡ leaves base p (now (tree .entry)) ⌝ }
 {
     let next = base + (HEADER_WORDS + NEXT_AT);
@@ -102,7 +115,7 @@ fn leave(tree: &mut [u64], base: usize, p: u64)
 
 // Pair p joins the ring.
 fn join(tree: &mut [u64], base: usize, p: u64)
-    requires { ⌜ base ≤ baseMost ⌝ }
+    requires { ⌜ Joins base p (now tree) ⌝ }
     ensures { λ _. ⌜ now (tree .exit) ≡ joins base p (now (tree .entry)) ⌝ }
 {
     let next = base + (HEADER_WORDS + NEXT_AT);
@@ -119,75 +132,90 @@ fn join(tree: &mut [u64], base: usize, p: u64)
 
 // The pair p goes: it leaves the ring, and its place is the one vacated last.
 pub fn drop_pair(tree: &mut [u64], base: usize, p: u64)
-    requires { ⌜ base ≤ baseMost ⌝ }
+    requires { ⌜ Leaves base p (now tree) ⌝ }
     ensures { λ _. ⌜ now (tree .exit) ≡ dropped base p (now (tree .entry)) ⌝ }
 {
-    let vacated = words::word(tree, base + VACATED_AT);
+    let vacated = tree[base + VACATED_AT];
     leave(tree, base, p);
-    put_field(tree, base, TAG_AT, p, VACANT);
-    put_field(tree, base, OFF_AT, p, vacated);
-    words::put(tree, base + VACATED_AT, slab::record_of(p));
+    put_field_in(tree, base, TAG_AT, p, VACANT);
+    put_field_in(tree, base, OFF_AT, p, vacated);
+    tree[base + VACATED_AT] = slab::record_of(p);
 }
 
 // The pair p joins the ring before the head, ready at its left or its right, where the node is free.
 pub fn ready_pair(tree: &mut [u64], base: usize, p: u64, left: bool)
-    requires { ⌜ base ≤ baseMost ⌝ }
+    requires { ⌜ Joins base p (now tree) ⌝ }
     ensures { λ _. ⌜ now (tree .exit) ≡ backed base p (sideBy left) (now (tree .entry)) ⌝ }
 {
     join(tree, base, p);
     if left {
-        put_field(tree, base, TAG_AT, p, LEFT_READY);
-        put_field(tree, base, LEFT_AT, p, FREE_WORD);
+        put_field_in(tree, base, TAG_AT, p, LEFT_READY);
+        put_field_in(tree, base, LEFT_AT, p, FREE_WORD);
     } else {
-        put_field(tree, base, TAG_AT, p, RIGHT_READY);
-        put_field(tree, base, RIGHT_AT, p, FREE_WORD);
+        put_field_in(tree, base, TAG_AT, p, RIGHT_READY);
+        put_field_in(tree, base, RIGHT_AT, p, FREE_WORD);
     }
 }
 
 // The head pair h leaves the ring, exhausted: the node at its ready side, the left or the right one, has the word w.
 pub fn acquire(tree: &mut [u64], base: usize, h: u64, left: bool, w: u64)
-    requires { ⌜ base ≤ baseMost ⌝ }
+    requires { ⌜ Leaves base h (now tree) ⌝ }
     requires { ⌜ (h ≡ ringHead base (now tree)) × (sideBy left ≡ sideOf (getD (now tree) (pairCell base tagAt h) 0)) ⌝ }
     ensures { λ _. ⌜ now (tree .exit) ≡ acquired base w (now (tree .entry)) ⌝ }
 {
     leave(tree, base, h);
-    put_field(tree, base, TAG_AT, h, EXHAUSTED);
+    put_field_in(tree, base, TAG_AT, h, EXHAUSTED);
     if left {
-        put_field(tree, base, LEFT_AT, h, w);
+        put_field_in(tree, base, LEFT_AT, h, w);
     } else {
-        put_field(tree, base, RIGHT_AT, h, w);
+        put_field_in(tree, base, RIGHT_AT, h, w);
     }
 }
 
 // The place that a new pair takes, and the slab from then on.
 pub fn pair_taken(tree: &[u64], base: usize) -> Taken
-    requires { ⌜ base ≤ baseMost ⌝ }
+    requires { ⌜ Takes base (now tree) ⌝ }
     ensures { λ r. ⌜ r ≡ pairTaken base (now (tree .entry)) ⌝ }
 {
-    let s = Slab {
-        places: words::word(tree, base + USED_AT),
-        vacant: slab::led_to(tree, base + VACATED_AT),
-    };
-    s.insert(tree, base + (HEADER_WORDS + OFF_AT), PAIR_WORDS)
+    let n = tree[base + USED_AT];
+    let last = slab::place_of(tree[base + VACATED_AT]);
+    if last < n {
+        let next = slab::place_of(field_in(tree, base, OFF_AT, last));
+        return Taken {
+            place: last,
+            slab: Slab {
+                places: n,
+                vacant: next,
+            },
+        };
+    }
+    let more = std::num::wrapping_add_u64(n, 1);
+    Taken {
+        place: n,
+        slab: Slab {
+            places: more,
+            vacant: last,
+        },
+    }
 }
 
 // A new pair of a node, whose left node has the word `left`: ready at its right, and alone in the ring. Tells its place.
 pub fn add_pair(tree: &mut [u64], base: usize, chunk: u64, offset: u64, node: u64, left: u64) -> u64
-    requires { ⌜ base ≤ baseMost ⌝ }
+    requires { ⌜ Stands base (pairTaken base (now tree) .place) (now tree) ⌝ }
     ensures { λ r. ⌜ r ≡ pairTaken base (now (tree .entry)) .place ⌝ }
     ensures { λ _. ⌜ now (tree .exit) ≡ added base chunk offset node left (now (tree .entry)) ⌝ }
 {
     let taken = pair_taken(tree, base);
     let s = taken.slab;
-    words::put(tree, base + USED_AT, s.places);
-    words::put(tree, base + VACATED_AT, slab::record_of(s.vacant));
+    tree[base + USED_AT] = s.places;
+    tree[base + VACATED_AT] = slab::record_of(s.vacant);
     enter_pair(tree, base, taken.place, chunk, offset, node, left);
     taken.place
 }
 
 // A new pair at the place p, alone in the ring.
 fn enter_pair(tree: &mut [u64], base: usize, p: u64, chunk: u64, offset: u64, node: u64, left: u64)
-    requires { ⌜ base ≤ baseMost ⌝ }
+    requires { ⌜ Stands base p (now tree) ⌝ }
     ensures { λ _. ⌜ now (tree .exit) ≡ entered base p chunk offset node left (now (tree .entry)) ⌝ }
 {
     write_pair(tree, base, p, chunk, offset, node, left);
@@ -196,26 +224,26 @@ fn enter_pair(tree: &mut [u64], base: usize, p: u64, chunk: u64, offset: u64, no
 
 // The words of a new pair but for its links.
 fn write_pair(tree: &mut [u64], base: usize, p: u64, chunk: u64, offset: u64, node: u64, left: u64)
-    requires { ⌜ base ≤ baseMost ⌝ }
+    requires { ⌜ Stands base p (now tree) ⌝ }
     ensures { λ _. ⌜ now (tree .exit) ≡ set (set (set (set (set (set (now (tree .entry)) (pairCell base tagAt p) rightReady) (pairCell base chunkAt p) chunk) (pairCell base offAt p) offset) (pairCell base leftAt p) left) (pairCell base rightAt p) freeWord) (pairCell base upAt p) node ⌝ }
 {
-    put_field(tree, base, TAG_AT, p, RIGHT_READY);
-    put_field(tree, base, CHUNK_AT, p, chunk);
-    put_field(tree, base, OFF_AT, p, offset);
-    put_field(tree, base, LEFT_AT, p, left);
-    put_field(tree, base, RIGHT_AT, p, FREE_WORD);
-    put_field(tree, base, UP_AT, p, node);
+    put_field_in(tree, base, TAG_AT, p, RIGHT_READY);
+    put_field_in(tree, base, CHUNK_AT, p, chunk);
+    put_field_in(tree, base, OFF_AT, p, offset);
+    put_field_in(tree, base, LEFT_AT, p, left);
+    put_field_in(tree, base, RIGHT_AT, p, FREE_WORD);
+    put_field_in(tree, base, UP_AT, p, node);
 }
 
 // Pair p alone is the ring.
 fn stand_alone(tree: &mut [u64], base: usize, p: u64)
-    requires { ⌜ base ≤ baseMost ⌝ }
+    requires { ⌜ Stands base p (now tree) ⌝ }
     ensures { λ _. ⌜ now (tree .exit) ≡ alone (base + ringAt) (fieldAt base nextAt) (fieldAt base prevAt) pairWords p (now (tree .entry)) ⌝ }
 {
     let r = slab::record_of(p);
-    put_field(tree, base, NEXT_AT, p, r);
-    put_field(tree, base, PREV_AT, p, r);
-    words::put(tree, base + RING_AT, r);
+    put_field_in(tree, base, NEXT_AT, p, r);
+    put_field_in(tree, base, PREV_AT, p, r);
+    tree[base + RING_AT] = r;
 }
 
 // A level with no pair.

@@ -3,7 +3,7 @@ use mathlib.Core.Path.{_≡_, refl, sym, ap, _∙_}
 use mathlib.Core.Bool.{Bool, true, _&&_}
 use mathlib.Core.Logic.{⊎-elim}
 use mathlib.Core.List.{List}
-use Prim.Native.Nat.{ℕ, zero, suc, _+_, _≤_, _<_}
+use Prim.Native.Nat.{ℕ, zero, suc, _+_, _-_, _≤_, _<_}
 use native.Mathlib.Omega.{arith}
 use lib.Dec.{leb}
 use borrow.Author.Tests.{leb-true}
@@ -27,7 +27,12 @@ use Rattle.buddy_outcomes.specs.Gate.{heldCount, heldBytes, accountOk}
 use Rattle.buddy_outcomes.specs.Return.{wordFor, onLoanOk, climbFor}
 use Rattle.buddy_outcomes.proofs.Given.{live, room, word-in, says, held, place}
 use Rattle.buddy_outcomes.proofs.Passing.{Passed}
+use Rattle.buddy_outcomes.proofs.Changed.{few-pairs}
+use Rattle.buddy_rules.proofs.Climbing.{loan-path}
+use Rattle.buddy_moves.specs.Footing.{Footing}
 use Rattle.buddy_moves.specs.Ready.{Backs}
+use Rattle.buddy_moves.proofs.Footings.{footing}
+use Rattle.buddy_moves.proofs.Lending.{node-in}
 
 module _ (s : BuddySettings) (b : Block) (t : Tables) (fit : BuddyIn s) (lengths : Lengths s t) (sound : Sound s t) (on : onLoanOk s b t ≡ true) where
   abbrev k : ℕ
@@ -40,6 +45,14 @@ module _ (s : BuddySettings) (b : Block) (t : Tables) (fit : BuddyIn s) (lengths
       let c = loanIn s t k .chunk in
       omega (arith, has-in (s .minimal) (highIn s t c) 0 (sound .standing .trees c) (piece (loanIn s t k) k) (h .1) .2, sound .standing .sized c (h .0) .3)
 
+  -- the way up from the loan's node
+  rising : Footing (s .pairs) (levelsIn t - loanIn s t k .lev) (loanIn s t k .lev) (loanIn s t k .node) (t .room)
+  rising =
+      let on = live s t fit lengths sound b on in
+      let r = loan-path s (few-pairs s fit) t fit lengths sound k on in
+      footing s (few-pairs s fit) (t .room) (levelsIn t - loanIn s t k .lev) (loanIn s t k .lev) (loanIn s t k .node) (t .room) (omega (arith, r .0, sound .levels-most)) (omega (arith, lengths .room))
+      (λ i j h. refl) (λ i j h. sound .good i (omega (arith, r .0))) (r .1)
+
   pub backs-ready : Backs s b (wordFor s b t) t
   backs-ready =
       let e : loanIn s t k .lev ≡ levelOf (b .size) (s .minimal) = ap (λ (z : ℕ). levelOf z (s .minimal)) (says s t fit lengths sound b on .size) in
@@ -47,6 +60,9 @@ module _ (s : BuddySettings) (b : Block) (t : Tables) (fit : BuddyIn s) (lengths
         fit = fit;
         below = omega (arith, e, level-in);
         low = sound .levels-most;
+        head = omega (arith, lengths .head);
+        node = node-in s t lengths k (room s t fit lengths sound b on);
+        footing = rw (sym e) rising;
         place = omega (arith, room s t fit lengths sound b on, fit .store .loans-most);
         strikes =
             record {
@@ -57,9 +73,10 @@ module _ (s : BuddySettings) (b : Block) (t : Tables) (fit : BuddyIn s) (lengths
             };
       }
 
--- what is asked looks at no chunk and no tree
-pub backs-rest : (s : BuddySettings) (b : Block) (w : ℕ) (t : Tables) (chunks tree : List ℕ) → Backs s b w t → Backs s b w (tables (t .head) (t .loans) chunks (t .index) tree)
-backs-rest s b w t chunks tree r = record { fit = r .fit; below = r .below; low = r .low; place = r .place; strikes = r .strikes }
+-- what is asked looks at no chunk
+pub backs-rest : (s : BuddySettings) (b : Block) (w : ℕ) (t : Tables) (chunks : List ℕ) → Backs s b w t → Backs s b w (tables (t .head) (t .loans) chunks (t .index) (t .room))
+backs-rest s b w t chunks r =
+    record { fit = r .fit; below = r .below; low = r .low; head = r .head; place = r .place; node = r .node; footing = r .footing; strikes = r .strikes }
 
 -- ---- the device objects
 

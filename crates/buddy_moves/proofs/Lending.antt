@@ -2,7 +2,7 @@
 use mathlib.Core.Path.{_≡_, ap}
 use mathlib.Core.Logic.{inl}
 use mathlib.Core.List.{List}
-use Prim.Native.Nat.{ℕ, _-_, _^_, _≤_, _<_}
+use Prim.Native.Nat.{ℕ, _+_, _-_, _^_, _≤_, _<_}
 use native.Mathlib.Omega.{arith}
 use lib.ListN.{length}
 use Rattle.counter.specs.InTable.{BuddyIn}
@@ -17,15 +17,18 @@ use Rattle.buddy_trees.specs.Trees.{up}
 use Rattle.buddy_rules.specs.Nodes.{freeWord, Ent}
 use Rattle.buddy_rules.specs.Levels.{sideOf}
 use Rattle.buddy_rules.proofs.Climbs.{node-pair}
-use Rattle.buddy_rules.specs.Level.{ringHead, acquired, part}
+use Rattle.buddy_rules.specs.Level.{ringHead, acquired, levelWords, part}
+use Rattle.buddy_rules.proofs.Abstract.{levels-in}
 use Rattle.buddy_rules.proofs.Cells.{pair-used}
 use Rattle.buddy_rules.proofs.Ops.{levelOps}
 use Rattle.buddy_rules.proofs.Rings.{head-mem}
-use Rattle.buddy_rules.specs.Tables.{Tables, tables, Lengths, levelsIn, placesIn, levelFrom, pairsIn, highIn}
+use Rattle.buddy_rules.specs.Tables.{Tables, tables, Lengths, levelsIn, placesIn, nodesFrom, levelFrom, pairsIn, highIn}
 use Rattle.buddy_rules.specs.Moves.{readyNode}
 use Rattle.buddy_rules.specs.Sound.{Sound}
 use Rattle.buddy_rules.proofs.Splitting.{tree-short, head-used, head-low, acquire-in}
 use Rattle.buddy_rules.proofs.Worded.{Left, Fits, within-left}
+use Rattle.buddy_levels.specs.Stands.{Leaves}
+use Rattle.buddy_levels.proofs.Standing.{member-leaves}
 use Rattle.buddy_moves.specs.Roomy.{Roomy}
 use Rattle.buddy_outcomes.specs.Ask.{at, sizeFor, levelFor, decideAsk, headEnt, loanFrom}
 use Rattle.buddy_outcomes.proofs.Changed.{few-pairs}
@@ -41,6 +44,10 @@ pub opens : (s : BuddySettings) (t : Tables) → BuddyIn s → Lengths s t → t
     → Opens (s .store .loans) (takenOf (placesIn t) (t .index) .place) (t .loans) (t .index)
 opens s t fit lengths room =
     record { some = fit .store .loans-some; most = fit .store .loans-most; loans-long = lengths .loans; index-long = omega (arith, lengths .index); place = room }
+
+-- and its node
+pub node-in : (s : BuddySettings) (t : Tables) → Lengths s t → (p : ℕ) → p < s .store .loans → nodesFrom s + (p + 1) < length (t .index)
+node-in s t lengths p h = omega (arith, lengths .index)
 
 module _ (s : BuddySettings) (t : Tables) (fit : BuddyIn s) (lengths : Lengths s t) (sound : Sound s t) (size mask i : ℕ) (w : Takes s size mask t i) where
   abbrev lev : ℕ
@@ -76,6 +83,14 @@ module _ (s : BuddySettings) (t : Tables) (fit : BuddyIn s) (lengths : Lengths s
       let z = sound .standing .sized c (o .0) in
       omega (arith, ap (λ (e : Ent). e .off) head-is, o .2, z .0, bytes-low s fit (highIn s t c) (omega (arith, z .3, sound .levels-most)))
 
+  -- it can leave its ring
+  leaving : Leaves (levelFrom s i) p (t .room)
+  leaving =
+      let g = sound .good i (found .1) in
+      let h : i < levelsMost = omega (arith, found .1, sound .levels-most) in
+      let long : levelFrom s i + levelWords (s .pairs) ≤ length (t .room) = omega (arith, levels-in s i h, lengths .room) in
+      member-leaves (levelFrom s i) (s .pairs) (t .room) g long p (head-mem (levelFrom s i) (s .pairs) (t .room) g (found .2))
+
   -- ---- its ready side can be split down
 
   abbrev taken : List ℕ
@@ -109,10 +124,12 @@ module _ (s : BuddySettings) (t : Tables) (fit : BuddyIn s) (lengths : Lengths s
   lends : Lends s (sizeFor s size mask) (levelFor s size mask) i t
   lends =
       record {
-        enters = record { fit = fit; serial = w .serial; opens = opens s t fit lengths (room-place s t size mask (at i) (w .room)) };
+        enters = record { fit = fit; serial = w .serial; opens = opens s t fit lengths (room-place s t size mask (at i) (w .room)); node = node-in s t lengths _ (room-place s t size mask (at i) (w .room)) };
         below = found .0;
         low = low;
-        pair = omega (arith, below, fit .pairs-most);
+        pair = below;
+        long = omega (arith, lengths .room);
+        leaves = leaving;
         offset = offset-low;
         roomy = split-room (loanFrom s (sizeFor s size mask) t i .chunk) (loanFrom s (sizeFor s size mask) t i .offset);
       }
@@ -125,10 +142,12 @@ lends-ready s h objects size mask t fit lengths sound i e = lends s t fit length
 pub lends-rest : (s : BuddySettings) (z l i : ℕ) (t : Tables) (head chunks : List ℕ) → Lends s z l i t → Lends s z l i (tables head (t .loans) chunks (t .index) (t .room))
 lends-rest s z l i t head chunks r =
     record {
-      enters = record { fit = r .enters .fit; serial = r .enters .serial; opens = r .enters .opens };
+      enters = record { fit = r .enters .fit; serial = r .enters .serial; opens = r .enters .opens; node = r .enters .node };
       below = r .below;
       low = r .low;
       pair = r .pair;
+      long = r .long;
+      leaves = r .leaves;
       offset = r .offset;
       roomy = r .roomy;
     }

@@ -1,22 +1,26 @@
 -- What each turn of the climb and of the split comes to.
-use mathlib.Core.Path.{_≡_, refl, sym, ap, _∙_}
+use mathlib.Core.Path.{_≡_, refl, sym, ap, _∙_, subst}
 use mathlib.Core.Bool.{Bool, true, false, cond, _&&_, not}
 use mathlib.Core.Logic.{_⊎_, ⊎-elim}
 use mathlib.Core.List.{List}
 use Prim.Native.Nat.{ℕ, zero, suc, _+_, _-_, _≤_, _<_}
 use native.Mathlib.Omega.{arith}
+use native.Mathlib.Nat.{mul-le-mul-left}
 use lib.Dec.{eqb, ltb}
-use lib.ListN.{getD, set}
+use lib.ListN.{length, getD, set}
 use borrow.Author.Tests.{eqb-false, eq-eqb, ne-eqb, ltb-true, ltb-false}
 use Rattle.lists.proofs.Bools.{and-left, and-right, not-yes, not-no, told}
-use Rattle.counter.specs.Limits.{pairsMost}
+use Rattle.counter.specs.Limits.{levelsMost}
 use Rattle.slab.specs.Slab.{nowhere}
 use Rattle.buddy_rules.specs.Nodes.{freeWord, loanWord, splitWord, L, nodeOf, pairOf, isLeft, other, word}
 use Rattle.buddy_rules.specs.Levels.{sideBy}
-use Rattle.buddy_rules.specs.Level.{entOf, pairCell, sideAt, leftAt, rightAt, upAt, pairTaken, dropped, backed, added, levelStart}
+use Rattle.buddy_rules.specs.Level.{entOf, pairCell, sideAt, leftAt, rightAt, upAt, pairTaken, dropped, backed, added, levelWords, levelStart}
 use Rattle.buddy_rules.specs.Moves.{Cut, sideIn, climbed, worded, leftNext, splitInto, splitDown, splitChunk}
 use Rattle.buddy_trees.specs.Trees.{up}
 use Rattle.buddy_rules.proofs.Fitting.{up-add}
+use Rattle.buddy_rules.proofs.Climbs.{node-pair}
+use Rattle.buddy_levels.specs.Stands.{Stands, Leaves, Joins}
+use Rattle.buddy_moves.specs.Footing.{Foot, Footing}
 use Rattle.buddy_moves.specs.Roomy.{Roomy}
 
 -- ---- the two nodes of a pair
@@ -87,7 +91,45 @@ module _ (pairs f l n : ℕ) (t : List ℕ) where
         → climbed pairs f l n t ≡ record { freed = false; room = t′ }
     climb-stays z q s t′ d = step ∙ simp (ne-eqb w freeWord z, d, s)
 
+  -- ---- the words that it touches are there
+
+  module _ (o : 0 < f) (top : n ≡ nowhere → ⊥) (b : ℕ) (at : b ≡ levelStart pairs l) (h : Footing pairs f l n t) where
+    foot : Foot b n t (Footing pairs (f - 1) (l + 1) (entOf b t (pairOf n) .up) (dropped b (pairOf n) t))
+    unfolding Footing
+    foot = by f o h
+      where
+        by : (f : ℕ) → 0 < f → Footing pairs f l n t → Foot b n t (Footing pairs (f - 1) (l + 1) (entOf b t (pairOf n) .up) (dropped b (pairOf n) t))
+        by zero o h = absurd (omega arith)
+        by (suc g) o h =
+            let i : suc g - 1 ≡ g = omega arith in
+            let j : l + 1 ≡ suc l = omega arith in
+            rw (i, j, at) (h top)
+
+    pub foot-stands : Stands b (pairOf n) t
+    foot-stands = foot .own
+
+    module _ (w : ℕ) (twin : w ≡ word (other (sideIn n)) (entOf b t (pairOf n))) (p : ℕ) (of : p ≡ pairOf n) where
+      pub foot-own : Stands b p t
+      foot-own = subst (λ (x : ℕ). Stands b x t) (sym of) (foot .own)
+
+      pub foot-joins : (w ≡ freeWord → ⊥) → Joins b p t
+      foot-joins z = subst (λ (x : ℕ). Joins b x t) (sym of) (foot .stays (λ e. z (twin ∙ e)))
+
+      pub foot-leaves : w ≡ freeWord → Leaves b p t
+      foot-leaves z = subst (λ (x : ℕ). Leaves b x t) (sym of) (foot .goes (sym twin ∙ z))
+
+      pub foot-above : w ≡ freeWord → (m : ℕ) → m ≡ getD t (pairCell b upAt p) 0 → (t′ : List ℕ) → t′ ≡ dropped b p t → Footing pairs (f - 1) (l + 1) m t′
+      foot-above z m e t′ d = rw (e, d, of) (foot .above (sym twin ∙ z))
+
 -- ---- the split
+
+-- the words of every pair come before those of the chunks
+pub in-level : (pairs l p : ℕ) → l < levelsMost → p < pairs → pairCell (levelStart pairs l) upAt p < levelStart pairs levelsMost
+in-level pairs l p h k = let m : l + 1 ≤ levelsMost = omega arith in omega (arith, mul-le-mul-left (levelWords pairs) m)
+
+-- the half that is kept is one of the new pair
+pub half-in : (pairs p m : ℕ) → m ≡ nodeOf p L → p < pairs → pairOf m < pairs
+half-in pairs p m e h = let q : pairOf m ≡ p = ap (λ (x : ℕ). pairOf x) e ∙ node-pair p L in rw q h
 
 up-sum : (d lev : ℕ) → up d lev ≡ lev + d
 up-sum zero lev = omega arith
@@ -145,11 +187,18 @@ module _ (pairs lev c o k n : ℕ) (t : List ℕ) where
 
 -- ---- a new chunk: its own pair p entered in the level that begins at b, and its left node split down
 
+pub top-stands : (pairs level above b : ℕ) (t : List ℕ) → b ≡ levelStart pairs (level + above) → level + above < levelsMost → pairTaken (levelStart pairs (up above level)) t .place < pairs → levelStart pairs levelsMost ≤ length t
+    → Stands b (pairTaken b t .place) t
+top-stands pairs level above b t at low h long =
+    let e : b ≡ levelStart pairs (up above level) = at ∙ ap (levelStart pairs) (omega (arith, up-add above level)) in
+    let p : pairTaken b t .place < pairs = rw e h in
+    omega (arith, in-level pairs (level + above) (pairTaken b t .place) low p, at, long)
+
 module _ (pairs level above c k b p : ℕ) (t t₁ : List ℕ) (at : b ≡ levelStart pairs (level + above)) (place : p ≡ pairTaken b t .place) (entered : t₁ ≡ added b c 0 nowhere freeWord t) where
   top-at : b ≡ levelStart pairs (up above level)
   top-at = at ∙ ap (levelStart pairs) (omega (arith, up-add above level))
 
-  pub top-place : pairTaken (levelStart pairs (up above level)) t .place < pairsMost → p < pairsMost
+  pub top-place : pairTaken (levelStart pairs (up above level)) t .place < pairs → p < pairs
   top-place h = let e = top-at in rw (place, e) h
 
   module _ (m : ℕ) (half : m ≡ nodeOf p L) where

@@ -5,7 +5,7 @@ use mathlib.Core.List.{List}
 use Prim.Native.Nat.{ℕ, suc, _-_, _≤_, _<_}
 use native.Mathlib.Omega.{arith}
 use Rattle.counter.specs.InTable.{BuddyIn}
-use Rattle.counter.specs.Limits.{levelsMost, pairsMost, spent}
+use Rattle.counter.specs.Limits.{levelsMost, spent}
 use Rattle.counter.specs.declared.account.Heap.{Heap}
 use Rattle.counter.specs.declared.settings.BuddySettings.{BuddySettings}
 use Rattle.slab.specs.Slab.{nowhere}
@@ -28,7 +28,7 @@ use Rattle.buddy_outcomes.proofs.Delivered.{most, grown-sound, count, place, ch
 use Rattle.buddy_outcomes.proofs.Heads.{grown-given}
 use Rattle.buddy_outcomes.proofs.Plans.{Buys, buys}
 use Rattle.buddy_moves.specs.Ready.{Serves}
-use Rattle.buddy_moves.proofs.Lending.{opens}
+use Rattle.buddy_moves.proofs.Lending.{opens, node-in}
 use Rattle.buddy_moves.proofs.Rooming.{roomy}
 
 module _ (s : BuddySettings) (t : Tables) (fit : BuddyIn s) (lengths : Lengths s t) (sound : Sound s t) (size mask z : ℕ) (b : Buys s size mask t z) where
@@ -74,9 +74,9 @@ module _ (s : BuddySettings) (t : Tables) (fit : BuddyIn s) (lengths : Lengths s
         (λ j h g. grown-sound s t fit lengths sound size mask z b .good j (omega (arith, height)))
         (λ j h g. pair s t fit lengths sound size mask z b j h (omega (arith, height)))
 
-    own-room : pairTaken (levelFrom s (up under lev)) chunky .place < pairsMost
+    own-room : pairTaken (levelFrom s (up under lev)) chunky .place < s .pairs
     unfolding Roomy
-    own-room = omega (arith, all-room .0, fit .pairs-most)
+    own-room = all-room .0
 
     split-room : Roomy (s .pairs) lev (chunkTaken s grown .place) 0 (leftNext (s .pairs) (up under lev) chunky) under
         (added (levelFrom s (up under lev)) (chunkTaken s grown .place) 0 nowhere freeWord chunky)
@@ -88,11 +88,12 @@ module _ (s : BuddySettings) (t : Tables) (fit : BuddyIn s) (lengths : Lengths s
     serves : Serves s (levelFor s size mask) memory z (grownTables s (grownTo (levelFor s size mask) t) t)
     serves =
         record {
-          enters = record { fit = fit; serial = serial; opens = opens s grown fit (grown-lengths s t fit lengths sound (grownTo (levelFor s size mask) t)) (place s t fit lengths sound size mask z b) };
+          enters = record { fit = fit; serial = serial; opens = opens s grown fit (grown-lengths s t fit lengths sound (grownTo (levelFor s size mask) t)) (place s t fit lengths sound size mask z b); node = node-in s grown (grown-lengths s t fit lengths sound (grownTo (levelFor s size mask) t)) _ (place s t fit lengths sound size mask z b) };
           below = tall;
           low = low;
           chunk = omega (arith, chunk-room s t fit lengths sound size mask z b, fit .store .chunks-most);
-          pair = omega (arith, pair s t fit lengths sound size mask z b (levelsIn grown - 1) (omega (arith, tall)) (omega (arith, tall)), fit .pairs-most);
+          pair = pair s t fit lengths sound size mask z b (levelsIn grown - 1) (omega (arith, tall)) (omega (arith, tall));
+          long = omega (arith, grown-lengths s t fit lengths sound (grownTo (levelFor s size mask) t) .room);
           own = own-room;
           roomy = split-room;
         }

@@ -110,7 +110,7 @@ module _ (s : BuddySettings) (t : Tables) (fit : BuddyIn s) (lengths : Lengths s
         head = refl;
         loans = blank-long (loanWords + loanWords * s .store .loans) (marks .loans) 0;
         chunks = blank-long (chunkWords + chunkWords * s .store .chunks) (marks .chunks) 0;
-        index = blank-long (bookWords s) (marks .index) 0;
+        index = blank-long (bookWords s) (marks .index) _;
         room = blank-long (treeWords s) (marks .room) 0;
       }
 
@@ -151,7 +151,7 @@ module _ (s : BuddySettings) (t : Tables) (fit : BuddyIn s) (lengths : Lengths s
               head = refl;
               loans = blank-mark _ (marks .loans) 0 (omega arith);
               chunks = blank-mark _ (marks .chunks) 0 (omega arith);
-              index = blank-mark _ (marks .index) 0 (omega arith);
+              index = blank-mark (bookWords s) (marks .index) _ (omega arith);
               room = blank-mark (treeWords s) (marks .room) 0 (omega arith);
             };
         levels-least = omega arith;

@@ -1,21 +1,23 @@
--- The test of a level decides what it stands for: it passes where the level is good, and there only.
+-- The test of a level: it passes where the level is good, and where it passes, and chain and ring are as long as the pairs tell, the
+-- level is good.
 use mathlib.Core.Path.{_≡_, refl, sym, ap, _∙_}
-use mathlib.Core.Bool.{Bool, true, false, cond}
+use mathlib.Core.Bool.{Bool, true, not}
 use mathlib.Core.Logic.{inl, inr, ⊎-elim}
 use mathlib.Core.List.{List, [], _∷_}
-use Prim.Native.Nat.{ℕ, zero, suc, _+_, _^_, _≤_, _<_}
+use Prim.Native.Nat.{ℕ, _+_, _-_, _^_, _≤_, _<_}
 use native.Mathlib.Omega.{arith}
 use lib.Dec.{eqb, leb}
 use lib.ListN.{length, getD}
-use borrow.Author.Tests.{eqb-true, eq-eqb, ltb-true, lt-ltb, leb-true}
+use borrow.Author.Tests.{eqb-false, ne-eqb, ltb-true, lt-ltb, leb-true, le-leb}
 use Rattle.lists.specs.Members.{Mem, picked}
-use Rattle.lists.proofs.Bools.{and-left, and-right, and-both}
+use Rattle.lists.proofs.Bools.{not-yes, and-left, and-right, and-both}
 use Rattle.lists.proofs.Members.{mem-below, below-mem, no-more, fills}
 use Rattle.lists.proofs.Picked.{picked-all, picked-only, picked-once}
-use Rattle.slab.specs.Slab.{linkAt}
-use Rattle.slab.specs.Test.{vacancies, partedOk}
-use Rattle.slab.proofs.Decides.{counted-long, decides-yes, decides-all}
-use Rattle.ring_rules.specs.Ring.{Run, RingOf}
+use Rattle.slab.specs.Slab.{nowhere, linkAt}
+use Rattle.slab.specs.Test.{vacancies}
+use Rattle.slab.proofs.Decides.{counted-long, decides-yes}
+use Rattle.slab.proofs.OffChain.{count-most, off-most, off-least, off-parted, parted-off}
+use Rattle.ring_rules.specs.Ring.{Run, RingOf, HasRing}
 use Rattle.ring_rules.proofs.Rings.{run-cut}
 use Rattle.ring_rules.proofs.Decides.{ring-length-yes, ring-length-all}
 use Rattle.buddy_rules.specs.Level.{
@@ -25,7 +27,6 @@ use Rattle.buddy_rules.specs.Level.{
   nextAt,
   prevAt,
   fieldAt,
-  pairCell,
   entOf,
   ringHead,
   slabIn,
@@ -33,17 +34,7 @@ use Rattle.buddy_rules.specs.Level.{
   vacantAfter,
   Good,
 }
-use Rattle.buddy_rules.specs.LevelTest.{along, readyIn, readyAfter, readies, ringed, goodOk}
-
--- no more are counted than there are
-count-most : (f : ℕ → Bool) (k : ℕ) → vacancies f k ≤ k
-unfolding vacancies
-count-most f zero = omega arith
-count-most f (suc k) = by (f k) (count-most f k)
-  where
-    by : (c : Bool) → vacancies f k ≤ k → cond c (vacancies f k + 1) (vacancies f k) ≤ suc k
-    by true h = omega arith
-    by false h = omega arith
+use Rattle.buddy_rules.specs.LevelTest.{along, readyIn, readyAfter, ringed, inUse, levelOk}
 
 -- the walk meets each place of a run
 module _ (f : ℕ → Bool) (next prev : ℕ → ℕ) where
@@ -78,46 +69,104 @@ module _ (b : ℕ) (t : List ℕ) where
       let e : ringHead b t ≡ x = r .first in
       rw e (each-along (readyIn b t) (readyAfter b t) (linkAt t (fieldAt b prevAt) pairWords) x l (run-cut _ _ x l (x ∷ []) (r .ring .closed) .0) h)
 
+-- how many of the first k pairs are ready, counted as vacant places are
+abbrev pub readies : ℕ → List ℕ → ℕ → ℕ
+readies b t k = vacancies (readyIn b t) k
+
+-- how many of the first k pair places are not vacant
+abbrev pub taken : ℕ → List ℕ → ℕ → ℕ
+taken b t k = k - vacancies (vacantIn b t) k
+
 module _ (b pairs : ℕ) (t : List ℕ) (few : pairs ≤ 2 ^ 32) where
   abbrev used : ℕ
   used = getD t (b + usedAt) 0
 
-  pub good-yes : goodOk b pairs t ≡ true → Good b pairs t
-  unfolding goodOk partedOk
-  good-yes e =
-      let rest = and-right (partedOk (vacantIn b t) (vacantAfter b t) (slabIn b t) pairs) _ e in
-      let ok : partedOk (vacantIn b t) (vacantAfter b t) (slabIn b t) pairs ≡ true = and-left _ _ e in
-      let most : used ≤ pairs = leb-true used pairs (and-left (leb used pairs) _ ok) in
-      let long : ringed b t ≡ readies b t used = eqb-true (ringed b t) (readies b t used) (and-left _ _ rest) in
-      let H = ring-length-yes (b + ringAt) (fieldAt b nextAt) (fieldAt b prevAt) pairWords used t (ringed b t) refl (λ q. omega (arith, count-most (readyIn b t) used)) in
-      let k : length (H .places) ≡ ringed b t = H .long in
-      let run : along (readyIn b t) (readyAfter b t) (ringHead b t) (length (H .places)) ≡ true = rw k (and-right (eqb (ringed b t) (readies b t used)) _ rest) in
-      let ready : (x : ℕ) → Mem x (H .places) → readyIn b t x ≡ true = ring-each b t (H .places) (H .ring) run in
-      let under : (x : ℕ) → Mem x (H .places) → x < used = λ x m. mem-below used x (H .places) (H .below) m in
-      record {
-        ring = H .places;
-        rings = H .ring;
-        below = under;
-        ready = λ x m. ltb-true 1 (entOf b t x .tag) (ready x m);
-        all = λ x h l.
-            fills (H .places) (picked (readyIn b t) used) (H .ring .ring .distinct) (λ y m. picked-all (readyIn b t) used y (under y m) (ready y m))
-            (omega (arith, counted-long (readyIn b t) used)) x
-            (picked-all (readyIn b t) used x h (lt-ltb 1 (entOf b t x .tag) l));
-        parted = decides-yes (vacantIn b t) (vacantAfter b t) (slabIn b t) pairs (omega arith) ok;
-      }
+  -- ---- what the test says
 
-  -- the ring has as many places as there are ready pairs
-  ring-long : (G : Good b pairs t) → length (G .ring) ≡ readies b t used
-  ring-long G =
-      let a : length (G .ring) ≤ length (picked (readyIn b t) used) = no-more (G .ring) (picked (readyIn b t) used) (G .rings .ring .distinct) (λ x m. picked-all (readyIn b t) used x (G .below x m) (lt-ltb 1 (entOf b t x .tag) (G .ready x m))) in
-      let c : length (picked (readyIn b t) used) ≤ length (G .ring) = no-more (picked (readyIn b t) used) (G .ring) (picked-once (readyIn b t) used) (λ x m. let r = picked-only (readyIn b t) used x m in G .all x (r .0) (ltb-true 1 (entOf b t x .tag) (r .1))) in
-      omega (arith, counted-long (readyIn b t) used)
+  module _ (e : levelOk b pairs t ≡ true) where
+    pub level-few : used ≤ pairs
+    unfolding levelOk
+    level-few = leb-true used pairs (and-left (leb used pairs) _ e)
 
-  pub good-all : Good b pairs t → goodOk b pairs t ≡ true
-  unfolding goodOk
-  good-all G =
-      let h : used ≤ pairs = G .parted .limit in
-      let e : ringed b t ≡ length (G .ring) = ring-length-all (b + ringAt) (fieldAt b nextAt) (fieldAt b prevAt) pairWords used t (length (G .ring)) (omega arith) (record { places = G .ring; ring = G .rings; below = below-mem used (G .ring) (G .below); long = refl }) in
-      and-both _ _ (decides-all (vacantIn b t) (vacantAfter b t) (slabIn b t) pairs (G .parted))
-      (and-both _ _ (eq-eqb (ringed b t) (readies b t used) (e ∙ ring-long G))
-      (rw e (each-ring b t (G .ring) (G .rings) (λ x m. lt-ltb 1 (entOf b t x .tag) (G .ready x m)))))
+    off-some : inUse b t ≡ nowhere → ⊥
+    unfolding levelOk
+    off-some = eqb-false (inUse b t) nowhere (not-yes _ (and-left _ _ (and-right (leb used pairs) _ e)))
+
+    rings : (ringed b t ≡ nowhere → ⊥) × (along (readyIn b t) (readyAfter b t) (ringHead b t) (ringed b t) ≡ true)
+    unfolding levelOk
+    rings =
+        let r = and-right (not (eqb (inUse b t) nowhere)) _ (and-right (leb used pairs) _ e) in
+        (eqb-false (ringed b t) nowhere (not-yes _ (and-left _ _ r)), and-right (not (eqb (ringed b t) nowhere)) _ r)
+
+    pub use-most : inUse b t ≤ used
+    unfolding inUse
+    use-most = off-most (vacantIn b t) (vacantAfter b t) used (slabIn b t .vacant) off-some
+
+    pub use-least : taken b t used ≤ inUse b t
+    unfolding inUse
+    use-least = off-least (vacantIn b t) (vacantAfter b t) used (slabIn b t .vacant) (omega (arith, level-few)) off-some
+
+    ring : HasRing (b + ringAt) (fieldAt b nextAt) (fieldAt b prevAt) pairWords used (ringed b t) t
+    ring = ring-length-yes (b + ringAt) (fieldAt b nextAt) (fieldAt b prevAt) pairWords used t (ringed b t) refl (rings .0)
+
+    ready : (x : ℕ) → Mem x (ring .places) → readyIn b t x ≡ true
+    ready = let k : length (ring .places) ≡ ringed b t = ring .long in ring-each b t (ring .places) (ring .ring) (rw k (rings .1))
+
+    under : (x : ℕ) → Mem x (ring .places) → x < used
+    under x m = mem-below used x (ring .places) (ring .below) m
+
+    into : (x : ℕ) → Mem x (ring .places) → Mem x (picked (readyIn b t) used)
+    into x m = picked-all (readyIn b t) used x (under x m) (ready x m)
+
+    pub ring-most : ringed b t ≤ readies b t used
+    ring-most = omega (arith, ring .long, counted-long (readyIn b t) used, no-more (ring .places) (picked (readyIn b t) used) (ring .ring .ring .distinct) into)
+
+    -- where chain and ring lack none, the level is good
+    pub level-good : inUse b t ≡ taken b t used → ringed b t ≡ readies b t used → Good b pairs t
+    unfolding inUse
+    level-good whole long =
+        record {
+          ring = ring .places;
+          rings = ring .ring;
+          below = under;
+          ready = λ x m. ltb-true 1 (entOf b t x .tag) (ready x m);
+          all = λ x h l.
+              fills (ring .places) (picked (readyIn b t) used) (ring .ring .ring .distinct) into
+              (omega (arith, ring .long, counted-long (readyIn b t) used)) x
+              (picked-all (readyIn b t) used x h (lt-ltb 1 (entOf b t x .tag) l));
+          parted =
+              decides-yes (vacantIn b t) (vacantAfter b t) (slabIn b t) pairs (omega (arith, level-few))
+              (off-parted (vacantIn b t) (vacantAfter b t) (slabIn b t) pairs level-few (omega (arith, level-few)) whole);
+        }
+
+  -- ---- a good level passes, and lacks none
+
+  module _ (G : Good b pairs t) where
+    pub good-use : inUse b t ≡ taken b t used
+    unfolding inUse
+    good-use = parted-off (vacantIn b t) (vacantAfter b t) (slabIn b t) pairs (omega (arith, G .parted .limit)) (G .parted)
+
+    -- the ring has as many places as there are ready pairs
+    ring-long : length (G .ring) ≡ readies b t used
+    ring-long =
+        let a : length (G .ring) ≤ length (picked (readyIn b t) used) = no-more (G .ring) (picked (readyIn b t) used) (G .rings .ring .distinct) (λ x m. picked-all (readyIn b t) used x (G .below x m) (lt-ltb 1 (entOf b t x .tag) (G .ready x m))) in
+        let c : length (picked (readyIn b t) used) ≤ length (G .ring) = no-more (picked (readyIn b t) used) (G .ring) (picked-once (readyIn b t) used) (λ x m. let r = picked-only (readyIn b t) used x m in G .all x (r .0) (ltb-true 1 (entOf b t x .tag) (r .1))) in
+        omega (arith, counted-long (readyIn b t) used)
+
+    ring-is : ringed b t ≡ length (G .ring)
+    ring-is = ring-length-all (b + ringAt) (fieldAt b nextAt) (fieldAt b prevAt) pairWords used t (length (G .ring)) (omega (arith, G .parted .limit)) (record { places = G .ring; ring = G .rings; below = below-mem used (G .ring) (G .below); long = refl })
+
+    pub good-ring : ringed b t ≡ readies b t used
+    good-ring = ring-is ∙ ring-long
+
+    pub good-level : levelOk b pairs t ≡ true
+    unfolding levelOk
+    good-level =
+        let h : used ≤ pairs = G .parted .limit in
+        let e : ringed b t ≡ length (G .ring) = ring-is in
+        let i : inUse b t < nowhere = omega (arith, good-use) in
+        let j : ringed b t < nowhere = omega (arith, good-ring, count-most (readyIn b t) used) in
+        and-both (leb used pairs) _ (le-leb used pairs h)
+        (and-both (not (eqb (inUse b t) nowhere)) _ (ap not (ne-eqb (inUse b t) nowhere (λ z. omega arith)))
+        (and-both (not (eqb (ringed b t) nowhere)) _ (ap not (ne-eqb (ringed b t) nowhere (λ z. omega arith)))
+        (rw e (each-ring b t (G .ring) (G .rings) (λ x m. lt-ltb 1 (entOf b t x .tag) (G .ready x m))))))

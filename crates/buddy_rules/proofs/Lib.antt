@@ -6,6 +6,8 @@ pub mod Backed
 pub mod Cells
 pub mod Climbing
 pub mod Climbs
+pub mod CountDown
+pub mod Counted
 pub mod Decides
 pub mod Dropped
 pub mod Fits
@@ -15,8 +17,11 @@ pub mod Frees
 pub mod Fresh
 pub mod Gave
 pub mod Grown
-pub mod Leads
+pub mod InUse
+pub mod Items
+pub mod Leaves
 pub mod Lent
+pub mod Looks
 pub mod LevelDecides
 pub mod Made
 pub mod Named
@@ -34,11 +39,11 @@ pub mod Shapes
 pub mod Sides
 pub mod Splitting
 pub mod TakenPairs
-pub mod Standing
 pub mod Stands
 pub mod Stored
 pub mod Stores
 pub mod Tests
+pub mod Totals
 pub mod Uses
 pub mod Viewed
 pub mod Walks

@@ -1,12 +1,12 @@
 -- What a walk down a node sees: the words of a tree, whatever other pairs may lie there; and which nodes it meets.
-use mathlib.Core.Path.{_≡_, refl, ap}
+use mathlib.Core.Path.{_≡_, ap}
 use mathlib.Core.Bool.{Bool, true}
 use mathlib.Core.Logic.{_⊎_, inl, inr}
 use Prim.Native.Nat.{ℕ, zero, suc, _+_, _*_, _≤_}
 use native.Mathlib.Omega.{arith}
 use Rattle.buddy_trees.specs.Trees.{Tree, free, loan, split, Apart, Wf, bytes, Piece, Has}
 use Rattle.buddy_trees.proofs.Bytes.{bytes-suc}
-use Rattle.buddy_rules.specs.Nodes.{Ent, Loan, Side, L, R, nodeOf, word, pairSaid, isFree, tagOf, base}
+use Rattle.buddy_rules.specs.Nodes.{Ent, Loan, L, R, nodeOf, pairSaid, isFree, tagOf}
 
 -- ---- the nodes that a walk meets
 
@@ -23,12 +23,6 @@ module _ (u : ℕ) (E : ℕ → ℕ → Ent) where
       Here (suc l) o n w i x m v
       ⊎ (Meets l o (nodeOf (pairSaid w) L) (E l (pairSaid w) .left) a i x m v
       ⊎ Meets l (o + bytes u l) (nodeOf (pairSaid w) R) (E l (pairSaid w) .right) b i x m v)
-
-  pub meets-here : (l o n w : ℕ) (t : Tree) (i x m v : ℕ) → Here l o n w i x m v → Meets l o n w t i x m v
-  meets-here l o n w free i x m v h = h
-  meets-here l o n w (loan k) i x m v h = h
-  meets-here zero o n w (split a b) i x m v h = h
-  meets-here (suc l) o n w (split a b) i x m v h = inl h
 
   here-in : (l o n w i x m v : ℕ) → Here l o n w i x m v → (o ≤ x) × (x + bytes u i ≤ o + bytes u l) × (i ≤ l)
   here-in l o n w i x m v h = let e : bytes u i ≡ bytes u l = ap (bytes u) (h .0) in omega (arith, h .0, h .1)
@@ -95,44 +89,3 @@ module _ (u : ℕ) (E : ℕ → ℕ → Ent) (K : ℕ → Loan) (live : ℕ → 
   shape-loan c zero o n w (split a b) y k r h e = absurd h
   shape-loan c (suc l) o n w (split a b) y k r (inl h) e = shape-loan c l o (nodeOf (pairSaid w) L) (E l (pairSaid w) .left) a y k (r .this) h e
   shape-loan c (suc l) o n w (split a b) y k r (inr h) e = shape-loan c l (o + bytes u l) (nodeOf (pairSaid w) R) (E l (pairSaid w) .right) b y k (r .twin) h e
-
-  -- ---- what it sees where it meets a node
-
-  -- a part of the tree
-  pub record Part (c l o : ℕ) (t : Tree) (i x m v : ℕ) : Type 0 where
-    pub tree : Tree
-    pub shape : Shape c i x m v tree
-    pub has : (y : Piece) → Has u i x tree y → Has u l o t y
-
-  pub part-of : (c l o n w : ℕ) (t : Tree) (i x m v : ℕ) → Shape c l o n w t → Meets u E l o n w t i x m v → Part c l o t i x m v
-  part-of c l o n w free i x m v r h = rw (h .0, h .1, h .2, h .3) (record { tree = free; shape = r; has = λ y z. z })
-  part-of c l o n w (loan k) i x m v r h = rw (h .0, h .1, h .2, h .3) (record { tree = loan k; shape = r; has = λ y z. z })
-  part-of c zero o n w (split a b) i x m v r h = absurd r
-  part-of c (suc l) o n w (split a b) i x m v r (inl h) = rw (h .0, h .1, h .2, h .3) (record { tree = split a b; shape = r; has = λ y z. z })
-  part-of c (suc l) o n w (split a b) i x m v r (inr (inl h)) =
-      let j = part-of c l o (nodeOf (pairSaid w) L) (E l (pairSaid w) .left) a i x m v (r .this) h in
-      record { tree = j .tree; shape = j .shape; has = λ y z. inl (j .has y z) }
-  part-of c (suc l) o n w (split a b) i x m v r (inr (inr h)) =
-      let j = part-of c l (o + bytes u l) (nodeOf (pairSaid w) R) (E l (pairSaid w) .right) b i x m v (r .twin) h in
-      record { tree = j .tree; shape = j .shape; has = λ y z. inr (j .has y z) }
-
-  -- where it meets a split node it meets that node's halves
-  pub meets-half : (c l o n w : ℕ) (t : Tree) (i x m q : ℕ) (s : Side) → Shape c l o n w t → Meets u E l o n w t (suc i) x m (2 * q + 2)
-      → Meets u E l o n w t i (base u s x i) (nodeOf q s) (word s (E i q))
-  meets-half c l o n w free i x m q s r h = absurd (omega (arith, h .3))
-  meets-half c l o n w (loan k) i x m q s r h = absurd (omega (arith, h .3, r .0))
-  meets-half c zero o n w (split a b) i x m q s r h = absurd r
-  meets-half c (suc l) o n w (split a b) i x m q s r (inl h) =
-      let f : i ≡ l = omega (arith, h .0) in
-      let e : q ≡ pairSaid w = omega (arith, h .3) in
-      rw (f, e, h .1) (inr (go s))
-    where
-      go : (s : Side)
-          → Meets u E l o (nodeOf (pairSaid w) L) (E l (pairSaid w) .left) a l (base u s o l) (nodeOf (pairSaid w) s) (word s (E l (pairSaid w)))
-          ⊎ Meets u E l (o + bytes u l) (nodeOf (pairSaid w) R) (E l (pairSaid w) .right) b l (base u s o l) (nodeOf (pairSaid w) s) (word s (E l (pairSaid w)))
-      go L = inl (meets-here u E l o (nodeOf (pairSaid w) L) (E l (pairSaid w) .left) a l o (nodeOf (pairSaid w) L) (E l (pairSaid w) .left) (refl, refl, refl, refl))
-      go R = inr (meets-here u E l (o + bytes u l) (nodeOf (pairSaid w) R) (E l (pairSaid w) .right) b l (o + bytes u l) (nodeOf (pairSaid w) R) (E l (pairSaid w) .right) (refl, refl, refl, refl))
-  meets-half c (suc l) o n w (split a b) i x m q s r (inr (inl h)) =
-      inr (inl (meets-half c l o (nodeOf (pairSaid w) L) (E l (pairSaid w) .left) a i x m q s (r .this) h))
-  meets-half c (suc l) o n w (split a b) i x m q s r (inr (inr h)) =
-      inr (inr (meets-half c l (o + bytes u l) (nodeOf (pairSaid w) R) (E l (pairSaid w) .right) b i x m q s (r .twin) h))

@@ -1,6 +1,6 @@
 -- A node stands for the tree that a walk down it sees, where the walk meets every pair that lies there; and the other way
 -- round.
-use mathlib.Core.Path.{_≡_, refl, sym, ap, _∙_}
+use mathlib.Core.Path.{_≡_, refl, ap, _∙_}
 use mathlib.Core.Bool.{Bool, true}
 use mathlib.Core.Logic.{_⊎_, inl, inr, ⊎-elim}
 use Prim.Native.Nat.{ℕ, zero, suc, _+_, _*_, _<_}
@@ -8,20 +8,9 @@ use native.Mathlib.Omega.{arith}
 use Rattle.lists.proofs.Bools.{same?}
 use Rattle.buddy_trees.specs.Trees.{Tree, free, loan, split, Wf, bytes, Piece, Has}
 use Rattle.buddy_trees.proofs.Bytes.{bytes-pos}
-use Rattle.buddy_rules.specs.Nodes.{Ent, Loan, Side, L, R, nodeOf, word, pairSaid, base, Inside, Rep}
+use Rattle.buddy_rules.specs.Nodes.{Ent, Loan, L, R, nodeOf, pairSaid, Inside, Rep}
 use Rattle.buddy_rules.proofs.Frames.{inside-half, inside-cases}
-use Rattle.buddy_rules.proofs.Sides.{tag-any}
-use Rattle.buddy_rules.proofs.Shapes.{Shape, Here, Meets, meets-in}
-
-module _ (E : ℕ → ℕ → Ent) where
-  -- node m of level i, whose word is v, is a side of a pair in use, below level l
-  pub record SideOf (l i m v : ℕ) : Type 0 where
-    pub pair : ℕ
-    pub side : Side
-    pub low : i < l
-    pub node : m ≡ nodeOf pair side
-    pub used : 0 < E i pair .tag
-    pub holds : word side (E i pair) ≡ v
+use Rattle.buddy_rules.proofs.Shapes.{Shape, Meets, meets-in}
 
 module _ (u : ℕ) (E : ℕ → ℕ → Ent) where
   -- the pair p of level i is one of the tree
@@ -77,35 +66,6 @@ module _ (u : ℕ) (E : ℕ → ℕ → Ent) (K : ℕ → Loan) where
           let q : p ≡ pairSaid w = r .only p (rw e at t) (rw e at j) in
           inl (ap suc e, rw (e, q) (r .off), rw (e, q) (r .up), omega (arith, r .is))
       go (inr z) f g = inr (⊎-elim (λ k. inl (f (omega arith) k)) (λ k. inr (g (omega arith) k)) (inside-cases u L (E i p) c o l j))
-
-  -- and every loan of the tree
-  pub has-met : (c l o n w : ℕ) (t : Tree) (y : Piece) (k : ℕ) → Rep u E K c l o n w t → Has u l o t y → y .who ≡ k + 1
-      → Meets u E l o n w t (y .lev) (y .at) (K k .node) (2 * k + 1)
-  has-met c l o n w free y k r h e = absurd h
-  has-met c l o n w (loan j) y k r h e =
-      let i : k ≡ j = omega (arith, h .2) in
-      (h .1, h .0, ap (λ z. K z .node) i ∙ ap (λ d. d .node) (r .1), omega (arith, r .0))
-  has-met c zero o n w (split a b) y k r h e = absurd h
-  has-met c (suc l) o n w (split a b) y k r (inl h) e = inr (inl (has-met c l o (nodeOf (pairSaid w) L) (E l (pairSaid w) .left) a y k (r .this) h e))
-  has-met c (suc l) o n w (split a b) y k r (inr h) e = inr (inr (has-met c l (o + bytes u l) (nodeOf (pairSaid w) R) (E l (pairSaid w) .right) b y k (r .twin) h e))
-
-  -- a node that is met is the tree's own, or a side of a pair in use
-  met-side : (l o w i x m v : ℕ) (s : Side) → 0 < E l (pairSaid w) .tag
-      → Here l (base u s o l) (nodeOf (pairSaid w) s) (word s (E l (pairSaid w))) i x m v ⊎ SideOf E l i m v → SideOf E (suc l) i m v
-  met-side l o w i x m v s t (inl h) =
-      rw (h .0) (record { pair = pairSaid w; side = s; low = omega arith; node = h .2; used = t; holds = sym (h .3) })
-  met-side l o w i x m v s t (inr h) = record { pair = h .pair; side = h .side; low = omega (arith, h .low); node = h .node; used = h .used; holds = h .holds }
-
-  pub meets-side : (c l o n w : ℕ) (t : Tree) (i x m v : ℕ) → Rep u E K c l o n w t → Meets u E l o n w t i x m v
-      → Here l o n w i x m v ⊎ SideOf E l i m v
-  meets-side c l o n w free i x m v r h = inl h
-  meets-side c l o n w (loan k) i x m v r h = inl h
-  meets-side c zero o n w (split a b) i x m v r h = absurd r
-  meets-side c (suc l) o n w (split a b) i x m v r (inl h) = inl h
-  meets-side c (suc l) o n w (split a b) i x m v r (inr (inl h)) =
-      inr (met-side l o w i x m v L (rw (r .tag) (tag-any L a b)) (meets-side c l o (nodeOf (pairSaid w) L) (E l (pairSaid w) .left) a i x m v (r .this) h))
-  meets-side c (suc l) o n w (split a b) i x m v r (inr (inr h)) =
-      inr (met-side l o w i x m v R (rw (r .tag) (tag-any L a b)) (meets-side c l (o + bytes u l) (nodeOf (pairSaid w) R) (E l (pairSaid w) .right) b i x m v (r .twin) h))
 
   -- ---- what the walk sees and what the node stands for
 

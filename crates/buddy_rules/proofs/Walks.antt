@@ -16,9 +16,10 @@ use Rattle.counter.specs.InTable.{BuddyIn}
 use Rattle.counter.specs.declared.settings.BuddySettings.{BuddySettings}
 use Rattle.store_rules.specs.Loans.{sizeAt}
 use Rattle.buddy_trees.specs.Trees.{Tree, free, loan, split, Apart, bytes}
-use Rattle.buddy_rules.specs.Nodes.{Ent, L, R, nodeOf, pairSaid, isFree, tagOf}
+use Rattle.buddy_rules.specs.Nodes.{Ent, Loan, L, R, nodeOf, pairSaid, isFree, tagOf}
 use Rattle.buddy_rules.specs.Tables.{Tables, pairsIn, loanCell, loanIn, liveIn}
-use Rattle.buddy_rules.specs.Test.{leafOk, entryOk, nodeOk}
+use Rattle.buddy_rules.specs.Test.{leafOk, entryOk}
+use Rattle.buddy_rules.proofs.Looks.{nodeOk}
 use Rattle.buddy_rules.proofs.Shapes.{LoanAt, Shape}
 
 -- ---- the tree that the words stand for
@@ -58,6 +59,17 @@ module _ (E : ℕ → ℕ → Ent) where
       go true d = refl
       go false true = refl
       go false false = refl
+
+-- whatever tree the words are those of is the one that they stand for
+pub shape-tree : (u : ℕ) (E : ℕ → ℕ → Ent) (K : ℕ → Loan) (live : ℕ → Bool) (size : ℕ → ℕ) (c l o n w : ℕ) (t : Tree) → Shape u E K live size c l o n w t → treeOf E l w ≡ t
+shape-tree u E K live size c l o n w free r = tree-free E l w r
+shape-tree u E K live size c l o n w (loan k) r = let e : w / 2 ≡ k = omega (arith, r .0) in tree-loan E l w (omega (arith, r .0)) ∙ ap loan e
+shape-tree u E K live size c zero o n w (split a b) r = absurd r
+shape-tree u E K live size c (suc l) o n w (split a b) r =
+    tree-split E l w (λ z. omega (arith, r .is)) (λ z. omega (arith, r .is))
+    ∙ ap₂ split
+    (shape-tree u E K live size c l o (nodeOf (pairSaid w) L) (E l (pairSaid w) .left) a (r .this))
+    (shape-tree u E K live size c l (o + bytes u l) (nodeOf (pairSaid w) R) (E l (pairSaid w) .right) b (r .twin))
 
 apart-yes : (a b : Tree) → (isFree a && isFree b) ≡ false → Apart a b
 apart-yes free free e = absurd (true-false _ refl e)

@@ -1,12 +1,12 @@
--- The test of a level, linear in the pair places ever used. The ring has distinct places, so where it has as many as there are
--- ready pairs, and each of its places is one, it has them all.
-use mathlib.Core.Bool.{Bool, true, _&&_}
+-- The test of a level: its chain of vacated places and its ring are each followed once, and no other row is read. That neither lacks
+-- a place is told by the counts of the whole store.
+use mathlib.Core.Bool.{Bool, true, _&&_, not}
 use mathlib.Core.List.{List}
 use Prim.Native.Nat.{ℕ, zero, suc, _+_}
-use lib.Dec.{eqb, ltb}
+use lib.Dec.{eqb, leb, ltb}
 use lib.ListN.{getD}
-use Rattle.slab.specs.Slab.{linkAt}
-use Rattle.slab.specs.Test.{vacancies, partedOk}
+use Rattle.slab.specs.Slab.{nowhere, linkAt}
+use Rattle.slab.specs.Test.{offChain}
 use Rattle.ring_rules.specs.Test.{ringLength}
 use Rattle.buddy_rules.specs.Nodes.{exhausted}
 use Rattle.buddy_rules.specs.Level.{
@@ -39,15 +39,17 @@ module _ (b : ℕ) where
   abbrev pub readyAfter : List ℕ → ℕ → ℕ
   readyAfter t = linkAt t (fieldAt b nextAt) pairWords
 
-  -- how many of the first k pairs are ready, counted as vacant places are
-  abbrev pub readies : List ℕ → ℕ → ℕ
-  readies t k = vacancies (readyIn t) k
-
   -- how many pairs stand in the ring
   abbrev pub ringed : List ℕ → ℕ
   ringed t = ringLength (b + ringAt) (fieldAt b nextAt) (fieldAt b prevAt) pairWords (getD t (b + usedAt) 0) t
 
-  unfoldable pub goodOk : ℕ → List ℕ → Bool
-  goodOk pairs t =
-      partedOk (vacantIn b t) (vacantAfter b t) (slabIn b t) pairs
-      && (eqb (ringed t) (readies t (getD t (b + usedAt) 0)) && along (readyIn t) (readyAfter t) (ringHead b t) (ringed t))
+  -- how many pairs are in use: of the places ever used those that the chain of the vacated ones leaves over; nowhere where it is torn
+  unfoldable pub inUse : List ℕ → ℕ
+  inUse t = offChain (vacantIn b t) (vacantAfter b t) (getD t (b + usedAt) 0) (slabIn b t .vacant) (getD t (b + usedAt) 0)
+
+  -- chain and ring of a level end within its places, of which there are not too many, and every pair in the ring is ready
+  unfoldable pub levelOk : ℕ → List ℕ → Bool
+  levelOk pairs t =
+      leb (getD t (b + usedAt) 0) pairs
+      && (not (eqb (inUse t) nowhere)
+      && (not (eqb (ringed t) nowhere) && along (readyIn t) (readyAfter t) (ringHead b t) (ringed t)))

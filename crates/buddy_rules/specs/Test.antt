@@ -1,29 +1,39 @@
--- The test of a buddy store, and of its trees first, linear in the places ever used: a walk down each chunk, as 01 has it, and at each pair
--- and each loan a look at what leads to it.
-use mathlib.Core.Bool.{Bool, true, false, cond, _&&_, _||_, not}
+-- The test of a buddy store, and of its trees first: a walk down each chunk, as 01 has it, that counts down from the pairs that the
+-- levels' chains leave in use and the loans. Where it is right and ends at 0 it has met every one of them, so no chain lacks a vacated
+-- place; and the count of leaves then tells that no ring lacks a ready pair.
+use mathlib.Core.Bool.{Bool, true, cond, _&&_, _||_, not}
 use mathlib.Core.List.{List, [], _∷_}
-use Prim.Native.Nat.{ℕ, zero, suc, _+_, _%_}
+use Prim.Native.Nat.{ℕ, zero, suc, _+_, _-_, _%_}
 use lib.Dec.{eqb, leb, ltb}
 use Rattle.counter.specs.declared.settings.BuddySettings.{BuddySettings}
 use Rattle.slab.specs.Slab.{nowhere}
 use Rattle.store_rules.specs.Loans.{sizeAt}
 use Rattle.buddy_trees.specs.Trees.{bytes}
-use Rattle.buddy_rules.specs.Nodes.{freeWord, loanWord, splitWord, saysLoan, loanSaid, pairSaid, vacant, Ent, L, R, nodeOf, pairOf, word, tagOf}
-use Rattle.buddy_rules.specs.Levels.{sideIn}
-use Rattle.buddy_rules.specs.Level.{usedAt}
+use Rattle.buddy_rules.specs.Nodes.{freeWord, saysLoan, loanSaid, pairSaid, Ent, L, R, nodeOf, tagOf}
 use Rattle.buddy_rules.specs.Tables.{Tables, signedOk, marks, givenIn, memoryIn, vacantLoan, loanAfter, loanSlab, chainStart, chainNext, vacantChunk, chunkAfter, chunkSlab, levelsIn, placesIn, chunkPlacesIn, chunkSizeIn, levelFrom, pairsIn, loanCell, loanIn, liveIn, heldIn, highIn, topIn, initialLevels}
-use lib.ListN.{getD}
 use Rattle.lists.specs.Tests.{all}
 use Rattle.counter.specs.Limits.{levelsMost}
-use Rattle.slab.specs.Test.{partedOk}
+use Rattle.slab.specs.Test.{vacancies, partedOk}
 use Rattle.book_rules.specs.Book.{serialOf}
 use Rattle.book_rules.specs.Chains.{chainsOk}
-use Rattle.buddy_rules.specs.LevelTest.{goodOk}
+use Rattle.buddy_rules.specs.LevelTest.{ringed, inUse, levelOk}
 
 -- p holds of each number below n
 abbrev pub every : (ℕ → Bool) → ℕ → Bool
 every p zero = true
 every p (suc n) = every p n && p n
+
+-- what f makes of m, or nowhere where a count is torn already
+unfoldable pub andThen : ℕ → (ℕ → ℕ) → ℕ
+andThen m f = cond (eqb m nowhere) nowhere (f m)
+
+-- how many loans are live
+unfoldable pub liveCount : Tables → ℕ
+liveCount t = placesIn t - vacancies (vacantLoan t) (placesIn t)
+
+-- how many chunks are held
+unfoldable pub heldCount : Tables → ℕ
+heldCount t = chunkPlacesIn t - vacancies (vacantChunk t) (chunkPlacesIn t)
 
 module _ (s : BuddySettings) (t : Tables) where
   -- ---- down from the top: "A node is free, on loan, or split into a pair, and a pair is its two nodes"
@@ -41,46 +51,59 @@ module _ (s : BuddySettings) (t : Tables) where
       not (eqb (e .left) freeWord && eqb (e .right) freeWord)
       && (eqb (e .tag) (tagOf (eqb (e .left) freeWord) (eqb (e .right) freeWord)) && (eqb (e .chunk) c && (eqb (e .off) o && eqb (e .up) n)))
 
-  -- node n of level l at o of chunk c, whose word is w
-  unfoldable pub nodeOk : ℕ → ℕ → ℕ → ℕ → ℕ → Bool
-  nodeOk zero c o n w = cond (eqb w freeWord) true (cond (saysLoan w) (leafOk (loanSaid w) c zero o n) false)
-  nodeOk (suc l) c o n w =
-      cond (eqb w freeWord) true
-      (cond (saysLoan w) (leafOk (loanSaid w) c (suc l) o n)
-      (entryOk (pairsIn s t l (pairSaid w)) c o n
-      && (nodeOk l c o (nodeOf (pairSaid w) L) (pairsIn s t l (pairSaid w) .left)
-      && nodeOk l c (o + bytes (s .minimal) l) (nodeOf (pairSaid w) R) (pairsIn s t l (pairSaid w) .right))))
+  -- of k pairs and loans that are still to be met, how many are left when node n of level l at o of chunk c, whose word is w, has
+  -- been walked; nowhere where something is not right, or more is met than k
+  unfoldable pub leftNode : ℕ → ℕ → ℕ → ℕ → ℕ → ℕ → ℕ
+  leftNode zero c o n w k =
+      cond (eqb w freeWord) k (cond (saysLoan w) (cond (ltb 0 k && leafOk (loanSaid w) c zero o n) (k - 1) nowhere) nowhere)
+  leftNode (suc l) c o n w k =
+      cond (eqb w freeWord) k
+      (cond (saysLoan w) (cond (ltb 0 k && leafOk (loanSaid w) c (suc l) o n) (k - 1) nowhere)
+      (cond (ltb 0 k && entryOk (pairsIn s t l (pairSaid w)) c o n)
+      (andThen
+      (leftNode l c o (nodeOf (pairSaid w) L) (pairsIn s t l (pairSaid w) .left) (k - 1))
+      (leftNode l c (o + bytes (s .minimal) l) (nodeOf (pairSaid w) R) (pairsIn s t l (pairSaid w) .right)))
+      nowhere))
 
-  -- the chunk at place c, where there is one: its size, and its nodes; "a buddy store holds no wholly free chunk"
-  unfoldable pub chunkOk : ℕ → Bool
-  chunkOk c =
-      not (heldIn t c)
-      || (eqb (chunkSizeIn t c) (bytes (s .minimal) (highIn s t c))
+  -- the same when the chunk at place c has been walked, where there is one: its size, and its nodes; "a buddy store holds no wholly
+  -- free chunk"
+  unfoldable pub leftChunk : ℕ → ℕ → ℕ
+  leftChunk c k =
+      cond (heldIn t c)
+      (cond
+      (eqb (chunkSizeIn t c) (bytes (s .minimal) (highIn s t c))
       && (ltb 0 (highIn s t c)
       && (leb (initialLevels s) (highIn s t c)
-      && (leb (highIn s t c) (levelsIn t) && (not (eqb (topIn s t c) freeWord) && nodeOk (highIn s t c) c 0 nowhere (topIn s t c))))))
+      && (leb (highIn s t c) (levelsIn t) && not (eqb (topIn s t c) freeWord)))))
+      (leftNode (highIn s t c) c 0 nowhere (topIn s t c) k)
+      nowhere)
+      k
 
-  -- ---- what leads to it: node n of level l has the word w
+  -- and the chunks at the first n places
+  unfoldable pub leftChunks : ℕ → ℕ → ℕ
+  leftChunks zero k = k
+  leftChunks (suc n) k = andThen (leftChunks n k) (leftChunk n)
 
-  unfoldable pub leadsOk : ℕ → ℕ → ℕ → ℕ → Bool
-  leadsOk l c n w =
-      cond (eqb n nowhere) (heldIn t c && (eqb (highIn s t c) l && eqb (topIn s t c) w))
-      (ltb l (levelsIn t) && (ltb vacant (pairsIn s t l (pairOf n) .tag) && eqb (word (sideIn n) (pairsIn s t l (pairOf n))) w))
+  -- how many pairs of the first n levels are in use, as their vacant chains tell it
+  unfoldable pub pairsInUse : ℕ → ℕ
+  pairsInUse zero = 0
+  pairsInUse (suc l) = pairsInUse l + inUse (levelFrom s l) (t .room)
 
-  -- a pair of level l is what its node is split into
-  unfoldable pub pairOk : ℕ → ℕ → Bool
-  pairOk l p = eqb (pairsIn s t l p .tag) vacant || leadsOk (suc l) (pairsIn s t l p .chunk) (pairsIn s t l p .up) (splitWord p)
+  -- how many stand in the rings of the first n levels
+  unfoldable pub pairsReady : ℕ → ℕ
+  pairsReady zero = 0
+  pairsReady (suc l) = pairsReady l + ringed (levelFrom s l) (t .room)
 
-  -- a loan is its node's
-  unfoldable pub loanOk : ℕ → Bool
-  loanOk k = not (liveIn t k) || leadsOk (loanIn s t k .lev) (loanIn s t k .chunk) (loanIn s t k .node) (loanWord k)
+  -- a tree has one pair less than leaves, and its leaves are its loans and the free side of each ready pair: no ready pair is missing
+  -- from the rings
+  unfoldable pub leavesOk : Bool
+  leavesOk = eqb (pairsReady (levelsIn t) + liveCount t) (pairsInUse (levelsIn t) + heldCount t)
+
+  -- the walk down every chunk meets all that is in use
+  unfoldable pub countedOk : Bool
+  countedOk = eqb (leftChunks (chunkPlacesIn t) (pairsInUse (levelsIn t) + liveCount t)) 0
 
   -- ---- the whole
-
-  unfoldable pub treesOk : Bool
-  treesOk =
-      every chunkOk (chunkPlacesIn t)
-      && (every (λ (l : ℕ). every (pairOk l) (getD (t .room) (levelFrom s l + usedAt) 0)) (levelsIn t) && every loanOk (placesIn t))
 
   -- no two held chunks have one memory number, by comparing each with each: the code sorts
   unfoldable pub memoriesOk : Bool
@@ -102,8 +125,9 @@ module _ (s : BuddySettings) (t : Tables) where
       ∷ chainsOk (vacantLoan t) (chainStart t) (chainNext t) (serialOf (t .loans)) (s .store .loans) (placesIn t) (givenIn t)
       ∷ partedOk (vacantChunk t) (chunkAfter s t) (chunkSlab s t) (s .store .chunks)
       ∷ memoriesOk
-      ∷ every (λ (l : ℕ). goodOk (levelFrom s l) (s .pairs) (t .room)) (levelsIn t)
-      ∷ treesOk
+      ∷ every (λ (l : ℕ). levelOk (levelFrom s l) (s .pairs) (t .room)) (levelsIn t)
+      ∷ leavesOk
+      ∷ countedOk
       ∷ every unitsOk (placesIn t)
       ∷ []
 

@@ -1,8 +1,11 @@
 -- Head, chunk places, levels and units: what the code has read of them is what the tests are of.
-use mathlib.Core.Path.{_≡_, refl, sym, ap, _∙_}
+use mathlib.Core.Path.{_≡_, refl, sym, ap, ap₂, _∙_}
 use mathlib.Core.Bool.{Bool, true, false, _&&_, _||_, not}
 use mathlib.Core.List.{List, []}
-use Prim.Native.Nat.{ℕ, _+_, _%_, _<_}
+use Prim.Native.Nat.{ℕ, _+_, _-_, _%_, _≤_, _<_}
+use native.Mathlib.Omega.{arith}
+use native.Mathlib.Nat.{mul-add, mul-le-mul-left}
+use native.Mathlib.Numerals.{add-one}
 use lib.Bits.{bitAnd}
 use lib.Dec.{eqb, leb}
 use lib.ListN.{getD}
@@ -15,14 +18,14 @@ use Rattle.counter.specs.InTable.{BuddyIn}
 use Rattle.counter.specs.Limits.{levelsMost}
 use Rattle.counter.specs.declared.settings.BuddySettings.{BuddySettings}
 use Rattle.slab.specs.Slab.{placeOf, vacantAt, linkAt}
-use Rattle.slab.specs.Test.{partedOk}
+use Rattle.slab.specs.Test.{vacancies, partedOk}
 use Rattle.store_rules.specs.Loans.{placesAt, loanWords, sizeAt, loanRow, offsetAt}
 use Rattle.store_rules.specs.declared.Loan.{Loan}
-use Rattle.buddy_rules.specs.Level.{levelStart}
-use Rattle.buddy_rules.specs.LevelTest.{goodOk}
-use Rattle.buddy_levels.specs.Seen.{partTables, levelPart}
+use Rattle.buddy_rules.specs.Level.{levelWords, levelStart}
+use Rattle.buddy_rules.specs.LevelTest.{ringed, inUse, levelOk}
+use Rattle.buddy_levels.specs.Seen.{partSettings, partTables, levelPart}
 use Rattle.buddy_rules.specs.Tables.{levelsAt, initialLevels, chunkPlacesAt, chunkWords, chunkSizeAt, placeWords, afterAt, vacantChunk, chunkAfter, chunkSlab, marks, Tables, signedOk}
-use Rattle.buddy_rules.specs.Test.{unitsOk}
+use Rattle.buddy_rules.specs.Test.{heldCount, pairsInUse, pairsReady, unitsOk}
 
 module _ (s : BuddySettings) where
   pub head-told : (t : Tables) (m : Bool) (l f : ℕ) → m ≡ signedOk marks t → l ≡ getD (t .head) levelsAt 0 → f ≡ initialLevels s
@@ -37,8 +40,41 @@ module _ (s : BuddySettings) where
       ∙ (λ j. partedOk (vacantAt chunks chunkSizeAt chunkWords) (linkAt tree (at + (placeWords + afterAt)) placeWords) (record { places = c j; vacant = f j }) (s .store .chunks))
       ∙ (λ j. partedOk (vacantAt chunks chunkSizeAt chunkWords) (linkAt tree (e j + (placeWords + afterAt)) placeWords) (record { places = getD chunks chunkPlacesAt 0; vacant = placeOf (getD tree (e j) 0) }) (s .store .chunks))
 
-pub good-told : (pairs l base : ℕ) (tree : List ℕ) (r : Bool) → base ≡ levelStart pairs l → r ≡ goodOk base pairs tree → r ≡ goodOk (levelStart pairs l) pairs tree
-good-told pairs l base tree r e f = f ∙ ap (λ (b : ℕ). goodOk b pairs tree) e
+  -- u of n places are used
+  pub held-told : (n u : ℕ) (chunks : List ℕ) → n ≡ getD chunks chunkPlacesAt 0 → u ≡ n - vacancies (vacantAt chunks chunkSizeAt chunkWords) n → u ≡ heldCount (levelPart 0 chunks [])
+  unfolding heldCount
+  held-told n u chunks e f = f ∙ (λ j. e j - vacancies (vacantAt chunks chunkSizeAt chunkWords) (e j))
+
+-- ---- a level, which begins at base
+
+pub level-fits : (pairs l base m : ℕ) → l < levelsMost → base ≡ levelStart pairs l → levelStart pairs levelsMost ≤ m → base + levelWords pairs ≤ m
+level-fits pairs l base m h e f =
+    let g : l + 1 ≤ levelsMost = omega arith in
+    omega (arith, e, f, mul-le-mul-left (levelWords pairs) g, mul-add (levelWords pairs) l 1)
+
+pub good-told : (pairs l base : ℕ) (tree : List ℕ) (r : Bool) → base ≡ levelStart pairs l → r ≡ levelOk base pairs tree → r ≡ levelOk (levelStart pairs l) pairs tree
+good-told pairs l base tree r e f = f ∙ ap (λ (b : ℕ). levelOk b pairs tree) e
+
+-- ---- the pairs in use and the ready ones, level by level
+
+module _ (pairs : ℕ) (tree : List ℕ) where
+  pub pairs-none : 0 ≡ pairsInUse (partSettings 0 pairs 0) (levelPart 0 [] tree) 0
+  unfolding pairsInUse
+  pairs-none = refl
+
+  pub ready-none : 0 ≡ pairsReady (partSettings 0 pairs 0) (levelPart 0 [] tree) 0
+  unfolding pairsReady
+  ready-none = refl
+
+  -- u of the level that begins at base, x of those before it
+  module _ (l base u x : ℕ) (b : base ≡ levelStart pairs l) where
+    pub pairs-next : x ≡ pairsInUse (partSettings 0 pairs 0) (levelPart 0 [] tree) l → u ≡ inUse base tree → x + u ≡ pairsInUse (partSettings 0 pairs 0) (levelPart 0 [] tree) (l + 1)
+    unfolding pairsInUse
+    pairs-next e f = rw (add-one l) (ap₂ _+_ e (f ∙ ap (λ (i : ℕ). inUse i tree) b))
+
+    pub ready-next : x ≡ pairsReady (partSettings 0 pairs 0) (levelPart 0 [] tree) l → u ≡ ringed base tree → x + u ≡ pairsReady (partSettings 0 pairs 0) (levelPart 0 [] tree) (l + 1)
+    unfolding pairsReady
+    ready-next e f = rw (add-one l) (ap₂ _+_ e (f ∙ ap (λ (i : ℕ). ringed i tree) b))
 
 -- ---- a loan's units
 

@@ -4,53 +4,46 @@ mod memories;
 
 ghost use mathlib.Core.Path.{_≡_};
 ghost use Rattle.counter.specs.InTable.{BuddyIn};
-ghost use Rattle.counter.specs.Limits.{levelsMost, loansMost, chunksMost};
-ghost use Prim.Native.Nat.{_+_, _≤_, _<_};
+ghost use Rattle.counter.specs.Limits.{levelsMost, pairsMost, loansMost, chunksMost};
+ghost use Prim.Native.Nat.{_+_, _*_, _≤_};
+ghost use lib.Dec.{eqb};
 ghost use lib.ListN.{getD};
-ghost use Rattle.buddy_rules.specs.Level.{usedAt, levelStart};
-ghost use Rattle.store_rules.specs.Loans.{placesAt};
 ghost use Rattle.buddy_rules.specs.Tables.{tables, chunkPlacesAt, Lengths};
-ghost use Rattle.buddy_rules.specs.Test.{treesOk, soundOk};
+ghost use Rattle.buddy_rules.specs.Test.{pairsInUse, liveCount, countedOk, soundOk};
 ghost use Rattle.buddy_levels.specs.Seen.{partTables};
+ghost use Rattle.buddy_walk.specs.Walks.{Within};
+use buddy_levels::Tested;
 use buddy_rules::CHUNK_PLACES_AT;
 use buddy_rules::LEVELS_AT;
 use counter::BuddySettings;
 use store_rules::GIVEN_AT;
 use store_rules::PLACES_AT;
 
-// Whether every chunk, pair and loan stands where the others say.
-fn are_trees(
+// Whether the rings have every ready pair: a chunk's tree has one pair less than leaves, and those are its loans and a side of each
+// ready pair.
+fn are_leaves(pairs: Tested, live: u64, held: u64) -> bool
+    requires { ⌜ (pairs .used ≤ levelsMost * pairsMost) × (pairs .ready ≤ levelsMost * pairsMost) × (live ≤ loansMost) × (held ≤ chunksMost) ⌝ }
+    ensures { λ r. ⌜ r ≡ eqb (pairs .ready + live) (pairs .used + held) ⌝ }
+{
+    pairs.ready + live == pairs.used + held
+}
+
+// Whether the walk down every chunk meets all of so many pairs in use and loans.
+fn are_met(
     s: BuddySettings,
     levels: u64,
-    places: u64,
     held: u64,
+    count: u64,
     loans: &[u64],
     chunks: &[u64],
     index: &[u64],
     tree: &[u64],
 ) -> bool
-    requires { ⌜ BuddyIn s × (levels ≤ levelsMost) × (places ≤ loansMost) × (held ≤ chunksMost) × ((l : _) → l < levels → getD (now tree) (levelStart (s .pairs) l + usedAt) 0 ≤ s .pairs) × (places ≡ getD (now loans) placesAt 0) × (held ≡ getD (now chunks) chunkPlacesAt 0) ⌝ }
-    ensures { λ r. ⌜ r ≡ treesOk s (partTables levels (now (loans .entry)) (now (chunks .entry)) (now (index .entry)) (now (tree .entry))) ⌝ }
+    requires { ⌜ BuddyIn s × (levels ≤ levelsMost) × (held ≤ chunksMost) × (held ≡ getD (now chunks) chunkPlacesAt 0) × Within levels (s .pairs) (s .store .loans) (now loans) (now index) (now tree) × (count ≡ pairsInUse s (partTables levels (now loans) (now chunks) (now index) (now tree)) levels + liveCount (partTables levels (now loans) (now chunks) (now index) (now tree))) ⌝ }
+    ensures { λ r. ⌜ r ≡ countedOk s (partTables levels (now (loans .entry)) (now (chunks .entry)) (now (index .entry)) (now (tree .entry))) ⌝ }
 {
-    let own = s.store;
-    if !buddy_walk::are_chunks(s, levels, places, held, loans, chunks, index, tree) {
-        return false;
-    }
-    if !buddy_leads::are_pairs(s.minimal, s.pairs, levels, held, chunks, tree) {
-        return false;
-    }
-    buddy_leads::are_lent(
-        s.minimal,
-        s.pairs,
-        own.loans,
-        levels,
-        held,
-        places,
-        loans,
-        chunks,
-        index,
-        tree,
-    )
+    let left = buddy_walk::left_chunks(s, levels, held, count, loans, chunks, index, tree);
+    left == 0
 }
 
 // Whether the tables hold a sound store. The tests that read least come first, and each relies on those before it.
@@ -72,25 +65,27 @@ pub fn is_sound(
     let levels = words::word(head, LEVELS_AT);
     let places = words::word(loans, PLACES_AT);
     let held = words::word(chunks, CHUNK_PLACES_AT);
-    if !book::is_kept(
-        loans,
-        index,
-        own.loans,
-        places,
-        words::word(loans, GIVEN_AT),
-    ) {
+    let given = words::word(loans, GIVEN_AT);
+    let kept = book::are_kept(loans, index, own.loans, places, given);
+    if !kept.ok {
         return false;
     }
-    if !heads::are_places(s, held, chunks, tree) {
+    let parts = heads::are_places(s, held, chunks, tree);
+    if !parts.ok {
         return false;
     }
     if !memories::are_memories(chunks, held as usize) {
         return false;
     }
-    if !heads::are_good(s.pairs, levels, tree) {
+    let good = heads::are_good(s.pairs, levels, tree);
+    if !good.ok {
         return false;
     }
-    if !are_trees(s, levels, places, held, loans, chunks, index, tree) {
+    if !are_leaves(good, kept.live, parts.used) {
+        return false;
+    }
+    let count = good.used + kept.live;
+    if !are_met(s, levels, held, count, loans, chunks, index, tree) {
         return false;
     }
     heads::are_units(s, places, loans)

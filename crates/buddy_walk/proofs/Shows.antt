@@ -1,15 +1,16 @@
 -- What the walk down a chunk, and the test of a chunk, read: no more than their numbers and lists.
 use mathlib.Core.Path.{_≡_, refl}
-use mathlib.Core.Bool.{true, false, cond, _&&_}
+use mathlib.Core.Bool.{cond, _&&_}
 use mathlib.Core.List.{[]}
-use Prim.Native.Nat.{ℕ, zero, suc, _+_}
-use lib.Dec.{eqb}
+use Prim.Native.Nat.{ℕ, zero, suc, _+_, _-_}
+use lib.Dec.{eqb, ltb}
 use Rattle.counter.specs.declared.settings.BuddySettings.{BuddySettings}
+use Rattle.slab.specs.Slab.{nowhere}
 use Rattle.buddy_trees.specs.Trees.{bytes}
 use Rattle.buddy_rules.specs.Nodes.{freeWord, saysLoan, loanSaid, pairSaid, Ent, L, R, nodeOf}
 use Rattle.buddy_levels.specs.Seen.{partSettings, partTables, loanPart}
 use Rattle.buddy_rules.specs.Tables.{Tables, levelsIn, pairsIn}
-use Rattle.buddy_rules.specs.Test.{leafOk, entryOk, nodeOk, chunkOk}
+use Rattle.buddy_rules.specs.Test.{leafOk, entryOk, andThen, leftNode, leftChunk, leftChunks}
 
 module _ (s : BuddySettings) (t : Tables) where
   abbrev numbers : BuddySettings
@@ -32,16 +33,27 @@ module _ (s : BuddySettings) (t : Tables) where
   unfolding leafOk
   leaf-by k c l o n = refl
 
-  pub node-shows : (l c o n w : ℕ) → nodeOk s t l c o n w ≡ nodeOk numbers shown l c o n w
-  unfolding nodeOk
-  node-shows zero c o n w = λ i. cond (eqb w freeWord) true (cond (saysLoan w) (leaf-by (loanSaid w) c zero o n i) false)
-  node-shows (suc l) c o n w =
+  pub node-shows : (l c o n w k : ℕ) → leftNode s t l c o n w k ≡ leftNode numbers shown l c o n w k
+  unfolding leftNode
+  node-shows zero c o n w k =
+      λ i. cond (eqb w freeWord) k (cond (saysLoan w) (cond (ltb 0 k && leaf-by (loanSaid w) c zero o n i) (k - 1) nowhere) nowhere)
+  node-shows (suc l) c o n w k =
       let e = pairsIn s t l (pairSaid w) in
-      λ i. cond (eqb w freeWord) true
-      (cond (saysLoan w) (leaf-by (loanSaid w) c (suc l) o n i)
-      (entry-shows numbers shown e c o n i
-      && (node-shows l c o (nodeOf (pairSaid w) L) (e .left) i && node-shows l c (o + bytes (s .minimal) l) (nodeOf (pairSaid w) R) (e .right) i)))
+      λ i. cond (eqb w freeWord) k
+      (cond (saysLoan w) (cond (ltb 0 k && leaf-by (loanSaid w) c (suc l) o n i) (k - 1) nowhere)
+      (cond (ltb 0 k && entry-shows numbers shown e c o n i)
+      (andThen (node-shows l c o (nodeOf (pairSaid w) L) (e .left) (k - 1) i) (λ (m : ℕ). node-shows l c (o + bytes (s .minimal) l) (nodeOf (pairSaid w) R) (e .right) m i))
+      nowhere))
 
-pub chunk-shows : (s : BuddySettings) (t : Tables) (c : ℕ) → chunkOk s t c ≡ chunkOk s (partTables (levelsIn t) (t .loans) (t .chunks) (t .index) (t .room)) c
-unfolding chunkOk
-chunk-shows s t c = rw (node-shows s t, node-shows s (partTables (levelsIn t) (t .loans) (t .chunks) (t .index) (t .room)))
+module _ (s : BuddySettings) (t : Tables) where
+  abbrev seen : Tables
+  seen = partTables (levelsIn t) (t .loans) (t .chunks) (t .index) (t .room)
+
+  chunk-shows : (c k : ℕ) → leftChunk s t c k ≡ leftChunk s seen c k
+  unfolding leftChunk
+  chunk-shows c k = rw (node-shows s t, node-shows s seen)
+
+  pub chunks-show : (n k : ℕ) → leftChunks s t n k ≡ leftChunks s seen n k
+  unfolding leftChunks
+  chunks-show zero k = refl
+  chunks-show (suc n) k = λ i. andThen (chunks-show n k i) (λ (m : ℕ). chunk-shows n m i)

@@ -1,47 +1,62 @@
-// The walk down a chunk, as 01 has it: the node check calls the pair check, and that the node check on both halves.
+// The walk down a chunk, as 01 has it: the node check calls the pair check, and that the node check on both halves. It counts down
+// what it meets of the pairs in use and the loans. The tests before it have shown that the tables have the words of every place ever
+// used, so no word is asked for whether it is there.
 ghost use mathlib.Core.Path.{_≡_};
 ghost use mathlib.Core.List.{[]};
-ghost use Prim.Native.Nat.{_+_, _*_, _^_, _≤_, _<_};
+ghost use Prim.Native.Nat.{ℕ, _+_, _*_, _^_, _≤_, _<_};
 ghost use lib.Dec.{eqb};
-ghost use lib.ListN.{getD};
+ghost use lib.ListN.{length, getD};
 ghost use Rattle.counter.specs.Limits.{levelsMost, loansMost, minimalBits};
-ghost use Rattle.store_rules.specs.Loans.{placesAt};
+ghost use Rattle.store_rules.specs.Loans.{placesAt, loanWords};
+ghost use Rattle.book_rules.specs.Book.{indexWords};
 ghost use Rattle.buddy_trees.specs.Trees.{bytes};
 ghost use Rattle.buddy_rules.specs.Nodes.{freeWord, tagOf};
+ghost use Rattle.buddy_rules.specs.Tables.{columns};
 ghost use Rattle.buddy_levels.specs.Pairs.{entFrom};
-ghost use Rattle.buddy_rules.specs.Test.{leafOk, entryOk, nodeOk};
+ghost use Rattle.buddy_rules.specs.Test.{entryOk, leftNode};
 ghost use Rattle.buddy_levels.specs.Seen.{partSettings, loanPart};
-ghost use Rattle.buddy_walk.specs.Walks.{Small, halvesOk};
+ghost use Rattle.buddy_walk.specs.Walks.{Within, leftLeaf, leftPair};
 use buddy_levels::Pair;
+use buddy_levels::USED_AT;
 use buddy_rules::EXHAUSTED;
 use buddy_rules::FREE_WORD;
 use buddy_rules::LEFT_READY;
 use buddy_rules::RIGHT_READY;
+use slab::NOWHERE;
+use store_rules::CHUNK_AT;
+use store_rules::LOAN_WORDS;
+use store_rules::OFFSET_AT;
+use store_rules::PLACES_AT;
+use store_rules::SIZE_AT;
 
-// Whether a loan place has the loan of this node.
-fn is_leaf(
-    minimal: u64,
-    most: usize,
-    places: u64,
-    level: u64,
+// Of so many pairs and loans still to be met, how many are left when the loan of this node, which is so long, has been met: NOWHERE
+// where it is not there, or none was left. A vacant place has the size 0, and no node has.
+fn left_at_loan(
+    size: u64,
     chunk: u64,
     offset: u64,
     node: u64,
     place: u64,
+    left: u64,
+    most: usize,
     loans: &[u64],
     index: &[u64],
-) -> bool
-    requires { ⌜ (minimal ≤ 2 ^ minimalBits) × (most ≤ loansMost) × (places ≤ loansMost) × (places ≡ getD (now loans) placesAt 0) × (level ≤ levelsMost) ⌝ }
-    ensures { λ r. ⌜ r ≡ leafOk (partSettings minimal 0 most) (loanPart (now (loans .entry)) (now (index .entry)) []) place chunk level offset node ⌝ }
+) -> u64
+    requires { ⌜ (most ≤ loansMost) × (getD (now loans) placesAt 0 ≤ most) × (loanWords + loanWords * most ≤ length (now loans)) × (indexWords most + columns * (most + 1) ≤ length (now index)) ⌝ }
+    ensures { λ r. ⌜ ((minimal level : ℕ) → 0 < minimal → size ≡ bytes minimal level → r ≡ leftLeaf (partSettings minimal 0 most) (loanPart (now (loans .entry)) (now (index .entry)) []) place chunk level offset node left) ⌝ }
 {
-    if places <= place {
-        return false;
+    if loans[PLACES_AT] <= place {
+        return NOWHERE;
     }
-    let l = book::loan_at(loans, place as usize);
+    let i = LOAN_WORDS * place as usize;
     let at = buddy_levels::node_at(most, place);
-    let size = buddy_levels::node_bytes(minimal, level);
-    let stands = (l.chunk == chunk) & ((l.offset == offset) & (l.size == size));
-    (l.size != 0) & (stands & (words::word(index, at) == node))
+    let stands = (loans[CHUNK_AT + i] == chunk)
+        & ((loans[OFFSET_AT + i] == offset) & (loans[SIZE_AT + i] == size));
+    if (0 < left) & (stands & (index[at] == node)) {
+        left - 1
+    } else {
+        NOWHERE
+    }
 }
 
 // The tag of a pair whose left and right nodes have these words.
@@ -67,110 +82,105 @@ fn is_entry(e: Pair, chunk: u64, offset: u64, node: u64) -> bool
     !free & ((e.tag == tag_of(e.left, e.right)) & stands)
 }
 
-// Whether a node, whose word this is, is free, on loan, or split into a pair that is right.
-pub fn is_node(
-    minimal: u64,
-    pairs: usize,
-    most: usize,
-    places: u64,
-    level: u64,
+// The same when a node, which is so long and whose word this is, has been walked: free, on loan, or split into a pair that is right.
+pub fn left_at_node(
+    size: u64,
     chunk: u64,
     offset: u64,
     node: u64,
     word: u64,
+    left: u64,
+    level: u64,
+    pairs: usize,
+    most: usize,
     loans: &[u64],
     index: &[u64],
     tree: &[u64],
-) -> bool
-    requires { ⌜ Small minimal pairs most places (now loans) × (level ≤ levelsMost) × (offset + bytes minimal level ≤ bytes minimal levelsMost) ⌝ }
-    ensures { λ r. ⌜ r ≡ nodeOk (partSettings minimal pairs most) (loanPart (now (loans .entry)) (now (index .entry)) (now (tree .entry))) level chunk offset node word ⌝ }
+) -> u64
+    requires { ⌜ Within level pairs most (now loans) (now index) (now tree) × (level ≤ levelsMost) × (offset + size ≤ 2 ^ (minimalBits + levelsMost)) ⌝ }
+    ensures { λ r. ⌜ ((minimal : ℕ) → 0 < minimal → size ≡ bytes minimal level → r ≡ leftNode (partSettings minimal pairs most) (loanPart (now (loans .entry)) (now (index .entry)) (now (tree .entry))) level chunk offset node word left) ⌝ }
 {
     if word == FREE_WORD {
-        return true;
+        return left;
     }
     if buddy_levels::says_loan(word) {
-        return is_leaf(
-            minimal,
-            most,
-            places,
-            level,
-            chunk,
-            offset,
-            node,
-            buddy_levels::loan_said(word),
-            loans,
-            index,
-        );
+        let place = buddy_levels::loan_said(word);
+        return left_at_loan(size, chunk, offset, node, place, left, most, loans, index);
     }
     if level == 0 {
-        return false;
+        return NOWHERE;
     }
-    is_pair(
-        minimal,
-        pairs,
-        most,
-        places,
-        level - 1,
+    let p = buddy_levels::pair_said(word);
+    left_at_pair(
+        size / 2,
         chunk,
         offset,
         node,
-        buddy_levels::pair_said(word),
+        p,
+        left,
+        level - 1,
+        pairs,
+        most,
         loans,
         index,
         tree,
     )
 }
 
-// Whether a node of the level above is split into the pair p, and both its halves are right.
-fn is_pair(
-    minimal: u64,
-    pairs: usize,
-    most: usize,
-    places: u64,
-    level: u64,
+// The same when the pair p, into which a node of the level above is split, and both its halves, each so long, have been walked; the
+// right half last, so that its call is a jump.
+fn left_at_pair(
+    size: u64,
     chunk: u64,
     offset: u64,
     node: u64,
     p: u64,
+    left: u64,
+    level: u64,
+    pairs: usize,
+    most: usize,
     loans: &[u64],
     index: &[u64],
     tree: &[u64],
-) -> bool
-    requires { ⌜ Small minimal pairs most places (now loans) × (level < levelsMost) × (offset + 2 * bytes minimal level ≤ bytes minimal levelsMost) × (p < 2 ^ 63) ⌝ }
-    ensures { λ r. ⌜ r ≡ halvesOk (partSettings minimal pairs most) (loanPart (now (loans .entry)) (now (index .entry)) (now (tree .entry))) level chunk offset node p ⌝ }
+) -> u64
+    requires { ⌜ Within (level + 1) pairs most (now loans) (now index) (now tree) × (level < levelsMost) × (offset + 2 * size ≤ 2 ^ (minimalBits + levelsMost)) ⌝ }
+    ensures { λ r. ⌜ ((minimal : ℕ) → 0 < minimal → size ≡ bytes minimal level → r ≡ leftPair (partSettings minimal pairs most) (loanPart (now (loans .entry)) (now (index .entry)) (now (tree .entry))) level chunk offset node p left) ⌝ }
 {
     let base = buddy_levels::level_from(pairs, level as usize);
-    let e = buddy_levels::pair_in(tree, base, p);
-    if !is_entry(e, chunk, offset, node) {
-        return false;
+    if tree[base + USED_AT] <= p {
+        return NOWHERE;
     }
-    if !is_node(
-        minimal,
-        pairs,
-        most,
-        places,
-        level,
+    let e = buddy_levels::standing_pair(tree, base, p);
+    if !((0 < left) & is_entry(e, chunk, offset, node)) {
+        return NOWHERE;
+    }
+    let rest = left_at_node(
+        size,
         chunk,
         offset,
         buddy_levels::left_node(p),
         e.left,
+        left - 1,
+        level,
+        pairs,
+        most,
         loans,
         index,
         tree,
-    ) {
-        return false;
+    );
+    if rest == NOWHERE {
+        return NOWHERE;
     }
-    let right = offset + buddy_levels::node_bytes(minimal, level);
-    is_node(
-        minimal,
-        pairs,
-        most,
-        places,
-        level,
+    left_at_node(
+        size,
         chunk,
-        right,
+        offset + size,
         buddy_levels::right_node(p),
         e.right,
+        rest,
+        level,
+        pairs,
+        most,
         loans,
         index,
         tree,

@@ -16,7 +16,7 @@ use Rattle.heap.specs.Heap.{plusOf, chargedOf, releasedOf, bearsOk, agreesOk}
 use Rattle.words.specs.Words.{blank}
 use Rattle.slab.specs.Slab.{inserted}
 use Rattle.store_rules.specs.Tables.{signedOk}
-use Rattle.slab.specs.Test.{partedOk, leads, vacancies}
+use Rattle.slab.specs.Test.{partedOk, leads, vacancies, offChain}
 use Rattle.ring_rules.specs.Ring.{unlinked, linked}
 use Rattle.ring_rules.specs.Test.{metAfter, ringLength}
 use Rattle.store_rules.specs.Delivery.{deliveryOk}
@@ -27,9 +27,10 @@ use Rattle.book_rules.specs.Chains.{chainsOk, leftOf, leftAfter, linkOk}
 use Rattle.buddy_trees.specs.Trees.{bytes}
 use Rattle.buddy_rules.specs.Level.{dropped, backed, acquired, added, freshLevel}
 use Rattle.buddy_rules.specs.Level as Level
-use Rattle.buddy_rules.specs.LevelTest.{along, goodOk}
+use Rattle.buddy_rules.specs.LevelTest.{along, inUse, levelOk}
 use Rattle.buddy_rules.specs.Tables.{Tables, tables, lengthsOk, bookWords, treeWords, memories}
-use Rattle.buddy_rules.specs.Test.{leafOk, entryOk, nodeOk, chunkOk, leadsOk, pairOk, loanOk, treesOk, memoriesOk, unitsOk, soundOk}
+use Rattle.buddy_rules.specs.Test.{leafOk, entryOk, andThen, leftNode, leftChunk, leftChunks, liveCount, pairsInUse, pairsReady, leavesOk, countedOk, memoriesOk, unitsOk, soundOk}
+use Rattle.buddy_rules.specs.Test as Test
 use Rattle.buddy_rules.specs.Moves.{climbed, worded, splitDown, splitChunk}
 use Rattle.buddy_outcomes.specs.Gate.{inTableOk, heldCount, heldBytes, accountOk, gateOf}
 use Rattle.buddy_outcomes.specs.Ask.{sizeFor, levelFor, searchFrom, foundFrom, sizeOk, pairsRoom, roomOk, countOk, objectsOk, decideAsk, freshLevels, grownTables, bookedTables, takenTables, deniedTables, carryAsk, planAsk, askOf}
@@ -94,11 +95,11 @@ splitting =
 -- each of them, computed
 pub split-worked : map (λ (d : Day). d .gives) splitting ≡ map (λ (d : Day). d .says) splitting
 unfolding splitting trailingZeros onesOk powerOk upTo bits powerUp levelOf alignmentOk storeOk buddyOk heapsUpto
-    plusOf chargedOf releasedOf bearsOk agreesOk inserted partedOk leads vacancies unlinked linked metAfter ringLength
+    plusOf chargedOf releasedOf bearsOk agreesOk inserted partedOk leads vacancies offChain unlinked linked metAfter ringLength
     deliveryOk chargedAccount releasedAccount coversOk blank signedOk counted entered enteredIndex seekIn
     wordTo struck struckIndex chainsOk leftOf leftAfter linkOk bytes dropped backed acquired Level.entered added
-    freshLevel along goodOk lengthsOk leafOk entryOk nodeOk chunkOk leadsOk pairOk loanOk treesOk memoriesOk unitsOk
-    soundOk climbed worded splitDown splitChunk inTableOk heldCount heldBytes accountOk gateOf sizeFor levelFor searchFrom
+    freshLevel along inUse levelOk lengthsOk leafOk entryOk andThen leftNode leftChunk leftChunks liveCount Test.heldCount pairsInUse pairsReady
+    leavesOk countedOk memoriesOk unitsOk soundOk climbed worded splitDown splitChunk inTableOk heldCount heldBytes accountOk gateOf sizeFor levelFor searchFrom
     foundFrom sizeOk pairsRoom roomOk countOk objectsOk decideAsk freshLevels grownTables bookedTables takenTables
     deniedTables carryAsk planAsk askOf deliverGateOf memories chunkTables servedTables carryFate planDeliver
     carryDeliver deliverOf onLoanOk vacatedTree givenTables decideReturn planReturn releasedBy carryReturn returnOf

@@ -105,13 +105,21 @@ module _ (s : FreeListSettings) (h : Heap) (objects size mask : ℕ) (t : Tables
     abbrev held : List Chunk
     held = storeOf s t .chunks ++ (chunk (storeOf s t .made + 1) memory z ∷ [])
 
+    -- and the table has room for it
+    held-room : chunkWords + chunkWords * length held ≤ length (t .chunks)
+    held-room =
+        omega (arith, length-append (storeOf s t .chunks) (chunk (storeOf s t .made + 1) memory z ∷ []), chunks-length s t, few, lengths-are s t lengths .chunks)
+
+    delivered-counted : chunksAt < length (deliveredTables s memory z t .chunks)
+    unfolding deliveredTables
+    delivered-counted =
+        omega (arith, chunks-numbered held (t .chunks) held-room (storeOf s t .made + 1) .long, lengths-are s t lengths .chunks)
+
     -- its number is over those of the others
     delivered-numbers : NumbersRise (rows chunkRow (getD (deliveredTables s memory z t .chunks) chunksAt 0) (deliveredTables s memory z t .chunks))
     unfolding deliveredTables
     delivered-numbers =
-        let enough : chunkWords + chunkWords * length held ≤ length (t .chunks) =
-        omega (arith, length-append (storeOf s t .chunks) (chunk (storeOf s t .made + 1) memory z ∷ []), chunks-length s t, few, lengths-are s t lengths .chunks) in
-        subst NumbersRise (sym (chunks-numbered held (t .chunks) enough (storeOf s t .made + 1) .records))
+        subst NumbersRise (sym (chunks-numbered held (t .chunks) held-room (storeOf s t .made + 1) .records))
         (numbered-end 1 (storeOf s t .chunks) (chunk (storeOf s t .made + 1) memory z) (omega arith) (λ c m. omega (arith, sound .store .chunks-made c m)) (sound .store .chunks-rise))
 
     delivered-fit : RegionsFit s (deliveredTables s memory z t .room)
@@ -139,6 +147,7 @@ module _ (s : FreeListSettings) (h : Heap) (objects size mask : ℕ) (t : Tables
           long = lengths-are s t lengths .index;
           front = omega (arith, f, ends-low s t sound front ends);
           behind = omega (arith, ap (afterIn (s .store .loans) (t .index)) f, ends-low s t sound (afterIn (s .store .loans) (t .index) front) (after-ends s t sound front ends));
+          counted = delivered-counted;
           numbers = delivered-numbers;
         }
 

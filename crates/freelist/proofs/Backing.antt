@@ -64,6 +64,7 @@ module _ (s : FreeListSettings) (t : Tables) (fit : FreeListIn s) (sound : Sound
         short = omega (arith, block-low s t fit sound b lent);
         room = back-room s t fit sound b lent;
         whole = whole-few s t sound;
+        counted = omega (arith, long .chunks);
         numbers = sound .store .chunks-rise;
         long = long .index;
         word = word-inside s t fit long sound b lent;

@@ -56,5 +56,6 @@ module _ (s : FreeListSettings) (h : Heap) (objects size mask : ℕ) (t : Tables
         long = lengths-are s t lengths .index;
         front = ends-low s t sound _ front;
         behind = ends-low s t sound _ (after-ends s t sound _ front);
+        counted = omega (arith, lengths-are s t lengths .chunks);
         numbers = sound .store .chunks-rise;
       }

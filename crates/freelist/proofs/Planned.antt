@@ -2,8 +2,7 @@
 use mathlib.Core.Path.{_≡_, refl, sym, ap, _∙_}
 use mathlib.Core.Bool.{Bool, true}
 use mathlib.Core.List.{List, []}
-use Prim.Native.Nat.{ℕ, _≤_}
-use native.Mathlib.Omega.{arith}
+use Prim.Native.Nat.{ℕ}
 use Rattle.counter.specs.Account.{heapAt}
 use Rattle.counter.specs.Gate.{Verdict, pass, refuse}
 use Rattle.counter.specs.declared.account.Account.{Account}
@@ -15,7 +14,7 @@ use Rattle.store_rules.proofs.Holders.{holding, orderBy, holder}
 use Rattle.store_rules.specs.declared.Share.{Share}
 use Rattle.store_rules.proofs.Shares.{held-heap}
 use Rattle.book_rules.specs.Returns as Returns
-use Rattle.freelist_rules.specs.Tables.{Tables, tables, placesIn, chunksIn, storeOf}
+use Rattle.freelist_rules.specs.Tables.{Tables, tables, chunksIn, storeOf}
 use Rattle.freelist_outcomes.specs.Gate.{gateOf}
 use Rattle.freelist_outcomes.specs.Return.{decideReturn, planReturn}
 use Rattle.freelist_outcomes.specs.Ask.{decideAsk, planAsk}
@@ -24,8 +23,6 @@ use Rattle.freelist_outcomes.specs.Deliver.{deliverGateOf, decideDeliver, planD
 use Rattle.freelist_rules.specs.Records.{chunkRow}
 use Rattle.freelist_rules.specs.Walk.{memories}
 use Rattle.words.specs.Rows.{rows}
-use Rattle.counter.specs.InTable.{FreeListIn}
-use Rattle.counter.specs.Limits.{loansMost}
 use Rattle.counter.specs.declared.account.OpenOrder.{OpenOrder}
 use Rattle.counter.specs.declared.answers.Outcome.{Outcome}
 use Rattle.freelist_decide.proofs.Few.{return-few}
@@ -66,12 +63,6 @@ module _ (s : FreeListSettings) (a : Account) (b : Block) (t : Tables) (list : B
   pub return-go : (p : Returns.Plan) → pass ≡ gateOf s a t list → p ≡ decideReturn s b (tables [] (t .loans) [] (t .index) []) → p ≡ planReturn s a b t list
   unfolding planReturn
   return-go p e d = d ∙ return-few s b t ∙ rw (sym e) refl
-
-  -- a sound book has no more places than it may
-  pub places-few : pass ≡ gateOf s a t list → FreeListIn s × (placesIn t ≤ loansMost)
-  places-few e =
-      let p = gate-passed s a t list e in
-      (p .settings, omega (arith, p .sound .parted .limit, p .settings .store .loans-most))
 
 -- ---- a delivery
 

@@ -20,7 +20,7 @@ ghost use Rattle.freelist_outcomes.specs.Return.{givenTables, releaseOf, carryR
 ghost use Rattle.freelist_outcomes.specs.SetUp.{begun, carrySetUp};
 ghost use Rattle.freelist_decide.specs.Plans.{planOf, Planned};
 ghost use Rattle.freelist.specs.Deliveries.{deliveryOf};
-ghost use Rattle.freelist.specs.Ready.{SetUpReady, AskReady, KeepReady, ComingReady, DeliverReady, Releases, TakesBack, ReturnReady, CleanUpReady};
+ghost use Rattle.freelist.specs.Ready.{SetUpReady, AskReady, KeepReady, ComingReady, DeliverReady, TakesBack, ReturnReady, CleanUpReady};
 use crate::plans::Delivery;
 use counter::AskAnswer;
 use counter::Block;
@@ -215,23 +215,8 @@ pub fn carry_deliver(
     }
 }
 
-// Wholly free chunks go; `spare` keeps that of the last region.
-fn let_go(
-    s: FreeListSettings,
-    share: Share,
-    spare: bool,
-    chunks: &mut [u64],
-    regions: &mut [u64],
-    list: &mut [u64],
-) -> ReleasedShare
-    requires { ⌜ Releases s (share .objects) spare (tables [] [] (now chunks) [] (now regions)) (now list) ⌝ }
-    ensures { λ r. ⌜ listed (releaseSaid (r .answer)) (holder (s .store) (r .share)) (tables [] [] (now (chunks .exit)) [] (now (regions .exit))) (now (list .exit)) ≡ releaseOf s (holder (s .store) share) spare (tables [] [] (now (chunks .entry)) [] (now (regions .entry))) (now (list .entry)) ⌝ }
-{
-    let f = freelist_release::release(s, spare, chunks, regions, list);
-    store::settle(share, f.count, f.bytes)
-}
-
-// The loan that the word at `at` of the index leads to goes back, and then wholly free chunks go.
+// The loan that the word at `at` of the index leads to goes back, and then wholly free chunks go; all that went is told by two
+// numbers, so that the share is not handed on through memory.
 fn take_in(
     s: FreeListSettings,
     share: Share,
@@ -247,7 +232,8 @@ fn take_in(
     ensures { λ r. ⌜ listed (releaseSaid (r .answer)) (holder (s .store) (r .share)) (tables [] (now (loans .exit)) (now (chunks .exit)) (now (index .exit)) (now (regions .exit))) (now (list .exit)) ≡ releaseOf s (holder (s .store) share) true (givenTables s b at (tables [] (now (loans .entry)) (now (chunks .entry)) (now (index .entry)) (now (regions .entry)))) (now (list .entry)) ⌝ }
 {
     freelist_place::take_back(s, b, at, loans, chunks, index, regions);
-    let_go(s, share, true, chunks, regions, list)
+    let f = freelist_release::release(s, true, chunks, regions, list);
+    store::settle(share, f.count, f.bytes)
 }
 
 pub fn carry_return(
@@ -287,6 +273,9 @@ pub fn carry_clean_up(
 {
     match plan {
         Gate::Shut(refusal) => store::refuse_return(share, refusal),
-        Gate::Go => let_go(s, share, false, chunks, regions, list),
+        Gate::Go => {
+            let f = freelist_release::release(s, false, chunks, regions, list);
+            store::settle(share, f.count, f.bytes)
+        }
     }
 }

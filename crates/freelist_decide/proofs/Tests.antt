@@ -2,7 +2,7 @@
 use mathlib.Core.Path.{_≡_, refl, sym, ap, subst, _∙_}
 use mathlib.Core.Bool.{Bool, true, false, _&&_}
 use mathlib.Core.List.{List, [], _∷_}
-use Prim.Native.Nat.{ℕ, _<_}
+use Prim.Native.Nat.{ℕ, _≤_, _<_}
 use native.Mathlib.Omega.{arith}
 use lib.Dec.{ltb}
 use lib.ListN.{getD}
@@ -46,21 +46,17 @@ module _ (s : FreeListSettings) (loans index : List ℕ) where
   unfolding roomOk
   take-full i e = rw e refl
 
-  pub take-spent : (i w : ℕ) → left ≡ true → w ≡ getD loans givenAt 0 → w ≡ spent → deny 10 ≡ Taken i
+  pub take-spent : (i : ℕ) → left ≡ true → spent ≤ getD loans givenAt 0 → deny 10 ≡ Taken i
   unfolding roomOk
-  take-spent i w e g h = rw (e, le-ltb (getD loans givenAt 0) spent (omega (arith, g, h))) refl
+  take-spent i e h = rw (e, le-ltb (getD loans givenAt 0) spent h) refl
 
-  pub take-go : (i w : ℕ) → left ≡ true → w ≡ getD loans givenAt 0 → w < spent → take i ≡ Taken i
+  pub take-go : (i : ℕ) → left ≡ true → getD loans givenAt 0 < spent → take i ≡ Taken i
   unfolding roomOk
-  take-go i w e g h = rw (e, lt-ltb (getD loans givenAt 0) spent (omega (arith, g, h))) refl
+  take-go i e h = rw (e, lt-ltb (getD loans givenAt 0) spent h) refl
 
-  -- the place that the code read, and whether it is one of the store's
-  module _ (w : ℕ) (k : Next.Taken) (p : k ≡ takenOf w index) (e : w ≡ getD loans placesAt 0) where
-    pub loan-is : k ≡ takenOf (getD loans placesAt 0) index
-    loan-is = p ∙ ap (λ (x : ℕ). takenOf x index) e
-
-    pub left-is : (has : Bool) → has ≡ ltb (k .place) (s .store .loans) → has ≡ left
-    left-is has h = h ∙ ap (λ (x : Next.Taken). ltb (x .place) (s .store .loans)) loan-is
+  -- whether the place that the code read is one of the store's
+  pub left-is : (k : Next.Taken) → k ≡ takenOf (getD loans placesAt 0) index → (has : Bool) → has ≡ ltb (k .place) (s .store .loans) → has ≡ left
+  left-is k p has h = h ∙ ap (λ (x : Next.Taken). ltb (x .place) (s .store .loans)) p
 
 module _ (s : FreeListSettings) (head loans chunks index : List ℕ) where
   abbrev now : Tables
@@ -71,8 +67,8 @@ module _ (s : FreeListSettings) (head loans chunks index : List ℕ) where
   room = left s loans index && ltb (getD chunks chunksAt 0) (s .store .chunks)
 
   -- what the code read says the same
-  pub room-is : (has v : Bool) (w : ℕ) → has ≡ left s loans index → w ≡ getD chunks chunksAt 0 → (has && ltb w (s .store .chunks)) ≡ v → room ≡ v
-  room-is has v w e c r = (λ j. sym e j && ltb (sym c j) (s .store .chunks)) ∙ r
+  pub room-is : (has v : Bool) → has ≡ left s loans index → (has && ltb (getD chunks chunksAt 0) (s .store .chunks)) ≡ v → room ≡ v
+  room-is has v e r = (λ j. sym e j && ltb (getD chunks chunksAt 0) (s .store .chunks)) ∙ r
 
   module _ (h : Heap) (objects size : ℕ) where
     abbrev pub raised : ℕ
@@ -84,11 +80,11 @@ module _ (s : FreeListSettings) (head loans chunks index : List ℕ) where
     pub raised-is : (n now′ z : ℕ) → n ≡ sizeFor s size → now′ ≡ getD head chunkSizeAt 0 → z ≡ grown now′ n (s .last) → z ≡ raised
     raised-is n now′ z a b c = c ∙ (λ j. grown (b j) (a j) (s .last))
 
-    pub counts-is : (n now′ z given made : ℕ) (bears v : Bool) → n ≡ sizeFor s size → now′ ≡ getD head chunkSizeAt 0 → z ≡ grown now′ n (s .last) → given ≡ getD loans givenAt 0 → made ≡ getD chunks madeAt 0
-        → bears ≡ bearsOk h z → (ltb given spent && (bears && ltb made spent)) ≡ v → counts ≡ v
-    counts-is n now′ z given made bears v a b c g m e r =
+    pub counts-is : (n now′ z : ℕ) (bears v : Bool) → n ≡ sizeFor s size → now′ ≡ getD head chunkSizeAt 0 → z ≡ grown now′ n (s .last)
+        → bears ≡ bearsOk h z → (ltb (getD loans givenAt 0) spent && (bears && ltb (getD chunks madeAt 0) spent)) ≡ v → counts ≡ v
+    counts-is n now′ z bears v a b c e r =
         let f : bears ≡ bearsOk h raised = e ∙ ap (bearsOk h) (raised-is n now′ z a b c) in
-        (λ j. ltb (sym g j) spent && (sym f j && ltb (sym m j) spent)) ∙ r
+        (λ j. ltb (getD loans givenAt 0) spent && (sym f j && ltb (getD chunks madeAt 0) spent)) ∙ r
 
     abbrev pub Bought : Plan ℕ
     Bought = planned s size now nowhere (first (lateRow s h objects size now nowhere))

@@ -1,15 +1,16 @@
 // What an ask comes to, by the tests 5, 6, 8, 10 and 9, once the gate is passed.
 ghost use mathlib.Core.Path.{_≡_};
 ghost use mathlib.Core.List.{[], _∷_};
-ghost use Prim.Native.Nat.{ℕ};
+ghost use Prim.Native.Nat.{ℕ, _<_};
 ghost use lib.Dec.{ltb};
-ghost use lib.ListN.{getD};
+ghost use lib.ListN.{length, getD};
 ghost use Rattle.counter.specs.Limits.{spent};
 ghost use Rattle.counter.specs.Gate.{first};
 ghost use Rattle.store_rules.specs.Loans.{givenAt, placesAt};
 ghost use Rattle.book_rules.specs.Book.{takenOf};
+ghost use Rattle.book_rules.specs.Ready.{Reads};
 ghost use Rattle.freelist_rules.specs.Place.{nowhere, at, sizeFor};
-ghost use Rattle.freelist_rules.specs.Tables.{tables, RegionsFit};
+ghost use Rattle.freelist_rules.specs.Tables.{tables, chunksAt, RegionsFit};
 ghost use Rattle.freelist_outcomes.specs.Ask.{sizeOk, roomOk, lateRow, planned, decideAsk};
 ghost use Rattle.freelist_decide.specs.Plans.{planOf, Carries, Planned};
 use counter::FreeListSettings;
@@ -61,14 +62,15 @@ fn is_place(s: FreeListSettings, loan: Taken) -> bool
 
 // Region i serves, from `start` on.
 fn decide_take(s: FreeListSettings, i: usize, start: u64, loans: &[u64], index: &[u64]) -> Plan
+    requires { ⌜ Reads (s .store .loans) (getD (now loans) placesAt 0) (now loans) (now index) ⌝ }
     ensures { λ r. ⌜ planOf r ≡ planned s 0 (tables [] (now (loans .entry)) [] (now (index .entry)) []) (at i) (first ((roomOk s (tables [] (now (loans .entry)) [] (now (index .entry)) []) (at i), 8) ∷ (ltb (getD (now (loans .entry)) givenAt 0) spent, 10) ∷ [])) ⌝ }
     ensures { λ r. ⌜ ((from : ℕ → ℕ) → (n m : ℕ) → start ≡ from i → Carries from n m (takenOf (getD (now (loans .entry)) placesAt 0) (now (index .entry))) r) ⌝ }
 {
-    let loan = book::next_place(words::word(loans, PLACES_AT), index);
+    let loan = book::next_place_in(loans[PLACES_AT], index);
     if !is_place(s, loan) {
         return Plan::Refuse(Refusal::Full);
     }
-    if words::word(loans, GIVEN_AT) == u64::MAX {
+    if u64::MAX <= loans[GIVEN_AT] {
         return Plan::Refuse(Refusal::Count);
     }
     Plan::Take(Taking {
@@ -90,18 +92,19 @@ fn decide_buy(
     chunks: &[u64],
     index: &[u64],
 ) -> Plan
+    requires { ⌜ Reads (s .store .loans) (getD (now loans) placesAt 0) (now loans) (now index) × (chunksAt < length (now chunks)) ⌝ }
     ensures { λ r. ⌜ ((asked : ℕ) → size ≡ sizeFor s asked → planOf r ≡ planned s asked (tables (now (head .entry)) (now (loans .entry)) (now (chunks .entry)) (now (index .entry)) []) nowhere (first (lateRow s h objects asked (tables (now (head .entry)) (now (loans .entry)) (now (chunks .entry)) (now (index .entry)) []) nowhere))) ⌝ }
     ensures { λ r. ⌜ ((from : ℕ → ℕ) → Carries from size mask (takenOf (getD (now (loans .entry)) placesAt 0) (now (index .entry))) r) ⌝ }
 {
     let store = s.store;
-    let loan = book::next_place(words::word(loans, PLACES_AT), index);
-    let vacant = words::word(chunks, CHUNKS_AT) < store.chunks as u64;
+    let loan = book::next_place_in(loans[PLACES_AT], index);
+    let vacant = chunks[CHUNKS_AT] < store.chunks as u64;
     if !(is_place(s, loan) & vacant) {
         return Plan::Refuse(Refusal::Full);
     }
     let z = rounding::grow(words::word(head, CHUNK_SIZE_AT), size, s.last);
-    let given = words::word(loans, GIVEN_AT) < u64::MAX;
-    let made = words::word(chunks, MADE_AT) < u64::MAX;
+    let given = loans[GIVEN_AT] < u64::MAX;
+    let made = chunks[MADE_AT] < u64::MAX;
     if !(given & (heap::bears(h, z) & made)) {
         return Plan::Refuse(Refusal::Count);
     }
@@ -128,7 +131,7 @@ pub fn decide(
     index: &[u64],
     regions: &[u64],
 ) -> Plan
-    requires { ⌜ RegionsFit s (now regions) ⌝ }
+    requires { ⌜ RegionsFit s (now regions) × Reads (s .store .loans) (getD (now loans) placesAt 0) (now loans) (now index) × (chunksAt < length (now chunks)) ⌝ }
     ensures { λ r. ⌜ planOf r ≡ decideAsk s h objects size mask (tables (now (head .entry)) (now (loans .entry)) (now (chunks .entry)) (now (index .entry)) (now (regions .entry))) ⌝ }
     ensures { λ r. ⌜ Planned s size mask (tables (now (head .entry)) (now (loans .entry)) (now (chunks .entry)) (now (index .entry)) (now (regions .entry))) r ⌝ }
 {

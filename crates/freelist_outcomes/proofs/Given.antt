@@ -144,7 +144,7 @@ module _ (s : FreeListSettings) (t : Tables) (fit : FreeListIn s) (lengths : Len
   given-lengths =
       record {
         head = lengths .head;
-        loans = struck-long word (t .index) (t .loans) ∙ lengths .loans;
+        loans = struck-long _ (t .index) (t .loans) ∙ lengths .loans;
         chunks = lengths .chunks;
         room = laid-long s joined (wholeNow s b t) (t .room) regions-whole room;
         index = unthreaded-length n (recordAt word t) (struckIndex word (t .index)) ∙ struck-wide word (t .index) ∙ lengths .index;

@@ -29,7 +29,7 @@ use Rattle.freelist_rules.specs.Place.{sizeFor, maskFor, at, cutOff, putLoan}
 use Rattle.freelist_rules.specs.Sound.{Sound}
 use Rattle.freelist_rules.specs.Steps.{noRegion, lent}
 use Rattle.freelist_rules.specs.Tables.{Tables, regionsMost, Lengths, placesIn, ordered, storeOf, SoundTables, RegionsFit, givenIn, gapsIn}
-use Rattle.freelist_rules.specs.Threads.{threadWords, afterIn, freeOf, Fronts, cutGaps, wholes}
+use Rattle.freelist_rules.specs.Threads.{threaded, threadWords, freeOf, Fronts, cutGaps, wholes}
 use Rattle.store_rules.specs.declared.Region.{Region}
 use Rattle.freelist_rules.proofs.Base.{rising-low, rising-apart}
 use Rattle.freelist_rules.proofs.Enters.{put-amid}
@@ -41,7 +41,7 @@ use Rattle.freelist_rules.proofs.Ordered.{put-in, ordered-in}
 use Rattle.freelist_rules.proofs.Search.{find-fits}
 use Rattle.freelist_rules.proofs.Threads.{threaded-length, threaded-front}
 use Rattle.freelist_outcomes.specs.Ask.{foundFor, blockAt, loanFrom, recordFor, frontAt, wholeLeft, takenTables}
-use Rattle.freelist_outcomes.proofs.Between.{index′, new-thread, new-fronts, new-whole}
+use Rattle.freelist_outcomes.proofs.Between.{new-thread, new-fronts, new-whole}
 use Rattle.book_rules.proofs.Counted.{entered-given, entered-places}
 
 cut-length : (x i : ℕ) (rs : List Region) → i < length rs → length (cutOff x i rs) ≤ length rs
@@ -134,25 +134,26 @@ module _ (s : FreeListSettings) (t : Tables) (fit : FreeListIn s) (lengths : Len
   abbrev entries : List ℕ
   entries = enteredIndex (s .store .loans) (placesIn t) (new .serial) (t .index)
 
-  abbrev thread : List ℕ
-  thread = index′ s t fit lengths sound size mask i aligned some-size place found
+  -- whichever loan follows the new one
+  abbrev thread : ℕ → List ℕ
+  thread after = threaded (s .store .loans) (frontAt t i) (recordFor t) after entries
 
-  thread-wide : length thread ≡ threadWords (s .store .loans)
-  thread-wide = threaded-length (s .store .loans) (frontAt t i) (recordFor t) (afterIn (s .store .loans) (t .index) (frontAt t i)) entries ∙ entered-wide (s .store .loans) (placesIn t) (new .serial) (t .index) ∙ lengths .index
+  thread-wide : (after : ℕ) → length (thread after) ≡ threadWords (s .store .loans)
+  thread-wide after = threaded-length (s .store .loans) (frontAt t i) (recordFor t) after entries ∙ entered-wide (s .store .loans) (placesIn t) (new .serial) (t .index) ∙ lengths .index
 
-  thread-front : (k : ℕ) → k < indexWords (s .store .loans) → getD thread k 0 ≡ getD entries k 0
-  thread-front = threaded-front (s .store .loans) (frontAt t i) (recordFor t) (afterIn (s .store .loans) (t .index) (frontAt t i)) entries
+  thread-front : (after k : ℕ) → k < indexWords (s .store .loans) → getD (thread after) k 0 ≡ getD entries k 0
+  thread-front after = threaded-front (s .store .loans) (frontAt t i) (recordFor t) after entries
 
-  parted-now : BookParted loans′ thread (s .store .loans) used
-  parted-now =
+  parted-now : (after : ℕ) → BookParted loans′ (thread after) (s .store .loans) used
+  parted-now after =
       let P = entered-parted (t .loans) (t .index) (s .store .loans) (placesIn t) few (sound .parted) (before .given) new (lengths .loans) (omega (arith, lengths .index)) place refl new-some in
-      parted-front (s .store .loans) used loans′ entries thread (P .limit) thread-front P
+      parted-front (s .store .loans) used loans′ entries (thread after) (P .limit) (thread-front after) P
 
-  chained-now : BookChained loans′ thread (s .store .loans) used (new .serial)
+  chained-now : (after : ℕ) → BookChained loans′ (thread after) (s .store .loans) used (new .serial)
   unfolding storeOf
-  chained-now =
+  chained-now after =
       let P = entered-parted (t .loans) (t .index) (s .store .loans) (placesIn t) few (sound .parted) (before .given) new (lengths .loans) (omega (arith, lengths .index)) place refl new-some in
-      chained-front (s .store .loans) used loans′ entries thread (P .limit) thread-front (new .serial)
+      chained-front (s .store .loans) used loans′ entries (thread after) (P .limit) (thread-front after) (new .serial)
       (entered-chained (t .loans) (t .index) (s .store .loans) (placesIn t) few (sound .parted) (givenIn t) new (lengths .loans) (omega (arith, lengths .index)) place refl new-some (sound .chained))
 
   -- the tables are as long as before
@@ -164,7 +165,7 @@ module _ (s : FreeListSettings) (t : Tables) (fit : FreeListIn s) (lengths : Len
         loans = entered-long (placesIn t) (t .index) new (t .loans) ∙ lengths .loans;
         chunks = lengths .chunks;
         room = laid-long s left (wholeLeft s t i) (t .room) table-fit left-room;
-        index = thread-wide;
+        index = thread-wide _;
       }
 
   -- the store that they hold is the one with the block lent
@@ -189,15 +190,15 @@ module _ (s : FreeListSettings) (t : Tables) (fit : FreeListIn s) (lengths : Len
               head = sound .signed .head;
               loans = entered-mark (placesIn t) (t .index) new (t .loans) ∙ sound .signed .loans;
               chunks = sound .signed .chunks;
-              index = thread-front markAt (omega arith) ∙ entered-index-mark n (placesIn t) (new .serial) (t .index) ∙ sound .signed .index;
+              index = thread-front _ markAt (omega arith) ∙ entered-index-mark n (placesIn t) (new .serial) (t .index) ∙ sound .signed .index;
               room = laid-mark s left whole (t .room) table-fit ∙ sound .signed .room;
             };
         chunks-fit = sound .chunks-fit;
         regions-fit = omega (arith, laid-count s left whole (t .room) table-fit left-room, left-room);
-        parted = subst (λ (k : ℕ). BookParted loans′ thread n k) (sym places-now) parted-now;
+        parted = subst (λ (k : ℕ). BookParted loans′ (takenTables s size mask t i .index) n k) (sym places-now) (parted-now _);
         chained =
-            subst (λ (k : ℕ). BookChained loans′ thread n k (getD loans′ givenAt 0)) (sym places-now)
-            (subst (λ (k : ℕ). BookChained loans′ thread n used k) (sym given-now) chained-now);
+            subst (λ (k : ℕ). BookChained loans′ (takenTables s size mask t i .index) n k (getD loans′ givenAt 0)) (sym places-now)
+            (subst (λ (k : ℕ). BookChained loans′ (takenTables s size mask t i .index) n used k) (sym given-now) (chained-now _));
         store = subst (Sound s) after-is after-sound;
         threaded =
             record {

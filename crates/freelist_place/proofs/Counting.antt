@@ -1,13 +1,10 @@
 -- Regions changed and counted anew are the table of the regions as they then are.
-use mathlib.Core.Path.{_≡_, sym, ap, subst, _∙_}
-use mathlib.Core.Bool.{Bool, true, false, cond, _&&_}
+use mathlib.Core.Path.{_≡_, sym, ap, _∙_}
+use mathlib.Core.Bool.{Bool, true, false, cond}
 use mathlib.Core.List.{List, [], _∷_, _++_}
 use Prim.Native.Nat.{ℕ, _+_, _-_, _*_, _≤_, _<_}
 use native.Mathlib.Omega.{arith}
-use lib.Dec.{ltb}
 use lib.ListN.{length, getD, set, length-append}
-use borrow.Author.Tests.{ltb-true, ltb-false}
-use Rattle.lists.proofs.Bools.{and-left, and-right}
 use Rattle.counter.specs.Limits.{loansMost, chunksMost}
 use Rattle.counter.specs.declared.settings.FreeListSettings.{FreeListSettings}
 use Rattle.words.specs.Rows.{rows, laid, written}
@@ -22,7 +19,6 @@ use Rattle.freelist_rules.specs.Tables.{regionsMost, regionCountAt, wholeAt, ch
 use Rattle.store_rules.specs.declared.Chunk.{Chunk}
 use Rattle.store_rules.specs.declared.Region.{Region}
 use Rattle.freelist_regions.specs.Order.{RegionsStand, LowPlace}
-use Rattle.freelist_marks.specs.Releasable.{NumbersRise}
 
 -- ---- how many are whole
 
@@ -30,13 +26,7 @@ use Rattle.freelist_marks.specs.Releasable.{NumbersRise}
 held : (chunks : List ℕ) (k : ℕ) → k ≡ getD chunks chunksAt 0 → rows chunkRow k chunks ≡ rows chunkRow (getD chunks chunksAt 0) chunks
 held chunks k e = ap (λ (j : ℕ). rows chunkRow j chunks) e
 
-pub numbers-read : (chunks : List ℕ) (k : ℕ) → k ≡ getD chunks chunksAt 0 → NumbersRise (rows chunkRow (getD chunks chunksAt 0) chunks) → NumbersRise (rows chunkRow k chunks)
-numbers-read chunks k e up = subst NumbersRise (sym (held chunks k e)) up
-
 -- what is taken off is there
-pub some-whole : (b : Bool) (whole : ℕ) → (b && ltb 0 whole) ≡ true → 1 ≤ whole
-some-whole b whole e = omega (arith, ltb-true 0 whole (and-right b (ltb 0 whole) e))
-
 module _ (chunks : List ℕ) (k : ℕ) (counts : k ≡ getD chunks chunksAt 0) (r : Region) (b : Bool) (is : b ≡ wholly (rows chunkRow k chunks) r) (whole : ℕ) where
   abbrev Whole : Bool
   Whole = wholly (rows chunkRow (getD chunks chunksAt 0) chunks) r
@@ -53,15 +43,14 @@ module _ (chunks : List ℕ) (k : ℕ) (counts : k ≡ getD chunks chunksAt 0) (
       nought : whole ≡ whole + 0
       nought = omega arith
 
-  pub one-less-whole : (b && ltb 0 whole) ≡ true → whole - 1 ≡ whole - cond Whole 1 0
-  one-less-whole e = ap (λ (c : Bool). whole - cond c 1 0) (sym (and-left b (ltb 0 whole) e) ∙ told-whole)
+  pub one-less-whole : b ≡ true → whole - 1 ≡ whole - cond Whole 1 0
+  one-less-whole e = ap (λ (c : Bool). whole - cond c 1 0) (sym e ∙ told-whole)
 
-  pub no-less-whole : (b && ltb 0 whole) ≡ false → whole ≡ whole - cond Whole 1 0
-  no-less-whole e = go b e ∙ ap (λ (c : Bool). whole - cond c 1 0) told-whole
+  pub no-less-whole : b ≡ false → whole ≡ whole - cond Whole 1 0
+  no-less-whole e = sub-zero ∙ ap (λ (c : Bool). whole - cond c 1 0) (sym e ∙ told-whole)
     where
-      go : (c : Bool) → (c && ltb 0 whole) ≡ false → whole ≡ whole - cond c 1 0
-      go true q = omega (arith, ltb-false 0 whole q)
-      go false q = omega arith
+      sub-zero : whole ≡ whole - 0
+      sub-zero = omega arith
 
 -- ---- the count as the code reads it
 

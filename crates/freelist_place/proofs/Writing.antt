@@ -58,8 +58,8 @@ module _ (s : FreeListSettings) (b : Block) (at : ℕ) (chunks index regions : L
   n = s .store .loans
 
   -- what reading the record in front asks
-  pub reads-front : (n ≤ loansMost) × (r ≤ n)
-  reads-front = (backs .fit .settings .store .loans-most, omega (arith, reads, backs .most))
+  pub reads-front : (n ≤ loansMost) × (length index ≡ threadWords n) × (r ≤ n)
+  reads-front = (backs .fit .settings .store .loans-most, backs .long, omega (arith, reads, backs .most))
 
   module _ (i′ : List ℕ) (strikes : i′ ≡ struckIndex at index) where
     stays : (j : ℕ) → afterFrom n ≤ j → getD i′ (j + r) 0 ≡ getD index (j + getD index at 0) 0
@@ -69,7 +69,7 @@ module _ (s : FreeListSettings) (b : Block) (at : ℕ) (chunks index regions : L
     -- what unthreading asks
     pub unthreads : (n ≤ loansMost) × (length i′ ≡ threadWords n) × (r ≤ n) × (afterIn n i′ r ≤ n) × (beforeIn n i′ r ≤ n)
     unthreads =
-        (reads-front .0, ap length strikes ∙ struck-length n index at (backs .word) (backs .some) (backs .most) ∙ backs .long, reads-front .1, omega (arith, stays (afterFrom n) (omega arith), backs .after), omega (arith, stays (beforeFrom n) (omega arith), backs .before))
+        (reads-front .0, ap length strikes ∙ struck-length n index at (backs .word) (backs .some) (backs .most) ∙ backs .long, reads-front .2, omega (arith, stays (afterFrom n) (omega arith), backs .after), omega (arith, stays (beforeFrom n) (omega arith), backs .before))
 
     -- the regions with the block among them, behind the record u
     abbrev joined : ℕ → ℕ → List ℕ

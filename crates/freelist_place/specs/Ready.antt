@@ -29,6 +29,7 @@ pub record Lends (s : FreeListSettings) (i start p : ℕ) (loans chunks index re
   pub long : length index ≡ threadWords (s .store .loans)
   pub front : getD (gapsOf regions) i noGap .front ≤ s .store .loans
   pub behind : afterIn (s .store .loans) index (getD (gapsOf regions) i noGap .front) ≤ s .store .loans
+  pub counted : chunksAt < length chunks
   pub numbers : NumbersRise (rows chunkRow (getD chunks chunksAt 0) chunks)
 
 -- there is room for one chunk more
@@ -49,6 +50,7 @@ pub record Backs (s : FreeListSettings) (b : Block) (at : ℕ) (chunks index reg
   pub short : b .offset + b .size < 2 ^ 64
   pub room : length (insert (region (b .chunk) (b .offset) (b .offset + b .size)) (regionsOf regions)) ≤ regionsMost s
   pub whole : getD regions wholeAt 0 ≤ getD regions regionCountAt 0
+  pub counted : chunksAt < length chunks
   pub numbers : NumbersRise (rows chunkRow (getD chunks chunksAt 0) chunks)
   pub long : length index ≡ threadWords (s .store .loans)
   pub word : at < indexWords (s .store .loans)

@@ -1,7 +1,8 @@
 // A chunk added: it stands after the others, wholly free.
 ghost use mathlib.Core.Path.{_≡_};
 ghost use mathlib.Core.List.{[]};
-ghost use lib.ListN.{set};
+ghost use lib.ListN.{length, set};
+ghost use Rattle.freelist_rules.specs.Threads.{threadWords};
 ghost use Rattle.freelist_rules.specs.Tables.{tables, madeAt, chunksAt};
 ghost use Rattle.freelist_outcomes.specs.Deliver.{deliveredTables};
 ghost use Rattle.freelist_place.specs.Ready.{Adds};
@@ -29,7 +30,7 @@ pub fn add_chunk(
     index: &[u64],
     regions: &mut [u64],
 )
-    requires { ⌜ Adds s (now chunks) (now regions) ⌝ }
+    requires { ⌜ Adds s (now chunks) (now regions) × (length (now index) ≡ threadWords (s .store .loans)) ⌝ }
     ensures { λ _. ⌜ tables (now (head .exit)) [] (now (chunks .exit)) (now (index .entry)) (now (regions .exit)) ≡ deliveredTables s memory size (tables (now (head .entry)) [] (now (chunks .entry)) (now (index .entry)) (now (regions .entry))) ⌝ }
 {
     let own = s.store;

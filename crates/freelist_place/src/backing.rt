@@ -30,9 +30,9 @@ pub fn take_back(
         start: b.offset,
         end: b.offset + b.size,
     };
-    let r = words::word(index, at);
+    let r = index[at];
     let front = crate::threads::before_of(index, own.loans, r);
     crate::counted::join(s, chunks, regions, free, r, front);
-    book::strike(loans, index, at, slab::led_to(index, at));
+    book::strike(loans, index, at, slab::place_of(r));
     crate::threads::unthread(index, own.loans, r);
 }

@@ -2,7 +2,7 @@
 ghost use mathlib.Core.Path.{_≡_};
 ghost use mathlib.Core.List.{[]};
 ghost use Prim.Native.Nat.{_+_, _≤_, _<_};
-ghost use lib.ListN.{getD};
+ghost use lib.ListN.{length, getD};
 ghost use Rattle.counter.specs.Limits.{spent};
 ghost use Rattle.store_rules.specs.Loans.{givenAt};
 ghost use Rattle.freelist_rules.specs.Records.{region};
@@ -21,10 +21,10 @@ use store_rules::Region;
 
 // The loan that the region gives from `start` on.
 fn loan_of(start: u64, loans: &[u64], g: Gap) -> Loan
-    requires { ⌜ (getD (now loans) givenAt 0 < spent) × (start ≤ g .end) ⌝ }
+    requires { ⌜ (givenAt < length (now loans)) × (getD (now loans) givenAt 0 < spent) × (start ≤ g .end) ⌝ }
     ensures { λ r. ⌜ r ≡ lentLoan (getD (now (loans .entry)) givenAt 0 + 1) (region (g .chunk) start (g .end)) ⌝ }
 {
-    let serial = words::word(loans, GIVEN_AT) + 1;
+    let serial = loans[GIVEN_AT] + 1;
     Loan {
         serial: serial,
         chunk: g.chunk,
@@ -59,7 +59,7 @@ pub fn lend(
         start: g.start,
         end: g.end,
     };
-    let left = crate::wholes::without(chunks, words::word(regions, WHOLE_AT), free);
+    let left = crate::wholes::without(chunks, regions[WHOLE_AT], free);
     let r = slab::record_of(place);
     crate::counted::cut(s, regions, i, start, r, left);
     let loan = Taken {

@@ -8,11 +8,11 @@ use book::ENTRY_WORDS;
 
 // The record in front of record r.
 pub fn before_of(index: &[u64], n: usize, r: u64) -> u64
-    requires { ⌜ (n ≤ loansMost) × (r ≤ n) ⌝ }
+    requires { ⌜ (n ≤ loansMost) × (length (now index) ≡ threadWords n) × (r ≤ n) ⌝ }
     ensures { λ u. ⌜ u ≡ beforeIn n (now (index .entry)) r ⌝ }
 {
     let before = ENTRY_WORDS + ENTRY_WORDS * n + (n + 1);
-    words::word(index, before + r as usize)
+    index[before + r as usize]
 }
 
 // Record r stands behind record u from now on, in front of the one that stood there.

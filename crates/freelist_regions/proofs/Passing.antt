@@ -34,12 +34,8 @@ module _ (size : ℕ) (t : List ℕ) where
       let same : j ≡ i = omega arith in
       ap (λ (m : ℕ). fitsIn mask size (regionIn (row gapRow m t))) same ∙ ap (fitsIn mask size) (sym (region-read t i start end s e)) ∙ f mask (row gapRow i t .chunk)
 
-  pub four-passed : (i : ℕ) → NoneFits size t i (i + 1) → NoneFits size t (i + 1) (i + 1 + 1) → NoneFits size t (i + 2) (i + 2 + 1) → NoneFits size t (i + 3) (i + 3 + 1) → NoneFits size t i (i + 4)
-  four-passed i a b c d j h g mask =
-      ⊎-elim
-      (λ (l : j < i + 2). ⊎-elim (λ (m : j < i + 1). a j h m mask) (λ (m : i + 1 ≤ j). b j m (omega arith) mask) (lt-or-le j (i + 1)))
-      (λ (l : i + 2 ≤ j). ⊎-elim (λ (m : j < i + 3). c j l (omega arith) mask) (λ (m : i + 3 ≤ j). d j m (omega arith) mask) (lt-or-le j (i + 3)))
-      (lt-or-le j (i + 2))
+  pub both-passed : (i k m n : ℕ) → n ≤ m → NoneFits size t i k → NoneFits size t k m → NoneFits size t i n
+  both-passed i k m n most a b j h g mask = ⊎-elim (λ (l : j < k). a j h l mask) (λ (l : k ≤ j). b j l (omega arith) mask) (lt-or-le j k)
 
   pub more-passed : (i k n : ℕ) → i ≤ k → NoneFits size t (k - i) (k - i + i) → NoneFits size t k n → NoneFits size t (k - i) n
   more-passed i k n most a b j h g mask = ⊎-elim (λ (l : j < k). a j h (omega arith) mask) (λ (l : k ≤ j). b j l g mask) (lt-or-le j k)

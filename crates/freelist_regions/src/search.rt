@@ -14,8 +14,10 @@ use crate::records::word_at;
 use freelist_rules::REGION_END_AT;
 use freelist_rules::REGION_START_AT;
 
-// So many regions are passed by at once.
+// So many regions are passed by at once, in two halves.
 const AT_ONCE: usize = 4;
+
+const HALF: usize = 2;
 
 pub enum Found {
     Nowhere,
@@ -40,21 +42,26 @@ fn is_long_at(t: &[u64], i: usize, size: u64) -> bool
     is_long(start, end, size)
 }
 
-// Whether none of the four regions from i on has as many bytes.
-fn are_short(t: &[u64], i: usize, size: u64) -> bool
-    requires { ⌜ regionWords + regionWords * (i + 4) ≤ length (now t) ⌝ }
-    ensures { λ b. ⌜ (b ≡ true → NoneFits size (now (t .entry)) i (i + 4)) ⌝ }
+// Whether neither of the two regions from i on has as many bytes.
+fn are_half_short(t: &[u64], i: usize, size: u64) -> bool
+    requires { ⌜ regionWords + regionWords * (i + 2) ≤ length (now t) ⌝ }
+    ensures { λ b. ⌜ (b ≡ true → NoneFits size (now (t .entry)) i (i + 2)) ⌝ }
 {
-    if is_long_at(t, i + 3, size) {
-        return false;
-    }
-    if is_long_at(t, i + 2, size) {
-        return false;
-    }
     if is_long_at(t, i + 1, size) {
         return false;
     }
     !is_long_at(t, i, size)
+}
+
+// Whether none of the four has.
+fn are_short(t: &[u64], i: usize, size: u64) -> bool
+    requires { ⌜ regionWords + regionWords * (i + 4) ≤ length (now t) ⌝ }
+    ensures { λ b. ⌜ (b ≡ true → NoneFits size (now (t .entry)) i (i + 4)) ⌝ }
+{
+    if are_half_short(t, i + HALF, size) {
+        return are_half_short(t, i, size);
+    }
+    false
 }
 
 // The first n regions without those at the end that are too short, by fours: most of an ask's time goes by here.

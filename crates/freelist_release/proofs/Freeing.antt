@@ -1,7 +1,7 @@
 -- Chunks dropped and counted anew are what a release is defined to leave.
-use mathlib.Core.Path.{_≡_, sym, ap, _∙_}
+use mathlib.Core.Path.{_≡_, refl, sym, ap, _∙_}
 use mathlib.Core.Bool.{Bool}
-use mathlib.Core.List.{List, []}
+use mathlib.Core.List.{List, [], _∷_}
 use Prim.Native.Nat.{ℕ, _+_, _-_, _*_, _≤_}
 use native.Mathlib.Omega.{arith}
 use lib.ListN.{length, getD, set}
@@ -68,7 +68,15 @@ module _ (s : FreeListSettings) (spare : Bool) (chunks regions list : List ℕ) 
       pub goes-within : (whole count : ℕ) → whole ≡ getD regions wholeAt 0 → count ≡ length (gone k n) → count ≤ whole
       goes-within whole count e p = omega (arith, whole-now, few-go (held k) spare [] (freeOf (free n)))
 
-      -- where it is the number of those that stay
+      -- none where none is all of its chunk
+      pub none-whole : (whole : ℕ) → whole ≡ getD regions wholeAt 0 → whole ≡ 0 → gone k n ≡ []
+      none-whole whole e z = empty (gone k n) (omega (arith, goes-within whole (length (gone k n)) e refl))
+        where
+          empty : (l : List Region) → length l ≤ 0 → l ≡ []
+          empty [] h = refl
+          empty (x ∷ l) h = absurd (omega arith)
+
+      -- nor where it is the number of those that stay
       pub none-gone : (whole stay : ℕ) → whole ≡ getD regions wholeAt 0 → stay ≡ sparedIn (held k) spare (freeOf (free n)) → whole ≡ stay → gone k n ≡ []
       none-gone whole stay e p q = nothing-goes (held k) spare (freeOf (free n)) (sym whole-now ∙ sym e ∙ q ∙ p)
 

@@ -25,7 +25,7 @@ pub struct Freed {
 }
 
 // Wholly free chunks go, their memory numbers to the front of `list`; `spare` keeps that of the last region. The regions are
-// walked only where more are all of their chunk than stay.
+// walked only where more are all of their chunk than stay, and nothing is looked at where none is.
 pub fn release(
     s: FreeListSettings,
     spare: bool,
@@ -39,17 +39,20 @@ pub fn release(
     ensures { λ _. ⌜ tables [] [] (now (chunks .exit)) [] (now (regions .exit)) ≡ releasedTables s spare (tables [] [] (now (chunks .entry)) [] (now (regions .entry))) ⌝ }
     ensures { λ _. ⌜ now (list .exit) ≡ sets (now (list .entry)) 0 (memoriesOf (storeOf s (tables [] [] (now (chunks .entry)) [] (now (regions .entry))) .chunks) (goneFrom s spare (tables [] [] (now (chunks .entry)) [] (now (regions .entry))))) ⌝ }
 {
-    let k = words::word(chunks, CHUNKS_AT) as usize;
-    let n = words::word(regions, REGION_COUNT_AT) as usize;
-    let whole = words::word(regions, WHOLE_AT);
+    let k = chunks[CHUNKS_AT] as usize;
+    let n = regions[REGION_COUNT_AT] as usize;
+    let whole = regions[WHOLE_AT];
+    if whole == 0 {
+        return Freed { count: 0, bytes: 0 };
+    }
     let stay = spared(chunks, k, regions, n, spare);
     if whole == stay {
         return Freed { count: 0, bytes: 0 };
     }
     let gone = drop_chunks(chunks, k, regions, n, spare, list);
-    words::put(chunks, CHUNKS_AT, gone.chunks as u64);
-    words::put(regions, REGION_COUNT_AT, gone.regions as u64);
-    words::put(regions, WHOLE_AT, whole - gone.count);
+    chunks[CHUNKS_AT] = gone.chunks as u64;
+    regions[REGION_COUNT_AT] = gone.regions as u64;
+    regions[WHOLE_AT] = whole - gone.count;
     Freed {
         count: gone.count,
         bytes: gone.bytes,

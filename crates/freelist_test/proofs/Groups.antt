@@ -31,7 +31,7 @@ use Rattle.freelist_rules.specs.Walk.{allOk, sizedOk, numbersRise, chunkOk, loa
 use Rattle.store_rules.specs.declared.Chunk.{Chunk}
 use Rattle.freelist_rules.proofs.Decides.{all-yes, apart-yes, apart-all, sized-yes}
 use Rattle.freelist_rules.proofs.Facts.{sized-low}
-use Rattle.freelist_test.specs.Parts.{counted, headOk, lentOk, liveIn, eachOk, chunksOk}
+use Rattle.freelist_test.specs.Parts.{counted, headOk, lentOk, liveCount, eachOk, chunksOk}
 
 -- ---- the memories, as the code reads them
 
@@ -152,7 +152,7 @@ module _ (s : FreeListSettings) (loans index : List ℕ) where
   lent-few e = kept-most loans index (s .store .loans) (getD loans placesAt 0) (getD loans givenAt 0) (and-left _ _ e)
 
 -- the places that are not vacant
-pub live-told : (loans : List ℕ) (places vacant : ℕ) → places ≡ getD loans placesAt 0 → vacant ≡ vacancies (vacantAt loans sizeAt loanWords) places → places - vacant ≡ liveIn loans
+pub live-told : (loans : List ℕ) (places vacant : ℕ) → places ≡ getD loans placesAt 0 → vacant ≡ vacancies (vacantAt loans sizeAt loanWords) places → places - vacant ≡ liveCount loans
 live-told loans places vacant ps vs =
     let e = vs ∙ ap (vacancies (vacantAt loans sizeAt loanWords)) ps in
     (λ j. ps j - e j)

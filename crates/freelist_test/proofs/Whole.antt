@@ -16,7 +16,7 @@ use Rattle.freelist_rules.specs.Threads.{afterIn, beforeIn, freeOf, wholes, lea
 use Rattle.freelist_walk.specs.Walked.{walkOk}
 use Rattle.freelist_rules.specs.Tables.{Tables, tables, madeAt, chunkSizeAt, chunksAt, regionCountAt, regionsMost, storeOf, partedIn, chainedIn, soundOk, marks, signedOk, placesIn, vacantIn, recordsIn, alongIn, gapsIn, wholeAt, wholeIn}
 use Rattle.freelist_rules.specs.Walk.{allOk, sizedOk, numbersRise, chunkOk, loanOk, fillsOk, apart, memories}
-use Rattle.freelist_test.specs.Parts.{counted, headOk, lentOk, liveIn, eachOk, chunksOk, walkedOk}
+use Rattle.freelist_test.specs.Parts.{counted, headOk, lentOk, liveCount, eachOk, chunksOk, walkedOk}
 
 -- fourteen tests from the left, as groups of three, three, four and four: the tenth goes before the sixth
 regroup : (a b c d e f g h i j k l m n o : Bool) → all (a ∷ b ∷ c ∷ d ∷ e ∷ f ∷ g ∷ h ∷ i ∷ j ∷ (k && l) ∷ m ∷ n ∷ o ∷ [])
@@ -89,7 +89,7 @@ module _ (s : FreeListSettings) (head loans chunks index regions : List ℕ) whe
         chunks-fail f = sym (parts ∙ rw (head-is ∙ ht, sym ls ∙ lt, chunks-is ∙ f) refl)
 
         -- the walk is left
-        pub walk-left : ch ≡ true → (p live : ℕ) (r : Bool) → p ≡ getD loans placesAt 0 → live ≡ liveIn loans
+        pub walk-left : ch ≡ true → (p live : ℕ) (r : Bool) → p ≡ getD loans placesAt 0 → live ≡ liveCount loans
             → r ≡ walkOk (s .store .loans) (rows chunkRow k chunks) loans p index (rows gapRow n regions) live (getD regions wholeAt 0) → r ≡ whole
         unfolding walkedOk
         walk-left ct p live r ps vs e =

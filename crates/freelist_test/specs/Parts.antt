@@ -32,8 +32,8 @@ lentOk s loans index =
     && allOk (loanOk s (counted (getD loans givenAt 0) 0 0)) (loansOf (getD loans placesAt 0) loans)
 
 -- how many places are on loan
-abbrev pub liveIn : List ℕ → ℕ
-liveIn loans = getD loans placesAt 0 - vacancies (vacantAt loans sizeAt loanWords) (getD loans placesAt 0)
+abbrev pub liveCount : List ℕ → ℕ
+liveCount loans = getD loans placesAt 0 - vacancies (vacantAt loans sizeAt loanWords) (getD loans placesAt 0)
 
 -- the chunks' numbers rise, and each chunk is right
 unfoldable pub eachOk : FreeListSettings → ℕ → ℕ → List Chunk → Bool
@@ -46,4 +46,4 @@ chunksOk s made size cs = sizedOk s size && (eachOk s made size cs && apart (mem
 -- the loans, in the order in which the index leads through them, fill the first k chunks with the first n regions
 unfoldable pub walkedOk : FreeListSettings → List ℕ → ℕ → List ℕ → List ℕ → List ℕ → ℕ → Bool
 walkedOk s chunks k loans index regions n =
-    walkOk (s .store .loans) (rows chunkRow k chunks) loans (getD loans placesAt 0) index (rows gapRow n regions) (liveIn loans) (getD regions wholeAt 0)
+    walkOk (s .store .loans) (rows chunkRow k chunks) loans (getD loans placesAt 0) index (rows gapRow n regions) (liveCount loans) (getD regions wholeAt 0)

@@ -6,7 +6,7 @@ ghost use lib.ListN.{length};
 ghost use Rattle.counter.specs.InTable.{FreeListIn};
 ghost use Rattle.store_rules.specs.Loans.{loanWords};
 ghost use Rattle.book_rules.specs.Book.{indexWords};
-ghost use Rattle.freelist_test.specs.Parts.{lentOk, liveIn};
+ghost use Rattle.freelist_test.specs.Parts.{lentOk, liveCount};
 use crate::blocks::look_over;
 use counter::FreeListSettings;
 use store_rules::GIVEN_AT;
@@ -22,7 +22,7 @@ pub struct Lent {
 pub fn are_lent(s: FreeListSettings, loans: &[u64], index: &[u64]) -> Lent
     requires { ⌜ FreeListIn s × (length (now loans) ≡ loanWords + loanWords * s .store .loans) × (indexWords (s .store .loans) ≤ length (now index)) ⌝ }
     ensures { λ r. ⌜ r .ok ≡ lentOk s (now (loans .entry)) (now (index .entry)) ⌝ }
-    ensures { λ r. ⌜ (r .ok ≡ true → r .live ≡ liveIn (now (loans .entry))) ⌝ }
+    ensures { λ r. ⌜ (r .ok ≡ true → r .live ≡ liveCount (now (loans .entry))) ⌝ }
 {
     let store = s.store;
     let most = store.loans;

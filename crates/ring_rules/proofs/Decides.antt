@@ -123,6 +123,12 @@ module _ (head nextAt prevAt step n : ℕ) (t : List ℕ) where
             long = omega arith;
           }
 
+  -- no more places stand in it than there are
+  pub ring-length-most : (ringLength head nextAt prevAt step n t ≡ nowhere → ⊥) → ringLength head nextAt prevAt step n t ≤ n
+  ring-length-most o =
+      let r = ring-length-yes (ringLength head nextAt prevAt step n t) refl o in
+      omega (arith, r .long, no-more-below n (r .places) (r .ring .ring .distinct) (r .below))
+
   ring-long : n ≤ nowhere → (R : List ℕ) → RingOf head nextAt prevAt step t R → Below n R → ringLength head nextAt prevAt step n t ≡ length R
   ring-long few [] r b = length-none head nextAt prevAt step n t nowhere (sym (r .first)) refl
   ring-long few (x ∷ l) r b =

@@ -28,14 +28,14 @@ counted-long free (suc k) = by (free k) (counted-long free k)
     by false e = e
 
 -- the chain that the test walked
-record Walked (free : ℕ → Bool) (next : ℕ → ℕ) (n h k : ℕ) : Type 0 where
-  places : List ℕ
-  long : length places ≡ k
-  chain : Chain next h places
-  below : Below n places
-  vacant : (x : ℕ) → Mem x places → free x ≡ true
+pub record Walked (free : ℕ → Bool) (next : ℕ → ℕ) (n h k : ℕ) : Type 0 where
+  pub places : List ℕ
+  pub long : length places ≡ k
+  pub chain : Chain next h places
+  pub below : Below n places
+  pub vacant : (x : ℕ) → Mem x places → free x ≡ true
 
-walked : (free : ℕ → Bool) (next : ℕ → ℕ) (n h k : ℕ) → leads free next n h k ≡ true → Walked free next n h k
+pub walked : (free : ℕ → Bool) (next : ℕ → ℕ) (n h k : ℕ) → leads free next n h k ≡ true → Walked free next n h k
 unfolding leads
 walked free next n h zero e = record { places = []; long = refl; chain = eqb-true h nowhere e; below = tt; vacant = λ x m. absurd m }
 walked free next n h (suc k) e =

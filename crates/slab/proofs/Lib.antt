@@ -3,3 +3,4 @@ pub mod Links
 pub mod Places
 pub mod Steps
 pub mod Decides
+pub mod OffChain

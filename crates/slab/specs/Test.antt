@@ -19,3 +19,9 @@ leads free next n h (suc k) = ltb h n && (free h && leads free next n (next h) k
 unfoldable pub partedOk : (ℕ → Bool) → (ℕ → ℕ) → Slab → ℕ → Bool
 partedOk free next s most =
     leb (s .places) most && leads free next (s .places) (s .vacant) (vacancies free (s .places))
+
+-- how many of k places are over when the chain from h on, which leads through vacant places below n, has ended: nowhere where it leads
+-- elsewhere, or through more than k
+unfoldable pub offChain : (ℕ → Bool) → (ℕ → ℕ) → ℕ → ℕ → ℕ → ℕ
+offChain free next n h zero = cond (eqb h nowhere) zero nowhere
+offChain free next n h (suc k) = cond (eqb h nowhere) (suc k) (cond (ltb h n && free h) (offChain free next n (next h) k) nowhere)

@@ -1,11 +1,12 @@
 // A slab: places numbered from 0, of which the most recently vacated is taken first. Records stand in one lent table and
 // the links of the vacant places in another (or in other words of the same), each at a width of its own.
 ghost use mathlib.Core.Path.{_≡_};
-ghost use Prim.Native.Nat.{_≤_, _<_};
-ghost use lib.ListN.{getD, set};
+ghost use mathlib.Core.Bool.{true};
+ghost use Prim.Native.Nat.{ℕ, _-_, _≤_, _<_};
+ghost use lib.ListN.{length, getD, set};
 ghost use Rattle.words.specs.Words.{widest, atMost, cellOf};
 ghost use Rattle.slab.specs.Slab.{placeOf, recordOf, inserted, removed, removedLinks, vacantAt, linkAt};
-ghost use Rattle.slab.specs.Test.{vacancies, leads, partedOk};
+ghost use Rattle.slab.specs.Test.{vacancies, leads, partedOk, offChain};
 
 // The end of a chain.
 pub const NOWHERE: u64 = 0xffff_ffff_ffff_ffff;
@@ -19,6 +20,12 @@ pub struct Slab {
 pub struct Taken {
     pub place: u64,
     pub slab: Slab,
+}
+
+// Whether places are parted, and how many are used where they are.
+pub struct Parts {
+    pub ok: bool,
+    pub used: u64,
 }
 
 impl Slab {
@@ -156,8 +163,8 @@ pub fn chain_leads(
     cur == NOWHERE
 }
 
-// Whether used places and the vacant chain part the places, of which there are at most `most`.
-pub fn is_parted(
+// Whether used places and the vacant chain part the places, of which there are at most `most`, and how many are used where they do.
+pub fn test_parts(
     s: Slab,
     most: u64,
     records: &[u64],
@@ -166,14 +173,58 @@ pub fn is_parted(
     links: &[u64],
     at: usize,
     step: usize,
-) -> bool
+) -> Parts
     requires { ⌜ (0 < width) × (width ≤ widest) × (0 < step) × (step ≤ widest) × (mark ≤ atMost) × (at ≤ atMost) ⌝ }
-    ensures { λ r. ⌜ r ≡ partedOk (vacantAt (now (records .entry)) mark width) (linkAt (now (links .entry)) at step) s most ⌝ }
+    ensures { λ r. ⌜ r .ok ≡ partedOk (vacantAt (now (records .entry)) mark width) (linkAt (now (links .entry)) at step) s most ⌝ }
+    ensures { λ r. ⌜ (r .ok ≡ true → r .used ≡ s .places - vacancies (vacantAt (now (records .entry)) mark width) (s .places)) × (r .used ≤ s .places) ⌝ }
 {
-    if s.places <= most {
-        let k = count_vacant(records, mark, width, s.places);
-        chain_leads(records, mark, width, links, at, step, s.places, s.vacant, k)
-    } else {
-        false
+    if most < s.places {
+        return Parts { ok: false, used: 0 };
     }
+    let vacant = count_vacant(records, mark, width, s.places);
+    Parts {
+        ok: chain_leads(
+            records,
+            mark,
+            width,
+            links,
+            at,
+            step,
+            s.places,
+            s.vacant,
+            vacant,
+        ),
+        used: s.places - vacant,
+    }
+}
+
+// How many of n places are over when the chain from h on, which leads through vacant places below n, has ended: NOWHERE where it leads
+// elsewhere, or through more of them.
+pub fn off_chain(
+    records: &[u64],
+    mark: usize,
+    width: usize,
+    links: &[u64],
+    at: usize,
+    step: usize,
+    n: u64,
+    h: u64,
+) -> u64
+    requires { ⌜ ((p : ℕ) → p < n → cellOf mark width p < length (now records)) × ((p : ℕ) → p < n → cellOf at step p < length (now links)) ⌝ }
+    ensures { λ r. ⌜ r ≡ offChain (vacantAt (now (records .entry)) mark width) (linkAt (now (links .entry)) at step) n h n ⌝ }
+{
+    let mut cur = h;
+    let mut left = n;
+    while cur != NOWHERE {
+        if (n <= cur) | (left == 0) {
+            return NOWHERE;
+        }
+        let i = cur as usize;
+        if records[mark + width * i] != 0 {
+            return NOWHERE;
+        }
+        cur = place_of(links[at + step * i]);
+        left -= 1;
+    }
+    left
 }

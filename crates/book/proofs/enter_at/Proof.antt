@@ -1,7 +1,6 @@
 use native.Mathlib.Omega.{arith}
 use native.Mathlib.Nat.{mod-lt}
 use mathlib.Core.Path.{ap, _∙_}
-use Prim.Native.Nat.{ℕ, _%_}
 use lib.ListN.{length, set}
 use Rattle.words.specs.Rows.{written}
 use Rattle.slab.specs.Slab.{recordOf}
@@ -12,8 +11,8 @@ use borrow.Author.Needs.{needs}
 use Rattle.book.proofs.enter_at.Statement.{statement}
 use Rattle.book.proofs.enter_at.Tie as tie
 
-rem-i : tie.Need-rem-i
-rem-i c = search needs
+remainder-requires : tie.Need-remainder-requires
+remainder-requires c κs = search needs
 
 first-word-requires : tie.Need-first-word-requires
 first-word-requires c κs = search needs
@@ -30,7 +29,7 @@ write-loan-requires c κs =
     omega (arith, q .place, q .loans-long, long)
 
 put-first-requires : tie.Need-put-first-requires
-put-first-requires c κs = let o = c .before .before .before .before .before .before .before .before .before .before .before .before .before .before .before in let q = o .pre in (omega (arith, mod-lt (o .args .l .serial) (q .some), q .index-long), omega (arith, q .place, q .index-long))
+put-first-requires c κs = let o = c .before .before .before .before .before .before .before .before .before .before .before .before .before .before .before in let q = o .pre in (omega (arith, c .before .before .before .before .before .before .before .before .before .before .before .remainder .ensures, mod-lt (o .args .l .serial) (q .some), q .index-long), omega (arith, q .place, q .index-long))
 
 same-length : tie.Need-same-length
 same-length c = search needs
@@ -44,14 +43,15 @@ returns c =
     let e = d .before .before .before .before in
     let k = e .before .before .before .before in
     let f = k .before .before in
-    let a = f .before .before .before .before .before .before .args in
-    (e .write-loan .ensures ∙ ap (written loanRow (a .t .place) (a .l)) (k .count .ensures), d .put-first .ensures ∙ ap (λ (x : ℕ). set (set (set (a .index .now) vacatedAt (recordOf (a .t .slab .vacant))) (nextOf (a .t .place)) x) (firstOf (a .l .serial % a .n)) (recordOf (a .t .place))) (f .first-word .ensures))
+    let r = f .before .before in
+    let a = r .before .before .before .before .args in
+    (e .write-loan .ensures ∙ ap (written loanRow (a .t .place) (a .l)) (k .count .ensures), d .put-first .ensures ∙ (λ j. set (set (set (a .index .now) vacatedAt (recordOf (a .t .slab .vacant))) (nextOf (a .t .place)) (f .first-word .ensures j)) (firstOf (r .remainder .ensures j)) (recordOf (a .t .place))))
 
 pub enter-at-spec : {M : Type 1} → statement M
 enter-at-spec =
     tie.close
     (tie.spec
-    rem-i
+    remainder-requires
     first-word-requires
     count-requires
     write-loan-requires

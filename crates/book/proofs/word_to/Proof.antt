@@ -1,55 +1,69 @@
-use mathlib.Core.Path.{_≡_, sym, _∙_}
-use Prim.Native.Nat.{_≤_, _<_}
+use mathlib.Core.Path.{_≡_, sym, ap, _∙_}
+use Prim.Native.Nat.{ℕ, _≤_, _<_}
 use native.Mathlib.Omega.{arith}
 use native.Mathlib.Nat.{mod-lt}
-use Rattle.book_rules.specs.Book.{seekIn, wordTo}
+use Rattle.book_rules.specs.Book.{indexWords, firstOf, seekIn, wordTo}
 use Rattle.book_rules.proofs.Seeking.{seek-past, seek-here, seek-on, seek-none, word-is}
 use borrow.Author.Needs.{needs}
 use Rattle.book.proofs.word_to.Statement.{statement}
 use Rattle.book.proofs.word_to.Tie as tie
 
 abbrev Inv-loop : tie.InvT-loop
-Inv-loop loans index n places serial i at₀ left₀ at left = wordTo loans index n places serial ≡ seekIn loans index places serial at left
+Inv-loop loans index n places serial i at₀ left₀ at left = (at < indexWords n) × (wordTo loans index n places serial ≡ seekIn loans index places serial at left)
 
 abbrev μ-loop : tie.MeasureT-loop
 μ-loop loans index n places serial i at₀ left₀ at left = left
 
-rem-i : tie.Need-rem-i Inv-loop μ-loop
-rem-i c = search needs
+remainder-requires : tie.Need-remainder-requires Inv-loop μ-loop
+remainder-requires c κs = search needs
 
 mul-at : tie.Need-mul-at Inv-loop μ-loop
-mul-at c =
-    let o = c .before .before in
-    omega (arith, mod-lt (o .args .serial) (o .pre .0))
+mul-at c = let o = c .before .before .before in omega (arith, c .remainder .ensures, mod-lt (o .args .serial) (o .pre .some), o .pre .most)
 
 add-at : tie.Need-add-at Inv-loop μ-loop
-add-at c =
-    let o = c .before .before in
-    omega (arith, mod-lt (o .args .serial) (o .pre .0))
+add-at c = let o = c .before .before .before in omega (arith, c .remainder .ensures, mod-lt (o .args .serial) (o .pre .some), o .pre .most)
 
 loop-holds : tie.Need-loop-holds Inv-loop μ-loop
 loop-holds c =
-    let a = c .before .before .args in
-    word-is (a .loans .now) (a .index .now) (a .n) (a .places) (a .serial)
+    let o = c .before .before .before in
+    let a = o .args in
+    let is = c .remainder .ensures in (
+      omega (arith, is, mod-lt (a .serial) (o .pre .some)),
+      word-is (a .loans .now) (a .index .now) (a .n) (a .places) (a .serial) ∙ ap (λ (i : ℕ). seekIn (a .loans .now) (a .index .now) (a .places) (a .serial) (firstOf i) (a .places)) (sym is),
+    )
 
-led-to-requires : tie.Need-led-to-requires Inv-loop μ-loop
-led-to-requires c κs = search needs
+mul-place-of : tie.Need-mul-place-of Inv-loop μ-loop
+mul-place-of c = search needs
+
+shared-slice-read-place-of : tie.Need-shared-slice-read-place-of Inv-loop μ-loop
+shared-slice-read-place-of c = omega (arith, c .before .before .loop .inv .0, c .before .before .before .before .before .before .pre .index-long)
+
+place-of-requires : tie.Need-place-of-requires Inv-loop μ-loop
+place-of-requires c κs = search needs
 
 returns : tie.Need-returns Inv-loop μ-loop
 returns c =
-    let b = c .before .before .before .loop in
+    let b = c .before .before .before .before .loop in
     let o : 0 < b .left = omega arith in
-    sym (b .inv ∙ seek-past _ _ _ _ _ _ _ (c .before .led-to .ensures) o (c .if1 .taken))
+    sym (b .inv .1 ∙ seek-past _ _ _ _ _ _ _ (c .before .place-of .ensures) o (c .if1 .taken))
 
-word-requires : tie.Need-word-requires Inv-loop μ-loop
-word-requires c κs = search needs
+mul-if2 : tie.Need-mul-if2 Inv-loop μ-loop
+mul-if2 c = search needs
+
+add-if2 : tie.Need-add-if2 Inv-loop μ-loop
+add-if2 c = search needs
+
+mul-if2-2 : tie.Need-mul-if2-2 Inv-loop μ-loop
+mul-if2-2 c = search needs
+
+shared-slice-read-if2 : tie.Need-shared-slice-read-if2 Inv-loop μ-loop
+shared-slice-read-if2 c = omega (arith, c .before .if1 .left, c .before .before .before .before .before .before .before .before .before .pre .loans-long, c .before .before .before .before .before .before .before .before .before .pre .few)
 
 returns-2 : tie.Need-returns-2 Inv-loop μ-loop
 returns-2 c =
-    let b = c .before .before .before .before .before .loop in
+    let b = c .before .before .before .before .before .before .loop in
     let o : 0 < b .left = omega arith in
-    let e = sym (c .before .word .ensures) ∙ c .if2 .taken in
-    sym (b .inv ∙ seek-here _ _ _ _ _ _ _ (c .before .before .before .led-to .ensures) o (c .before .before .if1 .left) e)
+    sym (b .inv .1 ∙ seek-here _ _ _ _ _ _ _ (c .before .before .before .place-of .ensures) o (c .before .before .if1 .left) (c .if2 .taken))
 
 mul-at-2 : tie.Need-mul-at-2 Inv-loop μ-loop
 mul-at-2 c = search needs
@@ -65,21 +79,17 @@ loop-less c = search needs
 
 loop-again : tie.Need-loop-again Inv-loop μ-loop
 loop-again c =
-    let b = c .before .before .before .before .before .loop in
-    let o : 0 < b .left = omega arith in
-    b .inv ∙ seek-on _ _ _ _ _ _ _ (c .before .before .before .led-to .ensures) o (c .before .before .if1 .left) (λ z. c .if2 .left (c .before .word .ensures ∙ z))
+    let b = c .before .before .before .before .before .before .loop in
+    let o : 0 < b .left = omega arith in (
+      omega (arith, c .before .before .if1 .left, c .before .before .before .before .before .before .before .before .before .before .pre .few),
+      b .inv .1 ∙ seek-on _ _ _ _ _ _ _ (c .before .before .before .place-of .ensures) o (c .before .before .if1 .left) (c .if2 .left),
+    )
 
 returns-3 : tie.Need-returns-3 Inv-loop μ-loop
 returns-3 c =
     let b = c .before .loop in
     let o : b .left ≤ 0 = omega arith in
-    sym (b .inv ∙ seek-none _ _ _ _ _ _ o)
-
-mul-word : tie.Need-mul-word Inv-loop μ-loop
-mul-word c = search needs
-
-add-word : tie.Need-add-word Inv-loop μ-loop
-add-word c = search needs
+    sym (b .inv .1 ∙ seek-none _ _ _ _ _ _ o)
 
 pub word-to-spec : {M : Type 1} → statement M
 word-to-spec =
@@ -87,15 +97,18 @@ word-to-spec =
     (tie.spec
     Inv-loop
     μ-loop
-    rem-i
+    remainder-requires
     mul-at
     add-at
     loop-holds
-    led-to-requires
+    mul-place-of
+    shared-slice-read-place-of
+    place-of-requires
     returns
-    mul-word
-    add-word
-    word-requires
+    mul-if2
+    add-if2
+    mul-if2-2
+    shared-slice-read-if2
     returns-2
     mul-at-2
     add-at-2

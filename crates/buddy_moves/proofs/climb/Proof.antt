@@ -4,19 +4,20 @@ use native.Mathlib.Omega.{arith}
 use lib.ListN.{length}
 use Rattle.counter.specs.Limits.{levelsMost}
 use Rattle.buddy_rules.specs.Moves.{Climbed, climbed}
-use Rattle.buddy_moves.proofs.Moved.{goes-on, climb-done, climb-on, climb-stays}
+use Rattle.buddy_moves.specs.Footing.{Footing}
+use Rattle.buddy_moves.proofs.Moved.{goes-on, climb-done, climb-on, climb-stays, foot-stands, foot-own, foot-joins, foot-leaves, foot-above}
 use borrow.Author.Needs.{needs}
 use Rattle.buddy_moves.proofs.climb.Statement.{statement}
 use Rattle.buddy_moves.proofs.climb.Tie as tie
 
 abbrev Inv-loop : tie.InvT-loop
-Inv-loop tree₀ pairs level levels node l₀ left₀ n₀ tree l left n = (l + left ≤ levelsMost) × (length tree ≡ length tree₀) × (climbed pairs levels level node tree₀ ≡ climbed pairs left l n tree)
+Inv-loop tree₀ pairs level levels node l₀ left₀ n₀ tree l left n = (l + left ≤ levelsMost) × (length tree ≡ length tree₀) × (climbed pairs levels level node tree₀ ≡ climbed pairs left l n tree) × Footing pairs left l n tree
 
 abbrev μ-loop : tie.MeasureT-loop
 μ-loop tree₀ pairs level levels node l₀ left₀ n₀ tree l left n = left
 
 loop-holds : tie.Need-loop-holds Inv-loop μ-loop
-loop-holds c = let s = c .before in (s .pre .1, refl, refl)
+loop-holds c = let s = c .before in (s .pre .0 .1, refl, refl, s .pre .1)
 
 level-from-requires : tie.Need-level-from-requires Inv-loop μ-loop
 level-from-requires c κs = search needs
@@ -25,13 +26,21 @@ pair-of-requires : tie.Need-pair-of-requires Inv-loop μ-loop
 pair-of-requires c κs = search needs
 
 twin-word-requires : tie.Need-twin-word-requires Inv-loop μ-loop
-twin-word-requires c κs = search needs
+twin-word-requires c κs =
+    let b = c .before .before .before .before in
+    let a = c .before .before .before .before .before .before .args in
+    let on = goes-on (b .loop .left) (b .loop .n) (c .before .before .before .loop-test .taken) in
+    foot-stands (a .pairs) (b .loop .left) (b .loop .l) (b .loop .n) (b .loop .tree) (on .0) (on .1) _ (c .before .before .level-from .ensures .0) (b .loop .inv .3)
 
 is-left-requires : tie.Need-is-left-requires Inv-loop μ-loop
 is-left-requires c κs = search needs
 
 ready-pair-requires : tie.Need-ready-pair-requires Inv-loop μ-loop
-ready-pair-requires c κs = search needs
+ready-pair-requires c κs =
+    let b = c .before .before .before .before .before .before .before .before in
+    let a = c .before .before .before .before .before .before .before .before .before .before .args in
+    let on = goes-on (b .loop .left) (b .loop .n) (c .before .before .before .before .before .before .before .loop-test .taken) in
+    foot-joins (a .pairs) (b .loop .left) (b .loop .l) (b .loop .n) (b .loop .tree) (on .0) (on .1) _ (c .before .before .before .before .before .before .level-from .ensures .0) (b .loop .inv .3) _ (c .before .before .before .twin-word .ensures) _ (c .before .before .before .before .before .pair-of .ensures) (c .before .before .if1 .taken)
 
 same-length : tie.Need-same-length Inv-loop μ-loop
 same-length c = search needs
@@ -50,11 +59,19 @@ returns c =
     let e = b .loop .inv .2 ∙ climb-stays (a .pairs) (b .loop .left) (b .loop .l) (b .loop .n) (b .loop .tree) (on .0) (on .1) _ (v .level-from .ensures .0) _ (w .twin-word .ensures) _ (p .pair-of .ensures) (i .if1 .taken) _ (s .is-left .ensures) _ (r .ready-pair .ensures) in
     (sym (ap (λ (z : Climbed). z .freed) e), sym (ap (λ (z : Climbed). z .room) e))
 
-field-requires : tie.Need-field-requires Inv-loop μ-loop
-field-requires c κs = search needs
+field-in-requires : tie.Need-field-in-requires Inv-loop μ-loop
+field-in-requires c κs =
+    let b = c .before .before .before .before .before .before .before in
+    let a = c .before .before .before .before .before .before .before .before .before .args in
+    let on = goes-on (b .loop .left) (b .loop .n) (c .before .before .before .before .before .before .loop-test .taken) in
+    (search needs, foot-own (a .pairs) (b .loop .left) (b .loop .l) (b .loop .n) (b .loop .tree) (on .0) (on .1) _ (c .before .before .before .before .before .level-from .ensures .0) (b .loop .inv .3) _ (c .before .before .twin-word .ensures) _ (c .before .before .before .before .pair-of .ensures))
 
 drop-pair-requires : tie.Need-drop-pair-requires Inv-loop μ-loop
-drop-pair-requires c κs = search needs
+drop-pair-requires c κs =
+    let b = c .before .before .before .before .before .before .before .before .before in
+    let a = c .before .before .before .before .before .before .before .before .before .before .before .args in
+    let on = goes-on (b .loop .left) (b .loop .n) (c .before .before .before .before .before .before .before .before .loop-test .taken) in
+    foot-leaves (a .pairs) (b .loop .left) (b .loop .l) (b .loop .n) (b .loop .tree) (on .0) (on .1) _ (c .before .before .before .before .before .before .before .level-from .ensures .0) (b .loop .inv .3) _ (c .before .before .before .before .twin-word .ensures) _ (c .before .before .before .before .before .before .pair-of .ensures) (c .before .before .before .if1 .left)
 
 add-l : tie.Need-add-l Inv-loop μ-loop
 add-l c = search needs
@@ -73,18 +90,13 @@ loop-less c =
 
 loop-again : tie.Need-loop-again Inv-loop μ-loop
 loop-again c =
-    let d = c .before .before in
-    let u = d .before .before in
-    let i = u .before .before in
-    let w = i .before in
-    let p = w .before .before in
-    let v = p .before in
-    let b = v .before .before in
-    let a = b .before .before .args in
-    let on = goes-on (b .loop .left) (b .loop .n) (v .before .loop-test .taken) in (
+    let b = c .before .before .before .before .before .before .before .before .before .before .before .before in
+    let a = c .before .before .before .before .before .before .before .before .before .before .before .before .before .before .args in
+    let on = goes-on (b .loop .left) (b .loop .n) (c .before .before .before .before .before .before .before .before .before .before .before .loop-test .taken) in (
       omega (arith, on .0, b .loop .inv .0),
       search needs,
-      b .loop .inv .2 ∙ climb-on (a .pairs) (b .loop .left) (b .loop .l) (b .loop .n) (b .loop .tree) (on .0) (on .1) _ (v .level-from .ensures .0) _ (w .twin-word .ensures) _ (p .pair-of .ensures) (i .if1 .left) _ (u .field .ensures) _ (d .drop-pair .ensures),
+      b .loop .inv .2 ∙ climb-on (a .pairs) (b .loop .left) (b .loop .l) (b .loop .n) (b .loop .tree) (on .0) (on .1) _ (c .before .before .before .before .before .before .before .before .before .before .level-from .ensures .0) _ (c .before .before .before .before .before .before .before .twin-word .ensures) _ (c .before .before .before .before .before .before .before .before .before .pair-of .ensures) (c .before .before .before .before .before .before .if1 .left) _ (c .before .before .before .before .field-in .ensures) _ (c .before .before .drop-pair .ensures),
+      foot-above (a .pairs) (b .loop .left) (b .loop .l) (b .loop .n) (b .loop .tree) (on .0) (on .1) _ (c .before .before .before .before .before .before .before .before .before .before .level-from .ensures .0) (b .loop .inv .3) _ (c .before .before .before .before .before .before .before .twin-word .ensures) _ (c .before .before .before .before .before .before .before .before .before .pair-of .ensures) (c .before .before .before .before .before .before .if1 .left) _ (c .before .before .before .before .field-in .ensures) _ (c .before .before .drop-pair .ensures),
     )
 
 same-length-2 : tie.Need-same-length-2 Inv-loop μ-loop
@@ -111,7 +123,7 @@ climb-spec =
     ready-pair-requires
     same-length
     returns
-    field-requires
+    field-in-requires
     drop-pair-requires
     add-l
     sub-left

@@ -1,5 +1,7 @@
-use borrow.Author.Needs.{needs}
+use native.Mathlib.Omega.{arith}
+use Rattle.returning.proofs.Found.{word-in, loan-in}
 use Rattle.returning.proofs.Stale.{return-none, return-back, return-stale}
+use borrow.Author.Needs.{needs}
 use Rattle.returning.proofs.decide.Statement.{statement}
 use Rattle.returning.proofs.decide.Tie as tie
 
@@ -8,36 +10,42 @@ word-to-requires c κs = search needs
 
 returns : tie.Need-returns
 returns c =
-    let f = c .before in
-    let a = f .before .before .before .args in
-    return-none (a .loans .now) (a .index .now) (a .n) (a .places) (a .b) _ (f .word-to .ensures) (c .if1 .taken)
+    let a = c .before .before .before .before .args in
+    return-none (a .loans .now) (a .index .now) (a .n) (a .places) (a .b) _ (c .before .word-to .ensures) (c .if1 .taken)
 
-led-to-requires : tie.Need-led-to-requires
-led-to-requires c κs = search needs
+mul-place-of : tie.Need-mul-place-of
+mul-place-of c =
+    let s = c .before .before .before .before in
+    let a = s .args in
+    omega (arith, word-in (a .loans .now) (a .index .now) (a .n) (a .places) (a .b .serial) (s .pre) _ (c .before .word-to .ensures) (c .if1 .left))
 
-loan-at-requires : tie.Need-loan-at-requires
-loan-at-requires c κs = search needs
+shared-slice-read-place-of : tie.Need-shared-slice-read-place-of
+shared-slice-read-place-of c =
+    let s = c .before .before .before .before .before in
+    let a = s .args in
+    word-in (a .loans .now) (a .index .now) (a .n) (a .places) (a .b .serial) (s .pre) _ (c .before .before .word-to .ensures) (c .before .if1 .left)
+
+place-of-requires : tie.Need-place-of-requires
+place-of-requires c κs = search needs
+
+loan-in-requires : tie.Need-loan-in-requires
+loan-in-requires c κs =
+    let s = c .before .before .before .before .before .before in
+    let a = s .args in
+    loan-in (a .loans .now) (a .index .now) (a .n) (a .places) (a .b .serial) (s .pre) _ (c .before .before .before .word-to .ensures) (c .before .before .if1 .left) _ (c .place-of .ensures)
 
 is-same-requires : tie.Need-is-same-requires
 is-same-requires c κs = search needs
 
 returns-2 : tie.Need-returns-2
 returns-2 c =
-    let e = c .before in
-    let l = e .before in
-    let w = l .before in
-    let f = w .before .before in
-    let a = f .before .before .before .args in
-    return-back (a .loans .now) (a .index .now) (a .n) (a .places) (a .b) _ (f .word-to .ensures) _ _ _ (w .before .if1 .left) (w .led-to .ensures) (l .loan-at .ensures) (e .is-same .ensures) (c .if2 .taken)
+    let a = c .before .before .before .before .before .before .before .before .before .args in
+    return-back (a .loans .now) (a .index .now) (a .n) (a .places) (a .b) _ (c .before .before .before .before .before .before .word-to .ensures) _ _ _ (c .before .before .before .before .before .if1 .left) (c .before .before .before .place-of .ensures) (c .before .before .loan-in .ensures) (c .before .is-same .ensures) (c .if2 .taken)
 
 returns-3 : tie.Need-returns-3
 returns-3 c =
-    let e = c .before in
-    let l = e .before in
-    let w = l .before in
-    let f = w .before .before in
-    let a = f .before .before .before .args in
-    return-stale (a .loans .now) (a .index .now) (a .n) (a .places) (a .b) _ (f .word-to .ensures) _ _ _ (w .before .if1 .left) (w .led-to .ensures) (l .loan-at .ensures) (e .is-same .ensures) (c .if2 .left)
+    let a = c .before .before .before .before .before .before .before .before .before .args in
+    return-stale (a .loans .now) (a .index .now) (a .n) (a .places) (a .b) _ (c .before .before .before .before .before .before .word-to .ensures) _ _ _ (c .before .before .before .before .before .if1 .left) (c .before .before .before .place-of .ensures) (c .before .before .loan-in .ensures) (c .before .is-same .ensures) (c .if2 .left)
 
 pub decide-spec : {M : Type 1} → statement M
 decide-spec =
@@ -45,8 +53,10 @@ decide-spec =
     (tie.spec
     word-to-requires
     returns
-    led-to-requires
-    loan-at-requires
+    mul-place-of
+    shared-slice-read-place-of
+    place-of-requires
+    loan-in-requires
     is-same-requires
     returns-2
     returns-3)

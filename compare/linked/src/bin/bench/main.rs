@@ -53,6 +53,27 @@ fn main() {
         let call = format!("{} types", words.len());
         print_row(["ranking", &call, "", "", ""], time_ranking(words));
     }
+    print_slip_heading();
+    for (engine, kinds) in ENGINES {
+        kinds.iter().for_each(|&kind| print_slips(engine, kind));
+    }
+}
+
+/// Test 3 of a store that nothing changes, for each block on loan too.
+fn print_slips(engine: &str, kind: Kind) {
+    for live in LIVE {
+        let (chunks, [ours, untested]) = time_slips(kind, live);
+        let (chunks, test) = (format!("{chunks} x {}K", chunk_size(kind) / 1_024), ours - untested);
+        print_about([engine, "old slip", "", &chunks, &live.to_string()]);
+        println!("{ours:>10.1}{untested:>9.1}{test:>10.1}{:>14.1}", test / live as f64);
+    }
+}
+
+fn print_slip_heading() {
+    println!();
+    println!("an old slip returned again and again: test 3 of tables that no call changes");
+    print_about(["engine", "call", "", "chunks", "live"]);
+    println!("{:>10}{:>9}{:>10}{:>14}", "ours", "no 3", "test 3", "test 3/live");
 }
 
 fn print_calls(engine: &str, kind: Kind) {
@@ -151,4 +172,18 @@ fn time_calls(kind: Kind, live: usize, churn: Churn) -> Calls {
     let chunks = of_crate.chunks();
     of_crate.close();
     Calls { chunks, ask, take_back }
+}
+
+/// Returns of a slip that no block has, with and without test 3, and the number of chunks held.
+fn time_slips(kind: Kind, live: usize) -> (usize, [f64; 2]) {
+    let settings = settings(kind);
+    let mut sides = [OURS[0], OURS[1]]
+        .map(|engines| Side::new(Ours::set_up(engines, &settings), live, Churn::Random));
+    let mut best = [f64::INFINITY; 2];
+    repeat(|| {
+        for (side, best) in sides.iter_mut().zip(&mut best) {
+            *best = best.min(side.refuse_slips());
+        }
+    });
+    (sides[0].chunks(), best)
 }

@@ -30,6 +30,8 @@ const ROOM: u64 = 2 * SIZE_LIMIT;
 /// The answers that are an order, and a return that releases nothing.
 const ORDER: u64 = 2;
 const RETURNED: [u64; 2] = [3, 0];
+/// And the refusal of a slip that no block on loan has.
+const STALE: [u64; 2] = [4, 7];
 
 /// The order in which blocks go back: any, the newest first, or the oldest first.
 #[derive(Clone, Copy)]
@@ -176,6 +178,21 @@ fn make_room<L: Lender>(lender: &mut L, live: usize) -> Vec<L::Lent> {
     others.into_iter().for_each(|block| lender.take_back(block));
     lender.rest_device();
     pins
+}
+
+impl Side<Ours> {
+    /// The nanoseconds of a return that is refused, in the mean of a batch: its serial was never given.
+    pub fn refuse_slips(&mut self) -> f64 {
+        let slip = Block { serial: u64::MAX, chunk: 0, offset: 0, size: 1 };
+        let Ours { store, account, .. } = &mut self.lender;
+        let returns = || {
+            for _ in 0..BATCH {
+                let answer = store.take_back(account, slip);
+                assert_eq!(answer[..2], STALE, "an old slip");
+            }
+        };
+        self.clock.time(returns) / BATCH as f64
+    }
 }
 
 impl Side<Bare> {

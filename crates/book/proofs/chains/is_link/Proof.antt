@@ -1,4 +1,7 @@
-use mathlib.Core.Path.{sym}
+use mathlib.Core.Path.{sym, ap, _∙_}
+use mathlib.Core.Bool.{_&&_}
+use Prim.Native.Nat.{ℕ}
+use lib.Dec.{eqb, leb, ltb}
 use borrow.Author.Needs.{needs}
 use borrow.Author.Tests.{eq-eqb, ne-eqb}
 use Rattle.book_rules.proofs.Following.{link-past, link-vacant, link-read}
@@ -26,12 +29,15 @@ returns-2 c = sym (link-vacant _ _ _ _ _ _ _ _ _ (c .before .before .if1 .left) 
 serial-of-requires : tie.Need-serial-of-requires
 serial-of-requires c κs = search needs
 
-rem-result : tie.Need-rem-result
-rem-result c = search needs
+remainder-requires : tie.Need-remainder-requires
+remainder-requires c κs = search needs
 
 returns-3 : tie.Need-returns-3
 returns-3 c =
-    link-read _ _ _ _ _ _ _ _ _ _ (c .before .before .before .if1 .left) (ne-eqb _ _ (c .before .if2 .left)) (c .serial-of .ensures)
+    let d = c .before in
+    let a = d .before .before .before .before .before .args in
+    ap (λ (m : ℕ). ltb 0 (d .serial-of .result) && (leb (d .serial-of .result) (a .most) && eqb m (a .i))) (c .remainder .ensures)
+    ∙ link-read _ _ _ _ _ _ _ _ _ _ (d .before .before .before .if1 .left) (ne-eqb _ _ (d .before .if2 .left)) (d .serial-of .ensures)
 
 pub is-link-spec : {M : Type 1} → statement M
 is-link-spec =
@@ -44,5 +50,5 @@ is-link-spec =
     shared-slice-read-if2
     returns-2
     serial-of-requires
-    rem-result
+    remainder-requires
     returns-3)

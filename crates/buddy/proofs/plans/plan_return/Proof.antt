@@ -1,11 +1,11 @@
 use borrow.Author.Needs.{needs}
 use mathlib.Core.Path.{sym, ap, _∙_}
-use native.Mathlib.Omega.{arith}
 use Rattle.counter.specs.Gate.{verdictOf}
 use Rattle.store_rules.specs.Outcomes.{listOk}
 use Rattle.store_rules.proofs.Holders.{holder}
 use Rattle.buddy_rules.specs.Tables.{tables}
 use Rattle.buddy_outcomes.proofs.Passing.{gate-passed}
+use Rattle.buddy_decide.proofs.Seeing.{book-reads}
 use Rattle.buddy.proofs.Planned.{return-shut, return-go}
 use Rattle.buddy.proofs.plans.plan_return.Statement.{statement}
 use Rattle.buddy.proofs.plans.plan_return.Tie as tie
@@ -23,7 +23,7 @@ decide-return-requires : tie.Need-decide-return-requires
 decide-return-requires c κs =
     let a = c .before .before .before .before .before .before .before .before .before .before .before .args in
     let p = gate-passed (a .s) (holder (a .s .store) (a .share)) (tables (a .head .now) (a .loans .now) (a .chunks .now) (a .index .now) (a .tree .now)) (listOk (a .s .store) (a .list .now)) (sym (ap verdictOf ((c) .enum-told .given .1)) ∙ (c .before .before) .gate .ensures) in
-    (p .lent .settings, omega (arith, p .sound .loans-parted .limit, p .lent .settings .store .loans-most))
+    book-reads (a .s) (tables (a .head .now) (a .loans .now) (a .chunks .now) (a .index .now) (a .tree .now)) (p .lent .settings) (p .lent .lengths) (p .sound)
 
 returns : tie.Need-returns
 returns c =

@@ -8,7 +8,7 @@ use Rattle.buddy_back.proofs.freeing.take_back.Statement.{statement}
 use Rattle.buddy_back.proofs.freeing.take_back.Tie as tie
 
 strike-out-requires : tie.Need-strike-out-requires
-strike-out-requires c κs = let o = c .before .before .before .before .before .before .before .before .before in let a = o .args in backs-rest (a .s) (a .b) (a .at) (tables (a .head .now) (a .loans .now) (a .chunks .now) (a .index .now) (a .tree .now)) [] [] (o .pre)
+strike-out-requires c κs = let o = c .before .before .before .before .before .before .before .before .before in let a = o .args in backs-rest (a .s) (a .b) (a .at) (tables (a .head .now) (a .loans .now) (a .chunks .now) (a .index .now) (a .tree .now)) [] (o .pre)
 
 cell-requires : tie.Need-cell-requires
 cell-requires c κs = search needs

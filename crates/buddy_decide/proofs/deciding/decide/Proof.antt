@@ -24,7 +24,7 @@ decide-buy-requires c κs =
     let b = k .before .before .before .before .before .before in
     let a = b .args in
     let f = subst (TryOf (a .s) (a .size) (a .mask) (tables (a .head .now) (a .loans .now) (a .chunks .now) (a .index .now) (a .tree .now))) (c .before .tried3 .given .1) (k .try-held .ensures (a .chunks .now)) in
-    (b .pre .0, b .pre .1, f .2, f .3, f .4)
+    (b .pre, f .2, f .3, f .4)
 
 returns : tie.Need-returns
 returns c =

@@ -13,7 +13,7 @@ chunk-taken-requires : tie.Need-chunk-taken-requires
 chunk-taken-requires c κs = search needs
 
 has-room-requires : tie.Need-has-room-requires
-has-room-requires c κs = let p = c .before .before .before .before .before .before .before .pre in (p .0, p .1, omega (arith, p .4), omega (arith, p .1, p .2, p .4))
+has-room-requires c κs = let p = c .before .before .before .before .before .before .before .pre in (p .0 .fit, p .0 .levels, omega (arith, p .3), omega (arith, p .0 .levels, p .1, p .3), p .0 .takes)
 
 returns : tie.Need-returns
 returns c =
@@ -22,7 +22,7 @@ returns c =
     let o = k .before in
     let s = o .before .before .before .before .before .before in
     let a = s .args in
-    let room = room-is (a .s) (a .n .level) (a .head .now) (a .loans .now) (a .chunks .now) (a .index .now) (a .tree .now) _ _ _ _ (s .pre .4) (o .next-loan .ensures) (k .chunk-taken .ensures) (m .has-room .ensures) in
+    let room = room-is (a .s) (a .n .level) (a .head .now) (a .loans .now) (a .chunks .now) (a .index .now) (a .tree .now) _ _ _ _ (s .pre .3) (o .next-loan .ensures) (k .chunk-taken .ensures) (m .has-room .ensures) in
     (buy-full (a .s) (a .n .level) (a .head .now) (a .loans .now) (a .chunks .now) (a .index .now) (a .tree .now) (a .h) (a .objects) _ room (not-yes _ (c .if1 .taken)), refl)
 
 word-requires : tie.Need-word-requires
@@ -40,8 +40,8 @@ returns-2 c =
     let o = k .before in
     let s = o .before .before .before .before .before .before in
     let a = s .args in
-    let room = room-is (a .s) (a .n .level) (a .head .now) (a .loans .now) (a .chunks .now) (a .index .now) (a .tree .now) _ _ _ _ (s .pre .4) (o .next-loan .ensures) (k .chunk-taken .ensures) (m .has-room .ensures) in
-    (buy-spent (a .s) (a .n .level) (a .head .now) (a .loans .now) (a .chunks .now) (a .index .now) (a .tree .now) (a .h) (a .objects) _ room (not-no _ (g .before .if1 .left)) (counts-are (a .s) (a .n .level) (a .head .now) (a .loans .now) (a .chunks .now) (a .index .now) (a .tree .now) (a .h) (a .objects) _ _ _ _ (s .pre .3) (g .word .ensures) (b .bears .ensures) (not-yes _ (c .if2 .taken))), refl)
+    let room = room-is (a .s) (a .n .level) (a .head .now) (a .loans .now) (a .chunks .now) (a .index .now) (a .tree .now) _ _ _ _ (s .pre .3) (o .next-loan .ensures) (k .chunk-taken .ensures) (m .has-room .ensures) in
+    (buy-spent (a .s) (a .n .level) (a .head .now) (a .loans .now) (a .chunks .now) (a .index .now) (a .tree .now) (a .h) (a .objects) _ room (not-no _ (g .before .if1 .left)) (counts-are (a .s) (a .n .level) (a .head .now) (a .loans .now) (a .chunks .now) (a .index .now) (a .tree .now) (a .h) (a .objects) _ _ _ _ (s .pre .2) (g .word .ensures) (b .bears .ensures) (not-yes _ (c .if2 .taken))), refl)
 
 returns-3 : tie.Need-returns-3
 returns-3 c =
@@ -52,8 +52,8 @@ returns-3 c =
     let o = k .before in
     let s = o .before .before .before .before .before .before in
     let a = s .args in
-    let room = room-is (a .s) (a .n .level) (a .head .now) (a .loans .now) (a .chunks .now) (a .index .now) (a .tree .now) _ _ _ _ (s .pre .4) (o .next-loan .ensures) (k .chunk-taken .ensures) (m .has-room .ensures) in
-    (buy-none (a .s) (a .n .level) (a .head .now) (a .loans .now) (a .chunks .now) (a .index .now) (a .tree .now) (a .h) (a .objects) _ room (not-no _ (g .before .if1 .left)) (counts-are (a .s) (a .n .level) (a .head .now) (a .loans .now) (a .chunks .now) (a .index .now) (a .tree .now) (a .h) (a .objects) _ _ _ _ (s .pre .3) (g .word .ensures) (b .bears .ensures) (not-no _ (c .before .if2 .left))) (c .if3 .taken), s .pre .4)
+    let room = room-is (a .s) (a .n .level) (a .head .now) (a .loans .now) (a .chunks .now) (a .index .now) (a .tree .now) _ _ _ _ (s .pre .3) (o .next-loan .ensures) (k .chunk-taken .ensures) (m .has-room .ensures) in
+    (buy-none (a .s) (a .n .level) (a .head .now) (a .loans .now) (a .chunks .now) (a .index .now) (a .tree .now) (a .h) (a .objects) _ room (not-no _ (g .before .if1 .left)) (counts-are (a .s) (a .n .level) (a .head .now) (a .loans .now) (a .chunks .now) (a .index .now) (a .tree .now) (a .h) (a .objects) _ _ _ _ (s .pre .2) (g .word .ensures) (b .bears .ensures) (not-no _ (c .before .if2 .left))) (c .if3 .taken), s .pre .3)
 
 returns-4 : tie.Need-returns-4
 returns-4 c =
@@ -64,12 +64,12 @@ returns-4 c =
     let o = k .before in
     let s = o .before .before .before .before .before .before in
     let a = s .args in
-    let room = room-is (a .s) (a .n .level) (a .head .now) (a .loans .now) (a .chunks .now) (a .index .now) (a .tree .now) _ _ _ _ (s .pre .4) (o .next-loan .ensures) (k .chunk-taken .ensures) (m .has-room .ensures) in (
-      buy-go (a .s) (a .n .level) (a .head .now) (a .loans .now) (a .chunks .now) (a .index .now) (a .tree .now) (a .h) (a .objects) _ room _ (s .pre .3) (not-no _ (g .before .if1 .left)) (counts-are (a .s) (a .n .level) (a .head .now) (a .loans .now) (a .chunks .now) (a .index .now) (a .tree .now) (a .h) (a .objects) _ _ _ _ (s .pre .3) (g .word .ensures) (b .bears .ensures) (not-no _ (c .before .if2 .left))) (search needs),
+    let room = room-is (a .s) (a .n .level) (a .head .now) (a .loans .now) (a .chunks .now) (a .index .now) (a .tree .now) _ _ _ _ (s .pre .3) (o .next-loan .ensures) (k .chunk-taken .ensures) (m .has-room .ensures) in (
+      buy-go (a .s) (a .n .level) (a .head .now) (a .loans .now) (a .chunks .now) (a .index .now) (a .tree .now) (a .h) (a .objects) _ room _ (s .pre .2) (not-no _ (g .before .if1 .left)) (counts-are (a .s) (a .n .level) (a .head .now) (a .loans .now) (a .chunks .now) (a .index .now) (a .tree .now) (a .h) (a .objects) _ _ _ _ (s .pre .2) (g .word .ensures) (b .bears .ensures) (not-no _ (c .before .if2 .left))) (search needs),
       record {
         size = refl;
         level = refl;
-        levels = s .pre .4;
+        levels = s .pre .3;
         loan = o .next-loan .ensures;
         chunk = k .chunk-taken .ensures;
       },

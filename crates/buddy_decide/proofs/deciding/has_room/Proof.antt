@@ -17,7 +17,7 @@ sub-has-pairs c = search needs
 has-pairs-requires : tie.Need-has-pairs-requires
 has-pairs-requires c κs =
     let p = c .before .before .before .before .pre in
-    (p .0 .pairs-most, omega (arith, c .word .ensures, p .1), omega (arith, p .2, p .3))
+    ((p .0 .pairs-most, omega (arith, c .word .ensures, p .1), omega (arith, p .2, p .3)), λ l h. p .4 l (omega (arith, h, c .word .ensures)))
 
 returns : tie.Need-returns
 returns c =

@@ -26,7 +26,7 @@ size-for-requires : tie.Need-size-for-requires
 size-for-requires c κs =
     let m = c .before .before in
     let b = m .before .before .before .before .before in
-    (b .pre .0, alignment-yes (b .args .mask) (sym (m .is-alignment .ensures) ∙ not-no _ (c .before .if1 .left)))
+    (b .pre .fit, alignment-yes (b .args .mask) (sym (m .is-alignment .ensures) ∙ not-no _ (c .before .if1 .left)))
 
 enum-known-raised : tie.Need-enum-known-raised
 enum-known-raised c = search needs
@@ -38,7 +38,7 @@ try-sized-requires c κs =
     let b = m .before .before .before .before .before in
     let a = b .args in
     let size = size-is (a .s) (a .size) (a .mask) _ (z .size-for .ensures) _ (c .before .raised .given .1) in
-    (b .pre .0, b .pre .1, level-below (a .s) (a .size) (a .mask) _ size (b .pre .0) (search needs))
+    (b .pre, level-below (a .s) (a .size) (a .mask) _ size (b .pre .fit) (search needs))
 
 enum-told : tie.Need-enum-told
 enum-told c = search needs
@@ -60,7 +60,7 @@ returns-4 c =
     let b = m .before .before .before .before .before in
     let a = b .args in
     let aligned = sym (m .is-alignment .ensures) ∙ not-no _ (z .before .before .if1 .left) in
-    λ chunks. (λ h objects. decide-over (a .s) h objects (a .size) (a .mask) (tables (a .head .now) (a .loans .now) chunks (a .index .now) (a .tree .now)) _ (z .size-for .ensures) (b .pre .0) aligned (search needs) (c .enum-told .given .1), refl)
+    λ chunks. (λ h objects. decide-over (a .s) h objects (a .size) (a .mask) (tables (a .head .now) (a .loans .now) chunks (a .index .now) (a .tree .now)) _ (z .size-for .ensures) (b .pre .fit) aligned (search needs) (c .enum-told .given .1), refl)
 
 pub try-held-spec : {M : Type 1} → statement M
 try-held-spec =

@@ -14,7 +14,7 @@ cast-node-bytes : tie.Need-cast-node-bytes
 cast-node-bytes c = search needs
 
 node-bytes-requires : tie.Need-node-bytes-requires
-node-bytes-requires c κs = (power-top (c .before .before .before .before .pre .0 .minimal), omega arith)
+node-bytes-requires c κs = (power-top (c .before .before .before .before .pre .0 .fit .minimal), omega arith)
 
 returns : tie.Need-returns
 returns c =
@@ -28,8 +28,8 @@ level-requires c κs = search needs
 cast-level : tie.Need-cast-level
 cast-level c = search needs
 
-word-requires : tie.Need-word-requires
-word-requires c κs = search needs
+shared-slice-read-levels : tie.Need-shared-slice-read-levels
+shared-slice-read-levels c = search needs
 
 seek-requires : tie.Need-seek-requires
 seek-requires c κs =
@@ -38,7 +38,7 @@ seek-requires c κs =
     let b = n .before .before .before .before .before in
     let a = b .args in
     let fits = fits-yes (a .s) (a .size) _ (n .node-bytes .ensures .0) (v .before .if1 .left) in
-    (power-top (b .pre .0 .minimal), b .pre .0 .pairs-most, omega (arith, v .level .ensures, b .pre .2 fits), omega (arith, c .word .ensures, b .pre .1))
+    (power-top (b .pre .0 .fit .minimal), b .pre .0 .fit .pairs-most, omega (arith, v .level .ensures, b .pre .1 fits), b .pre .0 .levels, b .pre .0 .tree-long)
 
 enum-known-found : tie.Need-enum-known-found
 enum-known-found c = search needs
@@ -52,9 +52,9 @@ try-take-requires c κs =
     let b = n .before .before .before .before .before in
     let a = b .args in
     let fits = fits-yes (a .s) (a .size) _ (n .node-bytes .ensures .0) (v .before .if1 .left) in
-    let found = sought-at (a .s) _ (a .head .now) (a .tree .now) _ _ (w .word .ensures) (k .seek .ensures) _ _ (c .before .found .given .1) in
-    let low = found-low (a .s) (a .tree .now) _ _ _ (b .pre .1) (omega (arith, v .level .ensures, b .pre .2 fits)) (found .0) in
-    (b .pre .0, b .pre .1, low .0, low .1, found .1)
+    let found = sought-at (a .s) _ (a .head .now) (a .tree .now) _ _ refl (k .seek .ensures) _ _ (c .before .found .given .1) in
+    let low = found-low (a .s) (a .tree .now) _ _ _ (b .pre .0 .levels) (omega (arith, v .level .ensures, b .pre .1 fits)) (found .0) in
+    (b .pre .0, low .0, low .1, found .1)
 
 enum-known-found-2 : tie.Need-enum-known-found-2
 enum-known-found-2 c = search needs
@@ -70,7 +70,7 @@ returns-2 c =
     let a = b .args in
     let l = v .level .result in
     let fits = fits-yes (a .s) (a .size) _ (n .node-bytes .ensures .0) (v .before .if1 .left) in
-    let found = sought-at (a .s) l (a .head .now) (a .tree .now) _ _ (w .word .ensures) (k .seek .ensures) _ _ (c .before .before .found .given .1) in
+    let found = sought-at (a .s) l (a .head .now) (a .tree .now) _ _ refl (k .seek .ensures) _ _ (c .before .before .found .given .1) in
     λ chunks. look-at (a .s) l (a .head .now) (a .loans .now) chunks (a .index .now) (a .tree .now) (a .size) _ (v .level .ensures) fits _ (c .try-take .result) (found .0) (c .try-take .ensures chunks)
 
 returns-3 : tie.Need-returns-3
@@ -84,8 +84,8 @@ returns-3 c =
     let a = b .args in
     let l = v .level .result in
     let fits = fits-yes (a .s) (a .size) _ (n .node-bytes .ensures .0) (v .before .if1 .left) in
-    let found = sought-order (a .s) l (a .head .now) (a .tree .now) _ _ (w .word .ensures) (k .seek .ensures) _ _ (c .before .found2 .given .1) in
-    λ chunks. (refl, v .level .ensures, omega (arith, v .level .ensures, b .pre .2 fits), found .1, found .2, look-nowhere (a .s) l (a .head .now) (a .loans .now) chunks (a .index .now) (a .tree .now) (a .size) _ (v .level .ensures) fits (found .0))
+    let found = sought-order (a .s) l (a .head .now) (a .tree .now) _ _ refl (k .seek .ensures) _ _ (c .before .found2 .given .1) in
+    λ chunks. (refl, v .level .ensures, omega (arith, v .level .ensures, b .pre .1 fits), found .1, found .2, look-nowhere (a .s) l (a .head .now) (a .loans .now) chunks (a .index .now) (a .tree .now) (a .size) _ (v .level .ensures) fits (found .0))
 
 pub try-sized-spec : {M : Type 1} → statement M
 try-sized-spec =
@@ -96,7 +96,7 @@ try-sized-spec =
     returns
     level-requires
     cast-level
-    word-requires
+    shared-slice-read-levels
     seek-requires
     enum-known-found
     try-take-requires

@@ -1,10 +1,11 @@
-use mathlib.Core.Path.{_≡_, refl, sym, _∙_}
+use mathlib.Core.Path.{_≡_, refl, sym, subst, _∙_}
 use mathlib.Core.Logic.{⊎-elim}
 use mathlib.Core.List.{[]}
-use Prim.Native.Nat.{_+_, _-_, _≤_}
+use Prim.Native.Nat.{ℕ, _+_, _-_, _≤_}
 use native.Mathlib.Numerals.{unary-clauses}
 use native.Mathlib.Omega.{arith}
 use Rattle.buddy_levels.specs.Seen.{partSettings, levelPart}
+use Rattle.buddy_levels.specs.Stands.{Takes}
 use Rattle.buddy_outcomes.specs.Ask.{pairsRoom}
 use Rattle.buddy_decide.proofs.Shows.{pairs-done, pairs-past, pairs-none, pairs-on}
 use borrow.Author.Needs.{needs}
@@ -27,7 +28,11 @@ level-from-requires : tie.Need-level-from-requires Inv-loop μ-loop
 level-from-requires c κs = search needs
 
 pair-taken-requires : tie.Need-pair-taken-requires Inv-loop μ-loop
-pair-taken-requires c κs = search needs
+pair-taken-requires c κs =
+    let i = c .before in
+    let b = i .before .before in
+    let s = b .before .before in
+    subst (λ (x : ℕ). Takes x (s .args .tree .now)) (sym (c .level-from .ensures .0)) (s .pre .1 (s .args .level + b .loop .i) (i .if1 .taken))
 
 returns : tie.Need-returns Inv-loop μ-loop
 returns c =

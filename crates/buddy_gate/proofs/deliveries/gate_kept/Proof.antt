@@ -3,6 +3,7 @@ use mathlib.Core.Path.{sym, ap, subst, _∙_}
 use Rattle.lists.proofs.Bools.{not-yes, not-no}
 use Rattle.buddy_rules.specs.Tables.{tables}
 use Rattle.buddy_rules.proofs.Decides.{tables-yes}
+use Rattle.buddy_decide.proofs.Seeing.{sees}
 use Rattle.buddy_gate.specs.Gates.{stillOf, StillBuys}
 use Rattle.buddy_gate.proofs.Gates.{places-few, sizes-low}
 use Rattle.buddy_gate.proofs.Kept.{kept-torn, kept-other, kept-short, kept-go}
@@ -24,7 +25,7 @@ is-still-requires c κs =
     let b = n .before .before .before .before .before .before in
     let a = b .args in
     let sound = tables-yes (a .s) (tables (a .head .now) (a .loans .now) (a .chunks .now) (a .index .now) (a .tree .now)) (b .pre .0) (sym (n .is-sound .ensures) ∙ not-no _ (c .if1 .left)) in
-    (b .pre .0, sound .levels-most)
+    sees (a .s) (tables (a .head .now) (a .loans .now) (a .chunks .now) (a .index .now) (a .tree .now)) (b .pre .0) (b .pre .1) sound
 
 enum-told : tie.Need-enum-told
 enum-told c = search needs

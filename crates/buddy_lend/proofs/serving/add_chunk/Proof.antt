@@ -1,5 +1,6 @@
 use borrow.Author.Needs.{needs}
-use Rattle.buddy_lend.proofs.Served.{top-low, chunk-done}
+use native.Mathlib.Omega.{arith}
+use Rattle.buddy_lend.proofs.Served.{top-takes, top-low, chunk-done}
 use Rattle.buddy_lend.proofs.serving.add_chunk.Statement.{statement}
 use Rattle.buddy_lend.proofs.serving.add_chunk.Tie as tie
 
@@ -13,7 +14,11 @@ level-from-requires : tie.Need-level-from-requires
 level-from-requires c κs = search needs
 
 pair-taken-requires : tie.Need-pair-taken-requires
-pair-taken-requires c κs = search needs
+pair-taken-requires c κs =
+    let w = c .before .before .before in
+    let b = w .before .before .before .before in
+    let a = b .args in
+    top-takes (a .s) (a .head .now) (a .tree .now) _ (w .word .ensures) _ (c .level-from .ensures .0) (b .pre .1) (b .pre .2) (b .pre .3) (b .pre .5)
 
 put-chunk-requires : tie.Need-put-chunk-requires
 put-chunk-requires c κs = search needs
@@ -25,7 +30,7 @@ put-top-requires c κs =
     let w = c .before .before .before .before .before .before .before .before .before in
     let b = c .before .before .before .before .before .before .before .before .before .before .before .before .before in
     let a = b .args in
-    (b .pre .0 .pairs-most, top-low (a .s) (a .head .now) (a .tree .now) _ (w .word .ensures) _ (f .level-from .ensures .0) _ (o .pair-taken .ensures) (b .pre .3))
+    (b .pre .0 .pairs-most, omega (arith, b .pre .0 .pairs-most, top-low (a .s) (a .head .now) (a .tree .now) _ (w .word .ensures) _ (f .level-from .ensures .0) _ (o .pair-taken .ensures) (b .pre .3)))
 
 same-length : tie.Need-same-length
 same-length c = search needs

@@ -3,7 +3,7 @@ use mathlib.Core.Path.{sym, ap, subst}
 use mathlib.Core.List.{List}
 use Prim.Native.Nat.{ℕ, _+_, _-_, _<_}
 use native.Mathlib.Omega.{arith}
-use Rattle.counter.specs.Limits.{pairsMost}
+use lib.ListN.{length}
 use Rattle.slab.specs.Slab.{nowhere}
 use Rattle.slab.specs.declared.Taken.{Taken}
 use Rattle.book_rules.specs.Ready.{Opens}
@@ -13,7 +13,7 @@ use Rattle.buddy_rules.specs.Level.{pairTaken, added}
 use Rattle.buddy_rules.specs.Moves.{leftNext}
 use Rattle.buddy_rules.specs.Tables.{levelFrom}
 use Rattle.buddy_moves.specs.Roomy.{Roomy}
-use Rattle.buddy_lend.proofs.Booked.{place-in, booked-done}
+use Rattle.buddy_lend.proofs.Booked.{place-in, node-in, booked-done}
 use Rattle.buddy_lend.proofs.Served.{still, loan-done, served-done}
 use Rattle.buddy_lend.proofs.serving.serve.Statement.{statement}
 use Rattle.buddy_lend.proofs.serving.serve.Tie as tie
@@ -22,7 +22,7 @@ word-requires : tie.Need-word-requires
 word-requires c κs = search needs
 
 add-chunk-requires : tie.Need-add-chunk-requires
-add-chunk-requires c κs = let p = c .before .before .before .before .before .before .before .before .pre in (p .0 .enters .fit, omega (arith, p .0 .below), p .0 .low, p .0 .pair, p .2)
+add-chunk-requires c κs = let p = c .before .before .before .before .before .before .before .before .pre in (p .0 .enters .fit, omega (arith, p .0 .below), p .0 .low, p .0 .pair, p .2, p .0 .long)
 
 word-requires-2 : tie.Need-word-requires-2
 word-requires-2 c κs = search needs
@@ -54,7 +54,8 @@ split-chunk-requires c κs =
         b .pre .0 .enters .fit .pairs-most,
         omega (arith, w .word .ensures, b .pre .0 .below, b .pre .0 .low),
         omega (arith, place, b .pre .0 .enters .fit .store .loans-most),
-        now (λ (x n : ℕ) (t : List ℕ). pairTaken (levelFrom (a .s) (up (n - a .level - 1) (a .level))) t .place < pairsMost) (b .pre .0 .own),
+        now (λ (x n : ℕ) (t : List ℕ). pairTaken (levelFrom (a .s) (up (n - a .level - 1) (a .level))) t .place < a .s .pairs) (b .pre .0 .own),
+        omega (arith, b .pre .0 .long),
       ),
       now (λ (x n : ℕ) (t : List ℕ). Roomy (a .s .pairs) (a .level) x 0 (leftNext (a .s .pairs) (up (n - a .level - 1) (a .level)) t) (n - a .level - 1) (added (levelFrom (a .s) (up (n - a .level - 1) (a .level))) x 0 nowhere freeWord t)) (b .pre .0 .roomy),
     )
@@ -70,7 +71,8 @@ put-node-requires c κs =
     let b = c .before .before .before .before .before .before .before .before .before .before .before .before .before .before .before .before .before .before .before .before .before .before .before .before .before .before .before .before in
     let a = b .args in
     let place = place-in (a .s) (a .loans .now) (a .index .now) _ (b .pre .1) (b .pre .0 .enters .opens .place) in
-    (b .pre .0 .enters .fit, omega (arith, place, b .pre .0 .enters .fit .store .loans-most))
+    let node = node-in (a .s) (a .loans .now) (a .index .now) _ (b .pre .1) (length (a .index .now)) (b .pre .0 .enters .node) in
+    (b .pre .0 .enters .fit, omega (arith, place, b .pre .0 .enters .fit .store .loans-most), omega (arith, node))
 
 same-length : tie.Need-same-length
 same-length c = search needs

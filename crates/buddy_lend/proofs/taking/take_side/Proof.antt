@@ -1,12 +1,14 @@
 use borrow.Author.Needs.{needs}
-use mathlib.Core.Path.{sym, ap, _∙_}
+use mathlib.Core.Path.{sym, ap, _∙_, subst}
 use mathlib.Core.Logic.{⊎-elim}
-use Prim.Native.Nat.{ℕ}
+use Prim.Native.Nat.{ℕ, _<_}
+use native.Mathlib.Omega.{arith}
 use lib.ListN.{getD}
 use Rattle.buddy_rules.specs.Levels.{sideOf}
 use Rattle.buddy_rules.specs.Level.{tagAt, pairCell, ringHead}
 use Rattle.buddy_rules.specs.Moves.{Cut}
-use Rattle.buddy_lend.proofs.Sides.{node-left, node-right, took-whole, still-roomy, took-split}
+use Rattle.buddy_levels.specs.Stands.{Leaves}
+use Rattle.buddy_lend.proofs.Sides.{node-left, node-right, node-low, took-whole, still-roomy, took-split}
 use Rattle.buddy_lend.proofs.taking.take_side.Statement.{statement}
 use Rattle.buddy_lend.proofs.taking.take_side.Tie as tie
 
@@ -28,7 +30,7 @@ acquire-requires c κs =
     let b = f .before .before in
     let a = b .args in
     let at = sym (f .level-from .ensures .0) in
-    (search needs, (b .pre .1 .0 .0 ∙ ap (λ (x : ℕ). ringHead x (a .tree .now)) at, b .pre .1 .0 .1 ∙ ap (λ (x : ℕ). sideOf (getD (a .tree .now) (pairCell x tagAt (a .h)) 0)) at))
+    (subst (λ (x : ℕ). Leaves x (a .h) (a .tree .now)) at (b .pre .1 .1 .0), (b .pre .1 .0 .0 ∙ ap (λ (x : ℕ). ringHead x (a .tree .now)) at, b .pre .1 .0 .1 ∙ ap (λ (x : ℕ). sideOf (getD (a .tree .now) (pairCell x tagAt (a .h)) 0)) at))
 
 acquire-requires-2 : tie.Need-acquire-requires-2
 acquire-requires-2 c κs =
@@ -36,7 +38,7 @@ acquire-requires-2 c κs =
     let b = f .before .before in
     let a = b .args in
     let at = sym (f .level-from .ensures .0) in
-    (search needs, (b .pre .1 .0 .0 ∙ ap (λ (x : ℕ). ringHead x (a .tree .now)) at, b .pre .1 .0 .1 ∙ ap (λ (x : ℕ). sideOf (getD (a .tree .now) (pairCell x tagAt (a .h)) 0)) at))
+    (subst (λ (x : ℕ). Leaves x (a .h) (a .tree .now)) at (b .pre .1 .1 .0), (b .pre .1 .0 .0 ∙ ap (λ (x : ℕ). ringHead x (a .tree .now)) at, b .pre .1 .0 .1 ∙ ap (λ (x : ℕ). sideOf (getD (a .tree .now) (pairCell x tagAt (a .h)) 0)) at))
 
 sub-split-down : tie.Need-sub-split-down
 sub-split-down c = search needs
@@ -49,7 +51,9 @@ split-down-requires c κs =
     let b = f .before .before in
     let a = b .args in
     let node = ⊎-elim (λ x. node-left (a .pairs) (a .from) (a .tree .now) (a .h) (a .left) (b .pre .1 .0 .0) (b .pre .1 .0 .1) _ (x .0 .taken) (x .2 ∙ x .1 .ensures)) (λ x. node-right (a .pairs) (a .from) (a .tree .now) (a .h) (a .left) (b .pre .1 .0 .0) (b .pre .1 .0 .1) _ (x .0 .left) (x .2 ∙ x .1 .ensures)) (i .if1 .came) in
-    (search needs, still-roomy (a .pairs) (a .from) (a .tree .now) (a .level) (a .chunk) (a .offset) (a .loan) _ _ node (f .level-from .ensures .0) _ (q .acquire2 .ensures) (b .pre .1 .1))
+    let low = subst (λ (x : ℕ). x < a .pairs) (b .pre .1 .0 .0) (b .pre .0 .4) in
+    let fits = node-low (a .pairs) (a .from) (a .tree .now) (a .level) (a .chunk) (a .offset) (a .loan) _ _ node (f .level-from .ensures .0) low in
+    (search needs, (still-roomy (a .pairs) (a .from) (a .tree .now) (a .level) (a .chunk) (a .offset) (a .loan) _ _ node (f .level-from .ensures .0) _ (q .acquire2 .ensures) (b .pre .1 .1 .1), (fits, omega (arith, b .pre .0 .5))))
 
 same-length : tie.Need-same-length
 same-length c = search needs

@@ -21,8 +21,8 @@ abbrev μ-loop : tie.MeasureT-loop
 loop-holds : tie.Need-loop-holds Inv-loop μ-loop
 loop-holds c = (omega arith, refl)
 
-loan-at-requires : tie.Need-loan-at-requires Inv-loop μ-loop
-loan-at-requires c κs = search needs
+loan-in-requires : tie.Need-loan-in-requires Inv-loop μ-loop
+loan-in-requires c κs = search needs
 
 is-units-requires : tie.Need-is-units-requires Inv-loop μ-loop
 is-units-requires c κs = search needs
@@ -34,7 +34,7 @@ returns c =
     let o = l .before .before in
     let q = o .before .before in
     let a = q .args in
-    let e = units-told (a .s) (o .loop .k) (a .loans .now) (l .loan-at .result) (l .loan-at .ensures) (omega (arith, l .before .loop-test .taken, q .pre .2)) (u .is-units .result) (u .is-units .ensures) in
+    let e = units-told (a .s) (o .loop .k) (a .loans .now) (l .loan-in .result) (l .loan-in .ensures) (omega (arith, l .before .loop-test .taken, q .pre .2)) (u .is-units .result) (u .is-units .ensures) in
     sym (every-stop (unitsOk (a .s) (partTables 0 (a .loans .now) [] [] [])) (a .n) (o .loop .k) (l .before .loop-test .taken) (sym e ∙ not-yes _ (c .if1 .taken)))
 
 add-k : tie.Need-add-k Inv-loop μ-loop
@@ -50,7 +50,7 @@ loop-again c =
     let o = l .before .before in
     let q = o .before .before in
     let a = q .args in
-    let e = units-told (a .s) (o .loop .k) (a .loans .now) (l .loan-at .result) (l .loan-at .ensures) (omega (arith, l .before .loop-test .taken, q .pre .2)) (u .is-units .result) (u .is-units .ensures) in
+    let e = units-told (a .s) (o .loop .k) (a .loans .now) (l .loan-in .result) (l .loan-in .ensures) (omega (arith, l .before .loop-test .taken, q .pre .2)) (u .is-units .result) (u .is-units .ensures) in
     (omega arith, every-next (unitsOk (a .s) (partTables 0 (a .loans .now) [] [] [])) (o .loop .k) (o .loop .inv .1) (sym e ∙ not-no _ (c .if1 .left)))
 
 returns-2 : tie.Need-returns-2 Inv-loop μ-loop
@@ -67,7 +67,7 @@ are-units-spec =
     Inv-loop
     μ-loop
     loop-holds
-    loan-at-requires
+    loan-in-requires
     is-units-requires
     returns
     add-k

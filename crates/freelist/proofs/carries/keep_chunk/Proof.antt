@@ -19,7 +19,8 @@ charged-requires c κs = search needs
 
 add-chunk-requires : tie.Need-add-chunk-requires
 add-chunk-requires c κs =
-    c .before .before .before .before .before .before .before .before .before .before .before .before .before .before .before .before .before .before .pre .adds
+    let p = c .before .before .before .before .before .before .before .before .before .before .before .before .before .before .before .before .before .before .pre in
+    (p .adds, p .lends .long)
 
 lend-requires : tie.Need-lend-requires
 lend-requires c κs =

@@ -1,6 +1,8 @@
 use borrow.Author.Needs.{needs}
+use mathlib.Core.Bool.{true}
+use native.Mathlib.Omega.{arith}
 use Rattle.store_rules.proofs.Holders.{holder}
-use Rattle.freelist.proofs.Returning.{releases-now, taken-in}
+use Rattle.freelist.proofs.Returning.{let-go-done, releases-now, taken-in}
 use Rattle.freelist.proofs.carries.take_in.Statement.{statement}
 use Rattle.freelist.proofs.carries.take_in.Tie as tie
 
@@ -9,12 +11,21 @@ take-back-requires c κs =
     let b = c .before .before .before .before .before .before .before .before .before in
     (b .pre .backs, b .pre .strikes)
 
-let-go-requires : tie.Need-let-go-requires
-let-go-requires c κs =
+release-requires : tie.Need-release-requires
+release-requires c κs =
     let k = c .before .before .before .before .before .before .before .before .before in
     let b = k .before .before .before .before .before .before .before .before .before .before in
     let a = b .args in
-    releases-now (a .s) (holder (a .s .store) (a .share)) (a .b) (a .at) (a .loans .now) (a .chunks .now) (a .regions .now) (a .index .now) _ _ _ (k .take-back .ensures) (a .share .objects) (a .list .now) (b .pre .releases)
+    releases-now (a .s) (holder (a .s .store) (a .share)) (a .b) (a .at) (a .loans .now) (a .chunks .now) (a .regions .now) (a .index .now) _ _ _ (k .take-back .ensures) (a .share .objects) (a .list .now) (b .pre .releases) .0
+
+settle-requires : tie.Need-settle-requires
+settle-requires c κs =
+    let r = c .before .before .before .before .before .before in
+    let k = r .before .before .before .before .before .before .before .before .before .before in
+    let b = k .before .before .before .before .before .before .before .before .before .before in
+    let a = b .args in
+    let few = releases-now (a .s) (holder (a .s .store) (a .share)) (a .b) (a .at) (a .loans .now) (a .chunks .now) (a .regions .now) (a .index .now) _ _ _ (k .take-back .ensures) (a .share .objects) (a .list .now) (b .pre .releases) .1 in
+    omega (arith, few, r .release .ensures .0)
 
 same-length : tie.Need-same-length
 same-length c = search needs
@@ -33,17 +44,20 @@ same-length-5 c = search needs
 
 returns : tie.Need-returns
 returns c =
-    let g = c .before .before .before .before .before .before in
-    let k = g .before .before .before .before .before .before .before .before .before .before in
+    let r = c .before .before .before .before .before .before .before in
+    let k = r .before .before .before .before .before .before .before .before .before .before in
     let a = k .before .before .before .before .before .before .before .before .before .before .args in
-    taken-in (a .s) (holder (a .s .store) (a .share)) (a .b) (a .at) (a .loans .now) (a .chunks .now) (a .regions .now) (a .index .now) _ _ _ (k .take-back .ensures) (a .list .now) _ _ _ _ _ (g .let-go .ensures)
+    let e = r .release .ensures in
+    taken-in (a .s) (holder (a .s .store) (a .share)) (a .b) (a .at) (a .loans .now) (a .chunks .now) (a .regions .now) (a .index .now) _ _ _ (k .take-back .ensures) (a .list .now) _ _ _ _ _
+    (let-go-done (a .s) (a .share) true _ _ (a .list .now) _ _ _ _ _ _ _ (e .0) (e .1 .0) (e .1 .1 .0) (e .1 .1 .1) (c .settle .ensures .0) (c .settle .ensures .1))
 
 pub take-in-spec : {M : Type 1} → statement M
 take-in-spec =
     tie.close
     (tie.spec
     take-back-requires
-    let-go-requires
+    release-requires
+    settle-requires
     same-length
     same-length-2
     same-length-3

@@ -4,8 +4,8 @@ use mathlib.Core.Bool.{true}
 use Rattle.counter.specs.Gate.{verdictOf}
 use Rattle.store_rules.proofs.Holders.{holder}
 use Rattle.freelist_rules.specs.Tables.{tables}
-use Rattle.freelist_rules.proofs.Fits.{regions-fit}
 use Rattle.freelist_outcomes.proofs.Passing.{gate-passed}
+use Rattle.freelist_decide.proofs.Seeing.{sees}
 use Rattle.freelist.proofs.Planned.{ask-shut, ask-go}
 use Rattle.freelist.proofs.plans.plan_ask.Statement.{statement}
 use Rattle.freelist.proofs.plans.plan_ask.Tie as tie
@@ -26,7 +26,7 @@ decide-requires c κs =
     let a = g .before .before .before .before .before .before .args in
     let t = tables (a .head .now) (a .loans .now) (a .chunks .now) (a .index .now) (a .regions .now) in
     let p = gate-passed (a .s) (holder (a .s .store) (a .share)) t true (sym (ap verdictOf (e .enum-told .given .1)) ∙ g .gate .ensures) in
-    regions-fit (a .s) t (p .settings) (p .lengths) (p .sound)
+    sees (a .s) t (p .settings) (p .lengths) (p .sound)
 
 returns : tie.Need-returns
 returns c =

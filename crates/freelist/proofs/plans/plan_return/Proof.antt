@@ -4,7 +4,9 @@ use Rattle.counter.specs.Gate.{verdictOf}
 use Rattle.store_rules.specs.Outcomes.{listOk}
 use Rattle.store_rules.proofs.Holders.{holder}
 use Rattle.freelist_rules.specs.Tables.{tables}
-use Rattle.freelist.proofs.Planned.{return-shut, return-go, places-few}
+use Rattle.freelist_outcomes.proofs.Passing.{gate-passed}
+use Rattle.freelist_decide.proofs.Seeing.{book-reads}
+use Rattle.freelist.proofs.Planned.{return-shut, return-go}
 use Rattle.freelist.proofs.plans.plan_return.Statement.{statement}
 use Rattle.freelist.proofs.plans.plan_return.Tie as tie
 
@@ -21,7 +23,9 @@ decide-return-requires : tie.Need-decide-return-requires
 decide-return-requires c κs =
     let g = c .before .before in
     let a = g .before .before .before .before .before .before .before .before .before .args in
-    places-few (a .s) (holder (a .s .store) (a .share)) (a .b) (tables (a .head .now) (a .loans .now) (a .chunks .now) (a .index .now) (a .regions .now)) (listOk (a .s .store) (a .list .now)) (sym (ap verdictOf (c .enum-told .given .1)) ∙ g .gate .ensures)
+    let t = tables (a .head .now) (a .loans .now) (a .chunks .now) (a .index .now) (a .regions .now) in
+    let p = gate-passed (a .s) (holder (a .s .store) (a .share)) t (listOk (a .s .store) (a .list .now)) (sym (ap verdictOf (c .enum-told .given .1)) ∙ g .gate .ensures) in
+    book-reads (a .s) t (p .settings) (p .lengths) (p .sound)
 
 returns : tie.Need-returns
 returns c =

@@ -33,13 +33,13 @@ size-for-requires : tie.Need-size-for-requires
 size-for-requires c κs =
     let z = c .before in
     let b = z .before .before .before .before .before .before .before .before in
-    (b .pre .settings, size-most (b .args .s) (b .args .size) (sym (z .is-size .ensures) ∙ not-no _ (c .if2 .left)))
+    (b .pre .0 .settings, size-most (b .args .s) (b .args .size) (sym (z .is-size .ensures) ∙ not-no _ (c .if2 .left)))
 
 mask-for-requires : tie.Need-mask-for-requires
 mask-for-requires c κs =
     let m = c .before .before .before .before in
     let b = m .before .before .before .before .before .before in
-    (b .pre .settings, alignment-yes (b .args .mask) (sym (m .is-alignment .ensures) ∙ not-no _ (c .before .before .before .if1 .left)))
+    (b .pre .0 .settings, alignment-yes (b .args .mask) (sym (m .is-alignment .ensures) ∙ not-no _ (c .before .before .before .if1 .left)))
 
 region-count-requires : tie.Need-region-count-requires
 region-count-requires c κs = search needs
@@ -48,19 +48,21 @@ find-fit-requires : tie.Need-find-fit-requires
 find-fit-requires c κs =
     let m = c .before .before .before .before .before .before in
     let b = m .before .before .before .before .before .before in
-    (both-ones (b .args .s) (b .pre .settings) (b .args .mask) _ (alignment-yes (b .args .mask) (sym (m .is-alignment .ensures) ∙ not-no _ (c .before .before .before .before .before .if1 .left))) (c .before .mask-for .ensures), omega (arith, c .region-count .ensures, b .pre .long, b .pre .count))
+    (both-ones (b .args .s) (b .pre .0 .settings) (b .args .mask) _ (alignment-yes (b .args .mask) (sym (m .is-alignment .ensures) ∙ not-no _ (c .before .before .before .before .before .if1 .left))) (c .before .mask-for .ensures), omega (arith, c .region-count .ensures, b .pre .0 .long, b .pre .0 .count))
 
 enum-known-found : tie.Need-enum-known-found
 enum-known-found c = search needs
 
 decide-take-requires : tie.Need-decide-take-requires
-decide-take-requires c κs = search needs
+decide-take-requires c κs = c .before .before .before .before .before .before .before .before .before .before .before .before .before .before .before .before .pre .1
 
 enum-told : tie.Need-enum-told
 enum-told c = search needs
 
 decide-buy-requires : tie.Need-decide-buy-requires
-decide-buy-requires c κs = search needs
+decide-buy-requires c κs =
+    let o = c .before .before .before .before .before .before .before .before .before .before .before .before .before .before .before in
+    (o .pre .1, o .pre .2)
 
 returns-3 : tie.Need-returns-3
 returns-3 c =

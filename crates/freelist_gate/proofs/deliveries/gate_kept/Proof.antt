@@ -3,10 +3,10 @@ use mathlib.Core.Path.{sym, ap, _∙_}
 use native.Mathlib.Omega.{arith}
 use Rattle.lists.proofs.Bools.{not-yes, not-no}
 use Rattle.freelist_rules.specs.Tables.{tables}
-use Rattle.freelist_rules.proofs.Fits.{regions-fit}
 use Rattle.freelist_rules.proofs.Tested.{tables-yes}
 use Rattle.freelist_rules.proofs.Summing.{chunks-low}
 use Rattle.freelist_decide.specs.Plans.{planOf}
+use Rattle.freelist_decide.proofs.Seeing.{sees}
 use Rattle.freelist_gate.proofs.Arrivals.{kept-torn, kept-refused, kept-taken, kept-bought, bought-for}
 use Rattle.freelist_gate.proofs.deliveries.gate_kept.Statement.{statement}
 use Rattle.freelist_gate.proofs.deliveries.gate_kept.Tie as tie
@@ -27,7 +27,7 @@ decide-requires c κs =
     let b = n .before .before .before .before .before .before in
     let a = b .args in
     let t = tables (a .head .now) (a .loans .now) (a .chunks .now) (a .index .now) (a .regions .now) in
-    regions-fit (a .s) t (b .pre .0) (b .pre .1) (tables-yes (a .s) t (b .pre .0) (sym (n .is-sound .ensures) ∙ not-no _ (i .if1 .left)))
+    sees (a .s) t (b .pre .0) (b .pre .1) (tables-yes (a .s) t (b .pre .0) (sym (n .is-sound .ensures) ∙ not-no _ (i .if1 .left)))
 
 enum-told : tie.Need-enum-told
 enum-told c = search needs

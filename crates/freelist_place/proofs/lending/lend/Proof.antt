@@ -1,4 +1,5 @@
 use borrow.Author.Needs.{needs}
+use mathlib.Core.Path.{refl}
 use native.Mathlib.Omega.{arith}
 use Rattle.freelist_place.specs.Lent.{taken}
 use Rattle.freelist_place.proofs.Serving.{start-within, loan-done, threads, lent-done}
@@ -13,10 +14,12 @@ loan-of-requires c κs =
     let g = c .before in
     let o = g .before .before .before .before .before .before .before in
     let a = o .args in
-    (o .pre .serial, start-within (a .s) (a .i) (a .start) (taken (a .place) (a .places) (a .vacant)) (a .loans .now) (a .chunks .now) (a .index .now) (a .regions .now) (o .pre) _ (g .gap-at .ensures))
+    (omega (arith, o .pre .opens .loans-long), o .pre .serial, start-within (a .s) (a .i) (a .start) (taken (a .place) (a .places) (a .vacant)) (a .loans .now) (a .chunks .now) (a .index .now) (a .regions .now) (o .pre) _ (g .gap-at .ensures))
 
-word-requires : tie.Need-word-requires
-word-requires c κs = search needs
+slice-read-without : tie.Need-slice-read-without
+slice-read-without c =
+    let h = c .before .before .before .before .before .before .before .before .before .before .pre .fit .long in
+    search needs
 
 without-requires : tie.Need-without-requires
 without-requires c κs = search needs
@@ -34,7 +37,7 @@ thread-requires : tie.Need-thread-requires
 thread-requires c κs =
     let e = c .before .before .before .before .before in
     let r = e .before .before .before .before .before .before .before in
-    let l = r .before .before .before .before in
+    let l = r .before .before .before in
     let g = l .before .before in
     let o = g .before .before .before .before .before .before .before in
     let a = o .args in
@@ -56,26 +59,11 @@ returns c =
     let q = e .before .before .before .before .before in
     let r = q .before .before in
     let b = r .before in
-    let w = b .before in
-    let l = w .before .before in
+    let l = b .before .before in
     let g = l .before .before in
     let o = g .before .before .before .before .before .before .before in
     let a = o .args in
-    (loan-done (a .s) (a .i) (a .start) (taken (a .place) (a .places) (a .vacant)) (a .loans .now) (a .chunks .now) (a .index .now) (a .regions .now) (o .pre) _ (g .gap-at .ensures) _ (l .loan-of .ensures), lent-done (a .s) (a .i) (a .start) (taken (a .place) (a .places) (a .vacant)) (a .loans .now) (a .chunks .now) (a .index .now) (a .regions .now) (o .pre) _ (g .gap-at .ensures) _ (l .loan-of .ensures) _ (e .enter-at .ensures .1) _ _ _ _ _ _ (w .word .ensures) (b .without .ensures) (r .record-of .ensures) (q .cut .ensures) (e .enter-at .ensures .0) (t .thread .ensures))
+    (loan-done (a .s) (a .i) (a .start) (taken (a .place) (a .places) (a .vacant)) (a .loans .now) (a .chunks .now) (a .index .now) (a .regions .now) (o .pre) _ (g .gap-at .ensures) _ (l .loan-of .ensures), lent-done (a .s) (a .i) (a .start) (taken (a .place) (a .places) (a .vacant)) (a .loans .now) (a .chunks .now) (a .index .now) (a .regions .now) (o .pre) _ (g .gap-at .ensures) _ (l .loan-of .ensures) _ (e .enter-at .ensures .1) _ _ _ _ _ _ refl (b .without .ensures) (r .record-of .ensures) (q .cut .ensures) (e .enter-at .ensures .0) (t .thread .ensures))
 
 pub lend-spec : {M : Type 1} → statement M
-lend-spec =
-    tie.close
-    (tie.spec
-    gap-at-requires
-    loan-of-requires
-    word-requires
-    without-requires
-    record-of-requires
-    cut-requires
-    enter-at-requires
-    thread-requires
-    same-length
-    same-length-2
-    same-length-3
-    returns)
+lend-spec = tie.close (tie.spec gap-at-requires loan-of-requires slice-read-without without-requires record-of-requires cut-requires enter-at-requires thread-requires same-length same-length-2 same-length-3 returns)
