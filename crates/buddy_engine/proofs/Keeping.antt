@@ -1,9 +1,7 @@
 -- The buddy stays sound and filled as an engine has to, and lends good blocks.
-use mathlib.Core.Path.{_≡_, sym, ap, _∙_}
+use mathlib.Core.Path.{sym, ap, _∙_}
 use mathlib.Core.Bool.{true}
-use Rattle.counter.specs.Gate.{pass}
 use Rattle.counter.specs.InTable.{BuddyIn}
-use Rattle.counter.specs.declared.account.Account.{Account}
 use Rattle.counter.specs.declared.settings.BuddySettings.{BuddySettings}
 use Rattle.store_rules.specs.Views.{Filled, Differ, Apart}
 use Rattle.store_rules.specs.declared.Chunk.{Chunk}
@@ -18,7 +16,6 @@ use Rattle.buddy_rules.proofs.Named.{standing}
 use Rattle.buddy_rules.proofs.Onces.{loans-once, chunks-once}
 use Rattle.buddy_rules.proofs.Viewed.{chunkAt, seen-held}
 use Rattle.buddy_rules.proofs.Walks.{minimal-pos}
-use Rattle.buddy_outcomes.specs.Gate.{gateOf}
 use Rattle.buddy_outcomes.proofs.Again.{ask-again, deliver-again, return-again}
 use Rattle.buddy_outcomes.proofs.Blocks.{ask-block, deliver-block}
 use Rattle.buddy_outcomes.proofs.Delivered.{deliver-sound}
@@ -27,13 +24,12 @@ use Rattle.buddy_outcomes.proofs.Passing.{gate-passed}
 use Rattle.buddy_outcomes.proofs.Returned.{return-sound}
 use Rattle.buddy_outcomes.proofs.Sounds.{is-begun, set-up-sound, ask-sound}
 use Rattle.buddy_engine.specs.Shape.{buddyShape}
+use Rattle.buddy_engine.proofs.Fitting.{set-up-fits, still-long}
+use Rattle.buddy_engine.proofs.Unjoined.{unjoined}
 
 -- blocks on loan and free pieces fill each held chunk
-fills : (s : BuddySettings) (a : Account) (t : Tables) → gateOf s a t true ≡ pass → Filled (viewOf s t)
-fills s a t passes =
-    let p = gate-passed s a t true (sym passes) in
-    let fit = p .lent .settings in
-    filled (s .minimal) (minimal-pos s fit) (loansIn t) (chunksIn t) (standing s t fit (p .sound)) (loans-once s t fit (p .sound)) (chunks-once t)
+fills : (s : BuddySettings) (t : Tables) → BuddyIn s → Sound s t → Filled (viewOf s t)
+fills s t fit sound = filled (s .minimal) (minimal-pos s fit) (loansIn t) (chunksIn t) (standing s t fit sound) (loans-once s t fit sound) (chunks-once t)
 
 -- no serial, chunk number or memory number stands for two
 apart : (s : BuddySettings) (t : Tables) → BuddyIn s → Sound s t → Apart (viewOf s t)
@@ -61,13 +57,17 @@ keeps =
       deliver-sound = λ s a o t sound. deliver-sound s a o t sound;
       return-sound = λ s a b t list sound. return-sound s a b t list sound;
       other-sound = λ s a c t list sound. absurd c;
+      set-up-fits = λ s t e. set-up-fits s t e;
+      fits-stays = λ s a t c fits sound. (fits .0, still-long s a t (fits .0) (fits .1) sound c);
       ask-again = λ s a t typed passes size mask none. ask-again s a t typed passes size mask none;
       deliver-again = λ s a o t typed passes none. deliver-again s a o t typed passes none;
       return-again = λ s a t typed passes b list. return-again s a t typed passes b list;
       other-again = λ s a t typed passes c list. absurd c;
+      passed-fits = λ s a t passes. let p = gate-passed s a t true (sym passes) in (p .lent .settings, p .lent .lengths);
       passed-sound = λ s a t passes. gate-passed s a t true (sym passes) .sound;
-      filled = λ s a t passes. fills s a t passes;
-      apart = λ s a t passes. let p = gate-passed s a t true (sym passes) in apart s t (p .lent .settings) (p .sound);
+      filled = λ s t fits sound. fills s t (fits .0) sound;
+      apart = λ s t fits sound. apart s t (fits .0) sound;
+      unjoined = λ s t fits sound. unjoined (s .minimal) (minimal-pos s (fits .0)) (loansIn t) (chunksIn t) (standing s t (fits .0) sound);
       loans-seen = λ s t l. ((λ m. m), (λ m. m));
     }
 

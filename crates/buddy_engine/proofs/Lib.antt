@@ -5,6 +5,8 @@ pub mod Counting
 pub mod Refusing
 pub mod Leaving
 pub mod Booking
+pub mod Fitting
+pub mod Unjoined
 pub mod Keeping
 pub mod Ending
 pub mod Telling

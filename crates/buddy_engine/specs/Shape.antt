@@ -1,10 +1,14 @@
 -- The buddy's calls and tables as those of an engine.
+use mathlib.Core.Path.{_≡_}
 use mathlib.Core.Bool.{true}
-use Prim.Native.Nat.{ℕ}
+use mathlib.Core.Logic.{_⊎_}
+use Prim.Native.Nat.{ℕ, suc, _+_, _*_}
 use Rattle.counter.specs.InTable.{BuddyIn}
 use Rattle.counter.specs.declared.settings.BuddySettings.{BuddySettings}
 use Rattle.store_rules.specs.Delivery.{buddy}
+use Rattle.store_rules.specs.declared.Region.{Region}
 use Rattle.engines.specs.Shapes.{Shape}
+use Rattle.buddy_trees.specs.Trees.{bytes}
 use Rattle.buddy_trees.specs.Chunks.{atOnce}
 use Rattle.buddy_rules.specs.Sound.{Sound}
 use Rattle.buddy_rules.specs.Tables.{Tables, Lengths, givenIn, levelsIn, marks}
@@ -23,6 +27,21 @@ pub record Counts : Type 0 where
 
 abbrev pub countsOf : Tables → Counts
 countsOf t = record { given = givenIn t; levels = levelsIn t }
+
+-- 01, "buddy.rs": "a pair is its two nodes": p and q are the left and the right half of the pair at this place of its chunk, nodes
+-- of this level, u being the minimal size
+pub record Halves (u : ℕ) (p q : Region) : Type 0 where
+  pub level : ℕ
+  pub place : ℕ
+  pub chunk : p .chunk ≡ q .chunk
+  pub begins : p .start ≡ place * bytes u (suc level)
+  pub left : p .end ≡ p .start + bytes u level
+  pub meets : q .start ≡ p .end
+  pub right : q .end ≡ q .start + bytes u level
+
+-- 01, "Sound": "no joinable pieces": two nodes that are the halves of one pair
+abbrev pub Twins : ℕ → Region → Region → Type 0
+Twins u p q = Halves u p q ⊎ Halves u q p
 
 -- a buddy has no call of its own
 abbrev pub buddyShape : Shape
@@ -44,6 +63,7 @@ buddyShape =
       Rest = Counts;
       rest = λ s t. countsOf t;
       Sound = λ s t. Sound s t;
+      Joinable = λ s p q. Twins (s .minimal) p q;
       Needed = λ s size mask t. Needed s size mask t;
       orderSize = λ s size mask t. orderBytes s (levelFor s size mask) t;
       Fits = λ s t. BuddyIn s × Lengths s t;

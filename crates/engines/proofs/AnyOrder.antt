@@ -62,7 +62,7 @@ module _ (K : Type 0) (E : K → Engine) (w : State) (i : ℕ) (e : K) (s : E e 
   pub end-once : Distinct (toldIn K E w (handing K E i e s ps))
   end-once =
       told-once (E e .shape .view s (storeAt w i) .chunks) (E e .shape .view s (storeAt (run K E w (handing K E i e s ps)) i) .chunks) (toldIn K E w (handing K E i e s ps)) (all .goes)
-      (E e .keeps .apart s (w .account) (storeAt w i) passes .memories)
+      (E e .keeps .apart s (storeAt w i) (E e .keeps .passed-fits s (w .account) (storeAt w i) passes) (E e .keeps .passed-sound s (w .account) (storeAt w i) passes) .memories)
 
   -- the other stores are as they were
   pub end-others : (j : ℕ) → (j ≡ i → ⊥) → storeAt (run K E w (handing K E i e s ps)) j ≡ storeAt w j

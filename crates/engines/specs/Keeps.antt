@@ -18,7 +18,8 @@ use Rattle.store_rules.specs.Outcomes.{chargedAccount}
 use Rattle.store_rules.specs.Tests.{noOrder}
 use Rattle.store_rules.specs.Views.{Filled, Apart, GoodBlock}
 use Rattle.store_rules.specs.declared.Loan.{Loan}
-use Rattle.engines.specs.Shapes.{Tables, Shape}
+use Rattle.store_rules.specs.declared.Region.{Region}
+use Rattle.engines.specs.Shapes.{Tables, Call, Shape, does}
 
 pub record Keeps (E : Shape) : Type 0 where
   pub set-up-sound : (s : E .Settings) (t : Tables) → E .setUp s t .said ≡ Paper.ready → E .Sound s (E .setUp s t .tables)
@@ -26,6 +27,9 @@ pub record Keeps (E : Shape) : Type 0 where
   pub deliver-sound : (s : E .Settings) (a : Account) (o : Outcome) (t : Tables) → E .Sound s t → E .Sound s (E .deliver s a o t .tables)
   pub return-sound : (s : E .Settings) (a : Account) (b : Block) (t : Tables) (list : List ℕ) → E .Sound s t → E .Sound s (E .return s a b t list .tables)
   pub other-sound : (s : E .Settings) (a : Account) (c : E .Own) (t : Tables) (list : List ℕ) → E .Sound s t → E .Sound s (E .other s a c t list .tables)
+  -- 01, test 1: what set-up leaves is in the table and of the right lengths, and every call leaves it so, whatever order is open
+  pub set-up-fits : (s : E .Settings) (t : Tables) → E .setUp s t .said ≡ Paper.ready → E .Fits s (E .setUp s t .tables)
+  pub fits-stays : (s : E .Settings) (a : Account) (t : Tables) (c : Call (E .Own)) → E .Fits s t → E .Sound s t → E .Fits s (does E s a t c .tables)
   -- tests 1 to 4 pass again, in an account that code can lend
   pub ask-again : (s : E .Settings) (a : Account) (t : Tables) → Typed a → E .gate s a t ≡ pass → (size mask : ℕ)
       → noOrder (E .ask s a size mask t .account .order) ≡ true → E .gate s (E .ask s a size mask t .account) (E .ask s a size mask t .tables) ≡ pass
@@ -35,11 +39,15 @@ pub record Keeps (E : Shape) : Type 0 where
       → E .gate s (E .return s a b t list .account) (E .return s a b t list .tables) ≡ pass
   pub other-again : (s : E .Settings) (a : Account) (t : Tables) → Typed a → E .gate s a t ≡ pass → (c : E .Own) (list : List ℕ)
       → E .gate s (E .other s a c t list .account) (E .other s a c t list .tables) ≡ pass
-  -- the tests passed: the store is sound, and blocks on loan and free pieces fill each held chunk
+  -- the tests passed: settings and tables are in 01's table, and the store is sound
+  pub passed-fits : (s : E .Settings) (a : Account) (t : Tables) → E .gate s a t ≡ pass → E .Fits s t
   pub passed-sound : (s : E .Settings) (a : Account) (t : Tables) → E .gate s a t ≡ pass → E .Sound s t
-  pub filled : (s : E .Settings) (a : Account) (t : Tables) → E .gate s a t ≡ pass → Filled (E .view s t)
-  -- no serial, chunk number or memory number stands for two
-  pub apart : (s : E .Settings) (a : Account) (t : Tables) → E .gate s a t ≡ pass → Apart (E .view s t)
+  -- of a sound store, an order open or not. Demand 3: "blocks on loan and free pieces fill each held chunk without gap or overlap"
+  pub filled : (s : E .Settings) (t : Tables) → E .Fits s t → E .Sound s t → Filled (E .view s t)
+  -- 01, "Sound": "loans have distinct serials", "held memory numbers differ"; and no chunk number stands for two
+  pub apart : (s : E .Settings) (t : Tables) → E .Fits s t → E .Sound s t → Apart (E .view s t)
+  -- 01, "Sound": "no joinable pieces"
+  pub unjoined : (s : E .Settings) (t : Tables) → E .Fits s t → E .Sound s t → (p q : Region) → List·Memᴰ p (E .view s t .free) → List·Memᴰ q (E .view s t .free) → E .Joinable s p q → ⊥
   -- what a user sees on loan are the loans
   pub loans-seen : (s : E .Settings) (t : Tables) (l : Loan) → List·Memᴰ l (E .view s t .loans) ↔ List·Memᴰ l (E .loans t)
 

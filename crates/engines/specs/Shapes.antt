@@ -15,6 +15,7 @@ use Rattle.store_rules.specs.Outcomes.{Out, Listed, listed}
 pub use Rattle.store_rules.specs.Tables.{Tables, noTables, Begun}
 use Rattle.store_rules.specs.Views.{View}
 use Rattle.store_rules.specs.declared.Loan.{Loan}
+use Rattle.store_rules.specs.declared.Region.{Region}
 use Rattle.store_rules.specs.Words.{Words}
 
 -- the first word of the head tells which engine set the tables up
@@ -51,9 +52,10 @@ pub record Shape : Type 1 where
   -- buddy serials given and levels
   pub Rest : Type 0
   pub rest : Settings → Tables → Rest
-  -- ---- when they are sound, and when no held chunk has a fitting free place for a size and a mask; how long the chunk is that
-  -- is ordered then
+  -- ---- when they are sound, and which two free pieces are 01's "joinable pieces"
   pub Sound : Settings → Tables → Type 0
+  pub Joinable : Settings → Region → Region → Type 0
+  -- ---- when no held chunk has a fitting free place for a size and a mask; how long the chunk is that is ordered then
   pub Needed : Settings → ℕ → ℕ → Tables → Type 0
   pub orderSize : Settings → ℕ → ℕ → Tables → ℕ
   -- ---- the words of 01's rows that are an engine's own; the rest is said once, in Rows. 1: settings and tables; 5: a mask of the

@@ -1,12 +1,13 @@
 -- The free list stays sound and filled as an engine has to, and lends good blocks.
 use mathlib.Core.Path.{_≡_, refl, sym, ap, subst, _∙_}
 use mathlib.Core.Bool.{true}
-use mathlib.Core.Logic.{_↔_, ⊎-elim}
+use mathlib.Core.Logic.{_↔_, inl, inr, ⊎-elim}
 use mathlib.Core.List.{List, [], List·Memᴰ}
 use Prim.Native.Nat.{ℕ, suc, _+_, _≤_}
 use native.Mathlib.Omega.{arith}
 use Rattle.counter.specs.Account.{Typed}
 use Rattle.counter.specs.Gate.{pass}
+use Rattle.counter.specs.InTable.{FreeListIn}
 use Rattle.counter.specs.Paper as Paper
 use Rattle.counter.specs.declared.account.Account.{Account}
 use Rattle.counter.specs.declared.account.KeptOrder.{KeptOrder}
@@ -20,6 +21,7 @@ use Rattle.store_rules.specs.Outcomes.{Out}
 use Rattle.store_rules.specs.Views.{Differ, Apart, GoodBlock}
 use Rattle.store_rules.specs.declared.Chunk.{Chunk}
 use Rattle.store_rules.specs.declared.Loan.{Loan}
+use Rattle.store_rules.specs.declared.Region.{Region}
 use Rattle.engines.specs.Keeps.{Keeps, Lends}
 use Rattle.freelist_rules.specs.Pieces.{lo, hi, piece}
 use Rattle.freelist_rules.specs.Records.{Store}
@@ -29,6 +31,7 @@ use Rattle.freelist_rules.specs.Tables.{Tables, placesIn, storeOf, SoundTables}
 use Rattle.freelist_rules.proofs.Base.{rising-apart}
 use Rattle.freelist_rules.proofs.Decides.{differ-distinct}
 use Rattle.freelist_rules.proofs.Fits.{lengths-are}
+use Rattle.freelist_rules.proofs.Meaning.{no-join}
 use Rattle.freelist_rules.proofs.Ordered.{ordered-in, ordered-out}
 use Rattle.freelist_outcomes.specs.Gate.{gateOf}
 use Rattle.freelist_outcomes.specs.Ask.{raisedFor, askOf}
@@ -43,7 +46,8 @@ use Rattle.freelist_outcomes.proofs.Fitted.{refusal-block, orders-when}
 use Rattle.freelist_outcomes.proofs.Passing.{gate-passed}
 use Rattle.freelist_outcomes.proofs.Sounds.{set-up-sound, ask-sound, deliver-sound, return-sound, clean-up-sound}
 use Rattle.freelist_outcomes.proofs.Taken.{taken-store}
-use Rattle.freelist_engine.specs.Shape.{OwnCall, cleansUp, ownOf, seen, listShape}
+use Rattle.freelist_engine.specs.Shape.{OwnCall, cleansUp, ownOf, seen, Neighbours, listShape}
+use Rattle.freelist_engine.proofs.Fitting.{set-up-fits, still-long}
 use Rattle.freelist_engine.proofs.Stepping.{givenOf}
 
 -- ---- a call that only a free list has
@@ -70,6 +74,11 @@ apart s v sound =
         ⊎-elim (λ q. q) (⊎-elim (λ h. absurd (omega (arith, h, e))) (λ h. absurd (omega (arith, h, e))))
         (rising-apart (λ (x : Chunk). x .number) (λ (x : Chunk). suc (x .number)) 0 1 (v .chunks) (sound .chunks-rise) c d m k)
 
+-- no free piece ends where another of its chunk begins
+unjoined : (s : FreeListSettings) (v : Store) → FreeListIn s → Sound s v → (p q : Region) → List·Memᴰ p (v .regions) → List·Memᴰ q (v .regions) → Neighbours p q → ⊥
+unjoined s v fit sound p q m k (same, inl e) = no-join s v fit sound p q m k same e
+unjoined s v fit sound p q m k (same, inr e) = no-join s v fit sound q p k m (sym same) e
+
 -- the loans by chunk and place are the loans
 seen-loans : (s : FreeListSettings) (t : Tables) (l : Loan) → List·Memᴰ l (storeOf s t .loans) ↔ List·Memᴰ l (loansOf (placesIn t) (t .loans))
 unfolding storeOf
@@ -84,13 +93,17 @@ list-keeps =
       deliver-sound = λ s a o t sound. deliver-sound s a o t sound;
       return-sound = λ s a b t list sound. return-sound s a b t list sound;
       other-sound = λ s a c t list sound. own-sound s a c t list sound;
+      set-up-fits = λ s t e. set-up-fits s t e;
+      fits-stays = λ s a t c fits sound. (fits .0, still-long s a t (fits .0) (fits .1) sound c);
       ask-again = λ s a t typed passes size mask none. ask-again s a t typed passes size mask none;
       deliver-again = λ s a o t typed passes none. deliver-again s a o t typed passes none;
       return-again = λ s a t typed passes b list. return-again s a t typed passes b list;
       other-again = λ s a t typed passes c list. own-again s a t typed passes c list;
+      passed-fits = λ s a t passes. let p = gate-passed s a t true (sym passes) in (p .settings, lengths-are s t (p .lengths));
       passed-sound = λ s a t passes. gate-passed s a t true (sym passes) .sound;
-      filled = λ s a t passes. gate-passed s a t true (sym passes) .sound .store .fills;
-      apart = λ s a t passes. apart s (storeOf s t) (gate-passed s a t true (sym passes) .sound .store);
+      filled = λ s t fits sound. sound .store .fills;
+      apart = λ s t fits sound. apart s (storeOf s t) (sound .store);
+      unjoined = λ s t fits sound. unjoined s (storeOf s t) (fits .0) (sound .store);
       loans-seen = λ s t. seen-loans s t;
     }
 

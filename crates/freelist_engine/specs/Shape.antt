@@ -1,5 +1,7 @@
 -- The free list's calls and tables as those of an engine.
+use mathlib.Core.Path.{_≡_}
 use mathlib.Core.Bool.{true}
+use mathlib.Core.Logic.{_⊎_}
 use mathlib.Core.List.{List}
 use Prim.Native.Nat.{ℕ, _≤_}
 use Rattle.counter.specs.InTable.{FreeListIn}
@@ -11,6 +13,7 @@ use Rattle.store_rules.specs.Delivery.{freeList}
 use Rattle.store_rules.specs.Loans.{loansOf}
 use Rattle.store_rules.specs.Outcomes.{Listed}
 use Rattle.store_rules.specs.Rows.{listRows}
+use Rattle.store_rules.specs.declared.Region.{Region}
 use Rattle.engines.specs.Shapes.{Shape}
 use Rattle.freelist_rules.specs.AtOnce.{atOnce}
 use Rattle.freelist_rules.specs.Records.{Store}
@@ -43,6 +46,11 @@ pub record Counts : Type 0 where
 abbrev pub countsOf : Store → Counts
 countsOf v = record { given = v .given; made = v .made; size = v .size }
 
+-- 01, "Sound": "no joinable pieces"; "freelist.rs": "Returns join with both neighbours": two regions of one chunk, of which one
+-- ends where the other begins
+abbrev pub Neighbours : Region → Region → Type 0
+Neighbours p q = (p .chunk ≡ q .chunk) × ((p .end ≡ q .start) ⊎ (q .end ≡ p .start))
+
 abbrev pub listShape : Shape
 listShape =
     record {
@@ -62,6 +70,7 @@ listShape =
       Rest = Counts;
       rest = λ s t. countsOf (storeOf s t);
       Sound = λ s t. SoundTables s t;
+      Joinable = λ s p q. Neighbours p q;
       Needed = λ s size mask t. Needed s size mask t;
       orderSize = λ s size mask t. raisedFor s size t;
       Fits = λ s t. FreeListIn s × Lengths s t;
