@@ -1,11 +1,11 @@
 // The test of a book.
 ghost use Rattle.std.specs.Prelude.{◌≡◌, ◌+◌, ◌-◌, ◌*◌, ◌<◌, ◌≤◌, true, length};
-ghost use Rattle.counter.specs.Limits.{loansMost};
-ghost use Rattle.slab.specs.Slab.{vacantAt};
-ghost use Rattle.slab.specs.Test.{vacancies};
-ghost use Rattle.store_rules.specs.Loans.{loanWords, size_at};
-ghost use Rattle.book_rules.specs.Book.{indexWords};
-ghost use Rattle.book_rules.specs.Kept.{keptOk};
+ghost use Rattle.counter.specs.Limits.{loans_most};
+ghost use Rattle.slabs.specs.Slab.{vacant_at};
+ghost use Rattle.slabs.specs.Test.{vacancies};
+ghost use Rattle.store_rules.specs.Loans.{loan_words, size_at};
+ghost use Rattle.book_rules.specs.Book.{index_words};
+ghost use Rattle.book_rules.specs.Kept.{kept_ok};
 ghost use Rattle.book_rules.specs.Ready.{Reads};
 
 use crate::{ENTRY_WORDS, VACANT_AFTER_AT, VACATED_AT};
@@ -21,9 +21,9 @@ pub struct Kept {
 // Whether the places of the loans are parted into used and vacant ones, and the chains lead to each loan; the vacant ones are
 // counted once.
 pub fn are_kept(loans: &[u64], index: &[u64], n: usize, places: u64, given: u64) -> Kept
-    requires { (0 < n) × (n ≤ loansMost) × (length loans.now ≡ loanWords + loanWords * n) × (indexWords n ≤ length index.now) }
-    ensures ok_value { result.ok ≡ keptOk loans.now index.now n places given }
-    ensures live_value { (result.ok ≡ true → result.live ≡ places - vacancies (vacantAt loans.now size_at loanWords) places) × (result.live ≤ places) }
+    requires { (0 < n) × (n ≤ loans_most) × (length loans.now ≡ loan_words + loan_words * n) × (index_words n ≤ length index.now) }
+    ensures ok_value { result.ok ≡ kept_ok loans.now index.now n places given }
+    ensures live_value { (result.ok ≡ true → result.live ≡ places - vacancies (vacant_at loans.now size_at loan_words) places) × (result.live ≤ places) }
 {
     if (n as u64) < places {
         return Kept { ok: false, live: 0 };
@@ -37,11 +37,11 @@ pub fn are_kept(loans: &[u64], index: &[u64], n: usize, places: u64, given: u64)
 
 // The same of places that are not too many, of which so many are vacant.
 pub fn is_led(loans: &[u64], index: &[u64], n: usize, places: u64, given: u64, vacant: u64) -> bool
-    requires { Reads n places loans.now index.now × (vacant ≡ vacancies (vacantAt loans.now size_at loanWords) places) }
-    ensures { result ≡ keptOk loans.now index.now n places given }
+    requires { Reads n places loans.now index.now × (vacant ≡ vacancies (vacant_at loans.now size_at loan_words) places) }
+    ensures { result ≡ kept_ok loans.now index.now n places given }
 {
-    let last = slab::led_to(index, VACATED_AT);
-    let parted = slab::chain_leads(
+    let last = slabs::led_to(index, VACATED_AT);
+    let parted = slabs::chain_leads(
         loans,
         SIZE_AT,
         LOAN_WORDS,
@@ -60,8 +60,8 @@ pub fn is_led(loans: &[u64], index: &[u64], n: usize, places: u64, given: u64, v
 
 // How many of the first n places are vacant, of a table that has them all.
 fn count_vacant(loans: &[u64], n: u64) -> u64
-    requires { loanWords + loanWords * n ≤ length loans.now }
-    ensures { result ≡ vacancies (vacantAt loans.now size_at loanWords) n }
+    requires { loan_words + loan_words * n ≤ length loans.now }
+    ensures { result ≡ vacancies (vacant_at loans.now size_at loan_words) n }
 {
     let mut count = 0;
     let mut p = 0;

@@ -3,16 +3,16 @@ mod chains;
 mod kept;
 
 ghost use Rattle.std.specs.Prelude.{◌≡◌, ◌%◌, ◌<◌, ◌≤◌, length, slice_index, slice_set};
-ghost use Rattle.counter.specs.Limits.{loansMost};
+ghost use Rattle.counter.specs.Limits.{loans_most};
 ghost use Rattle.words.specs.Words.{cell_of};
 ghost use Rattle.words.specs.Rows.{row, written};
-ghost use Rattle.slab.specs.Slab.{recordOf};
-ghost use Rattle.store_rules.specs.Loans.{places_at, loanWords, serialAt, size_at, loanRow};
+ghost use Rattle.slabs.specs.Slab.{record_of};
+ghost use Rattle.store_rules.specs.Loans.{places_at, loan_words, serial_at, size_at, loan_row};
 ghost use Rattle.book_rules.specs.Ready.{Reads, Opens, Strikes};
-ghost use Rattle.book_rules.specs.Book.{entryWords, vacatedAt, vacantAfterAt, indexWords, first_of, next_of, taken_of, counted, wordTo, struck, struckIndex};
+ghost use Rattle.book_rules.specs.Book.{entry_words, vacated_at, vacant_after_at, index_words, first_of, next_of, taken_of, counted, word_to, struck, struck_index};
 
 pub use kept::{Kept, are_kept, is_led};
-use slab::{NOWHERE, Slab, Taken};
+use slabs::{NOWHERE, Slab, Taken};
 use store_rules::{CHUNK_AT, GIVEN_AT, LOAN_WORDS, Loan, OFFSET_AT, PLACES_AT, SERIAL_AT, SIZE_AT};
 
 // Where the words of the index stand; specs/Book has the same names.
@@ -32,20 +32,20 @@ pub fn next_place(places: u64, index: &[u64]) -> Taken
 {
     let s = Slab {
         places: places,
-        vacant: slab::led_to(index, VACATED_AT),
+        vacant: slabs::led_to(index, VACATED_AT),
     };
     s.insert(index, VACANT_AFTER_AT, ENTRY_WORDS)
 }
 
 // The same of an index that has an entry for each of these places.
 pub fn next_place_in(places: u64, index: &[u64]) -> Taken
-    requires { indexWords places ≤ length index.now }
+    requires { index_words places ≤ length index.now }
     ensures { result ≡ taken_of places index.now }
 {
-    let last = slab::place_of(index[VACATED_AT]);
+    let last = slabs::place_of(index[VACATED_AT]);
     if last < places {
         let after = VACANT_AFTER_AT + ENTRY_WORDS * last as usize;
-        let next = slab::place_of(index[after]);
+        let next = slabs::place_of(index[after]);
         return Taken {
             place: last,
             slab: Slab {
@@ -66,7 +66,7 @@ pub fn next_place_in(places: u64, index: &[u64]) -> Taken
 
 // The loan at a place. One test serves for its four words.
 pub fn loan_at(loans: &[u64], p: usize) -> Loan
-    ensures { result ≡ row loanRow p loans.now }
+    ensures { result ≡ row loan_row p loans.now }
 {
     if p < loans.len() {
         if LOAN_WORDS * p + SIZE_AT < loans.len() {
@@ -78,8 +78,8 @@ pub fn loan_at(loans: &[u64], p: usize) -> Loan
 
 // The loan at a place that the table has.
 pub fn loan_in(loans: &[u64], p: usize) -> Loan
-    requires { cell_of size_at loanWords p < length loans.now }
-    ensures { result ≡ row loanRow p loans.now }
+    requires { cell_of size_at loan_words p < length loans.now }
+    ensures { result ≡ row loan_row p loans.now }
 {
     let at = LOAN_WORDS * p;
     Loan {
@@ -92,7 +92,7 @@ pub fn loan_in(loans: &[u64], p: usize) -> Loan
 
 // The loan at any place, each word by itself.
 fn loan_by_words(loans: &[u64], p: usize) -> Loan
-    ensures { result ≡ row loanRow p loans.now }
+    ensures { result ≡ row loan_row p loans.now }
 {
     Loan {
         serial: words::cell(loans, SERIAL_AT, LOAN_WORDS, p),
@@ -104,8 +104,8 @@ fn loan_by_words(loans: &[u64], p: usize) -> Loan
 
 // A loan written at its place.
 fn write_loan(loans: &mut [u64], p: usize, l: Loan)
-    requires { cell_of size_at loanWords p < length loans.old }
-    ensures { loans.new ≡ written loanRow p l loans.old }
+    requires { cell_of size_at loan_words p < length loans.old }
+    ensures { loans.new ≡ written loan_row p l loans.old }
 {
     let at = LOAN_WORDS * p;
     loans[at + SERIAL_AT] = l.serial;
@@ -126,8 +126,8 @@ fn count(loans: &mut [u64], given: u64, places: u64)
 // The loan takes the place that is told, its serial is the last one given, and it becomes the first of its chain.
 pub fn enter_at(loans: &mut [u64], index: &mut [u64], n: usize, t: Taken, l: Loan)
     requires { Opens n t.place loans.old index.old }
-    ensures loans_after { loans.new ≡ written loanRow t.place l (counted l.serial t.slab.places loans.old) }
-    ensures index_after { index.new ≡ slice_set (slice_set (slice_set index.old vacatedAt (recordOf t.slab.vacant)) (next_of t.place) (slice_index index.old (first_of (l.serial % n)))) (first_of (l.serial % n)) (recordOf t.place) }
+    ensures loans_after { loans.new ≡ written loan_row t.place l (counted l.serial t.slab.places loans.old) }
+    ensures index_after { index.new ≡ slice_set (slice_set (slice_set index.old vacated_at (record_of t.slab.vacant)) (next_of t.place) (slice_index index.old (first_of (l.serial % n)))) (first_of (l.serial % n)) (record_of t.place) }
 {
     let s = t.slab;
     let i = rounding::remainder(l.serial, n as u64);
@@ -139,7 +139,7 @@ pub fn enter_at(loans: &mut [u64], index: &mut [u64], n: usize, t: Taken, l: Loa
 
 // The word that leads to the first of the chain that this serial comes into, as it stands in the index.
 fn first_word(index: &[u64], n: usize, serial: u64) -> u64
-    requires { (0 < n) × (n ≤ loansMost) × (indexWords n ≤ length index.now) }
+    requires { (0 < n) × (n ≤ loans_most) × (index_words n ≤ length index.now) }
     ensures { result ≡ slice_index index.now (first_of (serial % n)) }
 {
     let i = rounding::remainder(serial, n as u64);
@@ -150,26 +150,26 @@ fn first_word(index: &[u64], n: usize, serial: u64) -> u64
 // The place p is the first of chain i from now on, and leads on by the word `first`, which led to the one that was.
 fn put_first(index: &mut [u64], i: usize, p: u64, first: u64, vacated: u64)
     requires { (first_of i < length index.old) × (next_of p < length index.old) }
-    ensures { index.new ≡ slice_set (slice_set (slice_set index.old vacatedAt (recordOf vacated)) (next_of p) first) (first_of i) (recordOf p) }
+    ensures { index.new ≡ slice_set (slice_set (slice_set index.old vacated_at (record_of vacated)) (next_of p) first) (first_of i) (record_of p) }
 {
     let next = NEXT_AT + ENTRY_WORDS * p as usize;
     let at = FIRST_AT + ENTRY_WORDS * i;
-    index[VACATED_AT] = slab::record_of(vacated);
+    index[VACATED_AT] = slabs::record_of(vacated);
     index[next] = first;
-    index[at] = slab::record_of(p);
+    index[at] = slabs::record_of(p);
 }
 
 // The word of the index that leads to the loan with this serial, or NOWHERE. At most `places` turns, so that links that lead round in
 // a ring end too.
 pub fn word_to(loans: &[u64], index: &[u64], n: usize, places: u64, serial: u64) -> u64
     requires { Reads n places loans.now index.now }
-    ensures { result ≡ wordTo loans.now index.now n places serial }
+    ensures { result ≡ word_to loans.now index.now n places serial }
 {
     let i = rounding::remainder(serial, n as u64);
     let mut at = FIRST_AT + ENTRY_WORDS * i as usize;
     let mut left = places;
     while 0 < left {
-        let p = slab::place_of(index[at]);
+        let p = slabs::place_of(index[at]);
         if places <= p {
             return NOWHERE;
         }
@@ -186,7 +186,7 @@ pub fn word_to(loans: &[u64], index: &[u64], n: usize, places: u64, serial: u64)
 pub fn strike(loans: &mut [u64], index: &mut [u64], at: usize, p: u64)
     requires { Strikes at p loans.old index.old }
     ensures loans_after { loans.new ≡ struck at index.old loans.old }
-    ensures index_after { index.new ≡ struckIndex at index.old }
+    ensures index_after { index.new ≡ struck_index at index.old }
 {
     let onward = NEXT_AT + ENTRY_WORDS * p as usize;
     let next = index[onward];
@@ -197,8 +197,8 @@ pub fn strike(loans: &mut [u64], index: &mut [u64], at: usize, p: u64)
 
 // The record at p is that of a vacant place: size 0, and serial 0.
 fn vacate(loans: &mut [u64], p: usize)
-    requires { cell_of size_at loanWords p < length loans.old }
-    ensures { loans.new ≡ slice_set (slice_set loans.old (cell_of size_at loanWords p) 0) (cell_of serialAt loanWords p) 0 }
+    requires { cell_of size_at loan_words p < length loans.old }
+    ensures { loans.new ≡ slice_set (slice_set loans.old (cell_of size_at loan_words p) 0) (cell_of serial_at loan_words p) 0 }
 {
     let size = SIZE_AT + LOAN_WORDS * p;
     let serial = SERIAL_AT + LOAN_WORDS * p;
@@ -208,8 +208,8 @@ fn vacate(loans: &mut [u64], p: usize)
 
 // The word at `at`, which leads to p, leads past it from now on, and p is the place vacated last.
 fn pass_over(index: &mut [u64], at: usize, p: u64, next: u64, vacated: u64)
-    requires { (at < length index.old) × (cell_of vacantAfterAt entryWords p < length index.old) }
-    ensures { index.new ≡ slice_set (slice_set (slice_set index.old at next) (cell_of vacantAfterAt entryWords p) vacated) vacatedAt (slice_index index.old at) }
+    requires { (at < length index.old) × (cell_of vacant_after_at entry_words p < length index.old) }
+    ensures { index.new ≡ slice_set (slice_set (slice_set index.old at next) (cell_of vacant_after_at entry_words p) vacated) vacated_at (slice_index index.old at) }
 {
     let after = VACANT_AFTER_AT + ENTRY_WORDS * p as usize;
     let lead = index[at];

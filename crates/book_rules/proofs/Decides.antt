@@ -12,23 +12,23 @@ use lib.Dec.{ltb, leb}
 use lib.ListN.{length, length-append}
 use borrow.Author.Tests.{eqb-true, eq-eqb, ltb-true, lt-ltb, leb-true, le-leb}
 use Rattle.lists.specs.Members.{Mem, Distinct}
-use Rattle.lists.proofs.Bools.{and_left, and_right, and_both, same?, lt-or-le, told, true-false}
-use Rattle.lists.proofs.Members.{below-mem, mem-left, mem-right, mem-cases, distinct_append}
-use Rattle.slab.specs.Slab.{nowhere, Chain}
-use Rattle.slab.specs.Test.{vacancies}
-use Rattle.slab.proofs.Places.{chain-distinct}
-use Rattle.book_rules.specs.Chains.{Falling, InChain, Chained, linkOk, leftAfter, left_of, chainsOk}
-use Rattle.book_rules.proofs.Falling.{falling-once}
-use Rattle.book_rules.proofs.Following.{link-past, link-vacant, link-used, after-end, after_none, after-torn, after_on, of_none, of-torn, of-on}
-use Rattle.book_rules.proofs.Used.{used-most, used-filled, used-whole}
+use Rattle.lists.proofs.Bools.{and_left, and_right, and_both, same?, lt_or_le, told, true_false}
+use Rattle.lists.proofs.Members.{below_mem, mem_left, mem_right, mem_cases, distinct_append}
+use Rattle.slabs.specs.Slab.{nowhere, Chain}
+use Rattle.slabs.specs.Test.{vacancies}
+use Rattle.slabs.proofs.Places.{chain_distinct}
+use Rattle.book_rules.specs.Chains.{Falling, InChain, Chained, link_ok, left_after, left_of, chains_ok}
+use Rattle.book_rules.proofs.Falling.{falling_once}
+use Rattle.book_rules.proofs.Following.{link_past, link_vacant, link_used, after_end, after_none, after_torn, after_on, of_none, of_torn, of_on}
+use Rattle.book_rules.proofs.Used.{used_most, used_filled, used_whole}
 
 module _ (free : ℕ → Bool) (first next serial : ℕ → ℕ) where
   -- ---- a serial stands once
 
-  pub serial-once : (n places given p q : ℕ) → 0 < n → Chained free first next serial n places given → p < places → q < places → free p ≡ false → free q ≡ false → serial p ≡ serial q → p ≡ q
-  serial-once n places given p q o C h k e f s =
+  pub serial_once : (n places given p q : ℕ) → 0 < n → Chained free first next serial n places given → p < places → q < places → free p ≡ false → free q ≡ false → serial p ≡ serial q → p ≡ q
+  serial_once n places given p q o C h k e f s =
       let c = C (serial p % n) (mod-lt (serial p) o) in
-      falling-once free first next serial given c.members c.falling p q (c.all p h e refl) (c.all q k f (ap (λ (x : ℕ). x % n) (sym s))) s
+      falling_once free first next serial given c.members c.falling p q (c.all p h e refl) (c.all q k f (ap (λ (x : ℕ). x % n) (sym s))) s
 
   -- ---- one link, both ways
 
@@ -41,15 +41,15 @@ module _ (free : ℕ → Bool) (first next serial : ℕ → ℕ) where
       falls : serial p ≤ most
       chained : serial p % n ≡ i
 
-    link-said : linkOk free first next serial n places i most p ≡ true → Link
-    link-said e = ⊎_elim here (λ h. absurd (true-false _ e (link-past free first next serial n places i most p h))) (lt-or-le p places)
+    link_said : link_ok free first next serial n places i most p ≡ true → Link
+    link_said e = ⊎_elim here (λ h. absurd (true_false _ e (link_past free first next serial n places i most p h))) (lt_or_le p places)
       where
         here : p < places → Link
-        here h = ⊎_elim (λ t. absurd (true-false _ e (link-vacant free first next serial n places i most p h t))) lent (told (free p))
+        here h = ⊎_elim (λ t. absurd (true_false _ e (link_vacant free first next serial n places i most p h t))) lent (told (free p))
           where
             lent : free p ≡ false → Link
             lent t =
-                let r = sym (link-used free first next serial n places i most p h t) ∙ e in
+                let r = sym (link_used free first next serial n places i most p h t) ∙ e in
                 let s = and_right (ltb 0 (serial p)) _ r in
                 record {
                   below = h;
@@ -59,9 +59,9 @@ module _ (free : ℕ → Bool) (first next serial : ℕ → ℕ) where
                   chained = eqb-true (serial p % n) i (and_right (leb (serial p) most) _ s);
                 }
 
-    link-told : Link → linkOk free first next serial n places i most p ≡ true
-    link-told L =
-        link-used free first next serial n places i most p L.below L.loaned
+    link_told : Link → link_ok free first next serial n places i most p ≡ true
+    link_told L =
+        link_used free first next serial n places i most p L.below L.loaned
         ∙ and_both _ _ (lt-ltb 0 (serial p) L.given) (and_both _ _ (le-leb (serial p) most L.falls) (eq-eqb (serial p % n) i L.chained))
 
   module _ (n places given : ℕ) (few : places < nowhere) where
@@ -94,16 +94,16 @@ module _ (free : ℕ → Bool) (first next serial : ℕ → ℕ) where
           long = let e : length F.members + r ≡ k = F.long in omega arith;
         }
 
-    followed : (i most p k r : ℕ) → leftAfter free first next serial n places i most p k ≡ r → (r ≡ nowhere → ⊥) → Followed i most p k r
+    followed : (i most p k r : ℕ) → left_after free first next serial n places i most p k ≡ r → (r ≡ nowhere → ⊥) → Followed i most p k r
     followed i most p zero r e f =
-        ⊎_elim (λ h. ended i most p 0 r h (sym (after-end free first next serial n places i most p 0 h) ∙ e))
+        ⊎_elim (λ h. ended i most p 0 r h (sym (after_end free first next serial n places i most p 0 h) ∙ e))
         (λ h. absurd (f (sym e ∙ after_none free first next serial n places i most p 0 h refl))) (same? p nowhere)
     followed i most p (suc k) r e f =
-        ⊎_elim (λ h. ended i most p (suc k) r h (sym (after-end free first next serial n places i most p (suc k) h) ∙ e))
+        ⊎_elim (λ h. ended i most p (suc k) r h (sym (after_end free first next serial n places i most p (suc k) h) ∙ e))
         (λ h. ⊎_elim
-        (λ t. linked i most p k r (link-said n places i most p t) (followed i (serial p - 1) (next p) k r (rw (sub-one (suc k)) at (sym (after_on free first next serial n places i most p (suc k) (serial p) (next p) h (omega arith) t refl refl) ∙ e)) f))
-        (λ t. absurd (f (sym e ∙ after-torn free first next serial n places i most p (suc k) h (omega arith) t)))
-        (told (linkOk free first next serial n places i most p))) (same? p nowhere)
+        (λ t. linked i most p k r (link_said n places i most p t) (followed i (serial p - 1) (next p) k r (rw (sub-one (suc k)) at (sym (after_on free first next serial n places i most p (suc k) (serial p) (next p) h (omega arith) t refl refl) ∙ e)) f))
+        (λ t. absurd (f (sym e ∙ after_torn free first next serial n places i most p (suc k) h (omega arith) t)))
+        (told (link_ok free first next serial n places i most p))) (same? p nowhere)
 
     -- chain j, with those of the loans that are its own
     record Part (loans : List ℕ) (j : ℕ) : Type 0 where
@@ -127,24 +127,24 @@ module _ (free : ℕ → Bool) (first next serial : ℕ → ℕ) where
       apart : (x : ℕ) → Mem x members → Mem x loans → ⊥
       apart x m l = let e : serial x % n ≡ i = (own x m).2 in let g : serial x % n < i = (before x l).2 in omega arith
 
-      joined-distinct : Distinct loans → Distinct (members ++ loans)
-      joined-distinct d =
+      joined_distinct : Distinct loans → Distinct (members ++ loans)
+      joined_distinct d =
           distinct_append members loans
-          (chain-distinct next places h members (omega arith) chain (below-mem places members (λ x m. (own x m).0))) d apart
+          (chain_distinct next places h members (omega arith) chain (below_mem places members (λ x m. (own x m).0))) d apart
 
-      joined-right : (x : ℕ) → Mem x (members ++ loans) → (x < places) × (free x ≡ false) × (serial x % n < suc i)
-      joined-right x m =
+      joined_right : (x : ℕ) → Mem x (members ++ loans) → (x < places) × (free x ≡ false) × (serial x % n < suc i)
+      joined_right x m =
           ⊎_elim (λ a. let r = own x a in let e : serial x % n ≡ i = r.2 in (r.0, r.1, omega arith))
-          (λ b. let r = before x b in let e : serial x % n < i = r.2 in (r.0, r.1, omega arith)) (mem-cases x members loans m)
+          (λ b. let r = before x b in let e : serial x % n < i = r.2 in (r.0, r.1, omega arith)) (mem_cases x members loans m)
 
-    gathered-more : (k i q r : ℕ) → Gathered k i q → Followed i given (first i) q r → Gathered k (suc i) r
-    gathered-more k i q r G F =
+    gathered_more : (k i q r : ℕ) → Gathered k i q → Followed i given (first i) q r → Gathered k (suc i) r
+    gathered_more k i q r G F =
         record {
           loans = F.members ++ G.loans;
           long = let a : length F.members + r ≡ q = F.long in let b : length G.loans + q ≡ k = G.long in omega (arith, length-append F.members G.loans);
-          distinct = joined-distinct i F.members G.loans (first i) F.chain F.right G.right G.distinct;
-          right = joined-right i F.members G.loans (first i) F.chain F.right G.right;
-          part = λ j h. ⊎_elim (old j) (λ g. last j (omega arith)) (lt-or-le j i);
+          distinct = joined_distinct i F.members G.loans (first i) F.chain F.right G.right G.distinct;
+          right = joined_right i F.members G.loans (first i) F.chain F.right G.right;
+          part = λ j h. ⊎_elim (old j) (λ g. last j (omega arith)) (lt_or_le j i);
         }
       where
         old : (j : ℕ) → j < i → Part (F.members ++ G.loans) j
@@ -155,7 +155,7 @@ module _ (free : ℕ → Bool) (first next serial : ℕ → ℕ) where
               chain = P.chain;
               falling = P.falling;
               right = P.right;
-              holds = λ x m e. ⊎_elim (λ a. let z : serial x % n ≡ i = (F.right x a).2 in absurd (omega arith)) (λ b. P.holds x b e) (mem-cases x F.members G.loans m);
+              holds = λ x m e. ⊎_elim (λ a. let z : serial x % n ≡ i = (F.right x a).2 in absurd (omega arith)) (λ b. P.holds x b e) (mem_cases x F.members G.loans m);
             }
 
         own : Part (F.members ++ G.loans) i
@@ -164,7 +164,7 @@ module _ (free : ℕ → Bool) (first next serial : ℕ → ℕ) where
           chain = F.chain;
           falling = F.falling;
           right = F.right;
-          holds = λ x m e. ⊎_elim (λ a. a) (λ b. let z : serial x % n < i = (G.right x b).2 in absurd (omega arith)) (mem-cases x F.members G.loans m);
+          holds = λ x m e. ⊎_elim (λ a. a) (λ b. let z : serial x % n < i = (G.right x b).2 in absurd (omega arith)) (mem_cases x F.members G.loans m);
         }
 
         last : (j : ℕ) → j ≡ i → Part (F.members ++ G.loans) j
@@ -179,12 +179,12 @@ module _ (free : ℕ → Bool) (first next serial : ℕ → ℕ) where
         left = left_of free first next serial n places given k i
 
         by : ((q : ℕ) → left ≡ q → (q ≡ nowhere → ⊥) → Gathered k i q) → (left ≡ nowhere) ⊎ (left ≡ nowhere → ⊥) → Gathered k (suc i) r
-        by g (inl t) = absurd (f (sym e ∙ (rw (add-one i) at (of-torn free first next serial n places given k i t))))
-        by g (inr t) = gathered-more k i left r (g left refl t) (followed i given (first i) left r (sym (rw (add-one i) at (of-on free first next serial n places given k i left (first i) refl t refl)) ∙ e) f)
+        by g (inl t) = absurd (f (sym e ∙ (rw (add-one i) at (of_torn free first next serial n places given k i t))))
+        by g (inr t) = gathered_more k i left r (g left refl t) (followed i given (first i) left r (sym (rw (add-one i) at (of_on free first next serial n places given k i left (first i) refl t refl)) ∙ e) f)
 
-    pub chains-yes : chainsOk free first next serial n places given ≡ true → Chained free first next serial n places given
-    unfolding chainsOk
-    chains-yes e i h =
+    pub chains_yes : chains_ok free first next serial n places given ≡ true → Chained free first next serial n places given
+    unfolding chains_ok
+    chains_yes e i h =
         let k = places - vacancies free places in
         let G = gathered k n 0 (eqb-true _ 0 e) (λ z. omega arith) in
         let P = G.part i h in
@@ -194,20 +194,20 @@ module _ (free : ℕ → Bool) (first next serial : ℕ → ℕ) where
           chain = P.chain;
           falling = P.falling;
           right = P.right;
-          all = λ p a u s. P.holds p (used-filled free places G.loans G.distinct (λ x m. let r = G.right x m in (r.0, r.1)) (omega arith) p a u) s;
+          all = λ p a u s. P.holds p (used_filled free places G.loans G.distinct (λ x m. let r = G.right x m in (r.0, r.1)) (omega arith) p a u) s;
         }
 
     -- ---- what is chained passes
 
     passes : (i most p k : ℕ) (l : List ℕ) → Chain next p l → Falling free first next serial most l → ((x : ℕ) → Mem x l → In i x) → length l ≤ k
-        → leftAfter free first next serial n places i most p k ≡ k - length l
-    passes i most p k [] c f r h = after-end free first next serial n places i most p k c ∙ omega arith
+        → left_after free first next serial n places i most p k ≡ k - length l
+    passes i most p k [] c f r h = after_end free first next serial n places i most p k c ∙ omega arith
     passes i most p k (x ∷ l) c f r h =
         let e : p ≡ x = c.0 in
         let b : x < places = (r x (inl refl)).0 in
         let L : Link n places i most x = record { below = b; loaned = (r x (inl refl)).1; given = f.0; falls = f.1; chained = (r x (inl refl)).2 } in
-        let g : leftAfter free first next serial n places i (serial x - 1) (next x) (k - 1) ≡ k - 1 - length l = passes i (serial x - 1) (next x) (k - 1) l c.1 f.2 (λ y m. r y (inr m)) (omega arith) in
-        rw e (after_on free first next serial n places i most x k (serial x) (next x) (λ z. omega arith) (omega arith) (link-told n places i most x L) refl refl ∙ g ∙ omega arith)
+        let g : left_after free first next serial n places i (serial x - 1) (next x) (k - 1) ≡ k - 1 - length l = passes i (serial x - 1) (next x) (k - 1) l c.1 f.2 (λ y m. r y (inr m)) (omega arith) in
+        rw e (after_on free first next serial n places i most x k (serial x) (next x) (λ z. omega arith) (omega arith) (link_told n places i most x L) refl refl ∙ g ∙ omega arith)
 
     -- what the first i chains have, and the test of them
     record Passed (k i : ℕ) : Type 0 where
@@ -226,32 +226,32 @@ module _ (free : ℕ → Bool) (first next serial : ℕ → ℕ) where
       left = let e = of_none free first next serial n places given k in omega arith;
     }
 
-    passed-more : (i : ℕ) → InChain free first next serial n places given i → Passed (places - vacancies free places) i → Passed (places - vacancies free places) (suc i)
-    passed-more i C P =
+    passed_more : (i : ℕ) → InChain free first next serial n places given i → Passed (places - vacancies free places) i → Passed (places - vacancies free places) (suc i)
+    passed_more i C P =
         let k = places - vacancies free places in
-        let d = joined-distinct i C.members P.loans (first i) C.chain C.right P.right P.distinct in
-        let r = joined-right i C.members P.loans (first i) C.chain C.right P.right in
-        let most : length (C.members ++ P.loans) ≤ k = used-most free places (C.members ++ P.loans) d (λ x m. let t = r x m in (t.0, t.1)) in
+        let d = joined_distinct i C.members P.loans (first i) C.chain C.right P.right P.distinct in
+        let r = joined_right i C.members P.loans (first i) C.chain C.right P.right in
+        let most : length (C.members ++ P.loans) ≤ k = used_most free places (C.members ++ P.loans) d (λ x m. let t = r x m in (t.0, t.1)) in
         let q = left_of free first next serial n places given k i in
         let e : q + length P.loans ≡ k = P.left in
         let s : length C.members ≤ q = omega (arith, length-append C.members P.loans) in
-        let t = (rw (add-one i) at (of-on free first next serial n places given k i q (first i) refl (λ z. omega arith) refl)) ∙ passes i given (first i) q C.members C.chain C.falling C.right s in
+        let t = (rw (add-one i) at (of_on free first next serial n places given k i q (first i) refl (λ z. omega arith) refl)) ∙ passes i given (first i) q C.members C.chain C.falling C.right s in
         record {
           loans = C.members ++ P.loans;
           distinct = d;
           right = r;
-          all = λ x a b c. ⊎_elim (λ g. mem-right x C.members P.loans (P.all x a b g)) (λ g. mem-left x C.members P.loans (C.all x a b (omega arith))) (lt-or-le (serial x % n) i);
+          all = λ x a b c. ⊎_elim (λ g. mem_right x C.members P.loans (P.all x a b g)) (λ g. mem_left x C.members P.loans (C.all x a b (omega arith))) (lt_or_le (serial x % n) i);
           left = omega (arith, t, length-append C.members P.loans);
         }
 
     passed : Chained free first next serial n places given → (i : ℕ) → i ≤ n → Passed (places - vacancies free places) i
     passed C zero h = passed_none (places - vacancies free places)
-    passed C (suc i) h = passed-more i (C i h) (passed C i (omega arith))
+    passed C (suc i) h = passed_more i (C i h) (passed C i (omega arith))
 
-    pub chains-all : 0 < n → Chained free first next serial n places given → chainsOk free first next serial n places given ≡ true
-    unfolding chainsOk
-    chains-all o C =
+    pub chains_all : 0 < n → Chained free first next serial n places given → chains_ok free first next serial n places given ≡ true
+    unfolding chains_ok
+    chains_all o C =
         let P = passed C n (omega arith) in
-        let w = used-whole free places P.loans P.distinct (λ x m. let r = P.right x m in (r.0, r.1)) (λ p h e. P.all p h e (mod-lt (serial p) o)) in
+        let w = used_whole free places P.loans P.distinct (λ x m. let r = P.right x m in (r.0, r.1)) (λ p h e. P.all p h e (mod-lt (serial p) o)) in
         let z : left_of free first next serial n places given (places - vacancies free places) n ≡ 0 = omega (arith, w, P.left) in
         eq-eqb _ 0 z

@@ -6,35 +6,35 @@ use Prim.Native.Nat.{ℕ, ◌≤◌, ◌<◌}
 use lib.Dec.{leb}
 use borrow.Author.Tests.{leb-true}
 use Rattle.lists.proofs.Bools.{and_left}
-use Rattle.slab.specs.Slab.{vacantAt, link_at}
-use Rattle.slab.specs.Test.{partedOk}
-use Rattle.slab.proofs.Steps.{parted-over}
-use Rattle.store_rules.specs.Loans.{loanWords, size_at}
-use Rattle.book_rules.specs.Book.{entryWords, vacatedAt, vacantAfterAt, ledTo, serialOf, slabOf, firstIn, nextIn}
-use Rattle.book_rules.specs.Chains.{chainsOk}
-use Rattle.book_rules.specs.Kept.{keptOk}
+use Rattle.slabs.specs.Slab.{vacant_at, link_at}
+use Rattle.slabs.specs.Test.{parted_ok}
+use Rattle.slabs.proofs.Steps.{parted_over}
+use Rattle.store_rules.specs.Loans.{loan_words, size_at}
+use Rattle.book_rules.specs.Book.{entry_words, vacated_at, vacant_after_at, led_to, serial_of, slab_of, first_in, next_in}
+use Rattle.book_rules.specs.Chains.{chains_ok}
+use Rattle.book_rules.specs.Kept.{kept_ok}
 
 module _ (loans index : List ℕ) (n places given : ℕ) where
-  pub kept-most : keptOk loans index n places given ≡ true → places ≤ n
-  unfolding keptOk partedOk
-  kept-most e = leb-true _ _ (and_left (leb places n) _ (and_left _ _ e))
+  pub kept_most : kept_ok loans index n places given ≡ true → places ≤ n
+  unfolding kept_ok parted_ok
+  kept_most e = leb-true _ _ (and_left (leb places n) _ (and_left _ _ e))
 
-  pub kept-over : n < places → false ≡ keptOk loans index n places given
-  unfolding keptOk
-  kept-over h = rw (parted-over (vacantAt loans size_at loanWords) (link_at index vacantAfterAt entryWords) (slabOf places index) n h) refl
+  pub kept_over : n < places → false ≡ kept_ok loans index n places given
+  unfolding kept_ok
+  kept_over h = rw (parted_over (vacant_at loans size_at loan_words) (link_at index vacant_after_at entry_words) (slab_of places index) n h) refl
 
   -- p is what the test of the places said
-  module _ (v : ℕ) (p : Bool) (vs : v ≡ ledTo index vacatedAt)
-      (told : p ≡ partedOk (vacantAt loans size_at loanWords) (link_at index vacantAfterAt entryWords) (record { places = places; vacant = v }) n) where
-    parted : p ≡ partedOk (vacantAt loans size_at loanWords) (link_at index vacantAfterAt entryWords) (record { places = places; vacant = ledTo index vacatedAt }) n
-    parted = told ∙ (λ j. partedOk (vacantAt loans size_at loanWords) (link_at index vacantAfterAt entryWords) (record { places = places; vacant = vs j }) n)
+  module _ (v : ℕ) (p : Bool) (vs : v ≡ led_to index vacated_at)
+      (told : p ≡ parted_ok (vacant_at loans size_at loan_words) (link_at index vacant_after_at entry_words) (record { places = places; vacant = v }) n) where
+    parted : p ≡ parted_ok (vacant_at loans size_at loan_words) (link_at index vacant_after_at entry_words) (record { places = places; vacant = led_to index vacated_at }) n
+    parted = told ∙ (λ j. parted_ok (vacant_at loans size_at loan_words) (link_at index vacant_after_at entry_words) (record { places = places; vacant = vs j }) n)
 
-    pub kept-torn : p ≡ false → false ≡ keptOk loans index n places given
-    unfolding keptOk
-    kept-torn e = rw (sym parted ∙ e) refl
+    pub kept_torn : p ≡ false → false ≡ kept_ok loans index n places given
+    unfolding kept_ok
+    kept_torn e = rw (sym parted ∙ e) refl
 
-    pub kept-told : p ≡ true → (q : Bool)
-        → q ≡ chainsOk (vacantAt loans size_at loanWords) (firstIn index) (nextIn index) (serialOf loans) n places given
-        → q ≡ keptOk loans index n places given
-    unfolding keptOk
-    kept-told e q f = f ∙ rw (sym parted ∙ e) refl
+    pub kept_told : p ≡ true → (q : Bool)
+        → q ≡ chains_ok (vacant_at loans size_at loan_words) (first_in index) (next_in index) (serial_of loans) n places given
+        → q ≡ kept_ok loans index n places given
+    unfolding kept_ok
+    kept_told e q f = f ∙ rw (sym parted ∙ e) refl

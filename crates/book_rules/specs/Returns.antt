@@ -2,10 +2,10 @@
 use Rattle.std.specs.Prelude.{Bool, cond, ◌&&◌, not, List, ℕ, eqb}
 use Rattle.words.specs.Rows.{row}
 use Rattle.counter.specs.declared.answers.Block.{Block}
-use Rattle.slab.specs.Slab.{nowhere}
-use Rattle.store_rules.specs.Loans.{loanRow}
-use Rattle.store_rules.specs.Views.{sameLoan}
-use Rattle.book_rules.specs.Book.{wordTo, ledTo}
+use Rattle.slabs.specs.Slab.{nowhere}
+use Rattle.store_rules.specs.Loans.{loan_row}
+use Rattle.store_rules.specs.Views.{same_loan}
+use Rattle.book_rules.specs.Book.{word_to, led_to}
 
 -- a refusal, or the word of the index that leads to the loan
 pub data Plan : Type 0 where
@@ -19,11 +19,11 @@ decided on w = cond on (back w) (deny 7)
 module _ (loans index : List ℕ) (n places : ℕ) (b : Block) where
   -- the word of the index that leads to the loan with the block's serial
   abbrev pub word_for : ℕ
-  word_for = wordTo loans index n places b.serial
+  word_for = word_to loans index n places b.serial
 
   -- 7: "no loan has this serial, chunk, offset and size"
-  abbrev pub onLoanOk : Bool
-  onLoanOk = not (eqb word_for nowhere) && sameLoan b (row loanRow (ledTo index word_for) loans)
+  abbrev pub on_loan_ok : Bool
+  on_loan_ok = not (eqb word_for nowhere) && same_loan b (row loan_row (led_to index word_for) loans)
 
-  abbrev pub decideReturn : Plan
-  decideReturn = decided onLoanOk word_for
+  abbrev pub decide_return : Plan
+  decide_return = decided on_loan_ok word_for

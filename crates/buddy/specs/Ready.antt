@@ -1,7 +1,7 @@
 -- What the code that carries a plan out asks of the tables, by cases on the plan; a passed gate and the plan give it.
 use Rattle.std.specs.Prelude.{◌≡◌, true, [], ℕ, ◌+◌, ◌≤◌}
 use Rattle.counter.specs.InTable.{BuddyIn}
-use Rattle.counter.specs.Limits.{objectsMost}
+use Rattle.counter.specs.Limits.{objects_most}
 use Rattle.counter.specs.declared.account.KeptOrder.{KeptOrder}
 use Rattle.counter.specs.declared.answers.Block.{Block}
 use Rattle.counter.specs.declared.refusal.Gate.{Gate}
@@ -12,11 +12,11 @@ use Rattle.store.specs.declared.comings.Coming.{Coming}
 use Rattle.store.specs.declared.comings.Coming.TheVariants as Coming
 use Rattle.returning.specs.declared.Back.{Back}
 use Rattle.returning.specs.declared.Back.TheVariants as Back
-use Rattle.buddy_rules.specs.Level.{ringHead}
-use Rattle.buddy_rules.specs.Tables.{Tables, tables, Lengths, levelFrom}
-use Rattle.buddy_outcomes.specs.Ask.{levelFor, grownTo, grownTables}
-use Rattle.buddy_outcomes.specs.Return.{climbFor}
-use Rattle.buddy_decide.specs.Plans.{nextLoan}
+use Rattle.buddy_rules.specs.Level.{ring_head}
+use Rattle.buddy_rules.specs.Tables.{Tables, tables, Lengths, level_from}
+use Rattle.buddy_outcomes.specs.Ask.{level_for, grown_to, grown_tables}
+use Rattle.buddy_outcomes.specs.Return.{climb_for}
+use Rattle.buddy_decide.specs.Plans.{next_loan}
 use Rattle.buddy_decide.specs.declared.plans.Buying.{Buying}
 use Rattle.buddy_decide.specs.declared.plans.Plan.{Plan}
 use Rattle.buddy_decide.specs.declared.plans.Plan.TheVariants.{Refuse, Lack, Take, Buy}
@@ -39,8 +39,8 @@ AskReady s t (Refuse r) = Unit {0}
 AskReady s t (Lack n) = Grows s n t.head
 AskReady s t (Take k) =
     Lends s k.size k.level k.from (tables [] t.loans [] t.index t.room)
-    × (k.pair ≡ ringHead (levelFrom s k.from) t.room)
-    × (k.loan ≡ nextLoan t)
+    × (k.pair ≡ ring_head (level_from s k.from) t.room)
+    × (k.loan ≡ next_loan t)
 AskReady s t (Buy b) = Grows s b.levels t.head
 
 -- ---- a delivery
@@ -58,10 +58,10 @@ Delivers s t (Delivery.Come c b) = ComingBuys s t b c
 -- the store as the order grew it can take the chunk and serve from it
 abbrev pub KeepReady : BuddySettings → KeptOrder → ℕ → Tables → Buying → Type 0
 KeepReady s k memory t b =
-    KeptBuys s k t b × Grows s b.levels t.head × Serves s b.level memory k.order.size (grownTables s b.levels t)
+    KeptBuys s k t b × Grows s b.levels t.head × Serves s b.level memory k.order.size (grown_tables s b.levels t)
 
 abbrev pub LoseReady : BuddySettings → KeptOrder → Tables → ℕ → Type 0
-LoseReady s k t levels = (levels ≡ grownTo (levelFor s k.ask.size k.ask.mask) t) × Grows s levels t.head
+LoseReady s k t levels = (levels ≡ grown_to (level_for s k.ask.size k.ask.mask) t) × Grows s levels t.head
 
 abbrev pub ComingReady : BuddySettings → Tables → Buying → Coming → Type 0
 ComingReady s t b (Coming.Refuse r) = Unit {0}
@@ -77,4 +77,4 @@ DeliverReady s t (Delivery.Come c b) = ComingReady s t b c
 -- where the chunk goes with the block, the share has room for its object
 abbrev pub ReturnReady : BuddySettings → Share → Block → Tables → Back → Type 0
 ReturnReady s share b t (Back.Refuse r) = Unit {0}
-ReturnReady s share b t (Back.From w) = Backs s b w t × ((climbFor s b w t).freed ≡ true → share.objects + 1 ≤ objectsMost)
+ReturnReady s share b t (Back.From w) = Backs s b w t × ((climb_for s b w t).freed ≡ true → share.objects + 1 ≤ objects_most)

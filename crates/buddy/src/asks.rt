@@ -1,9 +1,9 @@
 // An ask: a block, an order, or a refusal.
 ghost use Rattle.std.specs.Prelude.{◌≡◌};
-ghost use Rattle.counter.specs.Paper.{askSaid};
+ghost use Rattle.counter.specs.Paper.{ask_said};
 ghost use Rattle.store_rules.specs.Outcomes.{out};
 ghost use Rattle.buddy_rules.specs.Tables.{tables};
-ghost use Rattle.buddy_outcomes.specs.Ask.{askOf};
+ghost use Rattle.buddy_outcomes.specs.Ask.{ask_of};
 
 use counter::{Account, Asked, BuddySettings};
 
@@ -18,7 +18,7 @@ pub fn ask(
     index: &mut [u64],
     tree: &mut [u64],
 ) -> Asked
-    ensures { out (askSaid result.answer) result.account (tables head.new loans.new chunks.now index.new tree.new) ≡ askOf s a size mask (tables head.old loans.old chunks.now index.old tree.old) }
+    ensures { out (ask_said result.answer) result.account (tables head.new loans.new chunks.now index.new tree.new) ≡ ask_of s a size mask (tables head.old loans.old chunks.now index.old tree.old) }
 {
     let own = s.store;
     let share = store_accounts::share_of(own, a);

@@ -1,22 +1,22 @@
 // What was planned, carried out: the tables written, and answered.
 ghost use Rattle.std.specs.Prelude.{◌≡◌, List, [], ℕ};
-ghost use Rattle.counter.specs.Gate.{verdictOf};
-ghost use Rattle.counter.specs.Paper.{number_of, freeOf, setUpSaid, askSaid, deliverSaid, releaseSaid};
+ghost use Rattle.counter.specs.Gate.{verdict_of};
+ghost use Rattle.counter.specs.Paper.{number_of, free_of, set_up_said, ask_said, deliver_said, release_said};
 ghost use Rattle.counter.specs.declared.account.Account.{Account};
 ghost use Rattle.counter.specs.declared.account.OpenOrder as Open;
 ghost use Rattle.store_rules.specs.Delivery.{kept, lost};
 ghost use Rattle.store_rules.specs.Outcomes.{out, listed};
-ghost use Rattle.store_rules.specs.Shares.{askLeft};
+ghost use Rattle.store_rules.specs.Shares.{ask_left};
 ghost use Rattle.store_rules.proofs.Holders.{holding, holder};
-ghost use Rattle.store.specs.Comings.{comingOf};
-ghost use Rattle.returning.specs.Backs.{backOf};
+ghost use Rattle.store.specs.Comings.{coming_of};
+ghost use Rattle.returning.specs.Backs.{back_of};
 ghost use Rattle.buddy_rules.specs.Tables.{tables};
-ghost use Rattle.buddy_outcomes.specs.Ask.{carryAsk};
-ghost use Rattle.buddy_outcomes.specs.Deliver.{carryFate, carryDeliver};
-ghost use Rattle.buddy_outcomes.specs.Return.{carryReturn};
-ghost use Rattle.buddy_outcomes.specs.SetUp.{begun, carrySetUp};
+ghost use Rattle.buddy_outcomes.specs.Ask.{carry_ask};
+ghost use Rattle.buddy_outcomes.specs.Deliver.{carry_fate, carry_deliver};
+ghost use Rattle.buddy_outcomes.specs.Return.{carry_return};
+ghost use Rattle.buddy_outcomes.specs.SetUp.{begun, carry_set_up};
 ghost use Rattle.buddy_decide.specs.Plans.{plan_of, Planned};
-ghost use Rattle.buddy.specs.Deliveries.{deliveryOf};
+ghost use Rattle.buddy.specs.Deliveries.{delivery_of};
 ghost use Rattle.buddy.specs.Ready.{SetUpReady, AskReady, KeepReady, LoseReady, ComingReady, DeliverReady, ReturnReady};
 
 use crate::plans::Delivery;
@@ -39,7 +39,7 @@ pub fn carry_set_up(
     tree: &mut [u64],
 ) -> SetUpAnswer
     requires { SetUpReady s (tables head.old loans.old chunks.old index.old tree.old) plan }
-    ensures { begun (setUpSaid result) (tables head.new loans.new chunks.new index.new tree.new) ≡ carrySetUp s (tables head.old loans.old chunks.old index.old tree.old) (verdictOf plan) }
+    ensures { begun (set_up_said result) (tables head.new loans.new chunks.new index.new tree.new) ≡ carry_set_up s (tables head.old loans.old chunks.old index.old tree.old) (verdict_of plan) }
 {
     match plan {
         Gate::Shut(refusal) => SetUpAnswer::Refused(Refused {
@@ -63,7 +63,7 @@ pub fn carry_ask(
     tree: &mut [u64],
 ) -> AskAnswer
     requires { AskReady s (tables head.old loans.old [] index.old tree.old) plan }
-    ensures { (a : Account) (size mask : ℕ) (chunks : List ℕ) → Planned s size mask (tables head.old loans.old chunks index.old tree.old) plan → out (askSaid result) (askLeft a size mask (askSaid result)) (tables head.new loans.new chunks index.new tree.new) ≡ carryAsk s a size mask (tables head.old loans.old chunks index.old tree.old) (plan_of plan) }
+    ensures { (a : Account) (size mask : ℕ) (chunks : List ℕ) → Planned s size mask (tables head.old loans.old chunks index.old tree.old) plan → out (ask_said result) (ask_left a size mask (ask_said result)) (tables head.new loans.new chunks index.new tree.new) ≡ carry_ask s a size mask (tables head.old loans.old chunks index.old tree.old) (plan_of plan) }
 {
     match plan {
         Plan::Refuse(refusal) => store::refuse_ask(refusal),
@@ -107,7 +107,7 @@ fn keep_chunk(
     tree: &mut [u64],
 ) -> DeliveredShare
     requires { KeepReady s k memory (tables head.old loans.old chunks.old index.old tree.old) b }
-    ensures { (order : Open.OpenOrder) → out (deliverSaid result.answer) (holding s.store result.share result.order) (tables head.new loans.new chunks.new index.new tree.new) ≡ carryFate s (holding s.store share order) k (tables head.old loans.old chunks.old index.old tree.old) (kept memory) }
+    ensures { (order : Open.OpenOrder) → out (deliver_said result.answer) (holding s.store result.share result.order) (tables head.new loans.new chunks.new index.new tree.new) ≡ carry_fate s (holding s.store share order) k (tables head.old loans.old chunks.old index.old tree.old) (kept memory) }
 {
     let order = k.order;
     let loan = b.loan;
@@ -142,7 +142,7 @@ fn lose(
     tree: &mut [u64],
 ) -> DeliveredShare
     requires { LoseReady s k (tables head.old [] [] [] []) levels }
-    ensures { (order : Open.OpenOrder) → out (deliverSaid result.answer) (holding s.store result.share result.order) (tables head.new [] [] [] tree.new) ≡ carryFate s (holding s.store share order) k (tables head.old [] [] [] tree.old) (lost (number_of l.refusal) l.charged (freeOf l.free)) }
+    ensures { (order : Open.OpenOrder) → out (deliver_said result.answer) (holding s.store result.share result.order) (tables head.new [] [] [] tree.new) ≡ carry_fate s (holding s.store share order) k (tables head.old [] [] [] tree.old) (lost (number_of l.refusal) l.charged (free_of l.free)) }
 {
     buddy_grow::grow(s, levels, head, tree);
     store::lose_order(share, k, l)
@@ -162,7 +162,7 @@ fn carry_coming(
     tree: &mut [u64],
 ) -> DeliveredShare
     requires { ComingReady s (tables head.old loans.old chunks.old index.old tree.old) b coming }
-    ensures { out (deliverSaid result.answer) (holding s.store result.share result.order) (tables head.new loans.new chunks.new index.new tree.new) ≡ carryDeliver s (holding s.store share order) (tables head.old loans.old chunks.old index.old tree.old) (comingOf coming) }
+    ensures { out (deliver_said result.answer) (holding s.store result.share result.order) (tables head.new loans.new chunks.new index.new tree.new) ≡ carry_deliver s (holding s.store share order) (tables head.old loans.old chunks.old index.old tree.old) (coming_of coming) }
 {
     match coming {
         Coming::Refuse(r) => store::refuse_delivery(share, order, r),
@@ -190,7 +190,7 @@ pub fn carry_deliver(
     tree: &mut [u64],
 ) -> DeliveredShare
     requires { DeliverReady s (tables head.old loans.old chunks.old index.old tree.old) plan }
-    ensures { out (deliverSaid result.answer) (holding s.store result.share result.order) (tables head.new loans.new chunks.new index.new tree.new) ≡ carryDeliver s (holding s.store share order) (tables head.old loans.old chunks.old index.old tree.old) (deliveryOf plan) }
+    ensures { out (deliver_said result.answer) (holding s.store result.share result.order) (tables head.new loans.new chunks.new index.new tree.new) ≡ carry_deliver s (holding s.store share order) (tables head.old loans.old chunks.old index.old tree.old) (delivery_of plan) }
 {
     match plan {
         Delivery::Shut(r) => store::refuse_delivery(share, order, r),
@@ -214,7 +214,7 @@ pub fn carry_return(
     list: &mut [u64],
 ) -> ReleasedShare
     requires { ReturnReady s share b (tables head.now loans.old chunks.old index.old tree.old) plan }
-    ensures { listed (releaseSaid result.answer) (holder s.store result.share) (tables head.now loans.new chunks.new index.new tree.new) list.new ≡ carryReturn s (holder s.store share) b (tables head.now loans.old chunks.old index.old tree.old) list.old (backOf plan) }
+    ensures { listed (release_said result.answer) (holder s.store result.share) (tables head.now loans.new chunks.new index.new tree.new) list.new ≡ carry_return s (holder s.store share) b (tables head.now loans.old chunks.old index.old tree.old) list.old (back_of plan) }
 {
     match plan {
         Back::Refuse(refusal) => store::refuse_return(share, refusal),

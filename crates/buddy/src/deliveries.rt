@@ -1,9 +1,9 @@
 // A delivery: the chunk is added and lent from, or the order is lost. Either way the levels are as the order raised them.
 ghost use Rattle.std.specs.Prelude.{◌≡◌};
-ghost use Rattle.counter.specs.Paper.{deliverSaid};
+ghost use Rattle.counter.specs.Paper.{deliver_said};
 ghost use Rattle.store_rules.specs.Outcomes.{out};
 ghost use Rattle.buddy_rules.specs.Tables.{tables};
-ghost use Rattle.buddy_outcomes.specs.Deliver.{deliverOf};
+ghost use Rattle.buddy_outcomes.specs.Deliver.{deliver_of};
 
 use counter::{Account, BuddySettings, Delivered, Outcome};
 
@@ -17,7 +17,7 @@ pub fn deliver(
     index: &mut [u64],
     tree: &mut [u64],
 ) -> Delivered
-    ensures { out (deliverSaid result.answer) result.account (tables head.new loans.new chunks.new index.new tree.new) ≡ deliverOf s a o (tables head.old loans.old chunks.old index.old tree.old) }
+    ensures { out (deliver_said result.answer) result.account (tables head.new loans.new chunks.new index.new tree.new) ≡ deliver_of s a o (tables head.old loans.old chunks.old index.old tree.old) }
 {
     let own = s.store;
     let share = store_accounts::share_of(own, a);

@@ -1,16 +1,16 @@
 // What each call comes to: the gate, and then the tests behind it. Reads only.
 ghost use Rattle.std.specs.Prelude.{◌≡◌};
-ghost use Rattle.counter.specs.Gate.{verdictOf};
-ghost use Rattle.store_rules.specs.Outcomes.{listOk};
+ghost use Rattle.counter.specs.Gate.{verdict_of};
+ghost use Rattle.store_rules.specs.Outcomes.{list_ok};
 ghost use Rattle.store_rules.proofs.Holders.{holding, holder};
-ghost use Rattle.returning.specs.Backs.{backOf};
+ghost use Rattle.returning.specs.Backs.{back_of};
 ghost use Rattle.buddy_rules.specs.Tables.{tables};
-ghost use Rattle.buddy_outcomes.specs.Ask.{planAsk};
-ghost use Rattle.buddy_outcomes.specs.Deliver.{planDeliver};
-ghost use Rattle.buddy_outcomes.specs.Return.{planReturn};
-ghost use Rattle.buddy_outcomes.specs.SetUp.{planSetUp};
+ghost use Rattle.buddy_outcomes.specs.Ask.{plan_ask};
+ghost use Rattle.buddy_outcomes.specs.Deliver.{plan_deliver};
+ghost use Rattle.buddy_outcomes.specs.Return.{plan_return};
+ghost use Rattle.buddy_outcomes.specs.SetUp.{plan_set_up};
 ghost use Rattle.buddy_decide.specs.Plans.{plan_of, Planned};
-ghost use Rattle.buddy.specs.Deliveries.{deliveryOf};
+ghost use Rattle.buddy.specs.Deliveries.{delivery_of};
 ghost use Rattle.buddy.specs.Ready.{Delivers};
 
 use buddy_decide::{Buying, Plan, Tried, decide_buy};
@@ -35,7 +35,7 @@ pub fn plan_set_up(
     index: &[u64],
     tree: &[u64],
 ) -> Gate
-    ensures { verdictOf result ≡ planSetUp s (tables head.now loans.now chunks.now index.now tree.now) }
+    ensures { verdict_of result ≡ plan_set_up s (tables head.now loans.now chunks.now index.now tree.now) }
 {
     if buddy_gate::is_fit(s, head, loans, chunks, index, tree) {
         return Gate::Go;
@@ -55,7 +55,7 @@ pub fn plan_ask(
     index: &[u64],
     tree: &[u64],
 ) -> Plan
-    ensures result_value { plan_of result ≡ planAsk s (holder s.store share) size mask (tables head.now loans.now chunks.now index.now tree.now) }
+    ensures result_value { plan_of result ≡ plan_ask s (holder s.store share) size mask (tables head.now loans.now chunks.now index.now tree.now) }
     ensures planned { Planned s size mask (tables head.now loans.now chunks.now index.now tree.now) result }
 {
     let g = buddy_gate::gate(s, share, true, head, loans, chunks, index, tree);
@@ -86,7 +86,7 @@ pub fn plan_deliver(
     index: &[u64],
     tree: &[u64],
 ) -> Delivery
-    ensures result_value { deliveryOf result ≡ planDeliver s (holding s.store share order) o (tables head.now loans.now chunks.now index.now tree.now) }
+    ensures result_value { delivery_of result ≡ plan_deliver s (holding s.store share order) o (tables head.now loans.now chunks.now index.now tree.now) }
     ensures delivers { Delivers s (tables head.now loans.now chunks.now index.now tree.now) result }
 {
     let g = buddy_gate::gate_delivery(s, share, order, head, loans, chunks, index, tree);
@@ -111,7 +111,7 @@ pub fn plan_return(
     tree: &[u64],
     list: &[u64],
 ) -> Back
-    ensures { backOf result ≡ planReturn s (holder s.store share) b (tables head.now loans.now chunks.now index.now tree.now) (listOk s.store list.now) }
+    ensures { back_of result ≡ plan_return s (holder s.store share) b (tables head.now loans.now chunks.now index.now tree.now) (list_ok s.store list.now) }
 {
     let own = s.store;
     let long = own.chunks <= list.len();

@@ -1,9 +1,9 @@
 // A return: the gate and its test, and then it is carried out.
 ghost use Rattle.std.specs.Prelude.{◌≡◌};
-ghost use Rattle.counter.specs.Paper.{releaseSaid};
+ghost use Rattle.counter.specs.Paper.{release_said};
 ghost use Rattle.store_rules.specs.Outcomes.{listed};
 ghost use Rattle.buddy_rules.specs.Tables.{tables};
-ghost use Rattle.buddy_outcomes.specs.Return.{returnOf};
+ghost use Rattle.buddy_outcomes.specs.Return.{return_of};
 
 use counter::{Account, Block, BuddySettings, Released};
 
@@ -19,7 +19,7 @@ pub fn return_block(
     tree: &mut [u64],
     list: &mut [u64],
 ) -> Released
-    ensures { listed (releaseSaid result.answer) result.account (tables head.now loans.new chunks.new index.new tree.new) list.new ≡ returnOf s a b (tables head.now loans.old chunks.old index.old tree.old) list.old }
+    ensures { listed (release_said result.answer) result.account (tables head.now loans.new chunks.new index.new tree.new) list.new ≡ return_of s a b (tables head.now loans.old chunks.old index.old tree.old) list.old }
 {
     let own = s.store;
     let share = store_accounts::share_of(own, a);

@@ -1,9 +1,9 @@
 // A block taken back, and its chunk gone where that was all of it.
 ghost use Rattle.std.specs.Prelude.{◌≡◌};
 ghost use Rattle.buddy_rules.specs.Tables.{tables};
-ghost use Rattle.buddy_outcomes.specs.Return.{givenTables};
+ghost use Rattle.buddy_outcomes.specs.Return.{given_tables};
 ghost use Rattle.buddy_moves.specs.Ready.{Backs};
-ghost use Rattle.buddy_back.specs.Frees.{freedBy, freedList};
+ghost use Rattle.buddy_back.specs.Frees.{freed_by, freed_list};
 
 use buddy_rules::{CHUNK_SIZE_AT, CHUNK_WORDS, MEMORY_AT};
 use counter::{Block, BuddySettings};
@@ -29,9 +29,9 @@ pub fn take_back(
     list: &mut [u64],
 ) -> Freed
     requires { Backs s b at (tables head.now loans.old chunks.old index.old tree.old) }
-    ensures value { result ≡ freedBy s b at (tables head.now loans.old chunks.old index.old tree.old) }
-    ensures tree_after { tables head.now loans.new chunks.new index.new tree.new ≡ givenTables s b at (tables head.now loans.old chunks.old index.old tree.old) }
-    ensures list_after { list.new ≡ freedList s b at (tables head.now loans.old chunks.old index.old tree.old) list.old }
+    ensures value { result ≡ freed_by s b at (tables head.now loans.old chunks.old index.old tree.old) }
+    ensures tree_after { tables head.now loans.new chunks.new index.new tree.new ≡ given_tables s b at (tables head.now loans.old chunks.old index.old tree.old) }
+    ensures list_after { list.new ≡ freed_list s b at (tables head.now loans.old chunks.old index.old tree.old) list.old }
 {
     if crate::backing::strike_out(s, b, at, head, loans, index, tree) {
         let memory = words::cell(chunks, MEMORY_AT, CHUNK_WORDS, b.chunk as usize);

@@ -1,29 +1,29 @@
 // What an ask comes to, by the tests 5, 6, 8, 10 and 9, once the gate is passed.
 ghost use Rattle.std.specs.Prelude.{◌≡◌, true, List, [], ℕ, ◌≤◌, ◌<◌, length, get_or};
-ghost use Rattle.rounding_rules.specs.Raising.{levelOf};
+ghost use Rattle.rounding_rules.specs.Raising.{level_of};
 ghost use Rattle.counter.specs.Gate.{first};
 ghost use Rattle.counter.specs.InTable.{BuddyIn};
-ghost use Rattle.counter.specs.Limits.{levelsMost};
-ghost use Rattle.store_rules.specs.Loans.{givenAt, places_at};
-ghost use Rattle.book_rules.specs.Book.{indexWords, taken_of};
-ghost use Rattle.buddy_rules.specs.Level.{ringHead};
-ghost use Rattle.buddy_rules.specs.Tables.{tables, levelsAt, levelFrom};
+ghost use Rattle.counter.specs.Limits.{levels_most};
+ghost use Rattle.store_rules.specs.Loans.{given_at, places_at};
+ghost use Rattle.book_rules.specs.Book.{index_words, taken_of};
+ghost use Rattle.buddy_rules.specs.Level.{ring_head};
+ghost use Rattle.buddy_rules.specs.Tables.{tables, levels_at, level_from};
 ghost use Rattle.buddy_levels.specs.Stands.{Takes};
-ghost use Rattle.buddy_outcomes.specs.Ask.{nowhere, grownTo, fitsAt, lateRow, orderBytes, planned, decideAsk};
+ghost use Rattle.buddy_outcomes.specs.Ask.{nowhere, grown_to, fits_at, late_row, order_bytes, planned, decide_ask};
 ghost use Rattle.buddy_decide.specs.Sees.{Sees};
-ghost use Rattle.buddy_decide.specs.Plans.{plan_of, PlannedAt, Planned, placesRoom, TryTake, TrySized, TryOf};
+ghost use Rattle.buddy_decide.specs.Plans.{plan_of, PlannedAt, Planned, places_room, TryTake, TrySized, TryOf};
 
 use crate::plans::{Buying, Needing, Plan, Taking, Tried};
 use crate::seeking::Found;
 use buddy_rules::LEVELS_AT;
 use counter::{BuddySettings, Heap, LEVELS_MOST, Refusal};
 use rounding_rules::Raised;
-use slab::Taken;
+use slabs::Taken;
 use store_rules::{GIVEN_AT, PLACES_AT};
 
 // The place of the book that a loan takes next.
 fn next_loan(loans: &[u64], index: &[u64]) -> Taken
-    requires { (places_at < length loans.now) × (indexWords (get_or loans.now places_at 0) ≤ length index.now) }
+    requires { (places_at < length loans.now) × (index_words (get_or loans.now places_at 0) ≤ length index.now) }
     ensures { result ≡ taken_of (get_or loans.now places_at 0) index.now }
 {
     book::next_place_in(loans[PLACES_AT], index)
@@ -31,8 +31,8 @@ fn next_loan(loans: &[u64], index: &[u64]) -> Taken
 
 // How many serials are given.
 fn given_in(loans: &[u64]) -> u64
-    requires { givenAt < length loans.now }
-    ensures { result ≡ get_or loans.now givenAt 0 }
+    requires { given_at < length loans.now }
+    ensures { result ≡ get_or loans.now given_at 0 }
 {
     loans[GIVEN_AT]
 }
@@ -49,7 +49,7 @@ fn try_take(
     index: &[u64],
     tree: &[u64],
 ) -> Tried
-    requires { Sees s head.now loans.now index.now tree.now × (level ≤ from) × (from ≤ levelsMost) × (pair ≡ ringHead (levelFrom s from) tree.now) }
+    requires { Sees s head.now loans.now index.now tree.now × (level ≤ from) × (from ≤ levels_most) × (pair ≡ ring_head (level_from s from) tree.now) }
     ensures { (chunks : List ℕ) → TryTake s size level from (tables head.now loans.now chunks index.now tree.now) result }
 {
     let levels = head[LEVELS_AT];
@@ -83,8 +83,8 @@ fn has_room(
     head: &[u64],
     tree: &[u64],
 ) -> bool
-    requires { BuddyIn s × (get_or head.now levelsAt 0 ≤ levelsMost) × (level ≤ top) × (top ≤ levelsMost) × ((l : ℕ) → l < get_or head.now levelsAt 0 → Takes (levelFrom s l) tree.now) }
-    ensures { result ≡ placesRoom s level top loan chunk (tables head.now [] [] [] tree.now) }
+    requires { BuddyIn s × (get_or head.now levels_at 0 ≤ levels_most) × (level ≤ top) × (top ≤ levels_most) × ((l : ℕ) → l < get_or head.now levels_at 0 → Takes (level_from s l) tree.now) }
+    ensures { result ≡ places_room s level top loan chunk (tables head.now [] [] [] tree.now) }
 {
     let own = s.store;
     let levels = words::word(head, LEVELS_AT);
@@ -104,8 +104,8 @@ pub fn decide_buy(
     index: &[u64],
     tree: &[u64],
 ) -> Plan
-    requires { Sees s head.now loans.now index.now tree.now × (n.level < levelsMost) × (n.order ≡ orderBytes s n.level (tables head.now [] [] [] [])) × (n.levels ≡ grownTo n.level (tables head.now [] [] [] [])) }
-    ensures result_value { plan_of result ≡ planned s n.level (tables head.now loans.now chunks.now index.now tree.now) nowhere (first (lateRow s h objects n.level (tables head.now loans.now chunks.now index.now tree.now) nowhere)) }
+    requires { Sees s head.now loans.now index.now tree.now × (n.level < levels_most) × (n.order ≡ order_bytes s n.level (tables head.now [] [] [] [])) × (n.levels ≡ grown_to n.level (tables head.now [] [] [] [])) }
+    ensures result_value { plan_of result ≡ planned s n.level (tables head.now loans.now chunks.now index.now tree.now) nowhere (first (late_row s h objects n.level (tables head.now loans.now chunks.now index.now tree.now) nowhere)) }
     ensures planned_at { PlannedAt s n.size n.level (tables head.now loans.now chunks.now index.now tree.now) result }
 {
     let loan = next_loan(loans, index);
@@ -139,8 +139,8 @@ fn try_sized(
     index: &[u64],
     tree: &[u64],
 ) -> Tried
-    requires { Sees s head.now loans.now index.now tree.now × (fitsAt levelsMost s size ≡ true → levelOf size s.minimal < levelsMost) }
-    ensures { (chunks : List ℕ) → TrySized s size (levelOf size s.minimal) (tables head.now loans.now chunks index.now tree.now) result }
+    requires { Sees s head.now loans.now index.now tree.now × (fits_at levels_most s size ≡ true → level_of size s.minimal < levels_most) }
+    ensures { (chunks : List ℕ) → TrySized s size (level_of size s.minimal) (tables head.now loans.now chunks index.now tree.now) result }
 {
     if buddy_levels::node_bytes(s.minimal, LEVELS_MOST as u64) <= size {
         return Tried::Refuse(Refusal::Size);
@@ -199,7 +199,7 @@ pub fn decide(
     tree: &[u64],
 ) -> Plan
     requires { Sees s head.now loans.now index.now tree.now }
-    ensures result_value { plan_of result ≡ decideAsk s h objects size mask (tables head.now loans.now chunks.now index.now tree.now) }
+    ensures result_value { plan_of result ≡ decide_ask s h objects size mask (tables head.now loans.now chunks.now index.now tree.now) }
     ensures planned { Planned s size mask (tables head.now loans.now chunks.now index.now tree.now) result }
 {
     let tried = try_held(s, size, mask, head, loans, index, tree);

@@ -1,6 +1,6 @@
 // What an ask comes to, with the numbers that its tests worked out: what carries it out works none of them out again.
 use counter::Refusal;
-use slab::Taken;
+use slabs::Taken;
 
 // A block of this size and level, from the head pair of the level `from`; its loan takes this place of the book.
 #[derive(Drop)]

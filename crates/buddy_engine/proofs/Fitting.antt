@@ -8,7 +8,7 @@ use Rattle.lists.proofs.Bools.{told, and_left, and_right, not_yes}
 use Rattle.counter.specs.Gate.{Verdict, pass, refuse, gated, first}
 use Rattle.counter.specs.InTable.{BuddyIn}
 use Rattle.counter.specs.Paper as Paper
-use Rattle.counter.specs.Table.{buddyOk}
+use Rattle.counter.specs.Table.{buddy_ok}
 use Rattle.counter.specs.declared.account.Account.{Account}
 use Rattle.counter.specs.declared.account.KeptOrder.{KeptOrder}
 use Rattle.counter.specs.declared.account.OpenOrder.{OpenOrder}
@@ -20,99 +20,99 @@ use Rattle.counter.specs.declared.answers.Memory.{Memory}
 use Rattle.counter.specs.declared.answers.Outcome.{Outcome}
 use Rattle.counter.specs.declared.answers.Outcome.TheVariants as O
 use Rattle.counter.specs.declared.settings.BuddySettings.{BuddySettings}
-use Rattle.counter.proofs.Tables.{buddy-yes}
-use Rattle.store_rules.specs.Delivery.{buddy, holds, suits, deliveryOk, mapped, fateOf}
+use Rattle.counter.proofs.Tables.{buddy_yes}
+use Rattle.store_rules.specs.Delivery.{buddy, holds, suits, delivery_ok, mapped, fate_of}
 use Rattle.store_rules.specs.Outcomes.{Out, Listed}
-use Rattle.engines.specs.Shapes.{Call, setsUp, asks, delivers, returns, others, does}
+use Rattle.engines.specs.Shapes.{Call, sets_up, asks, delivers, returns, others, does}
 use Rattle.buddy_rules.specs.Sound.{Sound}
-use Rattle.buddy_rules.specs.Tables.{Tables, Lengths, lengthsOk, chunkPlacesIn, memories}
-use Rattle.buddy_outcomes.specs.Ask.{grownTo, grownTables, carryAsk, askOf, levelFor}
+use Rattle.buddy_rules.specs.Tables.{Tables, Lengths, lengths_ok, chunk_places_in, memories}
+use Rattle.buddy_outcomes.specs.Ask.{grown_to, grown_tables, carry_ask, ask_of, level_for}
 use Rattle.buddy_outcomes.specs.Deliver as Deliver
-use Rattle.buddy_outcomes.specs.Deliver.{deliverGateOf, carryFate, decideDeliver, planDeliver, carryDeliver, deliverOf}
-use Rattle.buddy_outcomes.specs.Return.{word_for, climbFor, releasedBy, returnOf}
-use Rattle.buddy_outcomes.specs.SetUp.{fitOk, planSetUp, carrySetUp, setUpOf}
-use Rattle.buddy_outcomes.proofs.Changed.{fresh-lengths, grown-lengths}
-use Rattle.buddy_outcomes.proofs.Comes.{AskComes, lends, orders, ask-comes, denied-tables}
-use Rattle.buddy_outcomes.proofs.Delivered.{arrived-lengths, new-memory, held_low, Open, opened}
-use Rattle.buddy_outcomes.proofs.Given.{given-lengths}
-use Rattle.buddy_outcomes.proofs.Passing.{lengths-are}
+use Rattle.buddy_outcomes.specs.Deliver.{deliver_gate_of, carry_fate, decide_deliver, plan_deliver, carry_deliver, deliver_of}
+use Rattle.buddy_outcomes.specs.Return.{word_for, climb_for, released_by, return_of}
+use Rattle.buddy_outcomes.specs.SetUp.{fit_ok, plan_set_up, carry_set_up, set_up_of}
+use Rattle.buddy_outcomes.proofs.Changed.{fresh_lengths, grown_lengths}
+use Rattle.buddy_outcomes.proofs.Comes.{AskComes, lends, orders, ask_comes, denied_tables_lem}
+use Rattle.buddy_outcomes.proofs.Delivered.{arrived_lengths, new_memory, held_low, Open, opened}
+use Rattle.buddy_outcomes.proofs.Given.{given_lengths}
+use Rattle.buddy_outcomes.proofs.Passing.{lengths_are}
 use Rattle.buddy_outcomes.proofs.Returned as Returned
-use Rattle.buddy_outcomes.proofs.Returned.{ReturnComes, return-comes}
-use Rattle.buddy_outcomes.proofs.Sounds.{is-begun}
-use Rattle.buddy_outcomes.proofs.Taken.{taken-lengths}
-use Rattle.buddy_engine.specs.Shape.{buddyShape}
+use Rattle.buddy_outcomes.proofs.Returned.{ReturnComes, return_comes}
+use Rattle.buddy_outcomes.proofs.Sounds.{is_begun}
+use Rattle.buddy_outcomes.proofs.Taken.{taken_lengths}
+use Rattle.buddy_engine.specs.Shape.{buddy_shape}
 
 -- ---- set-up
 
 -- it leaves what was lent or new tables
-set-up-long : (s : BuddySettings) (t : Tables) → BuddyIn s → Lengths s t → Lengths s (setUpOf s t).tables
-unfolding setUpOf planSetUp carrySetUp
-set-up-long s t fit lengths = by (fitOk s t)
+set_up_long : (s : BuddySettings) (t : Tables) → BuddyIn s → Lengths s t → Lengths s (set_up_of s t).tables
+unfolding set_up_of plan_set_up carry_set_up
+set_up_long s t fit lengths = by (fit_ok s t)
   where
-    by : (b : Bool) → Lengths s (carrySetUp s t (first ((b, 1) ∷ []))).tables
-    by true = fresh-lengths s t fit lengths
+    by : (b : Bool) → Lengths s (carry_set_up s t (first ((b, 1) ∷ []))).tables
+    by true = fresh_lengths s t fit lengths
     by false = lengths
 
-pub set-up-fits : (s : BuddySettings) (t : Tables) → (setUpOf s t).said ≡ Paper.ready → BuddyIn s × Lengths s (setUpOf s t).tables
-unfolding fitOk
-set-up-fits s t e =
-    let b = is-begun s t e in
-    let fit = buddy-yes s (and_left (buddyOk s) (lengthsOk s t) b) in
-    (fit, set-up-long s t fit (lengths-are s t (and_right (buddyOk s) (lengthsOk s t) b)))
+pub set_up_fits : (s : BuddySettings) (t : Tables) → (set_up_of s t).said ≡ Paper.ready → BuddyIn s × Lengths s (set_up_of s t).tables
+unfolding fit_ok
+set_up_fits s t e =
+    let b = is_begun s t e in
+    let fit = buddy_yes s (and_left (buddy_ok s) (lengths_ok s t) b) in
+    (fit, set_up_long s t fit (lengths_are s t (and_right (buddy_ok s) (lengths_ok s t) b)))
 
 -- ---- the other calls
 
 module _ (s : BuddySettings) (a : Account) (t : Tables) (fit : BuddyIn s) (lengths : Lengths s t) (sound : Sound s t) where
-  ask-long : (size mask : ℕ) (r : Out Tables) → AskComes s a size mask t r → Lengths s r.tables
-  unfolding carryAsk
-  ask-long size mask _ (AskComes.denied n) =
+  ask_long : (size mask : ℕ) (r : Out Tables) → AskComes s a size mask t r → Lengths s r.tables
+  unfolding carry_ask
+  ask_long size mask _ (AskComes.denied n) =
       ⊎_elim
-      (λ e. subst (Lengths s) (sym e) (grown-lengths s t fit lengths sound (grownTo (levelFor s size mask) t)))
+      (λ e. subst (Lengths s) (sym e) (grown_lengths s t fit lengths sound (grown_to (level_for s size mask) t)))
       (λ e. subst (Lengths s) (sym e) lengths)
-      (denied-tables s size mask n t)
-  ask-long size mask _ (lends i p v) = taken-lengths s t fit lengths sound size mask i v.found v.aligned v.sized v.room
-  ask-long size mask _ (orders z p e) = grown-lengths s t fit lengths sound (grownTo (levelFor s size mask) t)
+      (denied_tables_lem s size mask n t)
+  ask_long size mask _ (lends i p v) = taken_lengths s t fit lengths sound size mask i v.found v.aligned v.sized v.room
+  ask_long size mask _ (orders z p e) = grown_lengths s t fit lengths sound (grown_to (level_for s size mask) t)
 
   abbrev held : List ℕ
-  held = memories t (chunkPlacesIn t)
+  held = memories t (chunk_places_in t)
 
   module _ (o : Outcome) (k : KeptOrder) (w : Open s a o t sound k) where
-    lost-long : Lengths s (grownTables s (grownTo (levelFor s k.ask.size k.ask.mask) t) t)
-    lost-long = grown-lengths s t fit lengths sound (grownTo (levelFor s k.ask.size k.ask.mask) t)
+    lost_long : Lengths s (grown_tables s (grown_to (level_for s k.ask.size k.ask.mask) t) t)
+    lost_long = grown_lengths s t fit lengths sound (grown_to (level_for s k.ask.size k.ask.mask) t)
 
-    made-long : (m : Memory) (x : Mapping) → holds m.number held ≡ false → Lengths s (carryFate s a k t (mapped buddy m.number x)).tables
-    unfolding carryFate
-    made-long m M.Failed e = lost-long
-    made-long m M.OutOfDevice e = lost-long
-    made-long m M.OutOfHost e = lost-long
-    made-long m M.Mapped e = arrived-lengths s t fit lengths sound k.ask.size k.ask.mask k.order.size w.buys-it m.number (λ c h. new-memory m.number t (chunkPlacesIn t) e c (held_low t c h) h)
-    made-long m M.NotWanted e = arrived-lengths s t fit lengths sound k.ask.size k.ask.mask k.order.size w.buys-it m.number (λ c h. new-memory m.number t (chunkPlacesIn t) e c (held_low t c h) h)
+    made_long : (m : Memory) (x : Mapping) → holds m.number held ≡ false → Lengths s (carry_fate s a k t (mapped buddy m.number x)).tables
+    unfolding carry_fate
+    made_long m M.Failed e = lost_long
+    made_long m M.OutOfDevice e = lost_long
+    made_long m M.OutOfHost e = lost_long
+    made_long m M.Mapped e = arrived_lengths s t fit lengths sound k.ask.size k.ask.mask k.order.size w.buys_it m.number (λ c h. new_memory m.number t (chunk_places_in t) e c (held_low t c h) h)
+    made_long m M.NotWanted e = arrived_lengths s t fit lengths sound k.ask.size k.ask.mask k.order.size w.buys_it m.number (λ c h. new_memory m.number t (chunk_places_in t) e c (held_low t c h) h)
 
-    fate-long : (x : Outcome) → deliveryOk k.order.map held x ≡ true → Lengths s (carryFate s a k t (fateOf buddy x)).tables
-    unfolding carryFate deliveryOk
-    fate-long O.OutOfDevice e = lost-long
-    fate-long O.OutOfHost e = lost-long
-    fate-long (O.Made m) e = made-long m m.mapping (not_yes (holds m.number held) (and_left (not (holds m.number held)) (suits k.order.map m.mapping) e))
+    fate_long : (x : Outcome) → delivery_ok k.order.map held x ≡ true → Lengths s (carry_fate s a k t (fate_of buddy x)).tables
+    unfolding carry_fate delivery_ok
+    fate_long O.OutOfDevice e = lost_long
+    fate_long O.OutOfHost e = lost_long
+    fate_long (O.Made m) e = made_long m m.mapping (not_yes (holds m.number held) (and_left (not (holds m.number held)) (suits k.order.map m.mapping) e))
 
-  after-delivery : (o : Outcome) (v : Verdict) → deliverGateOf s a t ≡ v → (x : OpenOrder) → a.order ≡ x → Lengths s (carryDeliver s a t (gated Deliver.deny v (decideDeliver o held x))).tables
-  unfolding carryDeliver
-  after-delivery o (refuse n) g x e = lengths
-  after-delivery o pass g Nothing e = lengths
-  after-delivery o pass g (Kept k) e = ⊎_elim (λ d. rw d (fate-long o k (opened s a o t sound k e g) o d)) (λ d. rw d lengths) (told (deliveryOk k.order.map held o))
+  after_delivery : (o : Outcome) (v : Verdict) → deliver_gate_of s a t ≡ v → (x : OpenOrder) → a.order ≡ x → Lengths s (carry_deliver s a t (gated Deliver.deny v (decide_deliver o held x))).tables
+  unfolding carry_deliver
+  after_delivery o (refuse n) g x e = lengths
+  after_delivery o pass g Nothing e = lengths
+  after_delivery o pass g (Kept k) e = ⊎_elim (λ d. rw d (fate_long o k (opened s a o t sound k e g) o d)) (λ d. rw d lengths) (told (delivery_ok k.order.map held o))
 
-  deliver-long : (o : Outcome) → Lengths s (deliverOf s a o t).tables
-  unfolding deliverOf planDeliver
-  deliver-long o = after-delivery o (deliverGateOf s a t) refl a.order refl
+  deliver_long : (o : Outcome) → Lengths s (deliver_of s a o t).tables
+  unfolding deliver_of plan_deliver
+  deliver_long o = after_delivery o (deliver_gate_of s a t) refl a.order refl
 
-  return-long : (b : Block) (list : List ℕ) (r : Listed Tables) → ReturnComes s a b t list r → Lengths s r.tables
-  unfolding releasedBy
-  return-long b list _ (Returned.denied n) = lengths
-  return-long b list _ (Returned.takes p on) =
-      ⊎_elim (λ f. rw f (given-lengths s t fit lengths sound b on)) (λ f. rw f (given-lengths s t fit lengths sound b on)) (told (climbFor s b (word_for s b t) t).freed)
+  return_long : (b : Block) (list : List ℕ) (r : Listed Tables) → ReturnComes s a b t list r → Lengths s r.tables
+  unfolding released_by
+  return_long b list _ (Returned.denied n) = lengths
+  return_long b list _ (Returned.takes p on) =
+      ⊎_elim (λ f. rw f (given_lengths s t fit lengths sound b on)) (λ f. rw f (given_lengths s t fit lengths sound b on)) (told (climb_for s b (word_for s b t) t).freed)
 
-  pub still-long : (c : Call ⊥) → Lengths s (does buddyShape s a t c).tables
-  still-long setsUp = set-up-long s t fit lengths
-  still-long (asks size mask) = ask-long size mask (askOf s a size mask t) (ask-comes s a size mask t)
-  still-long (delivers o) = deliver-long o
-  still-long (returns b list) = return-long b list (returnOf s a b t list) (return-comes s a b t list)
-  still-long (others c list) = absurd c
+  pub still_long : (c : Call ⊥) → Lengths s (does buddy_shape s a t c).tables
+  still_long sets_up = set_up_long s t fit lengths
+  still_long (asks size mask) = ask_long size mask (ask_of s a size mask t) (ask_comes s a size mask t)
+  still_long (delivers o) = deliver_long o
+  still_long (returns b list) = return_long b list (return_of s a b t list) (return_comes s a b t list)
+  still_long (others c list) = absurd c

@@ -8,22 +8,22 @@ use Rattle.engines.specs.Shapes.{Shape}
 use Rattle.buddy_trees.specs.Trees.{bytes}
 use Rattle.buddy_trees.specs.Chunks.{at_once}
 use Rattle.buddy_rules.specs.Sound.{Sound}
-use Rattle.buddy_rules.specs.Tables.{Tables, Lengths, givenIn, levelsIn, marks}
-use Rattle.buddy_rules.specs.Views.{loansIn, view_of}
-use Rattle.buddy_outcomes.specs.Gate.{gateOf}
-use Rattle.buddy_outcomes.specs.Ask.{orderBytes, askOf, levelFor}
-use Rattle.buddy_outcomes.specs.Deliver.{deliverGateOf, deliverOf}
+use Rattle.buddy_rules.specs.Tables.{Tables, Lengths, given_in, levels_in, marks}
+use Rattle.buddy_rules.specs.Views.{loans_in, view_of}
+use Rattle.buddy_outcomes.specs.Gate.{gate_of}
+use Rattle.buddy_outcomes.specs.Ask.{order_bytes, ask_of, level_for}
+use Rattle.buddy_outcomes.specs.Deliver.{deliver_gate_of, deliver_of}
 use Rattle.buddy_outcomes.specs.Refusals.{SizeOff, Needed, PairsOut}
-use Rattle.buddy_outcomes.specs.Return.{returnOf}
-use Rattle.buddy_outcomes.specs.SetUp.{setUpOf}
+use Rattle.buddy_outcomes.specs.Return.{return_of}
+use Rattle.buddy_outcomes.specs.SetUp.{set_up_of}
 
 -- serials given, and levels now
 pub record Counts : Type 0 where
   pub given : ℕ
   pub levels : ℕ
 
-abbrev pub countsOf : Tables → Counts
-countsOf t = record { given = givenIn t; levels = levelsIn t }
+abbrev pub counts_of : Tables → Counts
+counts_of t = record { given = given_in t; levels = levels_in t }
 
 -- 01, "buddy.rs": "a pair is its two nodes": p and q are the left and the right half of the pair at this place of its chunk, nodes
 -- of this level, u being the minimal size
@@ -41,35 +41,35 @@ abbrev pub Twins : ℕ → Region → Region → Type 0
 Twins u p q = Halves u p q ⊎ Halves u q p
 
 -- a buddy has no call of its own
-abbrev pub buddyShape : Shape
-buddyShape =
+abbrev pub buddy_shape : Shape
+buddy_shape =
     record {
       Settings = BuddySettings;
       store = λ s. s.store;
       Own = ⊥;
-      setUp = setUpOf;
-      ask = askOf;
-      deliver = deliverOf;
-      return = returnOf;
+      set_up = set_up_of;
+      ask = ask_of;
+      deliver = deliver_of;
+      return = return_of;
       other = λ s a c t list. absurd c;
       engine = buddy;
       mark = marks.head;
-      given = λ t. givenIn t;
-      loans = λ t. loansIn t;
+      given = λ t. given_in t;
+      loans = λ t. loans_in t;
       view = λ s t. view_of s t;
       Rest = Counts;
-      rest = λ s t. countsOf t;
+      rest = λ s t. counts_of t;
       Sound = λ s t. Sound s t;
       Joinable = λ s p q. Twins s.minimal p q;
       Needed = λ s size mask t. Needed s size mask t;
-      orderSize = λ s size mask t. orderBytes s (levelFor s size mask) t;
+      order_size = λ s size mask t. order_bytes s (level_for s size mask) t;
       Fits = λ s t. BuddyIn s × Lengths s t;
       MaskHigh = λ s mask. ⊥;
       SizeOff = λ s size mask. SizeOff s size mask;
       Roomless = λ s size mask t. PairsOut s size mask t;
       Numberless = λ s t. ⊥;
-      ownRows = λ s a c t list. absurd c;
-      gate = λ s a t. gateOf s a t true;
-      deliverGate = λ s a t. deliverGateOf s a t;
+      own_rows = λ s a c t list. absurd c;
+      gate = λ s a t. gate_of s a t true;
+      deliver_gate = λ s a t. deliver_gate_of s a t;
       at_once = λ s bs t. at_once s.minimal bs (view_of s t);
     }

@@ -9,30 +9,30 @@ use lib.Dec.{eqb}
 use lib.ListN.{length}
 use borrow.Author.Tests.{lt-ltb, ne_eqb}
 use Rattle.lists.proofs.Bools.{and_both, and_left, same?}
-use Rattle.rounding_rules.proofs.Masks.{power-top}
+use Rattle.rounding_rules.proofs.Masks.{power_top}
 use Rattle.counter.specs.Gate.{Verdict, pass, refuse}
 use Rattle.counter.specs.InTable.{BuddyIn}
-use Rattle.counter.specs.Limits.{chunksMost}
-use Rattle.counter.specs.Table.{buddyOk, heapOk}
+use Rattle.counter.specs.Limits.{chunks_most}
+use Rattle.counter.specs.Table.{buddy_ok, heap_ok}
 use Rattle.counter.specs.declared.account.Account.{Account}
 use Rattle.counter.specs.declared.account.Heap.{Heap}
 use Rattle.counter.specs.declared.account.OpenOrder.{OpenOrder}
 use Rattle.counter.specs.declared.settings.BuddySettings.{BuddySettings}
-use Rattle.counter.proofs.Tables.{buddy-yes}
-use Rattle.store_rules.specs.Loans.{loanWords}
+use Rattle.counter.proofs.Tables.{buddy_yes}
+use Rattle.store_rules.specs.Loans.{loan_words}
 use Rattle.store_rules.proofs.Holders.{holding, order_by, holder}
-use Rattle.store_rules.specs.Tests.{coversOk}
+use Rattle.store_rules.specs.Tests.{covers_ok}
 use Rattle.store_rules.specs.declared.Share.{Share}
-use Rattle.store_rules.proofs.Shares.{held-heap, held-table, held-free}
-use Rattle.buddy_levels.specs.Seen.{levelPart}
-use Rattle.buddy_levels.proofs.Bounds.{node-bytes-most}
-use Rattle.buddy_rules.specs.Tables.{Tables, headWords, chunkWords, chunkPlacesIn, chunkSizeIn, heldIn, highIn, bookWords, treeWords, lengthsOk}
+use Rattle.store_rules.proofs.Shares.{held_heap, held_table, held_free}
+use Rattle.buddy_levels.specs.Seen.{level_part}
+use Rattle.buddy_levels.proofs.Bounds.{node_bytes_most}
+use Rattle.buddy_rules.specs.Tables.{Tables, head_words, chunk_words, chunk_places_in, chunk_size_in, held_in, high_in, book_words, tree_words, lengths_ok}
 use Rattle.buddy_rules.specs.Sound.{Sound}
-use Rattle.buddy_rules.specs.Test.{soundOk}
-use Rattle.buddy_outcomes.specs.Gate.{inTableOk, heldCount, heldBytes, accountOk, gateOf}
-use Rattle.buddy_outcomes.specs.SetUp.{fitOk}
-use Rattle.buddy_outcomes.proofs.Passing.{lent-in}
-use Rattle.buddy_gate.specs.Gates.{storeGate}
+use Rattle.buddy_rules.specs.Test.{sound_ok}
+use Rattle.buddy_outcomes.specs.Gate.{in_table_ok, held_count, held_bytes, account_ok, gate_of}
+use Rattle.buddy_outcomes.specs.SetUp.{fit_ok}
+use Rattle.buddy_outcomes.proofs.Passing.{lent_in_lem}
+use Rattle.buddy_gate.specs.Gates.{store_gate}
 use Rattle.buddy_gate.proofs.Held.{count_same, bytes_same, size_most}
 
 -- the row is taken from the left
@@ -44,19 +44,19 @@ joined true true true false e = refl
 joined true true true true e = refl
 
 module _ (s : BuddySettings) (t : Tables) where
-  pub lengths-is : (room : ℕ) → room ≡ treeWords s
-      → (eqb (length t.head) headWords && (eqb (length t.loans) (loanWords + loanWords * s.store.loans) && (eqb (length t.chunks) (chunkWords + chunkWords * s.store.chunks) && (eqb (length t.index) (bookWords s) && eqb (length t.room) room)))) ≡ lengthsOk s t
-  unfolding lengthsOk
-  lengths-is room e =
-      joined (eqb (length t.head) headWords) (eqb (length t.loans) (loanWords + loanWords * s.store.loans)) (eqb (length t.chunks) (chunkWords + chunkWords * s.store.chunks)) (eqb (length t.index) (bookWords s)) (eqb (length t.room) room)
+  pub lengths_is : (room : ℕ) → room ≡ tree_words s
+      → (eqb (length t.head) head_words && (eqb (length t.loans) (loan_words + loan_words * s.store.loans) && (eqb (length t.chunks) (chunk_words + chunk_words * s.store.chunks) && (eqb (length t.index) (book_words s) && eqb (length t.room) room)))) ≡ lengths_ok s t
+  unfolding lengths_ok
+  lengths_is room e =
+      joined (eqb (length t.head) head_words) (eqb (length t.loans) (loan_words + loan_words * s.store.loans)) (eqb (length t.chunks) (chunk_words + chunk_words * s.store.chunks)) (eqb (length t.index) (book_words s)) (eqb (length t.room) room)
       ∙ rw e refl
 
-  pub lent-yes : (share : Share) (own f : Bool) → buddyOk s ≡ true → own ≡ heapOk share.heap → f ≡ lengthsOk s t → (share.bounded && (own && f)) ≡ inTableOk s (holder s.store share) t
-  unfolding inTableOk
-  lent-yes share own f e p q =
+  pub lent_yes : (share : Share) (own f : Bool) → buddy_ok s ≡ true → own ≡ heap_ok share.heap → f ≡ lengths_ok s t → (share.bounded && (own && f)) ≡ in_table_ok s (holder s.store share) t
+  unfolding in_table_ok
+  lent_yes share own f e p q =
       three share.bounded own f
       ∙ (λ j. (share.bounded && p j) && q j)
-      ∙ ap (λ (b : Bool). b && lengthsOk s t) (sym (held-table s.store share (order_by share.idle) (buddy-yes s e).store.heap))
+      ∙ ap (λ (b : Bool). b && lengths_ok s t) (sym (held_table s.store share (order_by share.idle) (buddy_yes s e).store.heap))
       ∙ rw e refl
     where
       three : (a b c : Bool) → (a && (b && c)) ≡ ((a && b) && c)
@@ -64,86 +64,86 @@ module _ (s : BuddySettings) (t : Tables) where
       three false b c = refl
 
   -- whatever order is open
-  pub lent-held : (share : Share) (o p : OpenOrder) → inTableOk s (holding s.store share o) t ≡ inTableOk s (holding s.store share p) t
-  unfolding inTableOk holding
-  lent-held share o p = refl
+  pub lent_held : (share : Share) (o p : OpenOrder) → in_table_ok s (holding s.store share o) t ≡ in_table_ok s (holding s.store share p) t
+  unfolding in_table_ok holding
+  lent_held share o p = refl
 
-  pub lent-no : (a : Account) → buddyOk s ≡ false → false ≡ inTableOk s a t
-  unfolding inTableOk
-  lent-no a e = rw e refl
+  pub lent_no : (a : Account) → buddy_ok s ≡ false → false ≡ in_table_ok s a t
+  unfolding in_table_ok
+  lent_no a e = rw e refl
 
 -- ---- whether the tables of a set-up fit
 
-pub fit-in : (s : BuddySettings) (t : Tables) (m r : Bool) → m ≡ true → m ≡ buddyOk s → r ≡ lengthsOk s t → r ≡ fitOk s t
-unfolding fitOk
-fit-in s t m r h e f = f ∙ ap (λ (b : Bool). b && lengthsOk s t) (sym h ∙ e)
+pub fit_in : (s : BuddySettings) (t : Tables) (m r : Bool) → m ≡ true → m ≡ buddy_ok s → r ≡ lengths_ok s t → r ≡ fit_ok s t
+unfolding fit_ok
+fit_in s t m r h e f = f ∙ ap (λ (b : Bool). b && lengths_ok s t) (sym h ∙ e)
 
-pub fit-out : (s : BuddySettings) (t : Tables) (m : Bool) → m ≡ false → m ≡ buddyOk s → false ≡ fitOk s t
-unfolding fitOk
-fit-out s t m h e = ap (λ (b : Bool). b && lengthsOk s t) (sym h ∙ e)
+pub fit_out : (s : BuddySettings) (t : Tables) (m : Bool) → m ≡ false → m ≡ buddy_ok s → false ≡ fit_ok s t
+unfolding fit_ok
+fit_out s t m h e = ap (λ (b : Bool). b && lengths_ok s t) (sym h ∙ e)
 
 -- ---- what a sound store's chunks come to
 
 module _ (s : BuddySettings) (t : Tables) (fit : BuddyIn s) (sound : Sound s t) where
-  pub places-few : chunkPlacesIn t ≤ chunksMost
-  places-few = omega (arith, sound.chunks-parted.limit, fit.store.chunks-most)
+  pub places_few : chunk_places_in t ≤ chunks_most
+  places_few = omega (arith, sound.chunks_parted.limit, fit.store.chunks_most_lem)
 
-  pub sizes-low : (c : ℕ) → c < chunkPlacesIn t → chunkSizeIn t c ≤ size_most
-  sizes-low c h =
+  pub sizes_low : (c : ℕ) → c < chunk_places_in t → chunk_size_in t c ≤ size_most
+  sizes_low c h =
       ⊎_elim (λ z. omega (arith, z))
       (λ z.
-      let held : heldIn t c ≡ true = and_both _ _ (lt-ltb c (chunkPlacesIn t) h) (rw (ne_eqb (chunkSizeIn t c) 0 z) refl) in
+      let held : held_in t c ≡ true = and_both _ _ (lt-ltb c (chunk_places_in t) h) (rw (ne_eqb (chunk_size_in t c) 0 z) refl) in
       let k = sound.standing.sized c held in
-      omega (arith, k.0, node-bytes-most s.minimal (highIn s t c) small (omega (arith, k.3, sound.levels-most))))
-      (same? (chunkSizeIn t c) 0)
+      omega (arith, k.0, node_bytes_most s.minimal (high_in s t c) small (omega (arith, k.3, sound.levels_most_lem))))
+      (same? (chunk_size_in t c) 0)
     where
       small : s.minimal ≤ 2 ^ 16
-      small = power-top fit.minimal
+      small = power_top fit.minimal
 
 -- ---- the gate
 
 module _ (s : BuddySettings) (h : Heap) (objects : ℕ) (t : Tables) where
   -- as the code counts, by the chunks alone
   abbrev few : Tables
-  few = levelPart 0 t.chunks []
+  few = level_part 0 t.chunks []
 
   abbrev pub covered : Bool
-  covered = coversOk h objects (heldCount few (chunkPlacesIn t)) (heldBytes few (chunkPlacesIn t))
+  covered = covers_ok h objects (held_count few (chunk_places_in t)) (held_bytes few (chunk_places_in t))
 
-  pub covered_same : covered ≡ coversOk h objects (heldCount t (chunkPlacesIn t)) (heldBytes t (chunkPlacesIn t))
-  covered_same j = coversOk h objects (count_same few t refl (chunkPlacesIn t) j) (bytes_same few t refl (chunkPlacesIn t) j)
+  pub covered_same : covered ≡ covers_ok h objects (held_count t (chunk_places_in t)) (held_bytes t (chunk_places_in t))
+  covered_same j = covers_ok h objects (count_same few t refl (chunk_places_in t) j) (bytes_same few t refl (chunk_places_in t) j)
 
-  pub store-torn : soundOk s t ≡ false → refuse 3 ≡ storeGate s h objects t
-  unfolding storeGate
-  store-torn e = rw e refl
+  pub store_torn : sound_ok s t ≡ false → refuse 3 ≡ store_gate s h objects t
+  unfolding store_gate
+  store_torn e = rw e refl
 
-  pub store-short : soundOk s t ≡ true → covered ≡ false → refuse 4 ≡ storeGate s h objects t
-  unfolding storeGate
-  store-short e f = rw (e, sym covered_same ∙ f) refl
+  pub store_short : sound_ok s t ≡ true → covered ≡ false → refuse 4 ≡ store_gate s h objects t
+  unfolding store_gate
+  store_short e f = rw (e, sym covered_same ∙ f) refl
 
-  pub store-go : soundOk s t ≡ true → covered ≡ true → pass ≡ storeGate s h objects t
-  unfolding storeGate
-  store-go e f = rw (e, sym covered_same ∙ f) refl
+  pub store_go : sound_ok s t ≡ true → covered ≡ true → pass ≡ store_gate s h objects t
+  unfolding store_gate
+  store_go e f = rw (e, sym covered_same ∙ f) refl
 
-pub covered-is : (h : Heap) (objects k n b m : ℕ) (r : Bool) → k ≡ n → b ≡ m → r ≡ coversOk h objects k b → r ≡ coversOk h objects n m
-covered-is h objects k n b m r e f g = g ∙ (λ j. coversOk h objects (e j) (f j))
+pub covered_is : (h : Heap) (objects k n b m : ℕ) (r : Bool) → k ≡ n → b ≡ m → r ≡ covers_ok h objects k b → r ≡ covers_ok h objects n m
+covered_is h objects k n b m r e f g = g ∙ (λ j. covers_ok h objects (e j) (f j))
 
 module _ (s : BuddySettings) (share : Share) (t : Tables) (list : Bool) where
   abbrev held : Account
   held = holder s.store share
 
-  pub gate-lent : (inTableOk s held t && list) ≡ false → refuse 1 ≡ gateOf s held t list
-  unfolding gateOf
-  gate-lent e = rw e refl
+  pub gate_lent : (in_table_ok s held t && list) ≡ false → refuse 1 ≡ gate_of s held t list
+  unfolding gate_of
+  gate_lent e = rw e refl
 
-  pub gate-order : (inTableOk s held t && list) ≡ true → share.idle ≡ false → refuse 2 ≡ gateOf s held t list
-  unfolding gateOf holding
-  gate-order e f = rw (e, held-free share.idle ∙ f) refl
+  pub gate_order : (in_table_ok s held t && list) ≡ true → share.idle ≡ false → refuse 2 ≡ gate_of s held t list
+  unfolding gate_of holding
+  gate_order e f = rw (e, held_free share.idle ∙ f) refl
 
-  pub gate-rest : (v : Verdict) → (inTableOk s held t && list) ≡ true → share.idle ≡ true → v ≡ storeGate s share.heap share.objects t → v ≡ gateOf s held t list
-  unfolding gateOf storeGate accountOk holding
-  gate-rest v e f g =
-      let below = (lent-in s held t (and_left (inTableOk s held t) list e)).settings.store.heap in
+  pub gate_rest : (v : Verdict) → (in_table_ok s held t && list) ≡ true → share.idle ≡ true → v ≡ store_gate s share.heap share.objects t → v ≡ gate_of s held t list
+  unfolding gate_of store_gate account_ok holding
+  gate_rest v e f g =
+      let below = (lent_in_lem s held t (and_left (in_table_ok s held t) list e)).settings.store.heap in
       g
-      ∙ ap (λ (x : Heap). storeGate s x share.objects t) (sym (held-heap s.store share (order_by share.idle) below))
-      ∙ rw (e, held-free share.idle ∙ f) refl
+      ∙ ap (λ (x : Heap). store_gate s x share.objects t) (sym (held_heap s.store share (order_by share.idle) below))
+      ∙ rw (e, held_free share.idle ∙ f) refl

@@ -7,12 +7,12 @@ use Rattle.counter.specs.declared.account.KeptOrder.{KeptOrder}
 use Rattle.counter.specs.declared.account.OpenOrder.{OpenOrder}
 use Rattle.counter.specs.declared.account.OpenOrder.TheVariants.{Kept}
 use Rattle.counter.specs.declared.settings.BuddySettings.{BuddySettings}
-use Rattle.store_rules.specs.Orders.{leadsTo}
-use Rattle.store_rules.specs.Tests.{coversOk}
-use Rattle.buddy_rules.specs.Tables.{Tables, chunkPlacesIn}
-use Rattle.buddy_rules.specs.Test.{soundOk}
-use Rattle.buddy_outcomes.specs.Ask.{size_for, levelFor, decideAsk}
-use Rattle.buddy_outcomes.specs.Gate.{heldCount, heldBytes}
+use Rattle.store_rules.specs.Orders.{leads_to}
+use Rattle.store_rules.specs.Tests.{covers_ok}
+use Rattle.buddy_rules.specs.Tables.{Tables, chunk_places_in}
+use Rattle.buddy_rules.specs.Test.{sound_ok}
+use Rattle.buddy_outcomes.specs.Ask.{size_for, level_for, decide_ask}
+use Rattle.buddy_outcomes.specs.Gate.{held_count, held_bytes}
 use Rattle.buddy_decide.specs.Plans.{Buys}
 use Rattle.buddy_decide.specs.declared.plans.Buying.{Buying}
 use Rattle.buddy_gate.specs.declared.deliveries.Passing.{Passing}
@@ -20,25 +20,25 @@ use Rattle.buddy_gate.specs.declared.deliveries.Passing.TheVariants.{Shut, Go}
 use Rattle.buddy_gate.specs.declared.deliveries.Still.{Still}
 use Rattle.buddy_gate.specs.declared.deliveries.Still.TheVariants.{No, Yes}
 
-unfoldable pub storeGate : BuddySettings → Heap → ℕ → Tables → Verdict
-storeGate s h objects t =
+unfoldable pub store_gate : BuddySettings → Heap → ℕ → Tables → Verdict
+store_gate s h objects t =
     first
-    ((soundOk s t, 3)
-    ∷ (coversOk h objects (heldCount t (chunkPlacesIn t)) (heldBytes t (chunkPlacesIn t)), 4)
+    ((sound_ok s t, 3)
+    ∷ (covers_ok h objects (held_count t (chunk_places_in t)) (held_bytes t (chunk_places_in t)), 4)
     ∷ [])
 
 -- of a delivery: the kept ask still leads to its order
-unfoldable pub keptGate : BuddySettings → Heap → ℕ → KeptOrder → Tables → Verdict
-keptGate s h objects k t =
+unfoldable pub kept_gate : BuddySettings → Heap → ℕ → KeptOrder → Tables → Verdict
+kept_gate s h objects k t =
     first
-    ((soundOk s t && leadsTo s.store k.order (decideAsk s h objects k.ask.size k.ask.mask t), 3)
-    ∷ (coversOk h objects (heldCount t (chunkPlacesIn t)) (heldBytes t (chunkPlacesIn t)), 4)
+    ((sound_ok s t && leads_to s.store k.order (decide_ask s h objects k.ask.size k.ask.mask t), 3)
+    ∷ (covers_ok h objects (held_count t (chunk_places_in t)) (held_bytes t (chunk_places_in t)), 4)
     ∷ [])
 
 -- ---- the code's words, and that they carry what the kept ask needs
 
 abbrev pub KeptBuys : BuddySettings → KeptOrder → Tables → Buying → Type 0
-KeptBuys s k t b = Buys s (size_for s k.ask.size k.ask.mask) (levelFor s k.ask.size k.ask.mask) t b
+KeptBuys s k t b = Buys s (size_for s k.ask.size k.ask.mask) (level_for s k.ask.size k.ask.mask) t b
 
 abbrev pub still_of : Still → Bool
 still_of No = false

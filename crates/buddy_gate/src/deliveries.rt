@@ -1,13 +1,13 @@
 // The gate of a delivery: the tests 1 to 4, of which 3 tests the kept ask again. What that ask needs goes on to what carries it out.
 ghost use Rattle.std.specs.Prelude.{◌≡◌};
 ghost use Rattle.counter.specs.InTable.{BuddyIn};
-ghost use Rattle.store_rules.specs.Orders.{leadsTo};
+ghost use Rattle.store_rules.specs.Orders.{leads_to};
 ghost use Rattle.store_rules.proofs.Holders.{holding};
 ghost use Rattle.buddy_rules.specs.Tables.{tables, Lengths};
-ghost use Rattle.buddy_outcomes.specs.Ask.{decideAsk};
-ghost use Rattle.buddy_outcomes.specs.Deliver.{deliverGateOf};
+ghost use Rattle.buddy_outcomes.specs.Ask.{decide_ask};
+ghost use Rattle.buddy_outcomes.specs.Deliver.{deliver_gate_of};
 ghost use Rattle.buddy_decide.specs.Sees.{Sees};
-ghost use Rattle.buddy_gate.specs.Gates.{keptGate, still_of, StillBuys, passing_of, PassingBuys, OpenBuys};
+ghost use Rattle.buddy_gate.specs.Gates.{kept_gate, still_of, StillBuys, passing_of, PassingBuys, OpenBuys};
 
 use buddy_decide::{Buying, Plan};
 use counter::{BuddySettings, Heap, KeptOrder, OpenOrder, Refusal};
@@ -39,7 +39,7 @@ fn is_still(
     tree: &[u64],
 ) -> Still
     requires { Sees s head.now loans.now index.now tree.now }
-    ensures result_value { still_of result ≡ leadsTo s.store k.order (decideAsk s h objects k.ask.size k.ask.mask (tables head.now loans.now chunks.now index.now tree.now)) }
+    ensures result_value { still_of result ≡ leads_to s.store k.order (decide_ask s h objects k.ask.size k.ask.mask (tables head.now loans.now chunks.now index.now tree.now)) }
     ensures still_buys { StillBuys s k (tables head.now loans.now chunks.now index.now tree.now) result }
 {
     let ask = k.ask;
@@ -73,7 +73,7 @@ fn gate_kept(
     tree: &[u64],
 ) -> Passing
     requires { BuddyIn s × Lengths s (tables head.now loans.now chunks.now index.now tree.now) }
-    ensures result_value { passing_of result ≡ keptGate s h objects k (tables head.now loans.now chunks.now index.now tree.now) }
+    ensures result_value { passing_of result ≡ kept_gate s h objects k (tables head.now loans.now chunks.now index.now tree.now) }
     ensures passing_buys { PassingBuys s k (tables head.now loans.now chunks.now index.now tree.now) result }
 {
     if !buddy_test::is_sound(s, head, loans, chunks, index, tree) {
@@ -102,7 +102,7 @@ pub fn gate_delivery(
     index: &[u64],
     tree: &[u64],
 ) -> Passing
-    ensures result_value { passing_of result ≡ deliverGateOf s (holding s.store share order) (tables head.now loans.now chunks.now index.now tree.now) }
+    ensures result_value { passing_of result ≡ deliver_gate_of s (holding s.store share order) (tables head.now loans.now chunks.now index.now tree.now) }
     ensures open_buys { OpenBuys s order (tables head.now loans.now chunks.now index.now tree.now) result }
 {
     if !crate::gating::is_in_table(s, share, head, loans, chunks, index, tree) {

@@ -1,16 +1,16 @@
 // The gate of every call: the tests 1 to 4, in that order.
 ghost use Rattle.std.specs.Prelude.{◌≡◌, [], ◌+◌, ◌*◌, ◌^◌, ◌≤◌, ◌<◌, get_or};
 ghost use Rattle.words.specs.Words.{cell_of};
-ghost use Rattle.counter.specs.Gate.{verdictOf};
+ghost use Rattle.counter.specs.Gate.{verdict_of};
 ghost use Rattle.counter.specs.InTable.{BuddyIn};
-ghost use Rattle.counter.specs.Limits.{chunksMost, minimalBits, levelsMost};
+ghost use Rattle.counter.specs.Limits.{chunks_most, minimal_bits, levels_most};
 ghost use Rattle.store_rules.proofs.Holders.{holder};
-ghost use Rattle.store_rules.specs.Tests.{coversOk};
-ghost use Rattle.buddy_levels.specs.Seen.{levelPart};
-ghost use Rattle.buddy_rules.specs.Tables.{tables, lengthsOk, Lengths, chunkPlacesAt, chunkWords, chunkSizeAt};
-ghost use Rattle.buddy_outcomes.specs.Gate.{inTableOk, heldCount, heldBytes, gateOf};
-ghost use Rattle.buddy_outcomes.specs.SetUp.{fitOk};
-ghost use Rattle.buddy_gate.specs.Gates.{storeGate};
+ghost use Rattle.store_rules.specs.Tests.{covers_ok};
+ghost use Rattle.buddy_levels.specs.Seen.{level_part};
+ghost use Rattle.buddy_rules.specs.Tables.{tables, lengths_ok, Lengths, chunk_places_at, chunk_words, chunk_size_at};
+ghost use Rattle.buddy_outcomes.specs.Gate.{in_table_ok, held_count, held_bytes, gate_of};
+ghost use Rattle.buddy_outcomes.specs.SetUp.{fit_ok};
+ghost use Rattle.buddy_gate.specs.Gates.{store_gate};
 
 use book::ENTRY_WORDS;
 use buddy_rules::{CHUNK_PLACES_AT, CHUNK_SIZE_AT, CHUNK_WORDS, COLUMNS, HEAD_WORDS};
@@ -26,7 +26,7 @@ pub fn lengths_fit(
     tree: &[u64],
 ) -> bool
     requires { BuddyIn s }
-    ensures { result ≡ lengthsOk s (tables head.now loans.now chunks.now index.now tree.now) }
+    ensures { result ≡ lengths_ok s (tables head.now loans.now chunks.now index.now tree.now) }
 {
     let own = s.store;
     let room = buddy_levels::tree_words(s.pairs, own.chunks);
@@ -47,7 +47,7 @@ pub fn is_fit(
     index: &[u64],
     tree: &[u64],
 ) -> bool
-    ensures { result ≡ fitOk s (tables head.now loans.now chunks.now index.now tree.now) }
+    ensures { result ≡ fit_ok s (tables head.now loans.now chunks.now index.now tree.now) }
 {
     if s.in_table() {
         lengths_fit(s, head, loans, chunks, index, tree)
@@ -66,7 +66,7 @@ pub fn is_in_table(
     index: &[u64],
     tree: &[u64],
 ) -> bool
-    ensures { result ≡ inTableOk s (holder s.store share) (tables head.now loans.now chunks.now index.now tree.now) }
+    ensures { result ≡ in_table_ok s (holder s.store share) (tables head.now loans.now chunks.now index.now tree.now) }
 {
     if s.in_table() {
         let heap = share.heap;
@@ -79,8 +79,8 @@ pub fn is_in_table(
 
 // How many chunks stand at the first n places.
 fn held_count(chunks: &[u64], n: u64) -> u64
-    requires { n ≡ get_or chunks.now chunkPlacesAt 0 }
-    ensures { result ≡ heldCount (levelPart 0 chunks.now []) n }
+    requires { n ≡ get_or chunks.now chunk_places_at 0 }
+    ensures { result ≡ held_count (level_part 0 chunks.now []) n }
 {
     let mut count = 0;
     let mut c = 0;
@@ -95,8 +95,8 @@ fn held_count(chunks: &[u64], n: u64) -> u64
 
 // And how many bytes they have.
 fn held_bytes(chunks: &[u64], n: u64) -> u64
-    requires { (n ≤ chunksMost) × ((c : _) → c < n → get_or chunks.now (cell_of chunkSizeAt chunkWords c) 0 ≤ 2 ^ (minimalBits + levelsMost)) × (n ≡ get_or chunks.now chunkPlacesAt 0) }
-    ensures { result ≡ heldBytes (levelPart 0 chunks.now []) n }
+    requires { (n ≤ chunks_most) × ((c : _) → c < n → get_or chunks.now (cell_of chunk_size_at chunk_words c) 0 ≤ 2 ^ (minimal_bits + levels_most)) × (n ≡ get_or chunks.now chunk_places_at 0) }
+    ensures { result ≡ held_bytes (level_part 0 chunks.now []) n }
 {
     let mut sum = 0;
     let mut c = 0;
@@ -109,8 +109,8 @@ fn held_bytes(chunks: &[u64], n: u64) -> u64
 
 // Test 4, of the store's own heap.
 pub fn is_covered(h: Heap, objects: u32, chunks: &[u64]) -> bool
-    requires { (get_or chunks.now chunkPlacesAt 0 ≤ chunksMost) × ((c : _) → c < get_or chunks.now chunkPlacesAt 0 → get_or chunks.now (cell_of chunkSizeAt chunkWords c) 0 ≤ 2 ^ (minimalBits + levelsMost)) }
-    ensures { result ≡ coversOk h objects (heldCount (levelPart 0 chunks.now []) (get_or chunks.now chunkPlacesAt 0)) (heldBytes (levelPart 0 chunks.now []) (get_or chunks.now chunkPlacesAt 0)) }
+    requires { (get_or chunks.now chunk_places_at 0 ≤ chunks_most) × ((c : _) → c < get_or chunks.now chunk_places_at 0 → get_or chunks.now (cell_of chunk_size_at chunk_words c) 0 ≤ 2 ^ (minimal_bits + levels_most)) }
+    ensures { result ≡ covers_ok h objects (held_count (level_part 0 chunks.now []) (get_or chunks.now chunk_places_at 0)) (held_bytes (level_part 0 chunks.now []) (get_or chunks.now chunk_places_at 0)) }
 {
     let n = words::word(chunks, CHUNK_PLACES_AT);
     store_accounts::covers(h, objects, held_count(chunks, n), held_bytes(chunks, n))
@@ -128,7 +128,7 @@ fn gate_store(
     tree: &[u64],
 ) -> Gate
     requires { BuddyIn s × Lengths s (tables head.now loans.now chunks.now index.now tree.now) }
-    ensures { verdictOf result ≡ storeGate s h objects (tables head.now loans.now chunks.now index.now tree.now) }
+    ensures { verdict_of result ≡ store_gate s h objects (tables head.now loans.now chunks.now index.now tree.now) }
 {
     if !buddy_test::is_sound(s, head, loans, chunks, index, tree) {
         return Gate::Shut(Refusal::Torn);
@@ -150,7 +150,7 @@ pub fn gate(
     index: &[u64],
     tree: &[u64],
 ) -> Gate
-    ensures { verdictOf result ≡ gateOf s (holder s.store share) (tables head.now loans.now chunks.now index.now tree.now) list }
+    ensures { verdict_of result ≡ gate_of s (holder s.store share) (tables head.now loans.now chunks.now index.now tree.now) list }
 {
     let lent = is_in_table(s, share, head, loans, chunks, index, tree);
     if !(lent & list) {

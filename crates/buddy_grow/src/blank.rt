@@ -2,9 +2,9 @@
 ghost use Rattle.std.specs.Prelude.{◌≡◌, ◌*◌, ◌+◌, length};
 ghost use Rattle.words.specs.Words.{blank};
 ghost use Rattle.counter.specs.InTable.{BuddyIn};
-ghost use Rattle.store_rules.specs.Loans.{loanWords};
-ghost use Rattle.buddy_rules.specs.Tables.{tables, Lengths, marks, headWords, chunkWords, bookWords};
-ghost use Rattle.buddy_outcomes.specs.SetUp.{freshHead, freshTables};
+ghost use Rattle.store_rules.specs.Loans.{loan_words};
+ghost use Rattle.buddy_rules.specs.Tables.{tables, Lengths, marks, head_words, chunk_words, book_words};
+ghost use Rattle.buddy_outcomes.specs.SetUp.{fresh_head, fresh_tables};
 
 use buddy_rules::{CHUNKS_MARK, HEAD_MARK, INDEX_MARK, LEVELS_AT, LOANS_MARK, ROOM_MARK};
 use counter::BuddySettings;
@@ -12,8 +12,8 @@ use words::MARK_AT;
 
 // The mark, and the initial levels.
 fn fresh_head(s: BuddySettings, head: &mut [u64])
-    requires { BuddyIn s × (length head.old ≡ headWords) }
-    ensures { head.new ≡ freshHead s }
+    requires { BuddyIn s × (length head.old ≡ head_words) }
+    ensures { head.new ≡ fresh_head s }
 {
     let levels = rounding::level(s.initial, s.minimal);
     words::put(head, MARK_AT, HEAD_MARK);
@@ -22,10 +22,10 @@ fn fresh_head(s: BuddySettings, head: &mut [u64])
 
 // Behind the marks no loan, no chunk, no link from loan to loan, and no node.
 fn fresh_rows(s: BuddySettings, loans: &mut [u64], chunks: &mut [u64], index: &mut [u64])
-    requires { (length loans.old ≡ loanWords + loanWords * s.store.loans) × (length chunks.old ≡ chunkWords + chunkWords * s.store.chunks) × (length index.old ≡ bookWords s) }
-    ensures loans_after { loans.new ≡ blank (loanWords + loanWords * s.store.loans) marks.loans 0 }
-    ensures chunks_after { chunks.new ≡ blank (chunkWords + chunkWords * s.store.chunks) marks.chunks 0 }
-    ensures index_after { index.new ≡ blank (bookWords s) marks.index 0 }
+    requires { (length loans.old ≡ loan_words + loan_words * s.store.loans) × (length chunks.old ≡ chunk_words + chunk_words * s.store.chunks) × (length index.old ≡ book_words s) }
+    ensures loans_after { loans.new ≡ blank (loan_words + loan_words * s.store.loans) marks.loans 0 }
+    ensures chunks_after { chunks.new ≡ blank (chunk_words + chunk_words * s.store.chunks) marks.chunks 0 }
+    ensures index_after { index.new ≡ blank (book_words s) marks.index 0 }
 {
     words::put_blank(loans, LOANS_MARK, 0);
     words::put_blank(chunks, CHUNKS_MARK, 0);
@@ -42,7 +42,7 @@ pub fn fresh(
     tree: &mut [u64],
 )
     requires { BuddyIn s × Lengths s (tables head.old loans.old chunks.old index.old tree.old) }
-    ensures { tables head.new loans.new chunks.new index.new tree.new ≡ freshTables s }
+    ensures { tables head.new loans.new chunks.new index.new tree.new ≡ fresh_tables s }
 {
     fresh_head(s, head);
     fresh_rows(s, loans, chunks, index);

@@ -1,9 +1,9 @@
 // Levels there and empty.
 ghost use Rattle.std.specs.Prelude.{◌≡◌, [], ◌+◌, ◌≤◌};
 ghost use Rattle.counter.specs.InTable.{BuddyIn};
-ghost use Rattle.counter.specs.Limits.{levelsMost};
+ghost use Rattle.counter.specs.Limits.{levels_most};
 ghost use Rattle.buddy_rules.specs.Tables.{tables};
-ghost use Rattle.buddy_outcomes.specs.Ask.{freshLevels, grownTables};
+ghost use Rattle.buddy_outcomes.specs.Ask.{fresh_levels, grown_tables};
 ghost use Rattle.buddy_grow.specs.Grows.{Grows};
 
 use buddy_rules::LEVELS_AT;
@@ -11,8 +11,8 @@ use counter::BuddySettings;
 
 // Those from a level on, n of them.
 fn fresh_levels(s: BuddySettings, level: usize, n: usize, tree: &mut [u64])
-    requires { BuddyIn s × (level + n ≤ levelsMost) }
-    ensures { tree.new ≡ freshLevels s level n tree.old }
+    requires { BuddyIn s × (level + n ≤ levels_most) }
+    ensures { tree.new ≡ fresh_levels s level n tree.old }
 {
     let mut i = 0;
     while i < n {
@@ -24,7 +24,7 @@ fn fresh_levels(s: BuddySettings, level: usize, n: usize, tree: &mut [u64])
 // The store has n levels from now on, which are no fewer than it had.
 pub fn grow(s: BuddySettings, n: u64, head: &mut [u64], tree: &mut [u64])
     requires { Grows s n head.old }
-    ensures { tables head.new [] [] [] tree.new ≡ grownTables s n (tables head.old [] [] [] tree.old) }
+    ensures { tables head.new [] [] [] tree.new ≡ grown_tables s n (tables head.old [] [] [] tree.old) }
 {
     let levels = words::word(head, LEVELS_AT);
     fresh_levels(s, levels as usize, (n - levels) as usize, tree);

@@ -5,82 +5,82 @@ use Prim.Native.Nat.{ℕ, ◌+◌, ◌-◌, ◌^◌, ◌≤◌, ◌<◌}
 use lib.ListN.{get_or}
 use borrow.Author.Tests.{eq-eqb, ne_eqb}
 use Rattle.counter.specs.declared.settings.BuddySettings.{BuddySettings}
-use Rattle.slab.specs.declared.Taken.{Taken}
-use Rattle.store_rules.specs.Loans.{givenAt, places_at, loan}
+use Rattle.slabs.specs.declared.Taken.{Taken}
+use Rattle.store_rules.specs.Loans.{given_at, places_at, loan}
 use Rattle.store_rules.specs.declared.Loan.{Loan}
 use Rattle.book_rules.specs.Book.{taken_of}
 use Rattle.buddy_trees.specs.Trees.{bytes}
-use Rattle.buddy_rules.specs.Nodes.{freeWord, leftReady, Ent}
+use Rattle.buddy_rules.specs.Nodes.{free_word, left_ready, Ent}
 use Rattle.buddy_rules.specs.Levels.{side_of, base_of}
-use Rattle.buddy_rules.specs.Level.{tag_at, pairCell, entOf, ringHead, acquired, levelStart}
-use Rattle.buddy_levels.specs.Pairs.{entFrom}
+use Rattle.buddy_rules.specs.Level.{tag_at, pair_cell, ent_of, ring_head, acquired, level_start}
+use Rattle.buddy_levels.specs.Pairs.{ent_from}
 use Rattle.buddy_levels.specs.Stands.{Stands, Leaves}
 use Rattle.buddy_levels.specs.declared.pairs.Pair.{Pair}
-use Rattle.buddy_rules.specs.Tables.{Tables, tables, levelFrom}
-use Rattle.buddy_rules.specs.Moves.{Cut, splitDown, readyNode}
+use Rattle.buddy_rules.specs.Tables.{Tables, tables, level_from}
+use Rattle.buddy_rules.specs.Moves.{Cut, split_down, ready_node}
 use Rattle.buddy_moves.specs.Roomy.{Roomy}
-use Rattle.buddy_outcomes.specs.Ask.{loanFrom, takenTables, bookedTables}
+use Rattle.buddy_outcomes.specs.Ask.{loan_from, taken_tables, booked_tables}
 
 -- where the ready side begins
 module _ (u : ℕ) (e : Pair) (l : ℕ) where
-  pub left-from : e.tag ≡ leftReady → e.off ≡ base_of u (entFrom e) l
-  left-from h = sym (simp (eq-eqb e.tag leftReady h))
+  pub left_from : e.tag ≡ left_ready → e.off ≡ base_of u (ent_from e) l
+  left_from h = sym (simp (eq-eqb e.tag left_ready h))
 
-  pub right-from : (e.tag ≡ leftReady → ⊥) → (b : ℕ) → b ≡ bytes u l → e.off + b ≡ base_of u (entFrom e) l
-  right-from h b q = ap (λ (x : ℕ). e.off + x) q ∙ sym (simp (ne_eqb e.tag leftReady h))
+  pub right_from : (e.tag ≡ left_ready → ⊥) → (b : ℕ) → b ≡ bytes u l → e.off + b ≡ base_of u (ent_from e) l
+  right_from h b q = ap (λ (x : ℕ). e.off + x) q ∙ sym (simp (ne_eqb e.tag left_ready h))
 
 -- the head pair stands in the tree, and can leave its ring
-pub head-leaves : (s : BuddySettings) (i : ℕ) (tree : List ℕ) (h : ℕ) → h ≡ ringHead (levelFrom s i) tree → Leaves (levelFrom s i) (ringHead (levelFrom s i) tree) tree → Leaves (levelStart s.pairs i) h tree
-head-leaves s i tree h ring l = subst (λ (x : ℕ). Leaves (levelStart s.pairs i) x tree) (sym ring) l
+pub head_leaves : (s : BuddySettings) (i : ℕ) (tree : List ℕ) (h : ℕ) → h ≡ ring_head (level_from s i) tree → Leaves (level_from s i) (ring_head (level_from s i) tree) tree → Leaves (level_start s.pairs i) h tree
+head_leaves s i tree h ring l = subst (λ (x : ℕ). Leaves (level_start s.pairs i) x tree) (sym ring) l
 
-pub head-stands : (s : BuddySettings) (i : ℕ) (tree : List ℕ) (base : ℕ) → base ≡ levelStart s.pairs i → (h : ℕ) → h ≡ ringHead (levelFrom s i) tree
-    → Leaves (levelFrom s i) (ringHead (levelFrom s i) tree) tree → Stands base h tree
-head-stands s i tree base at h ring l = subst (λ (x : ℕ). Stands x h tree) (sym at) (head-leaves s i tree h ring l).own
+pub head_stands : (s : BuddySettings) (i : ℕ) (tree : List ℕ) (base : ℕ) → base ≡ level_start s.pairs i → (h : ℕ) → h ≡ ring_head (level_from s i) tree
+    → Leaves (level_from s i) (ring_head (level_from s i) tree) tree → Stands base h tree
+head_stands s i tree base at h ring l = subst (λ (x : ℕ). Stands x h tree) (sym at) (head_leaves s i tree h ring l).own
 
-module _ (s : BuddySettings) (i : ℕ) (tree : List ℕ) (base : ℕ) (at : base ≡ levelStart s.pairs i) (h : ℕ) (ring : h ≡ ringHead (levelFrom s i) tree) (e : Pair) (reads : entFrom e ≡ entOf base tree h) where
+module _ (s : BuddySettings) (i : ℕ) (tree : List ℕ) (base : ℕ) (at : base ≡ level_start s.pairs i) (h : ℕ) (ring : h ≡ ring_head (level_from s i) tree) (e : Pair) (reads : ent_from e ≡ ent_of base tree h) where
   -- the head pair's entry
-  pub ent-is : entFrom e ≡ entOf (levelFrom s i) tree (ringHead (levelFrom s i) tree)
-  ent-is = reads ∙ (λ j. entOf (at j) tree (ring j))
+  pub ent_is : ent_from e ≡ ent_of (level_from s i) tree (ring_head (level_from s i) tree)
+  ent_is = reads ∙ (λ j. ent_of (at j) tree (ring j))
 
-  pub pair-low : ringHead (levelFrom s i) tree < s.pairs → h < s.pairs
-  pair-low l = rw ring l
+  pub pair_low : ring_head (level_from s i) tree < s.pairs → h < s.pairs
+  pair_low l = rw ring l
 
-  pub off-low : (entOf (levelFrom s i) tree (ringHead (levelFrom s i) tree)).off ≤ 2 ^ 62 → e.off ≤ 2 ^ 62
-  off-low l = let q : e.off ≡ (entOf (levelFrom s i) tree (ringHead (levelFrom s i) tree)).off = ap (λ (x : Ent). x.off) ent-is in rw q l
+  pub off_low : (ent_of (level_from s i) tree (ring_head (level_from s i) tree)).off ≤ 2 ^ 62 → e.off ≤ 2 ^ 62
+  off_low l = let q : e.off ≡ (ent_of (level_from s i) tree (ring_head (level_from s i) tree)).off = ap (λ (x : Ent). x.off) ent_is in rw q l
 
   -- at which side it is ready
-  pub side-is : side_of e.tag ≡ side_of (get_or tree (pairCell (levelFrom s i) tag_at h) 0)
-  side-is = ap (λ (x : Ent). side_of x.tag) reads ∙ ap (λ (b : ℕ). side_of (get_or tree (pairCell b tag_at h) 0)) at
+  pub side_is : side_of e.tag ≡ side_of (get_or tree (pair_cell (level_from s i) tag_at h) 0)
+  side_is = ap (λ (x : Ent). side_of x.tag) reads ∙ ap (λ (b : ℕ). side_of (get_or tree (pair_cell b tag_at h) 0)) at
 
-  module _ (size : ℕ) (loans : List ℕ) (o : ℕ) (from : o ≡ base_of s.minimal (entFrom e) i) (g : ℕ) (given : g ≡ get_or loans givenAt 0) where
+  module _ (size : ℕ) (loans : List ℕ) (o : ℕ) (from : o ≡ base_of s.minimal (ent_from e) i) (g : ℕ) (given : g ≡ get_or loans given_at 0) where
     abbrev Served : Loan
-    Served = loanFrom s size (tables [] loans [] [] tree) i
+    Served = loan_from s size (tables [] loans [] [] tree) i
 
     -- the loan that it gives
-    pub loan-is : loan (g + 1) e.chunk o size ≡ Served
-    loan-is = (λ j. loan (given j + 1) e.chunk (from j) size) ∙ (λ j. loan (get_or loans givenAt 0 + 1) (ent-is j).chunk (base_of s.minimal (ent-is j) i) size)
+    pub loan_is : loan (g + 1) e.chunk o size ≡ Served
+    loan_is = (λ j. loan (given j + 1) e.chunk (from j) size) ∙ (λ j. loan (get_or loans given_at 0 + 1) (ent_is j).chunk (base_of s.minimal (ent_is j) i) size)
 
     module _ (level : ℕ) where
       abbrev RoomyAt : Loan → Type 0
-      RoomyAt l = Roomy s.pairs level l.chunk l.offset (readyNode s.pairs i tree) (i - level) (acquired (levelFrom s i) freeWord tree)
+      RoomyAt l = Roomy s.pairs level l.chunk l.offset (ready_node s.pairs i tree) (i - level) (acquired (level_from s i) free_word tree)
 
-      pub lends-roomy : RoomyAt Served → RoomyAt (loan (g + 1) e.chunk o size)
-      lends-roomy r = subst RoomyAt (sym loan-is) r
+      pub lends_roomy : RoomyAt Served → RoomyAt (loan (g + 1) e.chunk o size)
+      lends_roomy r = subst RoomyAt (sym loan_is) r
 
       module _ (index : List ℕ) (k : Taken) (next : k ≡ taken_of (get_or loans places_at 0) index) where
         -- the split from the ready side
-        abbrev cutBy : Loan → ℕ → Cut
-        cutBy l p = splitDown s.pairs level l.chunk l.offset p (readyNode s.pairs i tree) (i - level) (acquired (levelFrom s i) freeWord tree)
+        abbrev cut_by : Loan → ℕ → Cut
+        cut_by l p = split_down s.pairs level l.chunk l.offset p (ready_node s.pairs i tree) (i - level) (acquired (level_from s i) free_word tree)
 
-        abbrev bookedBy : Loan → Cut → Tables
-        bookedBy l c = bookedTables s l.chunk l.offset size c (tables [] loans [] index [])
+        abbrev booked_by : Loan → Cut → Tables
+        booked_by l c = booked_tables s l.chunk l.offset size c (tables [] loans [] index [])
 
-        pub lent-done : (n : ℕ) (l' i' t' : List ℕ) → n ≡ (cutBy (loan (g + 1) e.chunk o size) k.place).node → t' ≡ (cutBy (loan (g + 1) e.chunk o size) k.place).room
-            → tables [] l' [] i' t' ≡ bookedTables s e.chunk o size (record { node = n; room = t' }) (tables [] loans [] index [])
-            → tables [] l' [] i' t' ≡ takenTables s size level (tables [] loans [] index tree) i
-        unfolding bookedTables takenTables
-        lent-done n l' i' t' a b d =
+        pub lent_done : (n : ℕ) (l' i' t' : List ℕ) → n ≡ (cut_by (loan (g + 1) e.chunk o size) k.place).node → t' ≡ (cut_by (loan (g + 1) e.chunk o size) k.place).room
+            → tables [] l' [] i' t' ≡ booked_tables s e.chunk o size (record { node = n; room = t' }) (tables [] loans [] index [])
+            → tables [] l' [] i' t' ≡ taken_tables s size level (tables [] loans [] index tree) i
+        unfolding booked_tables taken_tables
+        lent_done n l' i' t' a b d =
             let l = loan (g + 1) e.chunk o size in
             d
-            ∙ (λ j. bookedBy l (record { node = a j; room = b j }))
-            ∙ (λ j. bookedBy (loan-is j) (cutBy (loan-is j) (next j).place))
+            ∙ (λ j. booked_by l (record { node = a j; room = b j }))
+            ∙ (λ j. booked_by (loan_is j) (cut_by (loan_is j) (next j).place))

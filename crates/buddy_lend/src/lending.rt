@@ -1,26 +1,26 @@
 // A block lent from the ready side of a level's head pair.
 ghost use Rattle.std.specs.Prelude.{◌≡◌, [], ◌≤◌, ◌^◌, get_or};
 ghost use Rattle.counter.specs.InTable.{BuddyIn};
-ghost use Rattle.counter.specs.Limits.{levelsMost};
+ghost use Rattle.counter.specs.Limits.{levels_most};
 ghost use Rattle.store_rules.specs.Loans.{places_at};
 ghost use Rattle.book_rules.specs.Book.{taken_of};
-ghost use Rattle.buddy_rules.specs.Level.{ringHead};
+ghost use Rattle.buddy_rules.specs.Level.{ring_head};
 ghost use Rattle.buddy_rules.specs.Levels.{base_of};
-ghost use Rattle.buddy_levels.specs.Pairs.{entFrom};
-ghost use Rattle.buddy_rules.specs.Tables.{tables, levelFrom};
-ghost use Rattle.buddy_outcomes.specs.Ask.{loanFrom, takenTables};
+ghost use Rattle.buddy_levels.specs.Pairs.{ent_from};
+ghost use Rattle.buddy_rules.specs.Tables.{tables, level_from};
+ghost use Rattle.buddy_outcomes.specs.Ask.{loan_from, taken_tables};
 ghost use Rattle.buddy_moves.specs.Ready.{Lends};
 
 use buddy_levels::Pair;
 use buddy_rules::LEFT_READY;
 use counter::BuddySettings;
-use slab::Taken;
+use slabs::Taken;
 use store_rules::{GIVEN_AT, Loan};
 
 // Where the ready side of a pair begins.
 fn side_from(s: BuddySettings, e: Pair, level: u64) -> u64
-    requires { BuddyIn s × (level ≤ levelsMost) × (e.off ≤ 2 ^ 62) }
-    ensures { result ≡ base_of s.minimal (entFrom e) level }
+    requires { BuddyIn s × (level ≤ levels_most) × (e.off ≤ 2 ^ 62) }
+    ensures { result ≡ base_of s.minimal (ent_from e) level }
 {
     if e.tag == LEFT_READY {
         return e.off;
@@ -40,9 +40,9 @@ pub fn lend(
     index: &mut [u64],
     tree: &mut [u64],
 ) -> Loan
-    requires { Lends s size level from (tables [] loans.old [] index.old tree.old) × (pair ≡ ringHead (levelFrom s from) tree.old) × (loan ≡ taken_of (get_or loans.old places_at 0) index.old) }
-    ensures value { result ≡ loanFrom s size (tables [] loans.old [] [] tree.old) from }
-    ensures tree_after { tables [] loans.new [] index.new tree.new ≡ takenTables s size level (tables [] loans.old [] index.old tree.old) from }
+    requires { Lends s size level from (tables [] loans.old [] index.old tree.old) × (pair ≡ ring_head (level_from s from) tree.old) × (loan ≡ taken_of (get_or loans.old places_at 0) index.old) }
+    ensures value { result ≡ loan_from s size (tables [] loans.old [] [] tree.old) from }
+    ensures tree_after { tables [] loans.new [] index.new tree.new ≡ taken_tables s size level (tables [] loans.old [] index.old tree.old) from }
 {
     let base = buddy_levels::level_from(s.pairs, from);
     let e = buddy_levels::standing_pair(tree, base, pair);

@@ -1,10 +1,10 @@
 // The ready side of a level's head pair, taken and split down to the asked level.
 ghost use Rattle.std.specs.Prelude.{◌≡◌, ◌-◌, ◌≤◌, ◌<◌, length, get_or};
-ghost use Rattle.counter.specs.Limits.{levelsMost, pairsMost, loansMost};
-ghost use Rattle.buddy_rules.specs.Nodes.{freeWord};
-ghost use Rattle.buddy_rules.specs.Levels.{sideBy, side_of};
-ghost use Rattle.buddy_rules.specs.Level.{tag_at, pairCell, ringHead, acquired, levelStart};
-ghost use Rattle.buddy_rules.specs.Moves.{readyNode, splitDown};
+ghost use Rattle.counter.specs.Limits.{levels_most, pairs_most, loans_most};
+ghost use Rattle.buddy_rules.specs.Nodes.{free_word};
+ghost use Rattle.buddy_rules.specs.Levels.{side_by, side_of};
+ghost use Rattle.buddy_rules.specs.Level.{tag_at, pair_cell, ring_head, acquired, level_start};
+ghost use Rattle.buddy_rules.specs.Moves.{ready_node, split_down};
 ghost use Rattle.buddy_levels.specs.Stands.{Leaves};
 ghost use Rattle.buddy_moves.specs.Roomy.{Roomy};
 
@@ -24,12 +24,12 @@ pub fn take_side(
     offset: u64,
     loan: u64,
 ) -> u64
-    requires pairs_le_pairs_most { (pairs ≤ pairsMost) × (level ≤ from) × (from < levelsMost) × (loan < loansMost) × (h < pairs) × (levelStart pairs levelsMost ≤ length tree.old) }
-    requires h_value { (h ≡ ringHead (levelStart pairs from) tree.old) × (sideBy left ≡ side_of (get_or tree.old (pairCell (levelStart pairs from) tag_at h) 0)) }
-    requires leaves { Leaves (levelStart pairs from) h tree.old }
-    requires roomy { Roomy pairs level chunk offset (readyNode pairs from tree.old) (from - level) (acquired (levelStart pairs from) freeWord tree.old) }
-    ensures value { result ≡ (splitDown pairs level chunk offset loan (readyNode pairs from tree.old) (from - level) (acquired (levelStart pairs from) freeWord tree.old)).node }
-    ensures tree_after { tree.new ≡ (splitDown pairs level chunk offset loan (readyNode pairs from tree.old) (from - level) (acquired (levelStart pairs from) freeWord tree.old)).room }
+    requires pairs_le_pairs_most { (pairs ≤ pairs_most) × (level ≤ from) × (from < levels_most) × (loan < loans_most) × (h < pairs) × (level_start pairs levels_most ≤ length tree.old) }
+    requires h_value { (h ≡ ring_head (level_start pairs from) tree.old) × (side_by left ≡ side_of (get_or tree.old (pair_cell (level_start pairs from) tag_at h) 0)) }
+    requires leaves { Leaves (level_start pairs from) h tree.old }
+    requires roomy { Roomy pairs level chunk offset (ready_node pairs from tree.old) (from - level) (acquired (level_start pairs from) free_word tree.old) }
+    ensures value { result ≡ (split_down pairs level chunk offset loan (ready_node pairs from tree.old) (from - level) (acquired (level_start pairs from) free_word tree.old)).node }
+    ensures tree_after { tree.new ≡ (split_down pairs level chunk offset loan (ready_node pairs from tree.old) (from - level) (acquired (level_start pairs from) free_word tree.old)).room }
 {
     let base = level_from(pairs, from);
     let node = if left {

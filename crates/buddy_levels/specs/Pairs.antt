@@ -2,8 +2,8 @@
 use Rattle.buddy_rules.specs.Nodes.{Ent}
 use Rattle.buddy_levels.specs.declared.pairs.Pair.{Pair}
 
-abbrev pub entFrom : Pair → Ent
-entFrom p =
+abbrev pub ent_from : Pair → Ent
+ent_from p =
     record {
       tag = p.tag;
       chunk = p.chunk;

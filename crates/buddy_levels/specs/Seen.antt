@@ -5,8 +5,8 @@ use Rattle.counter.specs.declared.settings.BuddySettings.{BuddySettings}
 use Rattle.buddy_rules.specs.Tables.{Tables, tables, marks}
 
 -- settings with this minimal size, so many pairs a level and so many loan places
-abbrev pub partSettings : ℕ → ℕ → ℕ → BuddySettings
-partSettings minimal pairs loans =
+abbrev pub part_settings : ℕ → ℕ → ℕ → BuddySettings
+part_settings minimal pairs loans =
     record {
       store = record { number = 0; memtype = 0; properties = 0; heap = 0; atom = 0; loans = loans; chunks = 0 };
       minimal = minimal;
@@ -15,13 +15,13 @@ partSettings minimal pairs loans =
     }
 
 -- tables whose head has so many levels
-abbrev pub partTables : ℕ → List ℕ → List ℕ → List ℕ → List ℕ → Tables
-partTables levels loans chunks index tree = tables (marks.head ∷ levels ∷ []) loans chunks index tree
+abbrev pub part_tables : ℕ → List ℕ → List ℕ → List ℕ → List ℕ → Tables
+part_tables levels loans chunks index tree = tables (marks.head ∷ levels ∷ []) loans chunks index tree
 
 -- of these a walk down a chunk reads the loans, their nodes in the index, and the tree
-abbrev pub loanPart : List ℕ → List ℕ → List ℕ → Tables
-loanPart loans index tree = partTables 0 loans [] index tree
+abbrev pub loan_part : List ℕ → List ℕ → List ℕ → Tables
+loan_part loans index tree = part_tables 0 loans [] index tree
 
 -- and the looks at what leads to a node the levels, the chunks and the tree
-abbrev pub levelPart : ℕ → List ℕ → List ℕ → Tables
-levelPart levels chunks tree = partTables levels [] chunks [] tree
+abbrev pub level_part : ℕ → List ℕ → List ℕ → Tables
+level_part levels chunks tree = part_tables levels [] chunks [] tree

@@ -1,14 +1,14 @@
 // The test of a level, linear in the pair places ever used: its chain and its ring are followed, and no place is looked at beside them.
 ghost use Rattle.std.specs.Prelude.{◌≡◌, ◌+◌, ◌≤◌, true, length, slice_index};
-ghost use Rattle.ring_rules.specs.Test.{ringLength};
-ghost use Rattle.buddy_rules.specs.Level.{baseMost, levelWords, ringAt, usedAt, next_at, prevAt, pairWords, field_at};
-ghost use Rattle.buddy_rules.specs.LevelTest.{along, readyIn, readyAfter, ringed, inUse, levelOk};
+ghost use Rattle.ring_rules.specs.Test.{ring_length};
+ghost use Rattle.buddy_rules.specs.Level.{base_most, level_words, ring_at, used_at, next_at, prev_at, pair_words, field_at};
+ghost use Rattle.buddy_rules.specs.LevelTest.{along, ready_in, ready_after, ringed, in_use, level_ok};
 
 use crate::{
     HEADER_WORDS, NEXT_AT, OFF_AT, PAIR_WORDS, PREV_AT, RING_AT, TAG_AT, USED_AT, VACATED_AT, field,
 };
 use buddy_rules::EXHAUSTED;
-use slab::NOWHERE;
+use slabs::NOWHERE;
 
 // Whether levels are right, and, where they are, how many pairs are in use and how many of them stand in the rings.
 #[derive(Drop)]
@@ -20,9 +20,9 @@ pub struct Tested {
 
 // Whether a level of at most `pairs` places is right: its chain and its ring end within its places, and the ring's pairs are ready.
 pub fn test_level(tree: &[u64], base: usize, pairs: u64) -> Tested
-    requires { (base ≤ baseMost) × (base + levelWords pairs ≤ length tree.now) }
-    ensures ok_value { result.ok ≡ levelOk base pairs tree.now }
-    ensures used_value { (result.ok ≡ true → (result.used ≡ inUse base tree.now) × (result.ready ≡ ringed base tree.now)) × (result.used ≤ pairs) × (result.ready ≤ pairs) }
+    requires { (base ≤ base_most) × (base + level_words pairs ≤ length tree.now) }
+    ensures ok_value { result.ok ≡ level_ok base pairs tree.now }
+    ensures used_value { (result.ok ≡ true → (result.used ≡ in_use base tree.now) × (result.ready ≡ ringed base tree.now)) × (result.used ≤ pairs) × (result.ready ≤ pairs) }
 {
     let no = Tested {
         ok: false,
@@ -39,7 +39,7 @@ pub fn test_level(tree: &[u64], base: usize, pairs: u64) -> Tested
         return no;
     }
     Tested {
-        ok: all_ready(tree, base, slab::led_to(tree, base + RING_AT), ready),
+        ok: all_ready(tree, base, slabs::led_to(tree, base + RING_AT), ready),
         used: used,
         ready: ready,
     }
@@ -47,21 +47,21 @@ pub fn test_level(tree: &[u64], base: usize, pairs: u64) -> Tested
 
 // How many pairs are in use: of the places ever used those that the chain of the vacated ones leaves over, NOWHERE where it is torn.
 fn count_used(tree: &[u64], base: usize, places: u64) -> u64
-    requires { (base ≤ baseMost) × (base + levelWords places ≤ length tree.now) × (places ≡ slice_index tree.now (base + usedAt)) }
-    ensures { result ≡ inUse base tree.now }
+    requires { (base ≤ base_most) × (base + level_words places ≤ length tree.now) × (places ≡ slice_index tree.now (base + used_at)) }
+    ensures { result ≡ in_use base tree.now }
 {
-    let last = slab::led_to(tree, base + VACATED_AT);
+    let last = slabs::led_to(tree, base + VACATED_AT);
     let mark = base + (HEADER_WORDS + TAG_AT);
     let after = base + (HEADER_WORDS + OFF_AT);
-    slab::off_chain(
+    slabs::off_chain(
         tree, mark, PAIR_WORDS, tree, after, PAIR_WORDS, places, last,
     )
 }
 
 // How many pairs stand in the ring, all of them below `used`: NOWHERE where it is torn.
 fn ring_size(tree: &[u64], base: usize, used: u64) -> u64
-    requires { base ≤ baseMost }
-    ensures { result ≡ ringLength (base + ringAt) (field_at base next_at) (field_at base prevAt) pairWords used tree.now }
+    requires { base ≤ base_most }
+    ensures { result ≡ ring_length (base + ring_at) (field_at base next_at) (field_at base prev_at) pair_words used tree.now }
 {
     let next = base + (HEADER_WORDS + NEXT_AT);
     let prev = base + (HEADER_WORDS + PREV_AT);
@@ -77,8 +77,8 @@ fn ring_size(tree: &[u64], base: usize, used: u64) -> u64
 
 // Whether the pair h and those after it in the ring, k of them, are ready.
 fn all_ready(tree: &[u64], base: usize, h: u64, k: u64) -> bool
-    requires { base ≤ baseMost }
-    ensures { result ≡ along (readyIn base tree.now) (readyAfter base tree.now) h k }
+    requires { base ≤ base_most }
+    ensures { result ≡ along (ready_in base tree.now) (ready_after base tree.now) h k }
 {
     let next = base + (HEADER_WORDS + NEXT_AT);
     let mut p = h;
@@ -87,7 +87,7 @@ fn all_ready(tree: &[u64], base: usize, h: u64, k: u64) -> bool
         if field(tree, base, TAG_AT, p) <= EXHAUSTED {
             return false;
         }
-        p = slab::link(tree, next, PAIR_WORDS, p);
+        p = slabs::link(tree, next, PAIR_WORDS, p);
         left -= 1;
     }
     true

@@ -7,11 +7,11 @@ mod pairs;
 mod shape;
 
 ghost use Rattle.std.specs.Prelude.{◌≡◌, ◌+◌, ◌<◌, ◌≤◌, slice_index, slice_set};
-ghost use Rattle.buddy_rules.specs.Nodes.{freeWord, rightReady};
-ghost use Rattle.buddy_rules.specs.Levels.{sideBy, side_of};
+ghost use Rattle.buddy_rules.specs.Nodes.{free_word, right_ready};
+ghost use Rattle.buddy_rules.specs.Levels.{side_by, side_of};
 ghost use Rattle.ring_rules.specs.Ring.{alone};
 ghost use Rattle.buddy_levels.specs.Stands.{Stands, Leaves, Joins, Takes};
-ghost use Rattle.buddy_rules.specs.Level.{baseMost, pairWords, tag_at, chunkAt, off_at, left_at, rightAt, next_at, prevAt, upAt, ringAt, field_at, pairCell, ringHead, leaves, joins, pairTaken, dropped, backed, acquired, entered, added, freshLevel};
+ghost use Rattle.buddy_rules.specs.Level.{base_most, pair_words, tag_at, chunk_at, off_at, left_at, right_at, next_at, prev_at, up_at, ring_at, field_at, pair_cell, ring_head, leaves, joins, pair_taken, dropped, backed, acquired, entered, added, fresh_level};
 
 use buddy_rules::{EXHAUSTED, FREE_WORD, LEFT_READY, RIGHT_READY, VACANT};
 pub use good::{Tested, test_level};
@@ -20,7 +20,7 @@ pub use nodes::{
 };
 pub use pairs::{Pair, pair_at, standing_pair};
 pub use shape::{chunks_from, level_from, node_at, node_bytes, tree_words};
-use slab::{Slab, Taken};
+use slabs::{Slab, Taken};
 
 // Where the words stand; specs/Level has the same names.
 pub const HEADER_WORDS: usize = 8;
@@ -53,16 +53,16 @@ pub const UP_AT: usize = 7;
 
 // Field f of pair p.
 pub fn field(tree: &[u64], base: usize, f: usize, p: u64) -> u64
-    requires { (base ≤ baseMost) × (f < pairWords) }
-    ensures { result ≡ slice_index tree.now (pairCell base f p) }
+    requires { (base ≤ base_most) × (f < pair_words) }
+    ensures { result ≡ slice_index tree.now (pair_cell base f p) }
 {
     words::cell(tree, base + (HEADER_WORDS + f), PAIR_WORDS, p as usize)
 }
 
 // Field f of a pair that the table has.
 pub fn field_in(tree: &[u64], base: usize, f: usize, p: u64) -> u64
-    requires { (f < pairWords) × Stands base p tree.now }
-    ensures { result ≡ slice_index tree.now (pairCell base f p) }
+    requires { (f < pair_words) × Stands base p tree.now }
+    ensures { result ≡ slice_index tree.now (pair_cell base f p) }
 {
     let at = base + (HEADER_WORDS + f) + PAIR_WORDS * p as usize;
     tree[at]
@@ -70,8 +70,8 @@ pub fn field_in(tree: &[u64], base: usize, f: usize, p: u64) -> u64
 
 // The same written.
 pub fn put_field_in(tree: &mut [u64], base: usize, f: usize, p: u64, v: u64)
-    requires { (f < pairWords) × Stands base p tree.old }
-    ensures { tree.new ≡ slice_set tree.old (pairCell base f p) v }
+    requires { (f < pair_words) × Stands base p tree.old }
+    ensures { tree.new ≡ slice_set tree.old (pair_cell base f p) v }
 {
     let at = base + (HEADER_WORDS + f) + PAIR_WORDS * p as usize;
     tree[at] = v;
@@ -120,13 +120,13 @@ pub fn drop_pair(tree: &mut [u64], base: usize, p: u64)
     leave(tree, base, p);
     put_field_in(tree, base, TAG_AT, p, VACANT);
     put_field_in(tree, base, OFF_AT, p, vacated);
-    tree[base + VACATED_AT] = slab::record_of(p);
+    tree[base + VACATED_AT] = slabs::record_of(p);
 }
 
 // The pair p joins the ring before the head, ready at its left or its right, where the node is free.
 pub fn ready_pair(tree: &mut [u64], base: usize, p: u64, left: bool)
     requires { Joins base p tree.old }
-    ensures { tree.new ≡ backed base p (sideBy left) tree.old }
+    ensures { tree.new ≡ backed base p (side_by left) tree.old }
 {
     join(tree, base, p);
     if left {
@@ -141,7 +141,7 @@ pub fn ready_pair(tree: &mut [u64], base: usize, p: u64, left: bool)
 // The head pair h leaves the ring, exhausted: the node at its ready side, the left or the right one, has the word w.
 pub fn acquire(tree: &mut [u64], base: usize, h: u64, left: bool, w: u64)
     requires leaves { Leaves base h tree.old }
-    requires h_value { (h ≡ ringHead base tree.old) × (sideBy left ≡ side_of (slice_index tree.old (pairCell base tag_at h))) }
+    requires h_value { (h ≡ ring_head base tree.old) × (side_by left ≡ side_of (slice_index tree.old (pair_cell base tag_at h))) }
     ensures { tree.new ≡ acquired base w tree.old }
 {
     leave(tree, base, h);
@@ -156,12 +156,12 @@ pub fn acquire(tree: &mut [u64], base: usize, h: u64, left: bool, w: u64)
 // The place that a new pair takes, and the slab from then on.
 pub fn pair_taken(tree: &[u64], base: usize) -> Taken
     requires { Takes base tree.now }
-    ensures { result ≡ pairTaken base tree.now }
+    ensures { result ≡ pair_taken base tree.now }
 {
     let n = tree[base + USED_AT];
-    let last = slab::place_of(tree[base + VACATED_AT]);
+    let last = slabs::place_of(tree[base + VACATED_AT]);
     if last < n {
-        let next = slab::place_of(field_in(tree, base, OFF_AT, last));
+        let next = slabs::place_of(field_in(tree, base, OFF_AT, last));
         return Taken {
             place: last,
             slab: Slab {
@@ -182,14 +182,14 @@ pub fn pair_taken(tree: &[u64], base: usize) -> Taken
 
 // A new pair of a node, whose left node has the word `left`: ready at its right, and alone in the ring. Tells its place.
 pub fn add_pair(tree: &mut [u64], base: usize, chunk: u64, offset: u64, node: u64, left: u64) -> u64
-    requires { Stands base (pairTaken base tree.old).place tree.old }
-    ensures value { result ≡ (pairTaken base tree.old).place }
+    requires { Stands base (pair_taken base tree.old).place tree.old }
+    ensures value { result ≡ (pair_taken base tree.old).place }
     ensures tree_after { tree.new ≡ added base chunk offset node left tree.old }
 {
     let taken = pair_taken(tree, base);
     let s = taken.slab;
     tree[base + USED_AT] = s.places;
-    tree[base + VACATED_AT] = slab::record_of(s.vacant);
+    tree[base + VACATED_AT] = slabs::record_of(s.vacant);
     enter_pair(tree, base, taken.place, chunk, offset, node, left);
     taken.place
 }
@@ -206,7 +206,7 @@ fn enter_pair(tree: &mut [u64], base: usize, p: u64, chunk: u64, offset: u64, no
 // The words of a new pair but for its links.
 fn write_pair(tree: &mut [u64], base: usize, p: u64, chunk: u64, offset: u64, node: u64, left: u64)
     requires { Stands base p tree.old }
-    ensures { tree.new ≡ slice_set (slice_set (slice_set (slice_set (slice_set (slice_set tree.old (pairCell base tag_at p) rightReady) (pairCell base chunkAt p) chunk) (pairCell base off_at p) offset) (pairCell base left_at p) left) (pairCell base rightAt p) freeWord) (pairCell base upAt p) node }
+    ensures { tree.new ≡ slice_set (slice_set (slice_set (slice_set (slice_set (slice_set tree.old (pair_cell base tag_at p) right_ready) (pair_cell base chunk_at p) chunk) (pair_cell base off_at p) offset) (pair_cell base left_at p) left) (pair_cell base right_at p) free_word) (pair_cell base up_at p) node }
 {
     put_field_in(tree, base, TAG_AT, p, RIGHT_READY);
     put_field_in(tree, base, CHUNK_AT, p, chunk);
@@ -219,9 +219,9 @@ fn write_pair(tree: &mut [u64], base: usize, p: u64, chunk: u64, offset: u64, no
 // Pair p alone is the ring.
 fn stand_alone(tree: &mut [u64], base: usize, p: u64)
     requires { Stands base p tree.old }
-    ensures { tree.new ≡ alone (base + ringAt) (field_at base next_at) (field_at base prevAt) pairWords p tree.old }
+    ensures { tree.new ≡ alone (base + ring_at) (field_at base next_at) (field_at base prev_at) pair_words p tree.old }
 {
-    let r = slab::record_of(p);
+    let r = slabs::record_of(p);
     put_field_in(tree, base, NEXT_AT, p, r);
     put_field_in(tree, base, PREV_AT, p, r);
     tree[base + RING_AT] = r;
@@ -229,8 +229,8 @@ fn stand_alone(tree: &mut [u64], base: usize, p: u64)
 
 // A level with no pair.
 pub fn fresh_level(tree: &mut [u64], base: usize)
-    requires { base ≤ baseMost }
-    ensures { tree.new ≡ freshLevel base tree.old }
+    requires { base ≤ base_most }
+    ensures { tree.new ≡ fresh_level base tree.old }
 {
     words::put(tree, base + RING_AT, 0);
     words::put(tree, base + USED_AT, 0);

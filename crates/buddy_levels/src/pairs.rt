@@ -1,7 +1,7 @@
 // What a pair's words say.
 ghost use Rattle.std.specs.Prelude.{◌≡◌, ◌≤◌};
-ghost use Rattle.buddy_rules.specs.Level.{baseMost, entOf};
-ghost use Rattle.buddy_levels.specs.Pairs.{entFrom};
+ghost use Rattle.buddy_rules.specs.Level.{base_most, ent_of};
+ghost use Rattle.buddy_levels.specs.Pairs.{ent_from};
 ghost use Rattle.buddy_levels.specs.Stands.{Stands};
 
 use crate::{CHUNK_AT, HEADER_WORDS, LEFT_AT, OFF_AT, PAIR_WORDS, RIGHT_AT, TAG_AT, UP_AT, field};
@@ -18,8 +18,8 @@ pub struct Pair {
 
 // Of the pair p. Where the last of its words is there, all are, and none needs a test of its own.
 pub fn pair_at(tree: &[u64], base: usize, p: u64) -> Pair
-    requires { base ≤ baseMost }
-    ensures { entFrom result ≡ entOf base tree.now p }
+    requires { base ≤ base_most }
+    ensures { ent_from result ≡ ent_of base tree.now p }
 {
     let i = p as usize;
     if i < tree.len() {
@@ -33,7 +33,7 @@ pub fn pair_at(tree: &[u64], base: usize, p: u64) -> Pair
 // Of a pair that the table has.
 pub fn standing_pair(tree: &[u64], base: usize, p: u64) -> Pair
     requires { Stands base p tree.now }
-    ensures { entFrom result ≡ entOf base tree.now p }
+    ensures { ent_from result ≡ ent_of base tree.now p }
 {
     let at = base + (HEADER_WORDS + PAIR_WORDS * p as usize);
     Pair {
@@ -48,8 +48,8 @@ pub fn standing_pair(tree: &[u64], base: usize, p: u64) -> Pair
 
 // The same, each word by itself.
 fn pair_by_words(tree: &[u64], base: usize, p: u64) -> Pair
-    requires { base ≤ baseMost }
-    ensures { entFrom result ≡ entOf base tree.now p }
+    requires { base ≤ base_most }
+    ensures { ent_from result ≡ ent_of base tree.now p }
 {
     Pair {
         tag: field(tree, base, TAG_AT, p),

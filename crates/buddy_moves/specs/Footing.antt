@@ -1,8 +1,8 @@
 -- That a node can climb as far up as is asked: at each level on the way the pairs whose words it touches are there.
 use Rattle.std.specs.Prelude.{◌≡◌, List, ℕ, zero, suc}
-use Rattle.slab.specs.Slab.{nowhere}
-use Rattle.buddy_rules.specs.Nodes.{freeWord, pair_of, other, word}
-use Rattle.buddy_rules.specs.Level.{entOf, dropped, levelStart}
+use Rattle.slabs.specs.Slab.{nowhere}
+use Rattle.buddy_rules.specs.Nodes.{free_word, pair_of, other, word}
+use Rattle.buddy_rules.specs.Level.{ent_of, dropped, level_start}
 use Rattle.buddy_rules.specs.Moves.{side_in}
 use Rattle.buddy_levels.specs.Stands.{Stands, Leaves, Joins}
 
@@ -10,9 +10,9 @@ use Rattle.buddy_levels.specs.Stands.{Stands, Leaves, Joins}
 -- be ready
 pub record Foot (b n : ℕ) (t : List ℕ) (A : Type 0) : Type 0 where
   pub own : Stands b (pair_of n) t
-  pub goes : word (other (side_in n)) (entOf b t (pair_of n)) ≡ freeWord → Leaves b (pair_of n) t
-  pub above : word (other (side_in n)) (entOf b t (pair_of n)) ≡ freeWord → A
-  pub stays : (word (other (side_in n)) (entOf b t (pair_of n)) ≡ freeWord → ⊥) → Joins b (pair_of n) t
+  pub goes : word (other (side_in n)) (ent_of b t (pair_of n)) ≡ free_word → Leaves b (pair_of n) t
+  pub above : word (other (side_in n)) (ent_of b t (pair_of n)) ≡ free_word → A
+  pub stays : (word (other (side_in n)) (ent_of b t (pair_of n)) ≡ free_word → ⊥) → Joins b (pair_of n) t
 
 module _ (pairs : ℕ) where
   -- f levels up from node n of level l, or to the chunk's top
@@ -20,4 +20,4 @@ module _ (pairs : ℕ) where
   Footing zero l n t = Unit {0}
   Footing (suc f) l n t =
       (n ≡ nowhere → ⊥)
-      → Foot (levelStart pairs l) n t (Footing f (suc l) (entOf (levelStart pairs l) t (pair_of n)).up (dropped (levelStart pairs l) (pair_of n) t))
+      → Foot (level_start pairs l) n t (Footing f (suc l) (ent_of (level_start pairs l) t (pair_of n)).up (dropped (level_start pairs l) (pair_of n) t))

@@ -1,24 +1,24 @@
 // What a return and a loan do to a buddy store's tree: the climb and the split, level by level. What they and the code above them
 // ask of its tables a passed gate and a decided call give: proofs/ shows it.
 ghost use Rattle.std.specs.Prelude.{◌≡◌, length, set, ◌+◌, ◌≤◌, ◌<◌};
-ghost use Rattle.counter.specs.Limits.{levelsMost, pairsMost, loansMost};
-ghost use Rattle.slab.specs.Slab.{nowhere};
+ghost use Rattle.counter.specs.Limits.{levels_most, pairs_most, loans_most};
+ghost use Rattle.slabs.specs.Slab.{nowhere};
 ghost use Rattle.buddy_trees.specs.Trees.{up};
-ghost use Rattle.buddy_rules.specs.Nodes.{freeWord, other, pair_of, word};
-ghost use Rattle.buddy_rules.specs.Level.{entOf, pairCell, sideAt, pairTaken, added, levelStart};
-ghost use Rattle.buddy_rules.specs.Moves.{side_in, climbed, leftNext, splitDown, splitChunk};
+ghost use Rattle.buddy_rules.specs.Nodes.{free_word, other, pair_of, word};
+ghost use Rattle.buddy_rules.specs.Level.{ent_of, pair_cell, side_at, pair_taken, added, level_start};
+ghost use Rattle.buddy_rules.specs.Moves.{side_in, climbed, left_next, split_down, split_chunk};
 ghost use Rattle.buddy_levels.specs.Stands.{Stands};
 ghost use Rattle.buddy_moves.specs.Footing.{Footing};
 ghost use Rattle.buddy_moves.specs.Roomy.{Roomy};
 
 use buddy_levels::{LEFT_AT, RIGHT_AT, UP_AT, level_from};
 use buddy_rules::FREE_WORD;
-use slab::NOWHERE;
+use slabs::NOWHERE;
 
 // The word of node n's twin.
 fn twin_word(tree: &[u64], base: usize, n: u64) -> u64
     requires { Stands base (pair_of n) tree.now }
-    ensures { result ≡ word (other (side_in n)) (entOf base tree.now (pair_of n)) }
+    ensures { result ≡ word (other (side_in n)) (ent_of base tree.now (pair_of n)) }
 {
     let p = buddy_levels::pair_of(n);
     if buddy_levels::is_left(n) {
@@ -31,7 +31,7 @@ fn twin_word(tree: &[u64], base: usize, n: u64) -> u64
 // Node n of a level was given back. While its twin is free its pair goes, and the node above is given back in turn; at most
 // `levels` times. Tells whether that was all of the chunk.
 pub fn climb(tree: &mut [u64], pairs: usize, level: usize, levels: usize, node: u64) -> bool
-    requires pairs_le_pairs_most { (pairs ≤ pairsMost) × (level + levels ≤ levelsMost) }
+    requires pairs_le_pairs_most { (pairs ≤ pairs_most) × (level + levels ≤ levels_most) }
     requires footing { Footing pairs levels level node tree.old }
     ensures value { result ≡ (climbed pairs levels level node tree.old).freed }
     ensures tree_after { tree.new ≡ (climbed pairs levels level node tree.old).room }
@@ -57,7 +57,7 @@ pub fn climb(tree: &mut [u64], pairs: usize, level: usize, levels: usize, node: 
 // Node n of the level at `base` has the word w from now on.
 fn put_word(tree: &mut [u64], base: usize, n: u64, w: u64)
     requires { Stands base (pair_of n) tree.old }
-    ensures { tree.new ≡ set tree.old (pairCell base (sideAt (side_in n)) (pair_of n)) w }
+    ensures { tree.new ≡ set tree.old (pair_cell base (side_at (side_in n)) (pair_of n)) w }
 {
     let p = buddy_levels::pair_of(n);
     if buddy_levels::is_left(n) {
@@ -79,11 +79,11 @@ pub fn split_down(
     loan: u64,
     node: u64,
 ) -> u64
-    requires pairs_le_pairs_most { (pairs ≤ pairsMost) × (level + above < levelsMost) × (loan < loansMost) }
+    requires pairs_le_pairs_most { (pairs ≤ pairs_most) × (level + above < levels_most) × (loan < loans_most) }
     requires roomy { Roomy pairs level chunk offset node above tree.old }
-    requires node_bound { (pair_of node < pairs) × (levelStart pairs levelsMost ≤ length tree.old) }
-    ensures value { result ≡ (splitDown pairs level chunk offset loan node above tree.old).node }
-    ensures tree_after { tree.new ≡ (splitDown pairs level chunk offset loan node above tree.old).room }
+    requires node_bound { (pair_of node < pairs) × (level_start pairs levels_most ≤ length tree.old) }
+    ensures value { result ≡ (split_down pairs level chunk offset loan node above tree.old).node }
+    ensures tree_after { tree.new ≡ (split_down pairs level chunk offset loan node above tree.old).room }
 {
     let mut d = above;
     let mut n = node;
@@ -117,10 +117,10 @@ pub fn split_chunk(
     chunk: u64,
     loan: u64,
 ) -> u64
-    requires pairs_le_pairs_most { (pairs ≤ pairsMost) × (level + above < levelsMost) × (loan < loansMost) × ((pairTaken (levelStart pairs (up above level)) tree.old).place < pairs) × (levelStart pairs levelsMost ≤ length tree.old) }
-    requires roomy { Roomy pairs level chunk 0 (leftNext pairs (up above level) tree.old) above (added (levelStart pairs (up above level)) chunk 0 nowhere freeWord tree.old) }
-    ensures value { result ≡ (splitChunk pairs level chunk loan above tree.old).node }
-    ensures tree_after { tree.new ≡ (splitChunk pairs level chunk loan above tree.old).room }
+    requires pairs_le_pairs_most { (pairs ≤ pairs_most) × (level + above < levels_most) × (loan < loans_most) × ((pair_taken (level_start pairs (up above level)) tree.old).place < pairs) × (level_start pairs levels_most ≤ length tree.old) }
+    requires roomy { Roomy pairs level chunk 0 (left_next pairs (up above level) tree.old) above (added (level_start pairs (up above level)) chunk 0 nowhere free_word tree.old) }
+    ensures value { result ≡ (split_chunk pairs level chunk loan above tree.old).node }
+    ensures tree_after { tree.new ≡ (split_chunk pairs level chunk loan above tree.old).room }
 {
     let base = level_from(pairs, level + above);
     let p = buddy_levels::add_pair(tree, base, chunk, 0, NOWHERE, FREE_WORD);

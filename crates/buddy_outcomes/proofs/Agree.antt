@@ -3,14 +3,14 @@ use mathlib.Core.Path.{◌≡◌, sym, ap, ◌∙◌}
 use mathlib.Core.Bool.{true}
 use Prim.Native.Nat.{ℕ, ◌<◌}
 use native.Mathlib.Omega.{arith}
-use Rattle.slab.specs.Slab.{nowhere}
+use Rattle.slabs.specs.Slab.{nowhere}
 use Rattle.buddy_trees.specs.Trees.{Tree, Has, bytes}
 use Rattle.buddy_rules.specs.Nodes.{Rep}
 use Rattle.buddy_rules.specs.Levels.{Ops}
 use Rattle.buddy_rules.specs.Returns.{entries}
 use Rattle.buddy_rules.specs.Stores.{piece, Store, Sound}
 use Rattle.buddy_rules.proofs.Frames.{frame}
-use Rattle.buddy_rules.proofs.Made.{rep-loans}
+use Rattle.buddy_rules.proofs.Made.{rep_loans}
 
 module _ (u : ℕ) (O : Ops) where
   -- the levels that there are, the loans that are on loan, and every chunk
@@ -32,7 +32,7 @@ module _ (u : ℕ) (O : Ops) where
     rep : (c : ℕ) → Rep u (entries O s'.levels) s'.loans c (s'.high c) 0 nowhere (s'.top c) (T c)
     rep c =
         rw (a.high c, a.top c)
-        (rep-loans u (entries O s'.levels) s.loans s'.loans c (s.high c) 0 nowhere (s.top c) (T c) (λ y j h e. a.loans j (S.is_live c j y h e))
+        (rep_loans u (entries O s'.levels) s.loans s'.loans c (s.high c) 0 nowhere (s.top c) (T c) (λ y j h e. a.loans j (S.is_live c j y h e))
         (frame u (entries O s.levels) (entries O s'.levels) s.loans c (s.high c) 0 nowhere (s.top c) (T c) some
         (λ i p h. let e : O.ent (s'.levels i) p ≡ O.ent (s.levels i) p = ap (λ v. O.ent v p) (a.levels i (omega (arith, S.tall c))) in ((λ x y. e), (λ x y. e)))
         (S.rep c)))
@@ -48,8 +48,8 @@ module _ (u : ℕ) (O : Ops) where
         let l : s.live k ≡ true = sym (a.live k) ∙ h in
         rw (a.loans k l, a.high (s.loans k).chunk) (S.has k l)
 
-    pub agree-sound : Sound u O s' T
-    agree-sound = record {
+    pub agree_sound : Sound u O s' T
+    agree_sound = record {
       good = λ i h. rw (a.levels i (below i h)) (S.good i (below i h));
       small = λ i p h t. S.small i p (below i h) (rw (entry i p h) at t);
       tall = λ c. rw (a.high c, a.count) (S.tall c);

@@ -7,79 +7,79 @@ use Prim.Native.Nat.{ℕ}
 use lib.Dec.{ltb}
 use Rattle.counter.specs.Gate.{pass, Row, first}
 use Rattle.counter.specs.InTable.{BuddyIn}
-use Rattle.counter.specs.Limits.{levelsMost, spent}
+use Rattle.counter.specs.Limits.{levels_most, spent}
 use Rattle.counter.specs.Reasons.{Clear, Decides}
-use Rattle.counter.specs.Table.{alignmentOk}
+use Rattle.counter.specs.Table.{alignment_ok}
 use Rattle.counter.specs.declared.account.Heap.{Heap}
 use Rattle.counter.specs.declared.settings.BuddySettings.{BuddySettings}
 use Rattle.counter.proofs.Gates.{passed}
 use Rattle.counter.proofs.Reasoned.{clear_first}
-use Rattle.heap.specs.Heap.{bearsOk}
+use Rattle.heap.specs.Heap.{bears_ok}
 use Rattle.store_rules.specs.Orders.{buy}
-use Rattle.store_rules.proofs.Refused.{or-never, mask-off}
-use Rattle.store_rules.proofs.Tested.{off-and, off-where, off_less, off-some, bears-off}
+use Rattle.store_rules.proofs.Refused.{or_never, mask_off}
+use Rattle.store_rules.proofs.Tested.{off_and, off_where, off_less, off_some, bears_off}
 use Rattle.buddy_trees.specs.Trees.{bytes}
 use Rattle.buddy_rules.specs.Sound.{Sound}
-use Rattle.buddy_rules.specs.Tables.{Tables, Lengths, givenIn}
-use Rattle.buddy_outcomes.specs.Ask.{nowhere, needs, size_for, found_from, orderBytes, sizeOk, countOk, objectsOk, askRow, planned, decideAsk, levelFor}
-use Rattle.buddy_outcomes.specs.Refusals.{SizeOff, Needed, buddyWords}
-use Rattle.store_rules.specs.Rows.{NoObject, Spent, askTests}
-use Rattle.buddy_outcomes.proofs.Fitted.{needs-when}
-use Rattle.buddy_outcomes.proofs.Plans.{planned-buy}
-use Rattle.buddy_outcomes.proofs.Roomed.{needs-none, full-when}
+use Rattle.buddy_rules.specs.Tables.{Tables, Lengths, given_in}
+use Rattle.buddy_outcomes.specs.Ask.{nowhere, needs, size_for, found_from, order_bytes, size_ok, count_ok, objects_ok, ask_row, planned, decide_ask, level_for}
+use Rattle.buddy_outcomes.specs.Refusals.{SizeOff, Needed, buddy_words}
+use Rattle.store_rules.specs.Rows.{NoObject, Spent, ask_tests}
+use Rattle.buddy_outcomes.proofs.Fitted.{needs_when}
+use Rattle.buddy_outcomes.proofs.Plans.{planned_buy}
+use Rattle.buddy_outcomes.proofs.Roomed.{needs_none, full_when}
 
 -- 6
-size-off : (s : BuddySettings) (size mask : ℕ) → (sizeOk s size mask ≡ false) ↔ SizeOff s size mask
-unfolding sizeOk
-size-off s size mask =
-    off-and (ltb 0 size) (ltb (size_for s size mask) (bytes s.minimal levelsMost)) (off-some size)
-    (off_less (size_for s size mask) (bytes s.minimal levelsMost))
+size_off : (s : BuddySettings) (size mask : ℕ) → (size_ok s size mask ≡ false) ↔ SizeOff s size mask
+unfolding size_ok
+size_off s size mask =
+    off_and (ltb 0 size) (ltb (size_for s size mask) (bytes s.minimal levels_most)) (off_some size)
+    (off_less (size_for s size mask) (bytes s.minimal levels_most))
 
 module _ (s : BuddySettings) (t : Tables) (fit : BuddyIn s) (lengths : Lengths s t) (sound : Sound s t) (h : Heap) (objects size mask : ℕ) where
-  needed : alignmentOk mask ≡ true → sizeOk s size mask ≡ true → (needs (found_from s (levelFor s size mask) t) ≡ true) ↔ Needed s size mask t
-  needed a z = Iff.trans (needs-none (found_from s (levelFor s size mask) t)) (needs-when s t fit lengths sound size mask a z)
+  needed : alignment_ok mask ≡ true → size_ok s size mask ≡ true → (needs (found_from s (level_for s size mask) t) ≡ true) ↔ Needed s size mask t
+  needed a z = Iff.trans (needs_none (found_from s (level_for s size mask) t)) (needs_when s t fit lengths sound size mask a z)
 
   -- 10
-  spent-off : alignmentOk mask ≡ true → sizeOk s size mask ≡ true → (countOk s h (levelFor s size mask) t (found_from s (levelFor s size mask) t) ≡ false) ↔ Spent buddyWords s h size mask t
-  unfolding countOk
-  spent-off a z =
+  spent_off : alignment_ok mask ≡ true → size_ok s size mask ≡ true → (count_ok s h (level_for s size mask) t (found_from s (level_for s size mask) t) ≡ false) ↔ Spent buddy_words s h size mask t
+  unfolding count_ok
+  spent_off a z =
       Iff.trans
-      (off-and (ltb (givenIn t) spent) (not (needs (found_from s (levelFor s size mask) t)) || bearsOk h (orderBytes s (levelFor s size mask) t)) (off_less (givenIn t) spent)
-      (off-where (needs (found_from s (levelFor s size mask) t)) (bearsOk h (orderBytes s (levelFor s size mask) t)) (needed a z) (bears-off h (orderBytes s (levelFor s size mask) t))))
+      (off_and (ltb (given_in t) spent) (not (needs (found_from s (level_for s size mask) t)) || bears_ok h (order_bytes s (level_for s size mask) t)) (off_less (given_in t) spent)
+      (off_where (needs (found_from s (level_for s size mask) t)) (bears_ok h (order_bytes s (level_for s size mask) t)) (needed a z) (bears_off h (order_bytes s (level_for s size mask) t))))
       (⊎_elim (λ x. inl x) (λ x. inr (x.0, ⊎_elim (λ y. inl y) (λ y. inr (inl y)) x.1)), ⊎_elim (λ x. inl x) (λ x. inr (x.0, ⊎_elim (λ y. inl y) (⊎_elim (λ y. inr y) (λ y. absurd y)) x.1)))
 
   -- 9
-  object-off : alignmentOk mask ≡ true → sizeOk s size mask ≡ true → (objectsOk objects (found_from s (levelFor s size mask) t) ≡ false) ↔ NoObject buddyWords s objects size mask t
-  unfolding objectsOk
-  object-off a z =
-      off-where (needs (found_from s (levelFor s size mask) t)) (ltb 0 objects) (needed a z) (off-some objects)
+  object_off : alignment_ok mask ≡ true → size_ok s size mask ≡ true → (objects_ok objects (found_from s (level_for s size mask) t) ≡ false) ↔ NoObject buddy_words s objects size mask t
+  unfolding objects_ok
+  object_off a z =
+      off_where (needs (found_from s (level_for s size mask) t)) (ltb 0 objects) (needed a z) (off_some objects)
 
-  pub ask-decided : Decides (askRow s h objects size mask t (found_from s (levelFor s size mask) t)) (askTests buddyWords s h objects size mask t)
-  ask-decided = (
+  pub ask_decided : Decides (ask_row s h objects size mask t (found_from s (level_for s size mask) t)) (ask_tests buddy_words s h objects size mask t)
+  ask_decided = (
     refl,
-    or-never (mask-off mask),
-    (λ a. (refl, size-off s size mask, (λ z. (refl, full-when s t fit lengths sound size mask a z, (λ e. (refl, spent-off a z, (λ f. (refl, object-off a z, (λ g. tt))))))))),
+    or_never (mask_off mask),
+    (λ a. (refl, size_off s size mask, (λ z. (refl, full_when s t fit lengths sound size mask a z, (λ e. (refl, spent_off a z, (λ f. (refl, object_off a z, (λ g. tt))))))))),
   )
 
   abbrev tests : Row
-  tests = askRow s h objects size mask t (found_from s (levelFor s size mask) t)
+  tests = ask_row s h objects size mask t (found_from s (level_for s size mask) t)
 
   -- an ask comes to an order exactly when none of its rows speaks and a chunk is needed, and to the order for that
-  pub ask-buys : (z : ℕ) → (decideAsk s h objects size mask t ≡ buy z) ↔ (Clear (askTests buddyWords s h objects size mask t) × Needed s size mask t × (z ≡ orderBytes s (levelFor s size mask) t))
-  unfolding decideAsk
-  ask-buys z = (there, back)
+  pub ask_buys : (z : ℕ) → (decide_ask s h objects size mask t ≡ buy z) ↔ (Clear (ask_tests buddy_words s h objects size mask t) × Needed s size mask t × (z ≡ order_bytes s (level_for s size mask) t))
+  unfolding decide_ask
+  ask_buys z = (there, back)
     where
-      clear : (first tests ≡ pass) ↔ Clear (askTests buddyWords s h objects size mask t)
-      clear = clear_first tests (askTests buddyWords s h objects size mask t) ask-decided
+      clear : (first tests ≡ pass) ↔ Clear (ask_tests buddy_words s h objects size mask t)
+      clear = clear_first tests (ask_tests buddy_words s h objects size mask t) ask_decided
 
-      lacks : first tests ≡ pass → (found_from s (levelFor s size mask) t ≡ nowhere) ↔ Needed s size mask t
-      lacks e = let w = passed tests e in needs-when s t fit lengths sound size mask w.0 w.1.0
+      lacks : first tests ≡ pass → (found_from s (level_for s size mask) t ≡ nowhere) ↔ Needed s size mask t
+      lacks e = let w = passed tests e in needs_when s t fit lengths sound size mask w.0 w.1.0
 
-      there : planned s (levelFor s size mask) t (found_from s (levelFor s size mask) t) (first tests) ≡ buy z → Clear (askTests buddyWords s h objects size mask t) × Needed s size mask t × (z ≡ orderBytes s (levelFor s size mask) t)
-      there e = let w = planned-buy s size mask t z (found_from s (levelFor s size mask) t) (first tests) e in (clear.0 w.1, (lacks w.1).0 w.0, w.2)
+      there : planned s (level_for s size mask) t (found_from s (level_for s size mask) t) (first tests) ≡ buy z → Clear (ask_tests buddy_words s h objects size mask t) × Needed s size mask t × (z ≡ order_bytes s (level_for s size mask) t)
+      there e = let w = planned_buy s size mask t z (found_from s (level_for s size mask) t) (first tests) e in (clear.0 w.1, (lacks w.1).0 w.0, w.2)
 
-      back : Clear (askTests buddyWords s h objects size mask t) × Needed s size mask t × (z ≡ orderBytes s (levelFor s size mask) t) → planned s (levelFor s size mask) t (found_from s (levelFor s size mask) t) (first tests) ≡ buy z
+      back : Clear (ask_tests buddy_words s h objects size mask t) × Needed s size mask t × (z ≡ order_bytes s (level_for s size mask) t) → planned s (level_for s size mask) t (found_from s (level_for s size mask) t) (first tests) ≡ buy z
       back w =
           let p = clear.1 w.0 in
           let f = (lacks p).1 w.1 in
-          (λ j. planned s (levelFor s size mask) t (f j) (p j)) ∙ ap buy (sym w.2)
+          (λ j. planned s (level_for s size mask) t (f j) (p j)) ∙ ap buy (sym w.2)

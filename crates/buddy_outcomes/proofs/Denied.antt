@@ -6,7 +6,7 @@ use mathlib.Core.Logic.{◌⊎◌, ⊎_elim, ◌↔◌}
 use mathlib.Core.List.{List, [], ◌∷◌, ◌++◌, map}
 use Prim.Native.Nat.{ℕ}
 use native.Mathlib.Omega.{arith}
-use Rattle.lists.proofs.Bools.{told, true-false, and_left, and_right, and_both}
+use Rattle.lists.proofs.Bools.{told, true_false, and_left, and_right, and_both}
 use Rattle.counter.specs.Account.{heap_at}
 use Rattle.counter.specs.Gate.{Verdict, pass, refuse, Row, first, gated}
 use Rattle.counter.specs.InTable.{BuddyIn}
@@ -19,30 +19,30 @@ use Rattle.counter.specs.declared.account.OpenOrder.TheVariants.{Nothing, Kept}
 use Rattle.counter.specs.declared.answers.Outcome.{Outcome}
 use Rattle.counter.specs.declared.settings.BuddySettings.{BuddySettings}
 use Rattle.counter.proofs.Gates.{passed}
-use Rattle.counter.proofs.Reasoned.{given-first, decides-then}
-use Rattle.store_rules.specs.Delivery.{Fate, kept, lost, buddy, fateOf, deliveryOk}
-use Rattle.store_rules.specs.Orders.{buy, orderFrom, leadsTo}
+use Rattle.counter.proofs.Reasoned.{given_first, decides_then}
+use Rattle.store_rules.specs.Delivery.{Fate, kept, lost, buddy, fate_of, delivery_ok}
+use Rattle.store_rules.specs.Orders.{buy, order_from, leads_to}
 use Rattle.store_rules.specs.Outcomes.{out}
-use Rattle.store_rules.specs.Refusals.{UnwelcomeTo, DeviceOut, HostOut, lostFor}
-use Rattle.store_rules.specs.Tests.{openFor, gateRow}
-use Rattle.store_rules.proofs.Refused.{fails, none-for, is-same-order, leads-buy}
-use Rattle.store_rules.proofs.Said.{not-refused, said-number, said-back, Tells, tells-refused, tells-passed}
-use Rattle.store_rules.proofs.Fates.{loss-left, fateVerdict, fateRow, device-out, host-out, welcomeOk, unwelcomed, arrival-tells}
-use Rattle.store_rules.proofs.Tested.{gate-low}
+use Rattle.store_rules.specs.Refusals.{UnwelcomeTo, DeviceOut, HostOut, lost_for}
+use Rattle.store_rules.specs.Tests.{open_for, gate_row}
+use Rattle.store_rules.proofs.Refused.{fails, none_for, is_same_order, leads_buy}
+use Rattle.store_rules.proofs.Said.{not_refused, said_number, said_back, Tells, tells_refused, tells_passed}
+use Rattle.store_rules.proofs.Fates.{loss_left, fate_verdict, fate_row, device_out, host_out, welcome_ok, unwelcomed, arrival_tells}
+use Rattle.store_rules.proofs.Tested.{gate_low}
 use Rattle.buddy_rules.specs.Sound.{Sound}
-use Rattle.buddy_rules.specs.Tables.{Tables, Lengths, chunkPlacesIn, memories}
-use Rattle.buddy_rules.specs.Test.{soundOk}
-use Rattle.buddy_rules.proofs.Decides.{tables-yes, tables-all}
-use Rattle.buddy_outcomes.specs.Gate.{inTableOk, accountOk}
-use Rattle.buddy_outcomes.specs.Ask.{decideAsk, levelFor}
+use Rattle.buddy_rules.specs.Tables.{Tables, Lengths, chunk_places_in, memories}
+use Rattle.buddy_rules.specs.Test.{sound_ok}
+use Rattle.buddy_rules.proofs.Decides.{tables_yes, tables_all}
+use Rattle.buddy_outcomes.specs.Gate.{in_table_ok, account_ok}
+use Rattle.buddy_outcomes.specs.Ask.{decide_ask, level_for}
 use Rattle.buddy_outcomes.specs.Ask as A
-use Rattle.buddy_outcomes.specs.Deliver.{stillOk, deliverGateOf, asOrdered, carryFate, decideDeliver, planDeliver, carryDeliver, deliverOf}
+use Rattle.buddy_outcomes.specs.Deliver.{still_ok, deliver_gate_of, as_ordered, carry_fate, decide_deliver, plan_deliver, carry_deliver, deliver_of}
 use Rattle.buddy_outcomes.specs.Deliver as D
-use Rattle.buddy_outcomes.specs.Refusals.{Needed, buddyWords}
-use Rattle.store_rules.specs.Rows.{Leads, askTests, deliverRows, keptRows}
-use Rattle.buddy_outcomes.proofs.Asked.{ask-buys}
+use Rattle.buddy_outcomes.specs.Refusals.{Needed, buddy_words}
+use Rattle.store_rules.specs.Rows.{Leads, ask_tests, deliver_rows, kept_rows}
+use Rattle.buddy_outcomes.proofs.Asked.{ask_buys}
 use Rattle.buddy_outcomes.proofs.Gated.{in_table, short}
-use Rattle.buddy_outcomes.proofs.Counting.{memories-is}
+use Rattle.buddy_outcomes.proofs.Counting.{memories_is}
 use Rattle.buddy_rules.specs.Views.{chunks_in}
 use Rattle.store_rules.specs.declared.Chunk.{Chunk}
 
@@ -52,116 +52,116 @@ module _ (s : BuddySettings) (a : Account) (o : Outcome) (t : Tables) (k : KeptO
   -- what a plan leaves that is said as this refusal
   abbrev Leaves : D.Arrival → Type 0
   Leaves p =
-      (carryDeliver s a t p).said ≡ Paper.refusal n back → carryDeliver s a t p ≡ out (Paper.refusal n back) (lostFor buddy s.store a k o) (asOrdered s k t)
+      (carry_deliver s a t p).said ≡ Paper.refusal n back → carry_deliver s a t p ≡ out (Paper.refusal n back) (lost_for buddy s.store a k o) (as_ordered s k t)
 
   -- no other refusal has their numbers
   denied : (m : ℕ) → (m ≡ 11 → ⊥) → (m ≡ 12 → ⊥) → Leaves (D.deny m)
-  unfolding carryDeliver
+  unfolding carry_deliver
   denied m x y q =
-      let z = said-number m n [] back q in
+      let z = said_number m n [] back q in
       absurd (⊎_elim (λ p. x (z ∙ p)) (λ p. y (z ∙ p)) number)
 
-  fated : (f : Fate) → fateOf buddy o ≡ f → Leaves (D.go k f)
-  unfolding carryDeliver carryFate
-  fated (kept m) e q = not-refused (carryFate s a k t (kept m)).said n back refl q
-  fated (lost m c x) e q = λ i. out (Paper.refusal (said-number m n x back q i) (said-back m n x back q i)) ((loss-left buddy s.store a k o m c x e).1 i) (asOrdered s k t)
+  fated : (f : Fate) → fate_of buddy o ≡ f → Leaves (D.go k f)
+  unfolding carry_deliver carry_fate
+  fated (kept m) e q = not_refused (carry_fate s a k t (kept m)).said n back refl q
+  fated (lost m c x) e q = λ i. out (Paper.refusal (said_number m n x back q i) (said_back m n x back q i)) ((loss_left buddy s.store a k o m c x e).1 i) (as_ordered s k t)
 
-  after : (v : Verdict) → deliverGateOf s a t ≡ v → Leaves (gated D.deny v (decideDeliver o (memories t (chunkPlacesIn t)) (Kept k)))
-  unfolding deliverGateOf
+  after : (v : Verdict) → deliver_gate_of s a t ≡ v → Leaves (gated D.deny v (decide_deliver o (memories t (chunk_places_in t)) (Kept k)))
+  unfolding deliver_gate_of
   after (refuse m) g =
-      let h = gate-low (inTableOk s a t) (openFor s.store.number a.order) (soundOk s t && stillOk s a t a.order) (accountOk s a t) m g in
+      let h = gate_low (in_table_ok s a t) (open_for s.store.number a.order) (sound_ok s t && still_ok s a t a.order) (account_ok s a t) m g in
       denied m (λ z. omega arith) (λ z. omega arith)
   after pass g =
-      ⊎_elim (λ d. rw d (fated (fateOf buddy o) refl)) (λ d. rw d (denied 13 (λ z. omega arith) (λ z. omega arith))) (told (deliveryOk k.order.map (memories t (chunkPlacesIn t)) o))
+      ⊎_elim (λ d. rw d (fated (fate_of buddy o) refl)) (λ d. rw d (denied 13 (λ z. omega arith) (λ z. omega arith))) (told (delivery_ok k.order.map (memories t (chunk_places_in t)) o))
 
 -- 11 and 12 leave the levels grown as the order raised them and every other word as it was, and of the account what 01 says
-pub deliver-lost : (s : BuddySettings) (a : Account) (o : Outcome) (t : Tables) (k : KeptOrder) (n : ℕ) (back : List ℕ) → a.order ≡ Kept k → (deliverOf s a o t).said ≡ Paper.refusal n back → (n ≡ 11) ⊎ (n ≡ 12)
-    → deliverOf s a o t ≡ out (Paper.refusal n back) (lostFor buddy s.store a k o) (asOrdered s k t)
-unfolding deliverOf planDeliver
-deliver-lost s a o t k n back its e number = by a.order its e
+pub deliver_lost : (s : BuddySettings) (a : Account) (o : Outcome) (t : Tables) (k : KeptOrder) (n : ℕ) (back : List ℕ) → a.order ≡ Kept k → (deliver_of s a o t).said ≡ Paper.refusal n back → (n ≡ 11) ⊎ (n ≡ 12)
+    → deliver_of s a o t ≡ out (Paper.refusal n back) (lost_for buddy s.store a k o) (as_ordered s k t)
+unfolding deliver_of plan_deliver
+deliver_lost s a o t k n back its e number = by a.order its e
   where
-    by : (x : OpenOrder) → x ≡ Kept k → (carryDeliver s a t (gated D.deny (deliverGateOf s a t) (decideDeliver o (memories t (chunkPlacesIn t)) x))).said ≡ Paper.refusal n back
-        → carryDeliver s a t (gated D.deny (deliverGateOf s a t) (decideDeliver o (memories t (chunkPlacesIn t)) x)) ≡ out (Paper.refusal n back) (lostFor buddy s.store a k o) (asOrdered s k t)
-    by x q = rw q (after s a o t k n back number (deliverGateOf s a t) refl)
+    by : (x : OpenOrder) → x ≡ Kept k → (carry_deliver s a t (gated D.deny (deliver_gate_of s a t) (decide_deliver o (memories t (chunk_places_in t)) x))).said ≡ Paper.refusal n back
+        → carry_deliver s a t (gated D.deny (deliver_gate_of s a t) (decide_deliver o (memories t (chunk_places_in t)) x)) ≡ out (Paper.refusal n back) (lost_for buddy s.store a k o) (as_ordered s k t)
+    by x q = rw q (after s a o t k n back number (deliver_gate_of s a t) refl)
 
 -- ---- exactly when each number is given
 
-tells-fate : (s : BuddySettings) (a : Account) (k : KeptOrder) (t : Tables) (f : Fate) (n : ℕ) → Tells (carryFate s a k t f).said (fateVerdict f) n
-unfolding carryFate
-tells-fate s a k t (kept m) n = tells-passed (carryFate s a k t (kept m)).said n refl
-tells-fate s a k t (lost m c back) n = tells-refused m n back
+tells_fate : (s : BuddySettings) (a : Account) (k : KeptOrder) (t : Tables) (f : Fate) (n : ℕ) → Tells (carry_fate s a k t f).said (fate_verdict f) n
+unfolding carry_fate
+tells_fate s a k t (kept m) n = tells_passed (carry_fate s a k t (kept m)).said n refl
+tells_fate s a k t (lost m c back) n = tells_refused m n back
 
 module _ (s : BuddySettings) (a : Account) (t : Tables) where
   abbrev held : List ℕ
-  held = memories t (chunkPlacesIn t)
+  held = memories t (chunk_places_in t)
 
   abbrev gates : Row
   gates =
-      gateRow (inTableOk s a t) (openFor s.store.number a.order) (soundOk s t && stillOk s a t a.order) (accountOk s a t)
+      gate_row (in_table_ok s a t) (open_for s.store.number a.order) (sound_ok s t && still_ok s a t a.order) (account_ok s a t)
 
   -- 3: the store is sound and the kept ask leads to the order
-  leads : BuddyIn s → Lengths s t → ((soundOk s t && stillOk s a t a.order) ≡ true) ↔ (Sound s t × Leads buddyWords s a t)
+  leads : BuddyIn s → Lengths s t → ((sound_ok s t && still_ok s a t a.order) ≡ true) ↔ (Sound s t × Leads buddy_words s a t)
   leads fit lengths = (there, back)
     where
-      bought : Sound s t → (k : KeptOrder) (z : ℕ) → (decideAsk s (heap_at a s.store.heap) a.objects k.ask.size k.ask.mask t ≡ buy z)
-          ↔ (Clear (askTests buddyWords s (heap_at a s.store.heap) a.objects k.ask.size k.ask.mask t) × Needed s k.ask.size k.ask.mask t × (z ≡ A.orderBytes s (levelFor s k.ask.size k.ask.mask) t))
-      bought sound k z = ask-buys s t fit lengths sound (heap_at a s.store.heap) a.objects k.ask.size k.ask.mask z
+      bought : Sound s t → (k : KeptOrder) (z : ℕ) → (decide_ask s (heap_at a s.store.heap) a.objects k.ask.size k.ask.mask t ≡ buy z)
+          ↔ (Clear (ask_tests buddy_words s (heap_at a s.store.heap) a.objects k.ask.size k.ask.mask t) × Needed s k.ask.size k.ask.mask t × (z ≡ A.order_bytes s (level_for s k.ask.size k.ask.mask) t))
+      bought sound k z = ask_buys s t fit lengths sound (heap_at a s.store.heap) a.objects k.ask.size k.ask.mask z
 
-      still : Sound s t → (ord : OpenOrder) → a.order ≡ ord → stillOk s a t ord ≡ true → Leads buddyWords s a t
-      still sound Nothing q e = absurd (true-false false e refl)
+      still : Sound s t → (ord : OpenOrder) → a.order ≡ ord → still_ok s a t ord ≡ true → Leads buddy_words s a t
+      still sound Nothing q e = absurd (true_false false e refl)
       still sound (Kept k) q e =
-          let p = leads-buy s.store k.order (decideAsk s (heap_at a s.store.heap) a.objects k.ask.size k.ask.mask t) e in
+          let p = leads_buy s.store k.order (decide_ask s (heap_at a s.store.heap) a.objects k.ask.size k.ask.mask t) e in
           let w = (bought sound k p.0).0 p.1 in
-          record { kept = k; its = q; clear = w.0; needed = w.1; same = p.2 ∙ ap (orderFrom s.store) w.2 }
+          record { kept = k; its = q; clear = w.0; needed = w.1; same = p.2 ∙ ap (order_from s.store) w.2 }
 
-      there : (soundOk s t && stillOk s a t a.order) ≡ true → Sound s t × Leads buddyWords s a t
+      there : (sound_ok s t && still_ok s a t a.order) ≡ true → Sound s t × Leads buddy_words s a t
       there e =
-          let sound = tables-yes s t fit (and_left (soundOk s t) (stillOk s a t a.order) e) in
-          (sound, still sound a.order refl (and_right (soundOk s t) (stillOk s a t a.order) e))
+          let sound = tables_yes s t fit (and_left (sound_ok s t) (still_ok s a t a.order) e) in
+          (sound, still sound a.order refl (and_right (sound_ok s t) (still_ok s a t a.order) e))
 
-      back : Sound s t × Leads buddyWords s a t → (soundOk s t && stillOk s a t a.order) ≡ true
+      back : Sound s t × Leads buddy_words s a t → (sound_ok s t && still_ok s a t a.order) ≡ true
       back w =
           let l = w.1 in
           let k = l.kept in
-          let z = A.orderBytes s (levelFor s k.ask.size k.ask.mask) t in
-          and_both (soundOk s t) (stillOk s a t a.order) (tables-all s t fit w.0)
-          (ap (stillOk s a t) l.its
-          ∙ ap (leadsTo s.store k.order) ((bought w.0 k z).1 (l.clear, l.needed, refl))
-          ∙ is-same-order k.order (orderFrom s.store z) l.same)
+          let z = A.order_bytes s (level_for s k.ask.size k.ask.mask) t in
+          and_both (sound_ok s t) (still_ok s a t a.order) (tables_all s t fit w.0)
+          (ap (still_ok s a t) l.its
+          ∙ ap (leads_to s.store k.order) ((bought w.0 k z).1 (l.clear, l.needed, refl))
+          ∙ is_same_order k.order (order_from s.store z) l.same)
 
   -- 1 to 4
-  pub kept-decided : Decides gates (keptRows buddyWords s a t)
-  kept-decided = (
+  pub kept_decided : Decides gates (kept_rows buddy_words s a t)
+  kept_decided = (
     refl,
-    fails (inTableOk s a t) (in_table s a t).0 (in_table s a t).1,
+    fails (in_table_ok s a t) (in_table s a t).0 (in_table s a t).1,
     (λ e. (
       refl,
-      none-for s.store.number a,
+      none_for s.store.number a,
       (λ _. (
         refl,
-        (let i = (in_table s a t).0 e in let w = leads i.0.0 i.0.1 in fails (soundOk s t && stillOk s a t a.order) w.0 w.1),
+        (let i = (in_table s a t).0 e in let w = leads i.0.0 i.0.1 in fails (sound_ok s t && still_ok s a t a.order) w.0 w.1),
         (λ _. (refl, short s a t, (λ _. tt))),
       )),
     )),
   )
 
   module _ (o : Outcome) where
-    abbrev deliverRow : Row
-    deliverRow = gates ++ ((welcomeOk held o a.order, 13) ∷ fateRow o)
+    abbrev deliver_row : Row
+    deliver_row = gates ++ ((welcome_ok held o a.order, 13) ∷ fate_row o)
 
     -- a delivery says what the row of its tests comes to
-    deliver-tells : (n : ℕ) → Tells (deliverOf s a o t).said (first deliverRow) n
-    unfolding deliverOf planDeliver deliverGateOf carryDeliver
-    deliver-tells n =
-        arrival-tells buddy o held s.store.number (λ (p : D.Arrival). (carryDeliver s a t p).said) n (λ m. tells-refused m n []) (λ k f. tells-fate s a k t f n) gates a.order
+    deliver_tells : (n : ℕ) → Tells (deliver_of s a o t).said (first deliver_row) n
+    unfolding deliver_of plan_deliver deliver_gate_of carry_deliver
+    deliver_tells n =
+        arrival_tells buddy o held s.store.number (λ (p : D.Arrival). (carry_deliver s a t p).said) n (λ m. tells_refused m n []) (λ k f. tells_fate s a k t f n) gates a.order
         (λ e. (passed gates e).1.0)
 
-    deliver-decided : Decides deliverRow (deliverRows buddyWords s a o t)
-    deliver-decided =
-        decides-then gates (keptRows buddyWords s a t) ((welcomeOk held o a.order, 13) ∷ fateRow o) (reason (UnwelcomeTo a (map (λ (c : Chunk). c.memory) (chunks_in t)) o) 13 (reason (DeviceOut o) 11 (reason (HostOut o) 12 none))) kept-decided
-        (λ _. (refl, subst (λ (ms : List ℕ). (welcomeOk held o a.order ≡ false) ↔ UnwelcomeTo a ms o) (memories-is t) (unwelcomed a held o), (λ _. (refl, device-out o, (λ _. (refl, host-out o, (λ _. tt)))))))
+    deliver_decided : Decides deliver_row (deliver_rows buddy_words s a o t)
+    deliver_decided =
+        decides_then gates (kept_rows buddy_words s a t) ((welcome_ok held o a.order, 13) ∷ fate_row o) (reason (UnwelcomeTo a (map (λ (c : Chunk). c.memory) (chunks_in t)) o) 13 (reason (DeviceOut o) 11 (reason (HostOut o) 12 none))) kept_decided
+        (λ _. (refl, subst (λ (ms : List ℕ). (welcome_ok held o a.order ≡ false) ↔ UnwelcomeTo a ms o) (memories_is t) (unwelcomed a held o), (λ _. (refl, device_out o, (λ _. (refl, host_out o, (λ _. tt)))))))
 
 -- a delivery is refused with n exactly when n is the number of the first of its rows, 1 to 4, 13, 11, 12, whose words hold
-pub deliver-refused : (s : BuddySettings) (a : Account) (o : Outcome) (t : Tables) (n : ℕ) → ((back : List ℕ) × ((deliverOf s a o t).said ≡ Paper.refusal n back)) ↔ Given (deliverRows buddyWords s a o t) n
-deliver-refused s a o t n =
-    Iff.trans (deliver-tells s a t o n) (given-first (deliverRow s a t o) (deliverRows buddyWords s a o t) (deliver-decided s a t o) n)
+pub deliver_refused : (s : BuddySettings) (a : Account) (o : Outcome) (t : Tables) (n : ℕ) → ((back : List ℕ) × ((deliver_of s a o t).said ≡ Paper.refusal n back)) ↔ Given (deliver_rows buddy_words s a o t) n
+deliver_refused s a o t n =
+    Iff.trans (deliver_tells s a t o n) (given_first (deliver_row s a t o) (deliver_rows buddy_words s a o t) (deliver_decided s a t o) n)

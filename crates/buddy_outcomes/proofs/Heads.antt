@@ -6,118 +6,118 @@ use Prim.Native.Nat.{ℕ, ◌+◌, ◌-◌, ◌*◌, ◌≤◌}
 use native.Mathlib.Omega.{arith}
 use lib.ListN.{length, get_or, set}
 use lib.Seq.{get_or-set_same, get_or-set_other}
-use Rattle.words.specs.Words.{cell_of, markAt}
-use Rattle.words.proofs.Filled.{blank-other}
+use Rattle.words.specs.Words.{cell_of, mark_at}
+use Rattle.words.proofs.Filled.{blank_other}
 use Rattle.counter.specs.declared.answers.Block.{Block}
 use Rattle.counter.specs.declared.settings.BuddySettings.{BuddySettings}
-use Rattle.store_rules.specs.Loans.{givenAt, places_at, loanWords, loan}
-use Rattle.slab.specs.Slab.{recordOf}
+use Rattle.store_rules.specs.Loans.{given_at, places_at, loan_words, loan}
+use Rattle.slabs.specs.Slab.{record_of}
 use Rattle.book_rules.specs.Book.{taken_of, struck}
-use Rattle.book_rules.proofs.Counted.{entered-given, entered-places}
-use Rattle.book_rules.proofs.Owns.{struck-own}
-use Rattle.buddy_rules.specs.Tables.{Tables, levelsAt, chunkPlacesAt, chunkWords, memoryAt, chunkSizeAt, givenIn, levelsIn, placesIn, chunkPlacesIn, levelFrom, chunksFrom, placeAt, topAt, placeWords, marks}
-use Rattle.buddy_rules.specs.Nodes.{splitWord}
-use Rattle.buddy_rules.specs.Level.{pairTaken}
+use Rattle.book_rules.proofs.Counted.{entered_given, entered_places}
+use Rattle.book_rules.proofs.Owns.{struck_own}
+use Rattle.buddy_rules.specs.Tables.{Tables, levels_at, chunk_places_at, chunk_words, memory_at, chunk_size_at, given_in, levels_in, places_in, chunk_places_in, level_from, chunks_from, place_at, top_at, place_words, marks}
+use Rattle.buddy_rules.specs.Nodes.{split_word}
+use Rattle.buddy_rules.specs.Level.{pair_taken}
 use Rattle.buddy_rules.specs.Moves.{Cut}
-use Rattle.buddy_outcomes.specs.Ask.{chunkTaken, grownTables, bookedTables}
-use Rattle.buddy_outcomes.specs.Deliver.{chunkTables}
-use Rattle.buddy_outcomes.specs.Return.{climbFor, givenTables}
-use Rattle.buddy_outcomes.specs.SetUp.{freshTables}
+use Rattle.buddy_outcomes.specs.Ask.{chunk_taken, grown_tables, booked_tables}
+use Rattle.buddy_outcomes.specs.Deliver.{chunk_tables}
+use Rattle.buddy_outcomes.specs.Return.{climb_for, given_tables}
+use Rattle.buddy_outcomes.specs.SetUp.{fresh_tables}
 
 -- ---- set-up: nothing is given, and no place used
 
 module _ (s : BuddySettings) where
-  pub fresh-given : givenIn (freshTables s) ≡ 0
-  unfolding freshTables
-  fresh-given = blank-other (loanWords + loanWords * s.store.loans) marks.loans 0 givenAt (omega arith) (omega arith)
+  pub fresh_given : given_in (fresh_tables s) ≡ 0
+  unfolding fresh_tables
+  fresh_given = blank_other (loan_words + loan_words * s.store.loans) marks.loans 0 given_at (omega arith) (omega arith)
 
-  pub fresh-places : placesIn (freshTables s) ≡ 0
-  unfolding freshTables
-  fresh-places = blank-other (loanWords + loanWords * s.store.loans) marks.loans 0 places_at (omega arith) (omega arith)
+  pub fresh_places : places_in (fresh_tables s) ≡ 0
+  unfolding fresh_tables
+  fresh_places = blank_other (loan_words + loan_words * s.store.loans) marks.loans 0 places_at (omega arith) (omega arith)
 
-  pub fresh-chunk-places : chunkPlacesIn (freshTables s) ≡ 0
-  unfolding freshTables
-  fresh-chunk-places = blank-other (chunkWords + chunkWords * s.store.chunks) marks.chunks 0 chunkPlacesAt (omega arith) (omega arith)
+  pub fresh_chunk_places : chunk_places_in (fresh_tables s) ≡ 0
+  unfolding fresh_tables
+  fresh_chunk_places = blank_other (chunk_words + chunk_words * s.store.chunks) marks.chunks 0 chunk_places_at (omega arith) (omega arith)
 
 -- ---- grown levels change no other word of the head, and no other count
 
 module _ (s : BuddySettings) (n : ℕ) (t : Tables) where
-  pub grown-word : (i : ℕ) → (i ≡ levelsAt → ⊥) → get_or (grownTables s n t).head i 0 ≡ get_or t.head i 0
-  unfolding grownTables
-  grown-word i o = get_or-set_other t.head levelsAt i n 0 o
+  pub grown_word : (i : ℕ) → (i ≡ levels_at → ⊥) → get_or (grown_tables s n t).head i 0 ≡ get_or t.head i 0
+  unfolding grown_tables
+  grown_word i o = get_or-set_other t.head levels_at i n 0 o
 
-  pub grown-given : givenIn (grownTables s n t) ≡ givenIn t
-  unfolding grownTables
-  grown-given = refl
+  pub grown_given : given_in (grown_tables s n t) ≡ given_in t
+  unfolding grown_tables
+  grown_given = refl
 
-  pub grown-places : placesIn (grownTables s n t) ≡ placesIn t
-  unfolding grownTables
-  grown-places = refl
+  pub grown_places : places_in (grown_tables s n t) ≡ places_in t
+  unfolding grown_tables
+  grown_places = refl
 
 -- ---- a chunk that is placed counts its place
 
 module _ (s : BuddySettings) (memory z : ℕ) (t : Tables) where
   -- the chunks' mark stays
-  pub chunk-mark : get_or (chunkTables s memory z t).chunks markAt 0 ≡ get_or t.chunks markAt 0
-  unfolding chunkTables
-  chunk-mark =
-      let c = (chunkTaken s t).place in
-      let one = set t.chunks chunkPlacesAt (chunkTaken s t).slab.places in
-      get_or-set_other (set one (cell_of memoryAt chunkWords c) memory) (cell_of chunkSizeAt chunkWords c) markAt z 0 (λ e. omega arith)
-      ∙ get_or-set_other one (cell_of memoryAt chunkWords c) markAt memory 0 (λ e. omega arith)
-      ∙ get_or-set_other t.chunks chunkPlacesAt markAt (chunkTaken s t).slab.places 0 (λ e. omega arith)
+  pub chunk_mark : get_or (chunk_tables s memory z t).chunks mark_at 0 ≡ get_or t.chunks mark_at 0
+  unfolding chunk_tables
+  chunk_mark =
+      let c = (chunk_taken s t).place in
+      let one = set t.chunks chunk_places_at (chunk_taken s t).slab.places in
+      get_or-set_other (set one (cell_of memory_at chunk_words c) memory) (cell_of chunk_size_at chunk_words c) mark_at z 0 (λ e. omega arith)
+      ∙ get_or-set_other one (cell_of memory_at chunk_words c) mark_at memory 0 (λ e. omega arith)
+      ∙ get_or-set_other t.chunks chunk_places_at mark_at (chunk_taken s t).slab.places 0 (λ e. omega arith)
 
   -- and so does that of the tree
-  pub chunk-room-mark : get_or (chunkTables s memory z t).room markAt 0 ≡ get_or t.room markAt 0
-  unfolding chunkTables
-  chunk-room-mark =
-      let link = recordOf (chunkTaken s t).slab.vacant in
-      get_or-set_other (set t.room (chunksFrom s) link) (cell_of (placeAt s topAt) placeWords (chunkTaken s t).place) markAt (splitWord (pairTaken (levelFrom s (levelsIn t - 1)) t.room).place) 0 (λ e. omega arith)
-      ∙ get_or-set_other t.room (chunksFrom s) markAt link 0 (λ e. omega arith)
+  pub chunk_room_mark : get_or (chunk_tables s memory z t).room mark_at 0 ≡ get_or t.room mark_at 0
+  unfolding chunk_tables
+  chunk_room_mark =
+      let link = record_of (chunk_taken s t).slab.vacant in
+      get_or-set_other (set t.room (chunks_from s) link) (cell_of (place_at s top_at) place_words (chunk_taken s t).place) mark_at (split_word (pair_taken (level_from s (levels_in t - 1)) t.room).place) 0 (λ e. omega arith)
+      ∙ get_or-set_other t.room (chunks_from s) mark_at link 0 (λ e. omega arith)
 
-  pub chunk-counted : chunkWords ≤ length t.chunks → chunkPlacesIn (chunkTables s memory z t) ≡ (chunkTaken s t).slab.places
-  unfolding chunkTables
-  chunk-counted h =
-      let q = (chunkTaken s t).slab.places in
-      let c = (chunkTaken s t).place in
-      let one = set t.chunks chunkPlacesAt q in
-      get_or-set_other (set one (cell_of memoryAt chunkWords c) memory) (cell_of chunkSizeAt chunkWords c) chunkPlacesAt z 0 (λ e. omega arith)
-      ∙ get_or-set_other one (cell_of memoryAt chunkWords c) chunkPlacesAt memory 0 (λ e. omega arith)
-      ∙ get_or-set_same t.chunks chunkPlacesAt q 0 (omega arith)
+  pub chunk_counted : chunk_words ≤ length t.chunks → chunk_places_in (chunk_tables s memory z t) ≡ (chunk_taken s t).slab.places
+  unfolding chunk_tables
+  chunk_counted h =
+      let q = (chunk_taken s t).slab.places in
+      let c = (chunk_taken s t).place in
+      let one = set t.chunks chunk_places_at q in
+      get_or-set_other (set one (cell_of memory_at chunk_words c) memory) (cell_of chunk_size_at chunk_words c) chunk_places_at z 0 (λ e. omega arith)
+      ∙ get_or-set_other one (cell_of memory_at chunk_words c) chunk_places_at memory 0 (λ e. omega arith)
+      ∙ get_or-set_same t.chunks chunk_places_at q 0 (omega arith)
 
 -- ---- a loan that is entered: one more serial was given, and the loan places are those that the slab says
 
-module _ (s : BuddySettings) (t : Tables) (c o size : ℕ) (cut : Cut) (some : loanWords ≤ length t.loans) where
-  pub booked-given : givenIn (bookedTables s c o size cut t) ≡ givenIn t + 1
-  unfolding bookedTables
-  booked-given = entered-given (placesIn t) t.index (loan (givenIn t + 1) c o size) t.loans some
+module _ (s : BuddySettings) (t : Tables) (c o size : ℕ) (cut : Cut) (some : loan_words ≤ length t.loans) where
+  pub booked_given : given_in (booked_tables s c o size cut t) ≡ given_in t + 1
+  unfolding booked_tables
+  booked_given = entered_given (places_in t) t.index (loan (given_in t + 1) c o size) t.loans some
 
-  pub booked-places : placesIn (bookedTables s c o size cut t) ≡ (taken_of (placesIn t) t.index).slab.places
-  unfolding bookedTables
-  booked-places = entered-places (placesIn t) t.index (loan (givenIn t + 1) c o size) t.loans some
+  pub booked_places : places_in (booked_tables s c o size cut t) ≡ (taken_of (places_in t) t.index).slab.places
+  unfolding booked_tables
+  booked_places = entered_places (places_in t) t.index (loan (given_in t + 1) c o size) t.loans some
 
 -- ---- a loan that is struck out, and the chunk that may go with it, leave every count
 
-pub struck-given : (at : ℕ) (index loans : List ℕ) → get_or (struck at index loans) givenAt 0 ≡ get_or loans givenAt 0
-struck-given at index loans = struck-own at givenAt index loans (omega arith)
+pub struck_given : (at : ℕ) (index loans : List ℕ) → get_or (struck at index loans) given_at 0 ≡ get_or loans given_at 0
+struck_given at index loans = struck_own at given_at index loans (omega arith)
 
-pub struck-places : (at : ℕ) (index loans : List ℕ) → get_or (struck at index loans) places_at 0 ≡ get_or loans places_at 0
-struck-places at index loans = struck-own at places_at index loans (omega arith)
+pub struck_places : (at : ℕ) (index loans : List ℕ) → get_or (struck at index loans) places_at 0 ≡ get_or loans places_at 0
+struck_places at index loans = struck_own at places_at index loans (omega arith)
 
 -- the chunk at place c gone, or not
-pub left-chunk-places : (c : ℕ) (chunks : List ℕ) (f : Bool) → get_or (cond f (set chunks (cell_of chunkSizeAt chunkWords c) 0) chunks) chunkPlacesAt 0 ≡ get_or chunks chunkPlacesAt 0
-left-chunk-places c chunks true = get_or-set_other chunks (cell_of chunkSizeAt chunkWords c) chunkPlacesAt 0 0 (λ e. omega arith)
-left-chunk-places c chunks false = refl
+pub left_chunk_places : (c : ℕ) (chunks : List ℕ) (f : Bool) → get_or (cond f (set chunks (cell_of chunk_size_at chunk_words c) 0) chunks) chunk_places_at 0 ≡ get_or chunks chunk_places_at 0
+left_chunk_places c chunks true = get_or-set_other chunks (cell_of chunk_size_at chunk_words c) chunk_places_at 0 0 (λ e. omega arith)
+left_chunk_places c chunks false = refl
 
 module _ (s : BuddySettings) (b : Block) (w : ℕ) (t : Tables) where
-  pub back-given : givenIn (givenTables s b w t) ≡ givenIn t
-  unfolding givenTables
-  back-given = struck-given w t.index t.loans
+  pub back_given : given_in (given_tables s b w t) ≡ given_in t
+  unfolding given_tables
+  back_given = struck_given w t.index t.loans
 
-  pub back-places : placesIn (givenTables s b w t) ≡ placesIn t
-  unfolding givenTables
-  back-places = struck-places w t.index t.loans
+  pub back_places : places_in (given_tables s b w t) ≡ places_in t
+  unfolding given_tables
+  back_places = struck_places w t.index t.loans
 
-  pub back-chunk-places : chunkPlacesIn (givenTables s b w t) ≡ chunkPlacesIn t
-  unfolding givenTables
-  back-chunk-places = left-chunk-places b.chunk t.chunks (climbFor s b w t).freed
+  pub back_chunk_places : chunk_places_in (given_tables s b w t) ≡ chunk_places_in t
+  unfolding given_tables
+  back_chunk_places = left_chunk_places b.chunk t.chunks (climb_for s b w t).freed

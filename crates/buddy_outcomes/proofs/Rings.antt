@@ -9,17 +9,17 @@ use lib.Dec.{eqb, ltb}
 use lib.ListN.{get_or}
 use borrow.Author.Tests.{eqb-true, eqb-false, eq-eqb, ne_eqb, lt-ltb}
 use Rattle.lists.specs.Members.{Mem, Distinct}
-use Rattle.lists.proofs.Bools.{told, same?, true-false, and_both}
+use Rattle.lists.proofs.Bools.{told, same?, true_false, and_both}
 use Rattle.counter.specs.declared.settings.BuddySettings.{BuddySettings}
-use Rattle.slab.specs.Slab.{nowhere, Parted}
-use Rattle.slab.specs.declared.Slab.{Slab}
+use Rattle.slabs.specs.Slab.{nowhere, Parted}
+use Rattle.slabs.specs.declared.Slab.{Slab}
 use Rattle.buddy_rules.specs.Nodes.{Ent, tag_of, Inside}
-use Rattle.buddy_rules.proofs.Frees.{Sided, pair-sided}
-use Rattle.buddy_rules.specs.Level.{usedAt, entOf}
-use Rattle.buddy_rules.proofs.Cells.{pair-used}
-use Rattle.buddy_rules.specs.Tables.{Tables, placesIn, chunkPlacesIn, levelsIn, levelFrom, pairsIn, chunkSizeIn, loanIn, live_in, heldIn, highIn, topIn, vacantLoan, vacantChunk}
+use Rattle.buddy_rules.proofs.Frees.{Sided, pair_sided}
+use Rattle.buddy_rules.specs.Level.{used_at, ent_of}
+use Rattle.buddy_rules.proofs.Cells.{pair_used}
+use Rattle.buddy_rules.specs.Tables.{Tables, places_in, chunk_places_in, levels_in, level_from, pairs_in, chunk_size_in, loan_in, live_in, held_in, high_in, top_in, vacant_loan, vacant_chunk}
 use Rattle.buddy_rules.specs.Sound.{Sound}
-use Rattle.buddy_rules.proofs.Stands.{Met, rep-met}
+use Rattle.buddy_rules.proofs.Stands.{Met, rep_met}
 use Rattle.buddy_outcomes.proofs.Booked.{and_no}
 
 -- one of the pair's two nodes is free: its word is 0, the other's is not
@@ -32,8 +32,8 @@ OneFree e = ((e.left ≡ 0) × (e.right ≡ 0 → ⊥)) ⊎ ((e.left ≡ 0 → �
 abbrev Tells : Ent → Type 0
 Tells e = (1 < e.tag) ↔ OneFree e
 
-sided-tells : (e : Ent) → Sided e → Tells e
-sided-tells e s = go (eqb e.left 0) (eqb e.right 0) refl refl s.0
+sided_tells : (e : Ent) → Sided e → Tells e
+sided_tells e s = go (eqb e.left 0) (eqb e.right 0) refl refl s.0
   where
     go : (x y : Bool) → eqb e.left 0 ≡ x → eqb e.right 0 ≡ y → e.tag ≡ tag_of x y → Tells e
     go true true a b q = absurd (s.1 (eqb-true e.left 0 a) (eqb-true e.right 0 b))
@@ -46,91 +46,91 @@ sided-tells e s = go (eqb e.left 0) (eqb e.right 0) refl refl s.0
 
 module _ (s : BuddySettings) (t : Tables) (sound : Sound s t) where
   -- each pair in use lies in a held chunk
-  used-in : (l p : ℕ) → l < levelsIn t → 0 < (pairsIn s t l p).tag → Inside s.minimal (pairsIn s t l p) (pairsIn s t l p).chunk 0 (highIn s t (pairsIn s t l p).chunk)
-  used-in l p h g = let o = sound.standing.owned l p h g in (refl, omega arith, omega (arith, (sound.standing.sized (pairsIn s t l p).chunk o.0).0, o.2))
+  used_in : (l p : ℕ) → l < levels_in t → 0 < (pairs_in s t l p).tag → Inside s.minimal (pairs_in s t l p) (pairs_in s t l p).chunk 0 (high_in s t (pairs_in s t l p).chunk)
+  used_in l p h g = let o = sound.standing.owned l p h g in (refl, omega arith, omega (arith, (sound.standing.sized (pairs_in s t l p).chunk o.0).0, o.2))
 
   -- it is that of a node of its tree
-  used-met : (l p : ℕ) → l < levelsIn t → 0 < (pairsIn s t l p).tag
-      → Met s.minimal (pairsIn s t) (highIn s t (pairsIn s t l p).chunk) 0 nowhere (topIn s t (pairsIn s t l p).chunk) (sound.standing.trees (pairsIn s t l p).chunk) l p
-  used-met l p h g =
+  used_met : (l p : ℕ) → l < levels_in t → 0 < (pairs_in s t l p).tag
+      → Met s.minimal (pairs_in s t) (high_in s t (pairs_in s t l p).chunk) 0 nowhere (top_in s t (pairs_in s t l p).chunk) (sound.standing.trees (pairs_in s t l p).chunk) l p
+  used_met l p h g =
       let S = sound.standing in
-      let c = (pairsIn s t l p).chunk in
+      let c = (pairs_in s t l p).chunk in
       let o = S.owned l p h g in
-      rep-met s.minimal (pairsIn s t) (loanIn s t) c (highIn s t c) 0 nowhere (topIn s t c) (S.trees c) (S.rep c o.0) l p o.1 g (used-in l p h g)
+      rep_met s.minimal (pairs_in s t) (loan_in s t) c (high_in s t c) 0 nowhere (top_in s t c) (S.trees c) (S.rep c o.0) l p o.1 g (used_in l p h g)
 
   -- and its tag tells its words
-  used-tells : (l p : ℕ) → l < levelsIn t → 0 < (pairsIn s t l p).tag → Tells (pairsIn s t l p)
-  used-tells l p h g =
+  used_tells : (l p : ℕ) → l < levels_in t → 0 < (pairs_in s t l p).tag → Tells (pairs_in s t l p)
+  used_tells l p h g =
       let S = sound.standing in
-      let c = (pairsIn s t l p).chunk in
+      let c = (pairs_in s t l p).chunk in
       let o = S.owned l p h g in
-      sided-tells (pairsIn s t l p)
-      (pair-sided s.minimal (pairsIn s t) (loanIn s t) c (highIn s t c) 0 nowhere (topIn s t c) l p (S.trees c) (S.wf c o.0) (S.rep c o.0) o.1 g (used-in l p h g))
+      sided_tells (pairs_in s t l p)
+      (pair_sided s.minimal (pairs_in s t) (loan_in s t) c (high_in s t c) 0 nowhere (top_in s t c) l p (S.trees c) (S.wf c o.0) (S.rep c o.0) o.1 g (used_in l p h g))
 
   -- ---- rings
 
   -- a level's ring has exactly the pairs in use with one free side
-  pub ring-exactly : (l : ℕ) (below : l < levelsIn t) (p : ℕ) → Mem p (sound.good l below).ring
-      ↔ ((p < get_or t.room (levelFrom s l + usedAt) 0) × (0 < (pairsIn s t l p).tag) × OneFree (pairsIn s t l p))
-  ring-exactly l below p = (there, back)
+  pub ring_exactly : (l : ℕ) (below : l < levels_in t) (p : ℕ) → Mem p (sound.good l below).ring
+      ↔ ((p < get_or t.room (level_from s l + used_at) 0) × (0 < (pairs_in s t l p).tag) × OneFree (pairs_in s t l p))
+  ring_exactly l below p = (there, back)
     where
-      same : p < get_or t.room (levelFrom s l + usedAt) 0 → (pairsIn s t l p).tag ≡ (entOf (levelFrom s l) t.room p).tag
-      same h = ap (λ (e : Ent). e.tag) (pair-used (levelFrom s l) t.room p h)
+      same : p < get_or t.room (level_from s l + used_at) 0 → (pairs_in s t l p).tag ≡ (ent_of (level_from s l) t.room p).tag
+      same h = ap (λ (e : Ent). e.tag) (pair_used (level_from s l) t.room p h)
 
-      there : Mem p (sound.good l below).ring → (p < get_or t.room (levelFrom s l + usedAt) 0) × (0 < (pairsIn s t l p).tag) × OneFree (pairsIn s t l p)
+      there : Mem p (sound.good l below).ring → (p < get_or t.room (level_from s l + used_at) 0) × (0 < (pairs_in s t l p).tag) × OneFree (pairs_in s t l p)
       there m =
           let h = (sound.good l below).below p m in
-          let g : 1 < (pairsIn s t l p).tag = omega (arith, same h, (sound.good l below).ready p m) in
-          let k : 0 < (pairsIn s t l p).tag = omega arith in
-          (h, k, (used-tells l p below k).0 g)
+          let g : 1 < (pairs_in s t l p).tag = omega (arith, same h, (sound.good l below).ready p m) in
+          let k : 0 < (pairs_in s t l p).tag = omega arith in
+          (h, k, (used_tells l p below k).0 g)
 
-      back : (p < get_or t.room (levelFrom s l + usedAt) 0) × (0 < (pairsIn s t l p).tag) × OneFree (pairsIn s t l p) → Mem p (sound.good l below).ring
-      back w = let g : 1 < (pairsIn s t l p).tag = (used-tells l p below w.1).1 w.2 in (sound.good l below).all p w.0 (omega (arith, same w.0))
+      back : (p < get_or t.room (level_from s l + used_at) 0) × (0 < (pairs_in s t l p).tag) × OneFree (pairs_in s t l p) → Mem p (sound.good l below).ring
+      back w = let g : 1 < (pairs_in s t l p).tag = (used_tells l p below w.1).1 w.2 in (sound.good l below).all p w.0 (omega (arith, same w.0))
 
   -- and none of them twice
-  pub ring-once : (l : ℕ) (below : l < levelsIn t) → Distinct (sound.good l below).ring
-  ring-once l below = (sound.good l below).rings.ring.distinct
+  pub ring_once : (l : ℕ) (below : l < levels_in t) → Distinct (sound.good l below).ring
+  ring_once l below = (sound.good l below).rings.ring.distinct
 
   -- ---- places
 
   -- a place that is not vacant is not in the chain
-  not-chained : (dead : ℕ → Bool) (next : ℕ → ℕ) (b : Slab) (most : ℕ) (P : Parted dead next b most) (p : ℕ) → dead p ≡ false → Mem p P.chained → ⊥
-  not-chained dead next b most P p e m = true-false (dead p) (P.vacant p m) e
+  not_chained : (dead : ℕ → Bool) (next : ℕ → ℕ) (b : Slab) (most : ℕ) (P : Parted dead next b most) (p : ℕ) → dead p ≡ false → Mem p P.chained → ⊥
+  not_chained dead next b most P p e m = true_false (dead p) (P.vacant p m) e
 
   -- a pair place that was used: a pair stands there, which is that of a node of a held chunk's tree and lies in that chunk, or it
   -- is vacant and in its level's chain, never both
-  pub place-either : (l : ℕ) (below : l < levelsIn t) (p : ℕ) → p < get_or t.room (levelFrom s l + usedAt) 0
-      → ((0 < (pairsIn s t l p).tag) × (heldIn t (pairsIn s t l p).chunk ≡ true) × (l < highIn s t (pairsIn s t l p).chunk) × ((pairsIn s t l p).off < chunkSizeIn t (pairsIn s t l p).chunk)
-      × Met s.minimal (pairsIn s t) (highIn s t (pairsIn s t l p).chunk) 0 nowhere (topIn s t (pairsIn s t l p).chunk) (sound.standing.trees (pairsIn s t l p).chunk) l p
+  pub place_either : (l : ℕ) (below : l < levels_in t) (p : ℕ) → p < get_or t.room (level_from s l + used_at) 0
+      → ((0 < (pairs_in s t l p).tag) × (held_in t (pairs_in s t l p).chunk ≡ true) × (l < high_in s t (pairs_in s t l p).chunk) × ((pairs_in s t l p).off < chunk_size_in t (pairs_in s t l p).chunk)
+      × Met s.minimal (pairs_in s t) (high_in s t (pairs_in s t l p).chunk) 0 nowhere (top_in s t (pairs_in s t l p).chunk) (sound.standing.trees (pairs_in s t l p).chunk) l p
       × (Mem p (sound.good l below).parted.chained → ⊥))
-      ⊎ (((pairsIn s t l p).tag ≡ 0) × Mem p (sound.good l below).parted.chained)
-  place-either l below p h =
-      let e : (pairsIn s t l p).tag ≡ (entOf (levelFrom s l) t.room p).tag = ap (λ (x : Ent). x.tag) (pair-used (levelFrom s l) t.room p h) in
+      ⊎ (((pairs_in s t l p).tag ≡ 0) × Mem p (sound.good l below).parted.chained)
+  place_either l below p h =
+      let e : (pairs_in s t l p).tag ≡ (ent_of (level_from s l) t.room p).tag = ap (λ (x : Ent). x.tag) (pair_used (level_from s l) t.room p h) in
       let P = (sound.good l below).parted in
       ⊎_elim
-      (λ z. inr (e ∙ z, P.all p h (eq-eqb (entOf (levelFrom s l) t.room p).tag 0 z)))
+      (λ z. inr (e ∙ z, P.all p h (eq-eqb (ent_of (level_from s l) t.room p).tag 0 z)))
       (λ z.
-      let g : 0 < (pairsIn s t l p).tag = omega arith in
+      let g : 0 < (pairs_in s t l p).tag = omega arith in
       let o = sound.standing.owned l p below g in
-      inl (g, o.0, o.1, o.2, used-met l p below g, not-chained _ _ _ _ P p (ne_eqb (entOf (levelFrom s l) t.room p).tag 0 z)))
-      (same? (entOf (levelFrom s l) t.room p).tag 0)
+      inl (g, o.0, o.1, o.2, used_met l p below g, not_chained _ _ _ _ P p (ne_eqb (ent_of (level_from s l) t.room p).tag 0 z)))
+      (same? (ent_of (level_from s l) t.room p).tag 0)
 
   -- a loan place that was used: a loan stands there, or it is vacant and in the chain, never both
-  pub loan-place-either : (k : ℕ) → k < placesIn t
-      → ((live_in t k ≡ true) × (Mem k sound.loans-parted.chained → ⊥)) ⊎ ((live_in t k ≡ false) × Mem k sound.loans-parted.chained)
-  loan-place-either k h =
-      let P = sound.loans-parted in
+  pub loan_place_either : (k : ℕ) → k < places_in t
+      → ((live_in t k ≡ true) × (Mem k sound.loans_parted.chained → ⊥)) ⊎ ((live_in t k ≡ false) × Mem k sound.loans_parted.chained)
+  loan_place_either k h =
+      let P = sound.loans_parted in
       ⊎_elim
-      (λ z. inr (ap (λ (b : Bool). ltb k (placesIn t) && not b) z ∙ and_no (ltb k (placesIn t)) false refl, P.all k h z))
-      (λ z. inl (and_both _ _ (lt-ltb k (placesIn t) h) (ap not z), not-chained _ _ _ _ P k z))
-      (told (vacantLoan t k))
+      (λ z. inr (ap (λ (b : Bool). ltb k (places_in t) && not b) z ∙ and_no (ltb k (places_in t)) false refl, P.all k h z))
+      (λ z. inl (and_both _ _ (lt-ltb k (places_in t) h) (ap not z), not_chained _ _ _ _ P k z))
+      (told (vacant_loan t k))
 
   -- a chunk place that was used: a chunk is held there, or it is vacant and in the chain, never both
-  pub chunk-place-either : (c : ℕ) → c < chunkPlacesIn t
-      → ((heldIn t c ≡ true) × (Mem c sound.chunks-parted.chained → ⊥)) ⊎ ((heldIn t c ≡ false) × Mem c sound.chunks-parted.chained)
-  chunk-place-either c h =
-      let P = sound.chunks-parted in
+  pub chunk_place_either : (c : ℕ) → c < chunk_places_in t
+      → ((held_in t c ≡ true) × (Mem c sound.chunks_parted.chained → ⊥)) ⊎ ((held_in t c ≡ false) × Mem c sound.chunks_parted.chained)
+  chunk_place_either c h =
+      let P = sound.chunks_parted in
       ⊎_elim
-      (λ z. inr (ap (λ (b : Bool). ltb c (chunkPlacesIn t) && not b) z ∙ and_no (ltb c (chunkPlacesIn t)) false refl, P.all c h z))
-      (λ z. inl (and_both _ _ (lt-ltb c (chunkPlacesIn t) h) (ap not z), not-chained _ _ _ _ P c z))
-      (told (vacantChunk t c))
+      (λ z. inr (ap (λ (b : Bool). ltb c (chunk_places_in t) && not b) z ∙ and_no (ltb c (chunk_places_in t)) false refl, P.all c h z))
+      (λ z. inl (and_both _ _ (lt-ltb c (chunk_places_in t) h) (ap not z), not_chained _ _ _ _ P c z))
+      (told (vacant_chunk t c))

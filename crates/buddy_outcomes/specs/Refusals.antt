@@ -1,7 +1,7 @@
 -- 01's table, "When the counter says no", for each call of a buddy store, in the paper's words and in the order of its tests.
 use Rattle.std.specs.Prelude.{◌≡◌, cond, ◌⊎◌, ℕ, zero, suc, ◌+◌, ◌≤◌, ◌<◌, ltb}
 use Rattle.counter.specs.InTable.{BuddyIn}
-use Rattle.counter.specs.Limits.{levelsMost}
+use Rattle.counter.specs.Limits.{levels_most}
 use Rattle.counter.specs.declared.settings.BuddySettings.{BuddySettings}
 use Rattle.store_rules.specs.Words.{Words}
 use Rattle.buddy_trees.specs.Trees.{bytes}
@@ -9,14 +9,14 @@ use Rattle.buddy_trees.specs.Chunks.{Fitting}
 use Rattle.buddy_rules.specs.Nodes.{vacant, exhausted}
 use Rattle.buddy_rules.specs.Sound.{Sound}
 use Rattle.buddy_rules.specs.Views.{view_of}
-use Rattle.buddy_rules.specs.Tables.{Tables, Lengths, givenIn, levelsIn, live_in, pairsIn}
-use Rattle.buddy_outcomes.specs.Ask.{size_for, levelFor, orderBytes}
+use Rattle.buddy_rules.specs.Tables.{Tables, Lengths, given_in, levels_in, live_in, pairs_in}
+use Rattle.buddy_outcomes.specs.Ask.{size_for, level_for, order_bytes}
 
 -- ---- 6
 
 -- "size 0; buddy: rounding overflows or the level would be 32 or more"
 abbrev pub SizeOff : BuddySettings → ℕ → ℕ → Type 0
-SizeOff s size mask = (size ≡ 0) ⊎ (bytes s.minimal levelsMost ≤ size_for s size mask)
+SizeOff s size mask = (size ≡ 0) ⊎ (bytes s.minimal levels_most ≤ size_for s size mask)
 
 -- ---- a chunk is needed
 
@@ -27,37 +27,37 @@ Needed s size mask t = Fitting (size_for s size mask) (view_of s t) → ⊥
 -- ---- 8, 10, 9
 
 -- how many loans stand at the first n places, and how many pairs of level l at its first n
-unfoldable pub liveCount : Tables → ℕ → ℕ
-liveCount t zero = 0
-liveCount t (suc n) = liveCount t n + cond (live_in t n) 1 0
+unfoldable pub live_count : Tables → ℕ → ℕ
+live_count t zero = 0
+live_count t (suc n) = live_count t n + cond (live_in t n) 1 0
 
-unfoldable pub pairCount : BuddySettings → Tables → ℕ → ℕ → ℕ
-pairCount s t l zero = 0
-pairCount s t l (suc n) = pairCount s t l n + cond (ltb vacant (pairsIn s t l n).tag) 1 0
+unfoldable pub pair_count : BuddySettings → Tables → ℕ → ℕ → ℕ
+pair_count s t l zero = 0
+pair_count s t l (suc n) = pair_count s t l n + cond (ltb vacant (pairs_in s t l n).tag) 1 0
 
 -- level l, which there is, needs a new pair: no side is ready from the asked level up to it
 pub record Splits (s : BuddySettings) (size mask : ℕ) (t : Tables) (l : ℕ) : Type 0 where
-  pub from : levelFor s size mask ≤ l
-  pub there : l < levelsIn t
-  pub none : (j p : ℕ) → levelFor s size mask ≤ j → j ≤ l → exhausted < (pairsIn s t j p).tag → ⊥
+  pub from : level_for s size mask ≤ l
+  pub there : l < levels_in t
+  pub none : (j p : ℕ) → level_for s size mask ≤ j → j ≤ l → exhausted < (pairs_in s t j p).tag → ⊥
 
 -- "a level that needs a new pair has none", by how many are in use
 abbrev pub PairsOut : BuddySettings → ℕ → ℕ → Tables → Type 0
-PairsOut s size mask t = (l : ℕ) × Splits s size mask t l × (s.pairs ≤ pairCount s t l s.pairs)
+PairsOut s size mask t = (l : ℕ) × Splits s size mask t l × (s.pairs ≤ pair_count s t l s.pairs)
 
 -- ---- all of its words: 01's rows, said once for every engine, are told of these
 
-abbrev pub buddyWords : Words
-buddyWords =
+abbrev pub buddy_words : Words
+buddy_words =
     record {
       Settings = BuddySettings;
       Tables = Tables;
       store = λ s. s.store;
-      given = givenIn;
+      given = given_in;
       view = view_of;
       Sound = Sound;
       Needed = Needed;
-      orderSize = λ s size mask t. orderBytes s (levelFor s size mask) t;
+      order_size = λ s size mask t. order_bytes s (level_for s size mask) t;
       Fits = λ s t. BuddyIn s × Lengths s t;
       MaskHigh = λ s mask. ⊥;
       SizeOff = SizeOff;

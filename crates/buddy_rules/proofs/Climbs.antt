@@ -7,29 +7,29 @@ use native.Mathlib.Omega.{arith}
 use lib.Dec.{eqb, ltb}
 use borrow.Author.Tests.{eq-eqb, ne_eqb, lt-ltb, le-ltb}
 use Rattle.lists.proofs.Bools.{told}
-use Rattle.slab.specs.Slab.{nowhere}
+use Rattle.slabs.specs.Slab.{nowhere}
 use Rattle.buddy_trees.specs.Trees.{Tree, free, loan, split, Wf, bytes, Has}
 use Rattle.buddy_trees.proofs.Bytes.{bytes_pos}
 use Rattle.buddy_trees.proofs.Fills.{has_in}
-use Rattle.buddy_rules.specs.Nodes.{Loan, Side, L, R, other, node_of, word, pairSaid, base, Rep}
-use Rattle.buddy_rules.specs.Levels.{Ops, sideBy}
+use Rattle.buddy_rules.specs.Nodes.{Loan, Side, L, R, other, node_of, word, pair_said, base, Rep}
+use Rattle.buddy_rules.specs.Levels.{Ops, side_by}
 use Rattle.buddy_rules.specs.Returns.{entries, put, Out, out, settle, settled, climb, give}
-use Rattle.buddy_rules.proofs.Sides.{tag-any, NodeBy, to-side}
-use Rattle.buddy_rules.proofs.Gave.{gave, mid-entry}
+use Rattle.buddy_rules.proofs.Sides.{tag_any, NodeBy, to_side}
+use Rattle.buddy_rules.proofs.Gave.{gave, mid_entry}
 
 -- a node's number tells its pair and its side
-pub node-pair : (q : ℕ) (s : Side) → node_of q s / 2 ≡ q
-node-pair q L = omega arith
-node-pair q R = omega arith
+pub node_pair : (q : ℕ) (s : Side) → node_of q s / 2 ≡ q
+node_pair q L = omega arith
+node_pair q R = omega arith
 
-pub node-side : (q : ℕ) (s : Side) → sideBy (eqb (node_of q s % 2) 0) ≡ s
-node-side q L = ap sideBy (eq-eqb (2 * q % 2) 0 (omega arith))
-node-side q R = ap sideBy (ne_eqb ((2 * q + 1) % 2) 0 (λ e. omega arith))
+pub node_side : (q : ℕ) (s : Side) → side_by (eqb (node_of q s % 2) 0) ≡ s
+node_side q L = ap side_by (eq-eqb (2 * q % 2) 0 (omega arith))
+node_side q R = ap side_by (ne_eqb ((2 * q + 1) % 2) 0 (λ e. omega arith))
 
 -- and is no chain's end where both nodes of its pair have numbers
-pub node-some : (q : ℕ) (s : Side) → 2 * q + 1 < nowhere → node_of q s ≡ nowhere → ⊥
-node-some q L h e = omega arith
-node-some q R h e = omega arith
+pub node_some : (q : ℕ) (s : Side) → 2 * q + 1 < nowhere → node_of q s ≡ nowhere → ⊥
+node_some q L h e = omega arith
+node_some q R h e = omega arith
 
 module _ (O : Ops) where
   -- a return that came as far as node n of level l goes on from there, if the node is free now
@@ -37,22 +37,22 @@ module _ (O : Ops) where
   next r f l n = cond r.freed (climb O r.levels f l n) r
 
   -- above the top the climb ends
-  climb-top : (W : ℕ → O.Lv) (f l : ℕ) → climb O W f l nowhere ≡ out O true W
+  climb_top : (W : ℕ → O.Lv) (f l : ℕ) → climb O W f l nowhere ≡ out O true W
   unfolding climb
-  climb-top W zero l = refl
-  climb-top W (suc f) l = refl
+  climb_top W zero l = refl
+  climb_top W (suc f) l = refl
 
-  climb-one : (W : ℕ → O.Lv) (f l n : ℕ) → (n ≡ nowhere → ⊥)
+  climb_one : (W : ℕ → O.Lv) (f l n : ℕ) → (n ≡ nowhere → ⊥)
       → climb O W (suc f) l n
-      ≡ cond (eqb (word (other (sideBy (eqb (n % 2) 0))) (O.ent (W l) (n / 2))) 0)
+      ≡ cond (eqb (word (other (side_by (eqb (n % 2) 0))) (O.ent (W l) (n / 2))) 0)
       (climb O (put O W l (O.drop (W l) (n / 2))) f (suc l) (O.ent (W l) (n / 2)).up)
-      (out O false (put O W l (O.back (W l) (n / 2) (sideBy (eqb (n % 2) 0)))))
+      (out O false (put O W l (O.back (W l) (n / 2) (side_by (eqb (n % 2) 0)))))
   unfolding climb
-  climb-one W f l n h = rw (ne_eqb n nowhere h)
+  climb_one W f l n h = rw (ne_eqb n nowhere h)
 
   -- side s of pair q was given back: one step of the climb settles it
-  climb-side : (W : ℕ → O.Lv) (f l q n : ℕ) (s : Side) → (node_of q s ≡ nowhere → ⊥) → (O.ent (W l) q).up ≡ n → climb O W (suc f) l (node_of q s) ≡ next (settle O l q s true W) f (suc l) n
-  climb-side W f l q n s h e = climb-one W f l (node_of q s) h ∙ rw (node-side q s, node-pair q s) (go (eqb (word (other s) (O.ent (W l) q)) 0))
+  climb_side : (W : ℕ → O.Lv) (f l q n : ℕ) (s : Side) → (node_of q s ≡ nowhere → ⊥) → (O.ent (W l) q).up ≡ n → climb O W (suc f) l (node_of q s) ≡ next (settle O l q s true W) f (suc l) n
+  climb_side W f l q n s h e = climb_one W f l (node_of q s) h ∙ rw (node_side q s, node_pair q s) (go (eqb (word (other s) (O.ent (W l) q)) 0))
     where
       go : (b : Bool)
           → cond b (climb O (put O W l (O.drop (W l) q)) f (suc l) (O.ent (W l) q).up) (out O false (put O W l (O.back (W l) q s)))
@@ -61,31 +61,31 @@ module _ (O : Ops) where
       go false = refl
 
   -- what the recursion does with a half, the climb does from the half's node
-  climb-next : (r : Out O) (f l q n : ℕ) (s : Side) → (node_of q s ≡ nowhere → ⊥) → (O.ent (r.levels l) q).up ≡ n → next r (suc f) l (node_of q s) ≡ next (settled O l q s r) f (suc l) n
-  climb-next r f l q n s h e = go (told r.freed)
+  climb_next : (r : Out O) (f l q n : ℕ) (s : Side) → (node_of q s ≡ nowhere → ⊥) → (O.ent (r.levels l) q).up ≡ n → next r (suc f) l (node_of q s) ≡ next (settled O l q s r) f (suc l) n
+  climb_next r f l q n s h e = go (told r.freed)
     where
       go : (r.freed ≡ true) ⊎ (r.freed ≡ false) → next r (suc f) l (node_of q s) ≡ next (settled O l q s r) f (suc l) n
-      go (inl z) = rw z (climb-side r.levels f l q n s h e)
+      go (inl z) = rw z (climb_side r.levels f l q n s h e)
       go (inr z) = rw z
 
-  next-top : (r : Out O) (f l : ℕ) → next r f l nowhere ≡ r
-  next-top r f l = go (told r.freed)
+  next_top : (r : Out O) (f l : ℕ) → next r f l nowhere ≡ r
+  next_top r f l = go (told r.freed)
     where
       go : (r.freed ≡ true) ⊎ (r.freed ≡ false) → next r f l nowhere ≡ r
-      go (inl z) = rw z (climb-top r.levels f l)
+      go (inl z) = rw z (climb_top r.levels f l)
       go (inr z) = rw z
 
 module _ (u : ℕ) (O : Ops) (K : ℕ → Loan) where
   -- one level up, seen from the half that the loan is in
-  reached-side : 0 < u → (W : ℕ → O.Lv) (c l n w o x lev k F f : ℕ) (s : Side) (a b : Tree) → ((i : ℕ) → i < suc l → O.Good (W i)) → ((i p : ℕ) → i < suc l → 0 < (entries O W i p).tag → 2 * p + 1 < nowhere)
+  reached_side : 0 < u → (W : ℕ → O.Lv) (c l n w o x lev k F f : ℕ) (s : Side) (a b : Tree) → ((i : ℕ) → i < suc l → O.Good (W i)) → ((i p : ℕ) → i < suc l → 0 < (entries O W i p).tag → 2 * p + 1 < nowhere)
       → Wf l a → NodeBy u (entries O W) K c l o n w s a b → Has u l (base u s o l) a (record { at = x; lev = lev; who = k + 1 })
-      → climb O W F lev (K k).node ≡ next O (give u O W l (word s (O.ent (W l) (pairSaid w))) (base u s o l) x) (suc f) l (node_of (pairSaid w) s)
-      → climb O W F lev (K k).node ≡ next O (settled O l (pairSaid w) s (give u O W l (word s (O.ent (W l) (pairSaid w))) (base u s o l) x)) f (suc l) n
-  reached-side pu W c l n w o x lev k F f s a b g y v r h e =
-      let G = give u O W l (word s (O.ent (W l) (pairSaid w))) (base u s o l) x in
-      let d = gave u O K pu W c l (node_of (pairSaid w) s) (word s (O.ent (W l) (pairSaid w))) (base u s o l) x lev k a (λ i z. g i (omega arith)) v r.this h in
-      let m = mid-entry u O K pu W c l o n w s a b G.levels r d.local in
-      e ∙ climb-next O G f l (pairSaid w) n s (node-some (pairSaid w) s (y l (pairSaid w) (omega arith) (rw r.tag (tag-any s a b)))) (ap (λ z. z.up) m ∙ r.up)
+      → climb O W F lev (K k).node ≡ next O (give u O W l (word s (O.ent (W l) (pair_said w))) (base u s o l) x) (suc f) l (node_of (pair_said w) s)
+      → climb O W F lev (K k).node ≡ next O (settled O l (pair_said w) s (give u O W l (word s (O.ent (W l) (pair_said w))) (base u s o l) x)) f (suc l) n
+  reached_side pu W c l n w o x lev k F f s a b g y v r h e =
+      let G = give u O W l (word s (O.ent (W l) (pair_said w))) (base u s o l) x in
+      let d = gave u O K pu W c l (node_of (pair_said w) s) (word s (O.ent (W l) (pair_said w))) (base u s o l) x lev k a (λ i z. g i (omega arith)) v r.this h in
+      let m = mid_entry u O K pu W c l o n w s a b G.levels r d.local in
+      e ∙ climb_next O G f l (pair_said w) n s (node_some (pair_said w) s (y l (pair_said w) (omega arith) (rw r.tag (tag_any s a b)))) (ap (λ z. z.up) m ∙ r.up)
 
   -- the climb from the loan's node has come to node n of level l, with f levels left
   reached : 0 < u → (W : ℕ → O.Lv) (c l n w o x lev k F f : ℕ) (t : Tree) → ((i : ℕ) → i < l → O.Good (W i)) → ((i p : ℕ) → i < l → 0 < (entries O W i p).tag → 2 * p + 1 < nowhere)
@@ -107,17 +107,17 @@ module _ (u : ℕ) (O : Ops) (K : ℕ → Loan) where
       let i = has_in u l o a (record { at = x; lev = lev; who = k + 1 }) h in
       let m : w % 2 ≡ 0 = omega (arith, r.is) in
       let z : ltb x (o + bytes u l) ≡ true = lt-ltb x (o + bytes u l) (omega (arith, bytes_pos u lev pu)) in
-      rw (m, z) (reached-side pu W c l n w o x lev k F f L a b g y v.1 r h
-      (reached pu W c l (node_of (pairSaid w) L) (O.ent (W l) (pairSaid w)).left o x lev k F (suc f) a (λ i j. g i (omega arith)) (λ i p j. y i p (omega arith)) v.1 r.this h (omega arith)))
+      rw (m, z) (reached_side pu W c l n w o x lev k F f L a b g y v.1 r h
+      (reached pu W c l (node_of (pair_said w) L) (O.ent (W l) (pair_said w)).left o x lev k F (suc f) a (λ i j. g i (omega arith)) (λ i p j. y i p (omega arith)) v.1 r.this h (omega arith)))
   reached pu W c (suc l) n w o x lev k F f (split a b) g y v r (inr h) e =
       let i = has_in u l (o + bytes u l) b (record { at = x; lev = lev; who = k + 1 }) h in
       let m : w % 2 ≡ 0 = omega (arith, r.is) in
       let z : ltb x (o + bytes u l) ≡ false = le-ltb x (o + bytes u l) (omega arith) in
-      rw (m, z) (reached-side pu W c l n w o x lev k F f R b a g y v.2 (to-side u (entries O W) K c l o n w R b a r) h
-      (reached pu W c l (node_of (pairSaid w) R) (O.ent (W l) (pairSaid w)).right (o + bytes u l) x lev k F (suc f) b (λ i j. g i (omega arith)) (λ i p j. y i p (omega arith)) v.2 r.twin h (omega arith)))
+      rw (m, z) (reached_side pu W c l n w o x lev k F f R b a g y v.2 (to_side u (entries O W) K c l o n w R b a r) h
+      (reached pu W c l (node_of (pair_said w) R) (O.ent (W l) (pair_said w)).right (o + bytes u l) x lev k F (suc f) b (λ i j. g i (omega arith)) (λ i p j. y i p (omega arith)) v.2 r.twin h (omega arith)))
 
   -- the two returns are the same
-  pub climb-give : 0 < u → (W : ℕ → O.Lv) (c l w x lev k f : ℕ) (t : Tree) → ((i : ℕ) → i < l → O.Good (W i)) → ((i p : ℕ) → i < l → 0 < (entries O W i p).tag → 2 * p + 1 < nowhere) → Wf l t → Rep u (entries O W) K c l 0 nowhere w t
+  pub climb_give : 0 < u → (W : ℕ → O.Lv) (c l w x lev k f : ℕ) (t : Tree) → ((i : ℕ) → i < l → O.Good (W i)) → ((i p : ℕ) → i < l → 0 < (entries O W i p).tag → 2 * p + 1 < nowhere) → Wf l t → Rep u (entries O W) K c l 0 nowhere w t
       → Has u l 0 t (record { at = x; lev = lev; who = k + 1 }) → l ≤ lev + f → climb O W f lev (K k).node ≡ give u O W l w 0 x
-  climb-give pu W c l w x lev k f t g y v r h e =
-      reached pu W c l nowhere w 0 x lev k f (lev + f - l) t g y v r h (omega arith) ∙ next-top O (give u O W l w 0 x) (lev + f - l) l
+  climb_give pu W c l w x lev k f t g y v r h e =
+      reached pu W c l nowhere w 0 x lev k f (lev + f - l) t g y v r h (omega arith) ∙ next_top O (give u O W l w 0 x) (lev + f - l) l

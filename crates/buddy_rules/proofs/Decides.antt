@@ -6,239 +6,239 @@ use Prim.Native.Nat.{ℕ, zero, suc, ◌+◌, ◌*◌, ◌^◌, ◌%◌, ◌≤�
 use native.Mathlib.Omega.{arith}
 use lib.Dec.{eqb, leb, ltb}
 use borrow.Author.Tests.{eqb-true, eq-eqb, leb-true, le-leb, ltb-true}
-use Rattle.lists.proofs.Bools.{told, true-false, and_left, and_right, and_both, or_cases, or_left, or_right, not_yes, lt-or-le, all-each, each_all}
+use Rattle.lists.proofs.Bools.{told, true_false, and_left, and_right, and_both, or_cases, or_left, or_right, not_yes, lt_or_le, all_each, each_all}
 use Rattle.counter.specs.InTable.{BuddyIn}
-use Rattle.counter.specs.Limits.{levelsMost, pairsMost}
+use Rattle.counter.specs.Limits.{levels_most, pairs_most}
 use Rattle.counter.specs.declared.settings.BuddySettings.{BuddySettings}
-use Rattle.slab.specs.Slab.{nowhere}
-use Rattle.slab.specs.Test.{partedOk}
-use Rattle.slab.proofs.Decides.{decides-yes, decides-all}
+use Rattle.slabs.specs.Slab.{nowhere}
+use Rattle.slabs.specs.Test.{parted_ok}
+use Rattle.slabs.proofs.Decides.{decides_yes, decides_all}
 use Rattle.store_rules.specs.Loans.{size_at}
 use Rattle.store_rules.proofs.Signed.{signed_yes, signed_all}
-use Rattle.book_rules.specs.Book.{serialOf}
-use Rattle.book_rules.proofs.Decides.{chains-yes, chains-all}
+use Rattle.book_rules.specs.Book.{serial_of}
+use Rattle.book_rules.proofs.Decides.{chains_yes, chains_all}
 use Rattle.buddy_rules.specs.Level.{Good}
-use Rattle.buddy_rules.specs.LevelTest.{ringed, inUse, levelOk}
-use Rattle.buddy_rules.proofs.LevelDecides.{level-few, use-most, use-least, ring-most, level-good, good-use, good-ring, good-level}
-use Rattle.buddy_rules.specs.Tables.{Tables, givenIn, levelsIn, placesIn, chunkPlacesIn, memoryIn, levelFrom, loanCell, loanIn, live_in, heldIn, vacantChunk, chunkAfter, chunkSlab, vacantLoan, loanAfter, loanSlab, chainStart, chainNext, initialLevels, marks}
+use Rattle.buddy_rules.specs.LevelTest.{ringed, in_use, level_ok}
+use Rattle.buddy_rules.proofs.LevelDecides.{level_few, use_most, use_least, ring_most, level_good, good_use, good_ring, good_level}
+use Rattle.buddy_rules.specs.Tables.{Tables, given_in, levels_in, places_in, chunk_places_in, memory_in, level_from, loan_cell, loan_in, live_in, held_in, vacant_chunk, chunk_after, chunk_slab, vacant_loan, loan_after, loan_slab, chain_start, chain_next, initial_levels, marks}
 use Rattle.buddy_rules.specs.Sound.{Trees, Sound}
-use Rattle.buddy_rules.specs.Test.{every, liveCount, heldCount, pairsInUse, pairsReady, leavesOk, countedOk, memoriesOk, unitsOk, soundRow, soundOk}
-use Rattle.buddy_rules.proofs.Looks.{chunkOk}
-use Rattle.buddy_rules.proofs.Tests.{every-yes, every-all}
-use Rattle.buddy_rules.proofs.CountDown.{metsIn, counted-parts}
-use Rattle.buddy_rules.proofs.Counted.{met-most, met-stand, met-leaves, trees-met}
-use Rattle.buddy_rules.proofs.InUse.{takenAt, readyAt, pairsUsed, readiesIn, live-most}
-use Rattle.buddy_rules.proofs.Totals.{total, total-most, total-same, total-less, total-each}
+use Rattle.buddy_rules.specs.Test.{every, live_count, held_count, pairs_in_use, pairs_ready, leaves_ok, counted_ok, memories_ok, units_ok, sound_row, sound_ok}
+use Rattle.buddy_rules.proofs.Looks.{chunk_ok}
+use Rattle.buddy_rules.proofs.Tests.{every_yes, every_all}
+use Rattle.buddy_rules.proofs.CountDown.{mets_in, counted_parts}
+use Rattle.buddy_rules.proofs.Counted.{met_most, met_stand, met_leaves, trees_met}
+use Rattle.buddy_rules.proofs.InUse.{taken_at, ready_at, pairs_used, readies_in, live_most}
+use Rattle.buddy_rules.proofs.Totals.{total, total_most, total_same, total_less, total_each}
 
 -- what a test of places says of their number
-few-of : (free : ℕ → Bool) (next : ℕ → ℕ) (places vacant most : ℕ) → partedOk free next (record { places = places; vacant = vacant }) most ≡ true → places ≤ most
-unfolding partedOk
-few-of free next places vacant most e = leb-true places most (and_left (leb places most) _ e)
+few_of : (free : ℕ → Bool) (next : ℕ → ℕ) (places vacant most : ℕ) → parted_ok free next (record { places = places; vacant = vacant }) most ≡ true → places ≤ most
+unfolding parted_ok
+few_of free next places vacant most e = leb-true places most (and_left (leb places most) _ e)
 
 module _ (s : BuddySettings) (t : Tables) where
   -- ---- memory numbers
 
   abbrev pub Differ : Type 0
-  Differ = (c d : ℕ) → heldIn t c ≡ true → heldIn t d ≡ true → memoryIn t c ≡ memoryIn t d → c ≡ d
+  Differ = (c d : ℕ) → held_in t c ≡ true → held_in t d ≡ true → memory_in t c ≡ memory_in t d → c ≡ d
 
-  held_below : (c : ℕ) → heldIn t c ≡ true → c < chunkPlacesIn t
-  held_below c e = ltb-true c (chunkPlacesIn t) (and_left (ltb c (chunkPlacesIn t)) _ e)
+  held_below : (c : ℕ) → held_in t c ≡ true → c < chunk_places_in t
+  held_below c e = ltb-true c (chunk_places_in t) (and_left (ltb c (chunk_places_in t)) _ e)
 
   -- the test of two places
-  abbrev pairTest : ℕ → ℕ → Bool
-  pairTest c d = not (heldIn t c && heldIn t d) || not (eqb (memoryIn t c) (memoryIn t d))
+  abbrev pair_test : ℕ → ℕ → Bool
+  pair_test c d = not (held_in t c && held_in t d) || not (eqb (memory_in t c) (memory_in t d))
 
-  pair-yes : (c d : ℕ) → pairTest c d ≡ true → heldIn t c ≡ true → heldIn t d ≡ true → memoryIn t c ≡ memoryIn t d → ⊥
-  pair-yes c d e h k m =
-      ⊎_elim (λ q. true-false (heldIn t c && heldIn t d) (and_both (heldIn t c) (heldIn t d) h k) (not_yes _ q))
-      (λ q. true-false (eqb (memoryIn t c) (memoryIn t d)) (eq-eqb (memoryIn t c) (memoryIn t d) m) (not_yes _ q))
-      (or_cases (not (heldIn t c && heldIn t d)) (not (eqb (memoryIn t c) (memoryIn t d))) e)
+  pair_yes : (c d : ℕ) → pair_test c d ≡ true → held_in t c ≡ true → held_in t d ≡ true → memory_in t c ≡ memory_in t d → ⊥
+  pair_yes c d e h k m =
+      ⊎_elim (λ q. true_false (held_in t c && held_in t d) (and_both (held_in t c) (held_in t d) h k) (not_yes _ q))
+      (λ q. true_false (eqb (memory_in t c) (memory_in t d)) (eq-eqb (memory_in t c) (memory_in t d) m) (not_yes _ q))
+      (or_cases (not (held_in t c && held_in t d)) (not (eqb (memory_in t c) (memory_in t d))) e)
 
-  pair-all : (c d : ℕ) → (heldIn t c ≡ true → heldIn t d ≡ true → memoryIn t c ≡ memoryIn t d → ⊥) → pairTest c d ≡ true
-  pair-all c d f =
+  pair_all : (c d : ℕ) → (held_in t c ≡ true → held_in t d ≡ true → memory_in t c ≡ memory_in t d → ⊥) → pair_test c d ≡ true
+  pair_all c d f =
       ⊎_elim
       (λ q.
-      ⊎_elim (λ m. absurd (f (and_left (heldIn t c) (heldIn t d) q) (and_right (heldIn t c) (heldIn t d) q) (eqb-true (memoryIn t c) (memoryIn t d) m)))
-      (λ m. or_right (not (heldIn t c && heldIn t d)) (not (eqb (memoryIn t c) (memoryIn t d))) (ap not m))
-      (told (eqb (memoryIn t c) (memoryIn t d))))
-      (λ q. or_left (not (heldIn t c && heldIn t d)) (not (eqb (memoryIn t c) (memoryIn t d))) (ap not q))
-      (told (heldIn t c && heldIn t d))
+      ⊎_elim (λ m. absurd (f (and_left (held_in t c) (held_in t d) q) (and_right (held_in t c) (held_in t d) q) (eqb-true (memory_in t c) (memory_in t d) m)))
+      (λ m. or_right (not (held_in t c && held_in t d)) (not (eqb (memory_in t c) (memory_in t d))) (ap not m))
+      (told (eqb (memory_in t c) (memory_in t d))))
+      (λ q. or_left (not (held_in t c && held_in t d)) (not (eqb (memory_in t c) (memory_in t d))) (ap not q))
+      (told (held_in t c && held_in t d))
 
-  pub memories-yes : memoriesOk s t ≡ true → Differ
-  unfolding memoriesOk
-  memories-yes e c d h k m =
-      let below : (a b : ℕ) → heldIn t a ≡ true → heldIn t b ≡ true → memoryIn t a ≡ memoryIn t b → b < a → ⊥ =
-      λ a b x y z q. pair-yes a b (every-yes (pairTest a) a b (every-yes (λ (i : ℕ). every (pairTest i) i) (chunkPlacesIn t) a e (held_below a x)) q) x y z in
-      ⊎_elim (λ q. absurd (below d c k h (sym m) q)) (λ q. ⊎_elim (λ z. absurd (below c d h k m z)) (λ z. omega arith) (lt-or-le d c)) (lt-or-le c d)
+  pub memories_yes : memories_ok s t ≡ true → Differ
+  unfolding memories_ok
+  memories_yes e c d h k m =
+      let below : (a b : ℕ) → held_in t a ≡ true → held_in t b ≡ true → memory_in t a ≡ memory_in t b → b < a → ⊥ =
+      λ a b x y z q. pair_yes a b (every_yes (pair_test a) a b (every_yes (λ (i : ℕ). every (pair_test i) i) (chunk_places_in t) a e (held_below a x)) q) x y z in
+      ⊎_elim (λ q. absurd (below d c k h (sym m) q)) (λ q. ⊎_elim (λ z. absurd (below c d h k m z)) (λ z. omega arith) (lt_or_le d c)) (lt_or_le c d)
 
-  pub memories-all : Differ → memoriesOk s t ≡ true
-  unfolding memoriesOk
-  memories-all f =
-      every-all (λ (i : ℕ). every (pairTest i) i) (chunkPlacesIn t)
-      (λ c h. every-all (pairTest c) c (λ d q. pair-all c d (λ x y m. omega (arith, f c d x y m))))
+  pub memories_all : Differ → memories_ok s t ≡ true
+  unfolding memories_ok
+  memories_all f =
+      every_all (λ (i : ℕ). every (pair_test i) i) (chunk_places_in t)
+      (λ c h. every_all (pair_test c) c (λ d q. pair_all c d (λ x y m. omega (arith, f c d x y m))))
 
   -- ---- atom units
 
   Units : Type 0
-  Units = (k : ℕ) → live_in t k ≡ true → ((loanIn s t k).at % (s.store.atom + 1) ≡ 0) × (loanCell t size_at k % (s.store.atom + 1) ≡ 0)
+  Units = (k : ℕ) → live_in t k ≡ true → ((loan_in s t k).at % (s.store.atom + 1) ≡ 0) × (loan_cell t size_at k % (s.store.atom + 1) ≡ 0)
 
-  units-yes : every (unitsOk s t) (placesIn t) ≡ true → Units
-  unfolding unitsOk Units
-  units-yes e k h =
-      let a = eqb ((loanIn s t k).at % (s.store.atom + 1)) 0 in
-      let b = eqb (loanCell t size_at k % (s.store.atom + 1)) 0 in
-      let w = every-yes (unitsOk s t) (placesIn t) k e (ltb-true k (placesIn t) (and_left (ltb k (placesIn t)) _ h)) in
-      let q : (a && b) ≡ true = ⊎_elim (λ z. absurd (true-false (live_in t k) h (not_yes (live_in t k) z))) (λ z. z) (or_cases (not (live_in t k)) (a && b) w) in
+  units_yes : every (units_ok s t) (places_in t) ≡ true → Units
+  unfolding units_ok Units
+  units_yes e k h =
+      let a = eqb ((loan_in s t k).at % (s.store.atom + 1)) 0 in
+      let b = eqb (loan_cell t size_at k % (s.store.atom + 1)) 0 in
+      let w = every_yes (units_ok s t) (places_in t) k e (ltb-true k (places_in t) (and_left (ltb k (places_in t)) _ h)) in
+      let q : (a && b) ≡ true = ⊎_elim (λ z. absurd (true_false (live_in t k) h (not_yes (live_in t k) z))) (λ z. z) (or_cases (not (live_in t k)) (a && b) w) in
       (eqb-true _ 0 (and_left a b q), eqb-true _ 0 (and_right a b q))
 
-  units-all : Units → every (unitsOk s t) (placesIn t) ≡ true
-  unfolding unitsOk Units
-  units-all f =
-      every-all (unitsOk s t) (placesIn t)
+  units_all : Units → every (units_ok s t) (places_in t) ≡ true
+  unfolding units_ok Units
+  units_all f =
+      every_all (units_ok s t) (places_in t)
       (λ k h.
-      let a = eqb ((loanIn s t k).at % (s.store.atom + 1)) 0 in
-      let b = eqb (loanCell t size_at k % (s.store.atom + 1)) 0 in
+      let a = eqb ((loan_in s t k).at % (s.store.atom + 1)) 0 in
+      let b = eqb (loan_cell t size_at k % (s.store.atom + 1)) 0 in
       ⊎_elim (λ q. let w = f k q in or_right (not (live_in t k)) (a && b) (and_both a b (eq-eqb _ 0 w.0) (eq-eqb _ 0 w.1)))
       (λ q. or_left (not (live_in t k)) (a && b) (ap not q))
       (told (live_in t k)))
 
   -- ---- sums over the levels
 
-  abbrev inUseAt : ℕ → ℕ
-  inUseAt l = inUse (levelFrom s l) t.room
+  abbrev in_use_at : ℕ → ℕ
+  in_use_at l = in_use (level_from s l) t.room
 
-  abbrev ringedAt : ℕ → ℕ
-  ringedAt l = ringed (levelFrom s l) t.room
+  abbrev ringed_at : ℕ → ℕ
+  ringed_at l = ringed (level_from s l) t.room
 
-  abbrev levelTest : ℕ → Bool
-  levelTest l = levelOk (levelFrom s l) s.pairs t.room
+  abbrev level_test : ℕ → Bool
+  level_test l = level_ok (level_from s l) s.pairs t.room
 
-  in-use-total : (n : ℕ) → pairsInUse s t n ≡ total inUseAt n
-  unfolding pairsInUse total
-  in-use-total zero = refl
-  in-use-total (suc n) = ap (λ (i : ℕ). i + inUseAt n) (in-use-total n)
+  in_use_total : (n : ℕ) → pairs_in_use s t n ≡ total in_use_at n
+  unfolding pairs_in_use total
+  in_use_total zero = refl
+  in_use_total (suc n) = ap (λ (i : ℕ). i + in_use_at n) (in_use_total n)
 
-  ready-total : (n : ℕ) → pairsReady s t n ≡ total ringedAt n
-  unfolding pairsReady total
-  ready-total zero = refl
-  ready-total (suc n) = ap (λ (i : ℕ). i + ringedAt n) (ready-total n)
+  ready_total : (n : ℕ) → pairs_ready s t n ≡ total ringed_at n
+  unfolding pairs_ready total
+  ready_total zero = refl
+  ready_total (suc n) = ap (λ (i : ℕ). i + ringed_at n) (ready_total n)
 
   -- ---- the whole
 
   module _ (fit : BuddyIn s) where
-    pairs-few : s.pairs ≤ 2 ^ 32
-    pairs-few = omega (arith, fit.pairs-most)
+    pairs_few : s.pairs ≤ 2 ^ 32
+    pairs_few = omega (arith, fit.pairs_most_lem)
 
     -- the count begins below nowhere
-    fits : levelsIn t ≤ levelsMost → ((l : ℕ) → l < levelsIn t → inUseAt l ≤ s.pairs) → placesIn t ≤ s.store.loans → pairsInUse s t (levelsIn t) + liveCount t < nowhere
+    fits : levels_in t ≤ levels_most → ((l : ℕ) → l < levels_in t → in_use_at l ≤ s.pairs) → places_in t ≤ s.store.loans → pairs_in_use s t (levels_in t) + live_count t < nowhere
     fits levels f few =
-        let a : total inUseAt (levelsIn t) ≤ levelsIn t * pairsMost = total-most inUseAt pairsMost (levelsIn t) (λ l h. omega (arith, f l h, fit.pairs-most)) in
-        omega (arith, in-use-total (levelsIn t), live-most s t, fit.store.loans-most)
+        let a : total in_use_at (levels_in t) ≤ levels_in t * pairs_most = total_most in_use_at pairs_most (levels_in t) (λ l h. omega (arith, f l h, fit.pairs_most_lem)) in
+        omega (arith, in_use_total (levels_in t), live_most s t, fit.store.loans_most_lem)
 
     -- ---- levels, leaves and walks together: no level by itself tells what its chain or its ring lacks, the sums do
 
     record Whole : Type 0 where
-      good : (l : ℕ) → l < levelsIn t → Good (levelFrom s l) s.pairs t.room
+      good : (l : ℕ) → l < levels_in t → Good (level_from s l) s.pairs t.room
       standing : Trees s t
 
-    whole-yes : levelsIn t ≤ levelsMost → placesIn t ≤ s.store.loans → every levelTest (levelsIn t) ≡ true → leavesOk s t ≡ true → countedOk s t ≡ true → Whole
-    unfolding leavesOk
-    whole-yes levels few ok leaves counted =
-        let level : (l : ℕ) → l < levelsIn t → levelTest l ≡ true = λ l h. every-yes levelTest (levelsIn t) l ok h in
-        let least : (l : ℕ) → l < levelsIn t → takenAt s t l ≤ inUseAt l = λ l h. use-least (levelFrom s l) s.pairs t.room pairs-few (level l h) in
-        let ready : (l : ℕ) → l < levelsIn t → ringedAt l ≤ readyAt s t l = λ l h. ring-most (levelFrom s l) s.pairs t.room pairs-few (level l h) in
-        let below : pairsInUse s t (levelsIn t) + liveCount t < nowhere =
-        fits levels (λ l h. omega (arith, use-most (levelFrom s l) s.pairs t.room pairs-few (level l h), level-few (levelFrom s l) s.pairs t.room pairs-few (level l h))) few in
-        let both : (every (chunkOk s t) (chunkPlacesIn t) && eqb (metsIn s t (chunkPlacesIn t)) (pairsInUse s t (levelsIn t) + liveCount t)) ≡ true = sym (counted-parts s t below) ∙ counted in
-        let walks : every (chunkOk s t) (chunkPlacesIn t) ≡ true = and_left (every (chunkOk s t) (chunkPlacesIn t)) _ both in
-        let met : metsIn s t (chunkPlacesIn t) ≡ pairsInUse s t (levelsIn t) + liveCount t = eqb-true _ _ (and_right (every (chunkOk s t) (chunkPlacesIn t)) _ both) in
-        let most : total inUseAt (levelsIn t) ≤ pairsUsed s t (levelsIn t) = omega (arith, met, met-most s t fit levels walks, in-use-total (levelsIn t)) in
-        let all : metsIn s t (chunkPlacesIn t) ≡ pairsUsed s t (levelsIn t) + liveCount t = omega (arith, met, in-use-total (levelsIn t), total-less (takenAt s t) inUseAt (levelsIn t) least) in
-        let count : pairsReady s t (levelsIn t) + liveCount t ≡ pairsInUse s t (levelsIn t) + heldCount t = eqb-true _ _ leaves in
-        let rings : readiesIn s t (levelsIn t) ≤ total ringedAt (levelsIn t) = omega (arith, count, met, all, met-leaves s t fit levels walks all, ready-total (levelsIn t)) in
+    whole_yes : levels_in t ≤ levels_most → places_in t ≤ s.store.loans → every level_test (levels_in t) ≡ true → leaves_ok s t ≡ true → counted_ok s t ≡ true → Whole
+    unfolding leaves_ok
+    whole_yes levels few ok leaves counted =
+        let level : (l : ℕ) → l < levels_in t → level_test l ≡ true = λ l h. every_yes level_test (levels_in t) l ok h in
+        let least : (l : ℕ) → l < levels_in t → taken_at s t l ≤ in_use_at l = λ l h. use_least (level_from s l) s.pairs t.room pairs_few (level l h) in
+        let ready : (l : ℕ) → l < levels_in t → ringed_at l ≤ ready_at s t l = λ l h. ring_most (level_from s l) s.pairs t.room pairs_few (level l h) in
+        let below : pairs_in_use s t (levels_in t) + live_count t < nowhere =
+        fits levels (λ l h. omega (arith, use_most (level_from s l) s.pairs t.room pairs_few (level l h), level_few (level_from s l) s.pairs t.room pairs_few (level l h))) few in
+        let both : (every (chunk_ok s t) (chunk_places_in t) && eqb (mets_in s t (chunk_places_in t)) (pairs_in_use s t (levels_in t) + live_count t)) ≡ true = sym (counted_parts s t below) ∙ counted in
+        let walks : every (chunk_ok s t) (chunk_places_in t) ≡ true = and_left (every (chunk_ok s t) (chunk_places_in t)) _ both in
+        let met : mets_in s t (chunk_places_in t) ≡ pairs_in_use s t (levels_in t) + live_count t = eqb-true _ _ (and_right (every (chunk_ok s t) (chunk_places_in t)) _ both) in
+        let most : total in_use_at (levels_in t) ≤ pairs_used s t (levels_in t) = omega (arith, met, met_most s t fit levels walks, in_use_total (levels_in t)) in
+        let all : mets_in s t (chunk_places_in t) ≡ pairs_used s t (levels_in t) + live_count t = omega (arith, met, in_use_total (levels_in t), total_less (taken_at s t) in_use_at (levels_in t) least) in
+        let count : pairs_ready s t (levels_in t) + live_count t ≡ pairs_in_use s t (levels_in t) + held_count t = eqb-true _ _ leaves in
+        let rings : readies_in s t (levels_in t) ≤ total ringed_at (levels_in t) = omega (arith, count, met, all, met_leaves s t fit levels walks all, ready_total (levels_in t)) in
         record {
           good = λ l h.
-              level-good (levelFrom s l) s.pairs t.room pairs-few (level l h) (sym (total-each (takenAt s t) inUseAt (levelsIn t) least most l h))
-              (total-each ringedAt (readyAt s t) (levelsIn t) ready rings l h);
-          standing = met-stand s t fit levels walks all;
+              level_good (level_from s l) s.pairs t.room pairs_few (level l h) (sym (total_each (taken_at s t) in_use_at (levels_in t) least most l h))
+              (total_each ringed_at (ready_at s t) (levels_in t) ready rings l h);
+          standing = met_stand s t fit levels walks all;
         }
 
-    module _ (levels : levelsIn t ≤ levelsMost) (few : placesIn t ≤ s.store.loans) (W : Whole) where
-      use-is : (l : ℕ) → l < levelsIn t → inUseAt l ≡ takenAt s t l
-      use-is l h = good-use (levelFrom s l) s.pairs t.room pairs-few (W.good l h)
+    module _ (levels : levels_in t ≤ levels_most) (few : places_in t ≤ s.store.loans) (W : Whole) where
+      use_is : (l : ℕ) → l < levels_in t → in_use_at l ≡ taken_at s t l
+      use_is l h = good_use (level_from s l) s.pairs t.room pairs_few (W.good l h)
 
-      pairs-are : pairsInUse s t (levelsIn t) ≡ pairsUsed s t (levelsIn t)
-      pairs-are = in-use-total (levelsIn t) ∙ total-same inUseAt (takenAt s t) (levelsIn t) use-is
+      pairs_are : pairs_in_use s t (levels_in t) ≡ pairs_used s t (levels_in t)
+      pairs_are = in_use_total (levels_in t) ∙ total_same in_use_at (taken_at s t) (levels_in t) use_is
 
-      rings-are : pairsReady s t (levelsIn t) ≡ readiesIn s t (levelsIn t)
-      rings-are = ready-total (levelsIn t) ∙ total-same ringedAt (readyAt s t) (levelsIn t) (λ l h. good-ring (levelFrom s l) s.pairs t.room pairs-few (W.good l h))
+      rings_are : pairs_ready s t (levels_in t) ≡ readies_in s t (levels_in t)
+      rings_are = ready_total (levels_in t) ∙ total_same ringed_at (ready_at s t) (levels_in t) (λ l h. good_ring (level_from s l) s.pairs t.room pairs_few (W.good l h))
 
-      seen : (every (chunkOk s t) (chunkPlacesIn t) ≡ true) × (metsIn s t (chunkPlacesIn t) ≡ pairsUsed s t (levelsIn t) + liveCount t)
-      seen = trees-met s t fit levels W.standing
+      seen : (every (chunk_ok s t) (chunk_places_in t) ≡ true) × (mets_in s t (chunk_places_in t) ≡ pairs_used s t (levels_in t) + live_count t)
+      seen = trees_met s t fit levels W.standing
 
-      levels-all : every levelTest (levelsIn t) ≡ true
-      levels-all = every-all levelTest (levelsIn t) (λ l h. good-level (levelFrom s l) s.pairs t.room pairs-few (W.good l h))
+      levels_all : every level_test (levels_in t) ≡ true
+      levels_all = every_all level_test (levels_in t) (λ l h. good_level (level_from s l) s.pairs t.room pairs_few (W.good l h))
 
-      leaves_all : leavesOk s t ≡ true
-      unfolding leavesOk
+      leaves_all : leaves_ok s t ≡ true
+      unfolding leaves_ok
       leaves_all =
-          eq-eqb (pairsReady s t (levelsIn t) + liveCount t) (pairsInUse s t (levelsIn t) + heldCount t)
-          (omega (arith, pairs-are, rings-are, met-leaves s t fit levels seen.0 seen.1))
+          eq-eqb (pairs_ready s t (levels_in t) + live_count t) (pairs_in_use s t (levels_in t) + held_count t)
+          (omega (arith, pairs_are, rings_are, met_leaves s t fit levels seen.0 seen.1))
 
-      counted-all : countedOk s t ≡ true
-      counted-all =
-          counted-parts s t (fits levels (λ l h. omega (arith, use-is l h, (W.good l h).parted.limit)) few)
-          ∙ and_both _ _ seen.0 (eq-eqb _ _ (seen.1 ∙ ap (λ (i : ℕ). i + liveCount t) (sym pairs-are)))
+      counted_all : counted_ok s t ≡ true
+      counted_all =
+          counted_parts s t (fits levels (λ l h. omega (arith, use_is l h, (W.good l h).parted.limit)) few)
+          ∙ and_both _ _ seen.0 (eq-eqb _ _ (seen.1 ∙ ap (λ (i : ℕ). i + live_count t) (sym pairs_are)))
 
-    pub tables-yes : soundOk s t ≡ true → Sound s t
-    unfolding soundOk Units
-    tables-yes e =
-        let at = all-each (soundRow s t) e in
-        let levels : levelsIn t ≤ levelsMost = leb-true (levelsIn t) levelsMost at.1.1.0 in
-        let few : placesIn t ≤ s.store.loans = few-of (vacantLoan t) (loanAfter t) (placesIn t) (loanSlab t).vacant s.store.loans at.1.1.1.0 in
-        let low : placesIn t < nowhere = omega (arith, few, fit.store.loans-most) in
-        let chunks : chunkPlacesIn t ≤ s.store.chunks = few-of (vacantChunk t) (chunkAfter s t) (chunkPlacesIn t) (chunkSlab s t).vacant s.store.chunks at.1.1.1.1.1.0 in
+    pub tables_yes : sound_ok s t ≡ true → Sound s t
+    unfolding sound_ok Units
+    tables_yes e =
+        let at = all_each (sound_row s t) e in
+        let levels : levels_in t ≤ levels_most = leb-true (levels_in t) levels_most at.1.1.0 in
+        let few : places_in t ≤ s.store.loans = few_of (vacant_loan t) (loan_after t) (places_in t) (loan_slab t).vacant s.store.loans at.1.1.1.0 in
+        let low : places_in t < nowhere = omega (arith, few, fit.store.loans_most_lem) in
+        let chunks : chunk_places_in t ≤ s.store.chunks = few_of (vacant_chunk t) (chunk_after s t) (chunk_places_in t) (chunk_slab s t).vacant s.store.chunks at.1.1.1.1.1.0 in
         let rest = at.1.1.1.1.1.1 in
-        let whole = whole-yes levels few rest.1.0 rest.1.1.0 rest.1.1.1.0 in
+        let whole = whole_yes levels few rest.1.0 rest.1.1.0 rest.1.1.1.0 in
         record {
           signed = signed_yes marks t at.0;
-          levels-least = leb-true (initialLevels s) (levelsIn t) at.1.0;
-          levels-most = levels;
-          loans-parted = decides-yes (vacantLoan t) (loanAfter t) (loanSlab t) s.store.loans (omega arith) at.1.1.1.0;
-          chained = chains-yes (vacantLoan t) (chainStart t) (chainNext t) (serialOf t.loans) s.store.loans (placesIn t) (givenIn t) low at.1.1.1.1.0;
-          chunks-parted = decides-yes (vacantChunk t) (chunkAfter s t) (chunkSlab s t) s.store.chunks (omega (arith, chunks, fit.store.chunks-most)) at.1.1.1.1.1.0;
-          memories-differ = memories-yes rest.0;
+          levels_least = leb-true (initial_levels s) (levels_in t) at.1.0;
+          levels_most_lem = levels;
+          loans_parted = decides_yes (vacant_loan t) (loan_after t) (loan_slab t) s.store.loans (omega arith) at.1.1.1.0;
+          chained = chains_yes (vacant_loan t) (chain_start t) (chain_next t) (serial_of t.loans) s.store.loans (places_in t) (given_in t) low at.1.1.1.1.0;
+          chunks_parted = decides_yes (vacant_chunk t) (chunk_after s t) (chunk_slab s t) s.store.chunks (omega (arith, chunks, fit.store.chunks_most_lem)) at.1.1.1.1.1.0;
+          memories_differ = memories_yes rest.0;
           good = whole.good;
           standing = whole.standing;
-          loans-units = units-yes rest.1.1.1.1.0;
+          loans_units = units_yes rest.1.1.1.1.0;
         }
 
-    pub tables-all : Sound s t → soundOk s t ≡ true
-    unfolding soundOk Units
-    tables-all S =
-        let low : placesIn t < nowhere = omega (arith, S.loans-parted.limit, fit.store.loans-most) in
-        let levels = S.levels-most in
-        let few = S.loans-parted.limit in
+    pub tables_all : Sound s t → sound_ok s t ≡ true
+    unfolding sound_ok Units
+    tables_all S =
+        let low : places_in t < nowhere = omega (arith, S.loans_parted.limit, fit.store.loans_most_lem) in
+        let levels = S.levels_most_lem in
+        let few = S.loans_parted.limit in
         let whole : Whole = record { good = S.good; standing = S.standing } in
-        each_all (soundRow s t) (
+        each_all (sound_row s t) (
           signed_all marks t S.signed,
           (
-            le-leb (initialLevels s) (levelsIn t) S.levels-least,
+            le-leb (initial_levels s) (levels_in t) S.levels_least,
             (
-              le-leb (levelsIn t) levelsMost S.levels-most,
+              le-leb (levels_in t) levels_most S.levels_most_lem,
               (
-                decides-all (vacantLoan t) (loanAfter t) (loanSlab t) s.store.loans S.loans-parted,
+                decides_all (vacant_loan t) (loan_after t) (loan_slab t) s.store.loans S.loans_parted,
                 (
-                  chains-all (vacantLoan t) (chainStart t) (chainNext t) (serialOf t.loans) s.store.loans (placesIn t) (givenIn t) low fit.store.loans-some S.chained,
+                  chains_all (vacant_loan t) (chain_start t) (chain_next t) (serial_of t.loans) s.store.loans (places_in t) (given_in t) low fit.store.loans_some S.chained,
                   (
-                    decides-all (vacantChunk t) (chunkAfter s t) (chunkSlab s t) s.store.chunks S.chunks-parted,
+                    decides_all (vacant_chunk t) (chunk_after s t) (chunk_slab s t) s.store.chunks S.chunks_parted,
                     (
-                      memories-all S.memories-differ,
+                      memories_all S.memories_differ,
                       (
-                        levels-all levels few whole,
+                        levels_all levels few whole,
                         (
                           leaves_all levels few whole,
-                          (counted-all levels few whole, (units-all S.loans-units, tt)),
+                          (counted_all levels few whole, (units_all S.loans_units, tt)),
                         ),
                       ),
                     ),

@@ -6,11 +6,11 @@ use native.Mathlib.Omega.{arith}
 use lib.Dec.{eqb, ltb}
 use borrow.Author.Tests.{ne_eqb}
 use Rattle.buddy_trees.specs.Trees.{Tree, free, loan, split, Apart, bytes}
-use Rattle.buddy_rules.specs.Nodes.{Ent, Loan, exhausted, pairSaid, isFree, tag_of}
+use Rattle.buddy_rules.specs.Nodes.{Ent, Loan, exhausted, pair_said, is_free, tag_of}
 use Rattle.buddy_rules.proofs.Shapes.{Shape}
 use Rattle.buddy_rules.proofs.CountDown.{met}
-use Rattle.buddy_rules.proofs.Items.{item, items, item-kind, item-place}
-use Rattle.buddy_rules.proofs.Totals.{weight, weight-append}
+use Rattle.buddy_rules.proofs.Items.{item, items, item_kind, item_place}
+use Rattle.buddy_rules.proofs.Totals.{weight, weight_append}
 
 -- one where the test holds
 abbrev pub one : Bool → ℕ
@@ -21,18 +21,18 @@ module _ (E : ℕ → ℕ → Ent) where
   unfoldable pub leafs : ℕ → ℕ
   leafs x = cond (eqb (x % 64) 0) 2 (one (ltb exhausted (E (x % 64 - 1) (x / 64)).tag))
 
-  pub loan-leafs : (k : ℕ) → leafs (item 0 k) ≡ 2
+  pub loan_leafs : (k : ℕ) → leafs (item 0 k) ≡ 2
   unfolding leafs
-  loan-leafs k = rw (item-kind 0 k (omega arith)) refl
+  loan_leafs k = rw (item_kind 0 k (omega arith)) refl
 
-  pub pair-leafs : (l p : ℕ) → l < 63 → leafs (item (suc l) p) ≡ one (ltb exhausted (E l p).tag)
+  pub pair_leafs : (l p : ℕ) → l < 63 → leafs (item (suc l) p) ≡ one (ltb exhausted (E l p).tag)
   unfolding leafs
-  pair-leafs l p h =
+  pair_leafs l p h =
       let e : suc l - 1 ≡ l = omega arith in
-      rw (item-kind (suc l) p (omega arith), item-place (suc l) p (omega arith), ne_eqb (suc l) 0 (λ z. omega arith), e) refl
+      rw (item_kind (suc l) p (omega arith), item_place (suc l) p (omega arith), ne_eqb (suc l) 0 (λ z. omega arith), e) refl
 
   -- a pair is ready where one side is free
-  sides : (a b : Tree) → Apart a b → one (ltb exhausted (tag_of (isFree a) (isFree b))) ≡ one (isFree a) + one (isFree b)
+  sides : (a b : Tree) → Apart a b → one (ltb exhausted (tag_of (is_free a) (is_free b))) ≡ one (is_free a) + one (is_free b)
   sides free free h = absurd h
   sides free (loan k) h = refl
   sides free (split c d) h = refl
@@ -44,19 +44,19 @@ module _ (E : ℕ → ℕ → Ent) where
   sides (split c d) (split e f) h = refl
 
   module _ (K : ℕ → Loan) (u : ℕ) (live : ℕ → Bool) (size : ℕ → ℕ) where
-    pub tree-leafs : (c l o n w : ℕ) (t : Tree) → l < 64 → Shape u E K live size c l o n w t → weight leafs (items E l w t) + one (isFree t) ≡ met t + 1
-    tree-leafs c l o n w free h r = refl
-    tree-leafs c l o n w (loan k) h r = omega (arith, loan-leafs k)
-    tree-leafs c zero o n w (split a b) h r = absurd r
-    tree-leafs c (suc l) o n w (split a b) h r =
-        let v = (E l (pairSaid w)).left in
-        let y = (E l (pairSaid w)).right in
-        let own : leafs (item (suc l) (pairSaid w)) ≡ one (isFree a) + one (isFree b) =
-        pair-leafs l (pairSaid w) (omega arith) ∙ ap (λ (i : ℕ). one (ltb exhausted i)) r.tag ∙ sides a b r.apart in
+    pub tree_leafs : (c l o n w : ℕ) (t : Tree) → l < 64 → Shape u E K live size c l o n w t → weight leafs (items E l w t) + one (is_free t) ≡ met t + 1
+    tree_leafs c l o n w free h r = refl
+    tree_leafs c l o n w (loan k) h r = omega (arith, loan_leafs k)
+    tree_leafs c zero o n w (split a b) h r = absurd r
+    tree_leafs c (suc l) o n w (split a b) h r =
+        let v = (E l (pair_said w)).left in
+        let y = (E l (pair_said w)).right in
+        let own : leafs (item (suc l) (pair_said w)) ≡ one (is_free a) + one (is_free b) =
+        pair_leafs l (pair_said w) (omega arith) ∙ ap (λ (i : ℕ). one (ltb exhausted i)) r.tag ∙ sides a b r.apart in
         omega (
           arith,
           own,
-          weight-append leafs (items E l v a) (items E l y b),
-          tree-leafs c l o (2 * pairSaid w) v a (omega arith) r.this,
-          tree-leafs c l (o + bytes u l) (2 * pairSaid w + 1) y b (omega arith) r.twin,
+          weight_append leafs (items E l v a) (items E l y b),
+          tree_leafs c l o (2 * pair_said w) v a (omega arith) r.this,
+          tree_leafs c l (o + bytes u l) (2 * pair_said w + 1) y b (omega arith) r.twin,
         )

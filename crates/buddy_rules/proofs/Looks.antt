@@ -4,28 +4,28 @@ use mathlib.Core.Bool.{Bool, true, false, cond, ◌&&◌, ◌||◌, not}
 use Prim.Native.Nat.{ℕ, zero, suc, ◌+◌}
 use lib.Dec.{eqb, leb, ltb}
 use Rattle.counter.specs.declared.settings.BuddySettings.{BuddySettings}
-use Rattle.slab.specs.Slab.{nowhere}
+use Rattle.slabs.specs.Slab.{nowhere}
 use Rattle.buddy_trees.specs.Trees.{bytes}
-use Rattle.buddy_rules.specs.Nodes.{freeWord, saysLoan, loanSaid, pairSaid, L, R, node_of}
-use Rattle.buddy_rules.specs.Tables.{Tables, levelsIn, chunkSizeIn, pairsIn, heldIn, highIn, topIn, initialLevels}
-use Rattle.buddy_rules.specs.Test.{leafOk, entryOk}
+use Rattle.buddy_rules.specs.Nodes.{free_word, says_loan, loan_said, pair_said, L, R, node_of}
+use Rattle.buddy_rules.specs.Tables.{Tables, levels_in, chunk_size_in, pairs_in, held_in, high_in, top_in, initial_levels}
+use Rattle.buddy_rules.specs.Test.{leaf_ok, entry_ok}
 
 module _ (s : BuddySettings) (t : Tables) where
   -- node n of level l at o of chunk c, whose word is w
-  unfoldable pub nodeOk : ℕ → ℕ → ℕ → ℕ → ℕ → Bool
-  nodeOk zero c o n w = cond (eqb w freeWord) true (cond (saysLoan w) (leafOk s t (loanSaid w) c zero o n) false)
-  nodeOk (suc l) c o n w =
-      cond (eqb w freeWord) true
-      (cond (saysLoan w) (leafOk s t (loanSaid w) c (suc l) o n)
-      (entryOk s t (pairsIn s t l (pairSaid w)) c o n
-      && (nodeOk l c o (node_of (pairSaid w) L) (pairsIn s t l (pairSaid w)).left
-      && nodeOk l c (o + bytes s.minimal l) (node_of (pairSaid w) R) (pairsIn s t l (pairSaid w)).right)))
+  unfoldable pub node_ok : ℕ → ℕ → ℕ → ℕ → ℕ → Bool
+  node_ok zero c o n w = cond (eqb w free_word) true (cond (says_loan w) (leaf_ok s t (loan_said w) c zero o n) false)
+  node_ok (suc l) c o n w =
+      cond (eqb w free_word) true
+      (cond (says_loan w) (leaf_ok s t (loan_said w) c (suc l) o n)
+      (entry_ok s t (pairs_in s t l (pair_said w)) c o n
+      && (node_ok l c o (node_of (pair_said w) L) (pairs_in s t l (pair_said w)).left
+      && node_ok l c (o + bytes s.minimal l) (node_of (pair_said w) R) (pairs_in s t l (pair_said w)).right)))
 
   -- the chunk at place c, where there is one: its size, and its nodes; "a buddy store holds no wholly free chunk"
-  unfoldable pub chunkOk : ℕ → Bool
-  chunkOk c =
-      not (heldIn t c)
-      || (eqb (chunkSizeIn t c) (bytes s.minimal (highIn s t c))
-      && (ltb 0 (highIn s t c)
-      && (leb (initialLevels s) (highIn s t c)
-      && (leb (highIn s t c) (levelsIn t) && (not (eqb (topIn s t c) freeWord) && nodeOk (highIn s t c) c 0 nowhere (topIn s t c))))))
+  unfoldable pub chunk_ok : ℕ → Bool
+  chunk_ok c =
+      not (held_in t c)
+      || (eqb (chunk_size_in t c) (bytes s.minimal (high_in s t c))
+      && (ltb 0 (high_in s t c)
+      && (leb (initial_levels s) (high_in s t c)
+      && (leb (high_in s t c) (levels_in t) && (not (eqb (top_in s t c) free_word) && node_ok (high_in s t c) c 0 nowhere (top_in s t c))))))

@@ -5,8 +5,8 @@ use mathlib.Core.Logic.{◌⊎◌, inl, inr}
 use Prim.Native.Nat.{ℕ, zero, suc, ◌+◌, ◌*◌, ◌≤◌}
 use native.Mathlib.Omega.{arith}
 use Rattle.buddy_trees.specs.Trees.{Tree, free, loan, split, Apart, Wf, bytes, Piece, Has}
-use Rattle.buddy_trees.proofs.Bytes.{bytes-suc}
-use Rattle.buddy_rules.specs.Nodes.{Ent, Loan, L, R, node_of, pairSaid, isFree, tag_of}
+use Rattle.buddy_trees.proofs.Bytes.{bytes_suc}
+use Rattle.buddy_rules.specs.Nodes.{Ent, Loan, L, R, node_of, pair_said, is_free, tag_of}
 
 -- ---- the nodes that a walk meets
 
@@ -21,24 +21,24 @@ module _ (u : ℕ) (E : ℕ → ℕ → Ent) where
   Meets zero o n w (split a b) i x m v = Here zero o n w i x m v
   Meets (suc l) o n w (split a b) i x m v =
       Here (suc l) o n w i x m v
-      ⊎ (Meets l o (node_of (pairSaid w) L) (E l (pairSaid w)).left a i x m v
-      ⊎ Meets l (o + bytes u l) (node_of (pairSaid w) R) (E l (pairSaid w)).right b i x m v)
+      ⊎ (Meets l o (node_of (pair_said w) L) (E l (pair_said w)).left a i x m v
+      ⊎ Meets l (o + bytes u l) (node_of (pair_said w) R) (E l (pair_said w)).right b i x m v)
 
   here_in : (l o n w i x m v : ℕ) → Here l o n w i x m v → (o ≤ x) × (x + bytes u i ≤ o + bytes u l) × (i ≤ l)
   here_in l o n w i x m v h = let e : bytes u i ≡ bytes u l = ap (bytes u) h.0 in omega (arith, h.0, h.1)
 
   -- it lies in the tree's stretch
-  pub meets-in : (l o n w : ℕ) (t : Tree) (i x m v : ℕ) → Meets l o n w t i x m v → (o ≤ x) × (x + bytes u i ≤ o + bytes u l) × (i ≤ l)
-  meets-in l o n w free i x m v h = here_in l o n w i x m v h
-  meets-in l o n w (loan k) i x m v h = here_in l o n w i x m v h
-  meets-in zero o n w (split a b) i x m v h = here_in zero o n w i x m v h
-  meets-in (suc l) o n w (split a b) i x m v (inl h) = here_in (suc l) o n w i x m v h
-  meets-in (suc l) o n w (split a b) i x m v (inr (inl h)) =
-      let j = meets-in l o (node_of (pairSaid w) L) (E l (pairSaid w)).left a i x m v h in
-      omega (arith, bytes-suc u l)
-  meets-in (suc l) o n w (split a b) i x m v (inr (inr h)) =
-      let j = meets-in l (o + bytes u l) (node_of (pairSaid w) R) (E l (pairSaid w)).right b i x m v h in
-      omega (arith, bytes-suc u l)
+  pub meets_in : (l o n w : ℕ) (t : Tree) (i x m v : ℕ) → Meets l o n w t i x m v → (o ≤ x) × (x + bytes u i ≤ o + bytes u l) × (i ≤ l)
+  meets_in l o n w free i x m v h = here_in l o n w i x m v h
+  meets_in l o n w (loan k) i x m v h = here_in l o n w i x m v h
+  meets_in zero o n w (split a b) i x m v h = here_in zero o n w i x m v h
+  meets_in (suc l) o n w (split a b) i x m v (inl h) = here_in (suc l) o n w i x m v h
+  meets_in (suc l) o n w (split a b) i x m v (inr (inl h)) =
+      let j = meets_in l o (node_of (pair_said w) L) (E l (pair_said w)).left a i x m v h in
+      omega (arith, bytes_suc u l)
+  meets_in (suc l) o n w (split a b) i x m v (inr (inr h)) =
+      let j = meets_in l (o + bytes u l) (node_of (pair_said w) R) (E l (pair_said w)).right b i x m v h in
+      omega (arith, bytes_suc u l)
 
 -- ---- what it sees
 
@@ -53,12 +53,12 @@ module _ (u : ℕ) (K : ℕ → Loan) (live : ℕ → Bool) (size : ℕ → ℕ)
 module _ (u : ℕ) (E : ℕ → ℕ → Ent) (K : ℕ → Loan) (live : ℕ → Bool) (size : ℕ → ℕ) where
   -- node n is split into the pair of its word, whose halves are a and b
   pub record Pair (c l o n w : ℕ) (a b : Tree) (A B : Type 0) : Type 0 where
-    pub is : w ≡ 2 * pairSaid w + 2
+    pub is : w ≡ 2 * pair_said w + 2
     pub apart : Apart a b
-    pub tag : (E l (pairSaid w)).tag ≡ tag_of (isFree a) (isFree b)
-    pub chunk : (E l (pairSaid w)).chunk ≡ c
-    pub off : (E l (pairSaid w)).off ≡ o
-    pub up : (E l (pairSaid w)).up ≡ n
+    pub tag : (E l (pair_said w)).tag ≡ tag_of (is_free a) (is_free b)
+    pub chunk : (E l (pair_said w)).chunk ≡ c
+    pub off : (E l (pair_said w)).off ≡ o
+    pub up : (E l (pair_said w)).up ≡ n
     pub this : A
     pub twin : B
 
@@ -69,23 +69,23 @@ module _ (u : ℕ) (E : ℕ → ℕ → Ent) (K : ℕ → Loan) (live : ℕ → 
   Shape c zero o n w (split a b) = ⊥
   Shape c (suc l) o n w (split a b) =
       Pair c l o n w a b
-      (Shape c l o (node_of (pairSaid w) L) (E l (pairSaid w)).left a)
-      (Shape c l (o + bytes u l) (node_of (pairSaid w) R) (E l (pairSaid w)).right b)
+      (Shape c l o (node_of (pair_said w) L) (E l (pair_said w)).left a)
+      (Shape c l (o + bytes u l) (node_of (pair_said w) R) (E l (pair_said w)).right b)
 
-  pub shape-wf : (c l o n w : ℕ) (t : Tree) → Shape c l o n w t → Wf l t
-  shape-wf c l o n w free r = tt
-  shape-wf c l o n w (loan k) r = tt
-  shape-wf c zero o n w (split a b) r = absurd r
-  shape-wf c (suc l) o n w (split a b) r = (
+  pub shape_wf : (c l o n w : ℕ) (t : Tree) → Shape c l o n w t → Wf l t
+  shape_wf c l o n w free r = tt
+  shape_wf c l o n w (loan k) r = tt
+  shape_wf c zero o n w (split a b) r = absurd r
+  shape_wf c (suc l) o n w (split a b) r = (
     r.apart,
-    shape-wf c l o (node_of (pairSaid w) L) (E l (pairSaid w)).left a r.this,
-    shape-wf c l (o + bytes u l) (node_of (pairSaid w) R) (E l (pairSaid w)).right b r.twin,
+    shape_wf c l o (node_of (pair_said w) L) (E l (pair_said w)).left a r.this,
+    shape_wf c l (o + bytes u l) (node_of (pair_said w) R) (E l (pair_said w)).right b r.twin,
   )
 
   -- a loan of the tree is one
-  pub shape-loan : (c l o n w : ℕ) (t : Tree) (y : Piece) (k : ℕ) → Shape c l o n w t → Has u l o t y → y.who ≡ k + 1 → live k ≡ true
-  shape-loan c l o n w free y k r h e = absurd h
-  shape-loan c l o n w (loan j) y k r h e = let i : k ≡ j = omega (arith, h.2) in rw i r.1.lives
-  shape-loan c zero o n w (split a b) y k r h e = absurd h
-  shape-loan c (suc l) o n w (split a b) y k r (inl h) e = shape-loan c l o (node_of (pairSaid w) L) (E l (pairSaid w)).left a y k r.this h e
-  shape-loan c (suc l) o n w (split a b) y k r (inr h) e = shape-loan c l (o + bytes u l) (node_of (pairSaid w) R) (E l (pairSaid w)).right b y k r.twin h e
+  pub shape_loan : (c l o n w : ℕ) (t : Tree) (y : Piece) (k : ℕ) → Shape c l o n w t → Has u l o t y → y.who ≡ k + 1 → live k ≡ true
+  shape_loan c l o n w free y k r h e = absurd h
+  shape_loan c l o n w (loan j) y k r h e = let i : k ≡ j = omega (arith, h.2) in rw i r.1.lives
+  shape_loan c zero o n w (split a b) y k r h e = absurd h
+  shape_loan c (suc l) o n w (split a b) y k r (inl h) e = shape_loan c l o (node_of (pair_said w) L) (E l (pair_said w)).left a y k r.this h e
+  shape_loan c (suc l) o n w (split a b) y k r (inr h) e = shape_loan c l (o + bytes u l) (node_of (pair_said w) R) (E l (pair_said w)).right b y k r.twin h e

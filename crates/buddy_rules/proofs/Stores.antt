@@ -21,13 +21,13 @@ abbrev pub stored : List (ℕ × ℕ) → List ℕ
 stored [] = []
 stored (s ∷ l) = s.0 ∷ stored l
 
-pub length-puts : (t : List ℕ) (l : List (ℕ × ℕ)) → length (puts t l) ≡ length t
-length-puts t [] = refl
-length-puts t (s ∷ l) = length-puts (set t s.0 s.1) l ∙ length-set t s.0 s.1
+pub length_puts : (t : List ℕ) (l : List (ℕ × ℕ)) → length (puts t l) ≡ length t
+length_puts t [] = refl
+length_puts t (s ∷ l) = length_puts (set t s.0 s.1) l ∙ length-set t s.0 s.1
 
-pub puts-append : (t : List ℕ) (l k : List (ℕ × ℕ)) → puts t (l ++ k) ≡ puts (puts t l) k
-puts-append t [] k = refl
-puts-append t (s ∷ l) k = puts-append (set t s.0 s.1) l k
+pub puts_append : (t : List ℕ) (l k : List (ℕ × ℕ)) → puts t (l ++ k) ≡ puts (puts t l) k
+puts_append t [] k = refl
+puts_append t (s ∷ l) k = puts_append (set t s.0 s.1) l k
 
 -- any other word is left
 pub kept : (t : List ℕ) (l : List (ℕ × ℕ)) (i : ℕ) → NotIn i (stored l) → get_or (puts t l) i 0 ≡ get_or t i 0

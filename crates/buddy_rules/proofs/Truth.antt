@@ -12,50 +12,50 @@ use Rattle.counter.specs.declared.settings.BuddySettings.{BuddySettings}
 use Rattle.store_rules.specs.declared.Region.{Region}
 use Rattle.store_rules.specs.declared.Chunk.{Chunk}
 use Rattle.store_rules.specs.Views.{View, chunk}
-use Rattle.book_rules.proofs.Truth.{chain-follows, vacant-follows}
+use Rattle.book_rules.proofs.Truth.{chain_follows, vacant_follows}
 use Rattle.buddy_rules.specs.Sound.{Sound}
-use Rattle.buddy_rules.specs.Tables.{tables, chunkPlacesIn, memoryIn, chunkSizeIn, heldIn}
-use Rattle.buddy_rules.specs.Views.{ReadySide, FreeNode, chunks_of, loansIn, view_of}
-use Rattle.buddy_rules.proofs.Frees.{free_seen, free-words}
-use Rattle.buddy_trees.specs.Chunks.{viewFrom}
+use Rattle.buddy_rules.specs.Tables.{tables, chunk_places_in, memory_in, chunk_size_in, held_in}
+use Rattle.buddy_rules.specs.Views.{ReadySide, FreeNode, chunks_of, loans_in, view_of}
+use Rattle.buddy_rules.proofs.Frees.{free_seen, free_words}
+use Rattle.buddy_trees.specs.Chunks.{view_from}
 
 -- two stores' tables, with one head, one table of loans and one of chunks
 module _ (s : BuddySettings) (fit : BuddyIn s) (head loans chunks index room index' room' : List ℕ)
     (T : Sound s (tables head loans chunks index room)) (U : Sound s (tables head loans chunks index' room')) where
-  pub chains-follow : (i : ℕ) (low : i < s.store.loans) → (T.chained i low).members ≡ (U.chained i low).members
-  chains-follow i low = chain-follows _ _ _ _ _ _ s.store.loans _ _ i (T.chained i low) (U.chained i low)
+  pub chains_follow : (i : ℕ) (low : i < s.store.loans) → (T.chained i low).members ≡ (U.chained i low).members
+  chains_follow i low = chain_follows _ _ _ _ _ _ s.store.loans _ _ i (T.chained i low) (U.chained i low)
 
-  pub vacant-follow : (p : ℕ) → Mem p T.loans-parted.chained ↔ Mem p U.loans-parted.chained
-  vacant-follow p = vacant-follows _ _ _ _ _ _ s.store.loans T.loans-parted U.loans-parted p
+  pub vacant_follow : (p : ℕ) → Mem p T.loans_parted.chained ↔ Mem p U.loans_parted.chained
+  vacant_follow p = vacant_follows _ _ _ _ _ _ s.store.loans T.loans_parted U.loans_parted p
 
-  pub chunk-vacant-follow : (c : ℕ) → Mem c T.chunks-parted.chained ↔ Mem c U.chunks-parted.chained
-  chunk-vacant-follow c = vacant-follows _ _ _ _ _ _ s.store.chunks T.chunks-parted U.chunks-parted c
+  pub chunk_vacant_follow : (c : ℕ) → Mem c T.chunks_parted.chained ↔ Mem c U.chunks_parted.chained
+  chunk_vacant_follow c = vacant_follows _ _ _ _ _ _ s.store.chunks T.chunks_parted U.chunks_parted c
 
-  chunks-alike : (n : ℕ) → chunks_of (tables head loans chunks index room) n ≡ chunks_of (tables head loans chunks index' room') n
+  chunks_alike : (n : ℕ) → chunks_of (tables head loans chunks index room) n ≡ chunks_of (tables head loans chunks index' room') n
   unfolding chunks_of
-  chunks-alike zero = refl
-  chunks-alike (suc n) = ap (λ (cs : List Chunk). cs ++ cond (heldIn (tables head loans chunks index room) n) (chunk n (memoryIn (tables head loans chunks index room) n) (chunkSizeIn (tables head loans chunks index room) n) ∷ []) []) (chunks-alike n)
+  chunks_alike zero = refl
+  chunks_alike (suc n) = ap (λ (cs : List Chunk). cs ++ cond (held_in (tables head loans chunks index room) n) (chunk n (memory_in (tables head loans chunks index room) n) (chunk_size_in (tables head loans chunks index room) n) ∷ []) []) (chunks_alike n)
 
   -- both are seen with the same free pieces
-  pub view-follows : view_of s (tables head loans chunks index room) ≡ view_of s (tables head loans chunks index' room')
-  view-follows = ap (λ (cs : List Chunk). viewFrom s.minimal (loansIn (tables head loans chunks index room)) cs) (chunks-alike (chunkPlacesIn (tables head loans chunks index room)))
+  pub view_follows : view_of s (tables head loans chunks index room) ≡ view_of s (tables head loans chunks index' room')
+  view_follows = ap (λ (cs : List Chunk). view_from s.minimal (loans_in (tables head loans chunks index room)) cs) (chunks_alike (chunk_places_in (tables head loans chunks index room)))
 
   there : (r : Region) → Memᴰ r (view_of s (tables head loans chunks index room)).free → Memᴰ r (view_of s (tables head loans chunks index' room')).free
-  there r = subst (λ (v : View). Memᴰ r v.free) view-follows
+  there r = subst (λ (v : View). Memᴰ r v.free) view_follows
 
   back : (r : Region) → Memᴰ r (view_of s (tables head loans chunks index' room')).free → Memᴰ r (view_of s (tables head loans chunks index room)).free
-  back r = subst (λ (v : View). Memᴰ r v.free) (sym view-follows)
+  back r = subst (λ (v : View). Memᴰ r v.free) (sym view_follows)
 
   -- a stretch is the ready side of a pair of the one exactly when it is of the other
-  pub ready-follows : (r : Region) → ReadySide s (tables head loans chunks index room) r ↔ ReadySide s (tables head loans chunks index' room') r
-  ready-follows r =
+  pub ready_follows : (r : Region) → ReadySide s (tables head loans chunks index room) r ↔ ReadySide s (tables head loans chunks index' room') r
+  ready_follows r =
       let a = free_seen s (tables head loans chunks index room) fit T r in
       let b = free_seen s (tables head loans chunks index' room') fit U r in
       ((λ x. b.0 (there r (a.1 x))), (λ x. a.0 (back r (b.1 x))))
 
   -- and likewise a free node
-  pub free-follows : (r : Region) → FreeNode s (tables head loans chunks index room) r ↔ FreeNode s (tables head loans chunks index' room') r
-  free-follows r =
-      let a = free-words s (tables head loans chunks index room) fit T r in
-      let b = free-words s (tables head loans chunks index' room') fit U r in
+  pub free_follows : (r : Region) → FreeNode s (tables head loans chunks index room) r ↔ FreeNode s (tables head loans chunks index' room') r
+  free_follows r =
+      let a = free_words s (tables head loans chunks index room) fit T r in
+      let b = free_words s (tables head loans chunks index' room') fit U r in
       ((λ x. b.0 (there r (a.1 x))), (λ x. a.0 (back r (b.1 x))))

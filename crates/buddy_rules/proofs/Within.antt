@@ -9,9 +9,9 @@ use native.Mathlib.Omega.{arith}
 use lib.ListN.{length, get_or, set, take, drop}
 use lib.Seq.{drop-set-add, drop-set-lt, take-set-lt, take-set-le}
 use Rattle.lists.specs.Members.{NotIn}
-use Rattle.lists.proofs.Bools.{lt-or-le}
-use Rattle.buddy_rules.specs.Level.{levelWords, part, levelStart, own_words}
-use Rattle.buddy_rules.proofs.Stores.{puts, stored, length-puts, kept}
+use Rattle.lists.proofs.Bools.{lt_or_le}
+use Rattle.buddy_rules.specs.Level.{level_words, part, level_start, own_words}
+use Rattle.buddy_rules.proofs.Stores.{puts, stored, length_puts, kept}
 
 -- the stores of the second row, b words on; each within m words
 abbrev pub Moved : ℕ → ℕ → List (ℕ × ℕ) → List (ℕ × ℕ) → Type 0
@@ -21,16 +21,16 @@ Moved b m (s ∷ l) [] = ⊥
 Moved b m (s ∷ l) (r ∷ k) = ((s.0 ≡ b + r.0) × (r.0 < m) × (s.1 ≡ r.1)) × Moved b m l k
 
 module _ (b m : ℕ) where
-  pub moved-append : (l k l' k' : List (ℕ × ℕ)) → Moved b m l k → Moved b m l' k' → Moved b m (l ++ l') (k ++ k')
-  moved-append [] [] l' k' r s = s
-  moved-append [] (y ∷ k) l' k' r s = absurd r
-  moved-append (x ∷ l) [] l' k' r s = absurd r
-  moved-append (x ∷ l) (y ∷ k) l' k' r s = (r.0, moved-append l k l' k' r.1 s)
+  pub moved_append : (l k l' k' : List (ℕ × ℕ)) → Moved b m l k → Moved b m l' k' → Moved b m (l ++ l') (k ++ k')
+  moved_append [] [] l' k' r s = s
+  moved_append [] (y ∷ k) l' k' r s = absurd r
+  moved_append (x ∷ l) [] l' k' r s = absurd r
+  moved_append (x ∷ l) (y ∷ k) l' k' r s = (r.0, moved_append l k l' k' r.1 s)
 
   -- one row or another, by the same test
-  pub moved-either : (c : Bool) (l k l' k' : List (ℕ × ℕ)) → (c ≡ true → Moved b m l k) → (c ≡ false → Moved b m l' k') → Moved b m (cond c l l') (cond c k k')
-  moved-either true l k l' k' f g = f refl
-  moved-either false l k l' k' f g = g refl
+  pub moved_either : (c : Bool) (l k l' k' : List (ℕ × ℕ)) → (c ≡ true → Moved b m l k) → (c ≡ false → Moved b m l' k') → Moved b m (cond c l l') (cond c k k')
+  moved_either true l k l' k' f g = f refl
+  moved_either false l k l' k' f g = g refl
 
   -- the words from b on
   here : (t : List ℕ) (l k : List (ℕ × ℕ)) → Moved b m l k → take m (drop b (puts t l)) ≡ puts (take m (drop b t)) k
@@ -66,12 +66,12 @@ module _ (b m : ℕ) where
 pub record Within (pairs l : ℕ) (t t' v : List ℕ) : Type 0 where
   pub here : part pairs l t' ≡ v
   pub others : (j : ℕ) → (j ≡ l → ⊥) → part pairs j t' ≡ part pairs j t
-  pub past : (i : ℕ) → levelStart pairs (l + 1) ≤ i → get_or t' i 0 ≡ get_or t i 0
+  pub past : (i : ℕ) → level_start pairs (l + 1) ≤ i → get_or t' i 0 ≡ get_or t i 0
   pub long : length t' ≡ length t
 
 -- two levels have no word in common
-levels-apart : (o m j l : ℕ) → (j ≡ l → ⊥) → (o + m * j + m ≤ o + m * l) ⊎ (o + m * l + m ≤ o + m * j)
-levels-apart o m j l ne = by (lt-or-le j l)
+levels_apart : (o m j l : ℕ) → (j ≡ l → ⊥) → (o + m * j + m ≤ o + m * l) ⊎ (o + m * l + m ≤ o + m * j)
+levels_apart o m j l ne = by (lt_or_le j l)
   where
     before : (a c : ℕ) → a < c → o + m * a + m ≤ o + m * c
     before a c h =
@@ -80,12 +80,12 @@ levels-apart o m j l ne = by (lt-or-le j l)
 
     by : (j < l) ⊎ (l ≤ j) → (o + m * j + m ≤ o + m * l) ⊎ (o + m * l + m ≤ o + m * j)
     by (inl h) = inl (before j l h)
-    by (inr h) = inr (before l j (⊎_elim (λ k. k) (λ k. absurd (ne (omega arith))) (lt-or-le l j)))
+    by (inr h) = inr (before l j (⊎_elim (λ k. k) (λ k. absurd (ne (omega arith))) (lt_or_le l j)))
 
-pub within : (pairs l : ℕ) (t : List ℕ) (r k : List (ℕ × ℕ)) → Moved (levelStart pairs l) (levelWords pairs) r k → Within pairs l t (puts t r) (puts (part pairs l t) k)
+pub within : (pairs l : ℕ) (t : List ℕ) (r k : List (ℕ × ℕ)) → Moved (level_start pairs l) (level_words pairs) r k → Within pairs l t (puts t r) (puts (part pairs l t) k)
 within pairs l t r k m = record {
-  here = here (levelStart pairs l) (levelWords pairs) t r k m;
-  others = λ j ne. apart (levelStart pairs l) (levelWords pairs) (levelStart pairs j) (levels-apart own_words (levelWords pairs) j l ne) t r k m;
-  past = λ i h. kept t r i (past (levelStart pairs l) (levelWords pairs) i (omega (arith, mul-suc (levelWords pairs) l)) r k m);
-  long = length-puts t r;
+  here = here (level_start pairs l) (level_words pairs) t r k m;
+  others = λ j ne. apart (level_start pairs l) (level_words pairs) (level_start pairs j) (levels_apart own_words (level_words pairs) j l ne) t r k m;
+  past = λ i h. kept t r i (past (level_start pairs l) (level_words pairs) i (omega (arith, mul-suc (level_words pairs) l)) r k m);
+  long = length_puts t r;
 }

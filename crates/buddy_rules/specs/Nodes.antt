@@ -5,26 +5,26 @@ use Rattle.buddy_trees.specs.Trees.{Tree, free, loan, split, bytes}
 
 -- ---- the word of a node: "A node is free, on loan, or split into a pair"
 
-abbrev pub freeWord : ℕ
-freeWord = 0
+abbrev pub free_word : ℕ
+free_word = 0
 
 -- on loan k
-abbrev pub loanWord : ℕ → ℕ
-loanWord k = 2 * k + 1
+abbrev pub loan_word : ℕ → ℕ
+loan_word k = 2 * k + 1
 
 -- split into pair q of the level below
-abbrev pub splitWord : ℕ → ℕ
-splitWord q = 2 * q + 2
+abbrev pub split_word : ℕ → ℕ
+split_word q = 2 * q + 2
 
 -- whether a word says that the node is on loan, and which loan; which pair a split node's says
-abbrev pub saysLoan : ℕ → Bool
-saysLoan w = eqb (w % 2) 1
+abbrev pub says_loan : ℕ → Bool
+says_loan w = eqb (w % 2) 1
 
-abbrev pub loanSaid : ℕ → ℕ
-loanSaid w = w / 2
+abbrev pub loan_said : ℕ → ℕ
+loan_said w = w / 2
 
-abbrev pub pairSaid : ℕ → ℕ
-pairSaid w = w / 2 - 1
+abbrev pub pair_said : ℕ → ℕ
+pair_said w = w / 2 - 1
 
 -- ---- the tag of a pair: its place is vacant, both its nodes are taken, or which of them is ready
 
@@ -34,11 +34,11 @@ vacant = 0
 abbrev pub exhausted : ℕ
 exhausted = 1
 
-abbrev pub leftReady : ℕ
-leftReady = 2
+abbrev pub left_ready : ℕ
+left_ready = 2
 
-abbrev pub rightReady : ℕ
-rightReady = 3
+abbrev pub right_ready : ℕ
+right_ready = 3
 
 -- a pair's entry: its tag, the chunk and offset of its stretch, the words of its two nodes; up: which node it is the pair of, as
 -- node_of has it, or `nowhere` for a chunk's top node
@@ -73,27 +73,27 @@ node_of p R = 2 * p + 1
 abbrev pub pair_of : ℕ → ℕ
 pair_of n = n / 2
 
-abbrev pub isLeft : ℕ → Bool
-isLeft n = eqb (n % 2) 0
+abbrev pub is_left : ℕ → Bool
+is_left n = eqb (n % 2) 0
 
 abbrev pub word : Side → Ent → ℕ
 word L e = e.left
 word R e = e.right
 
-abbrev pub isFree : Tree → Bool
-isFree free = true
-isFree (loan k) = false
-isFree (split a b) = false
+abbrev pub is_free : Tree → Bool
+is_free free = true
+is_free (loan k) = false
+is_free (split a b) = false
 
 -- the tag of a pair whose left and right nodes are free or not
 abbrev pub tag_of : Bool → Bool → ℕ
-tag_of true b = leftReady
-tag_of false true = rightReady
+tag_of true b = left_ready
+tag_of false true = right_ready
 tag_of false false = exhausted
 
-abbrev pub splitBy : Side → Tree → Tree → Tree
-splitBy L x y = split x y
-splitBy R x y = split y x
+abbrev pub split_by : Side → Tree → Tree → Tree
+split_by L x y = split x y
+split_by R x y = split y x
 
 module _ (u : ℕ) where
   -- where a side of a pair at o begins, its nodes being of level l
@@ -111,24 +111,24 @@ module _ (u : ℕ) where
 
   -- a split node n: its pair, which alone of its level lies there, and its two halves
   pub record Node (E : ℕ → ℕ → Ent) (c l o n w t : ℕ) (A B : Type 0) : Type 0 where
-    pub is : w ≡ splitWord (pairSaid w)
-    pub tag : (E l (pairSaid w)).tag ≡ t
-    pub chunk : (E l (pairSaid w)).chunk ≡ c
-    pub off : (E l (pairSaid w)).off ≡ o
-    pub up : (E l (pairSaid w)).up ≡ n
-    pub only : (p : ℕ) → vacant < (E l p).tag → Inside (E l p) c o (suc l) → p ≡ pairSaid w
+    pub is : w ≡ split_word (pair_said w)
+    pub tag : (E l (pair_said w)).tag ≡ t
+    pub chunk : (E l (pair_said w)).chunk ≡ c
+    pub off : (E l (pair_said w)).off ≡ o
+    pub up : (E l (pair_said w)).up ≡ n
+    pub only : (p : ℕ) → vacant < (E l p).tag → Inside (E l p) c o (suc l) → p ≡ pair_said w
     pub this : A
     pub twin : B
 
   -- the node n of level l at o of chunk c, whose word is w, stands for the tree; K tells the loans
   abbrev pub Rep : (ℕ → ℕ → Ent) → (ℕ → Loan) → ℕ → ℕ → ℕ → ℕ → ℕ → Tree → Type 0
-  Rep E K c l o n w free = (w ≡ freeWord) × None E c l o
-  Rep E K c l o n w (loan k) = (w ≡ loanWord k) × (K k ≡ record { chunk = c; at = o; lev = l; node = n }) × None E c l o
+  Rep E K c l o n w free = (w ≡ free_word) × None E c l o
+  Rep E K c l o n w (loan k) = (w ≡ loan_word k) × (K k ≡ record { chunk = c; at = o; lev = l; node = n }) × None E c l o
   Rep E K c zero o n w (split a b) = ⊥
   Rep E K c (suc l) o n w (split a b) =
-      Node E c l o n w (tag_of (isFree a) (isFree b))
-      (Rep E K c l o (node_of (pairSaid w) L) (E l (pairSaid w)).left a)
-      (Rep E K c l (o + bytes u l) (node_of (pairSaid w) R) (E l (pairSaid w)).right b)
+      Node E c l o n w (tag_of (is_free a) (is_free b))
+      (Rep E K c l o (node_of (pair_said w) L) (E l (pair_said w)).left a)
+      (Rep E K c l (o + bytes u l) (node_of (pair_said w) R) (E l (pair_said w)).right b)
 
   -- ---- when entries change
 

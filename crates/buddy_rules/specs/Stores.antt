@@ -1,13 +1,13 @@
 -- A whole buddy store by what its words say: levels, loans and chunks, the trees that they stand for, and what its calls do
 -- to it. 01, "buddy.rs" and "Sound".
 use Rattle.std.specs.Prelude.{◌≡◌, Bool, true, false, cond, ℕ, suc, ◌+◌, ◌-◌, ◌*◌, ◌≤◌, ◌<◌, eqb}
-use Rattle.slab.specs.Slab.{nowhere}
+use Rattle.slabs.specs.Slab.{nowhere}
 use Rattle.buddy_trees.specs.Trees.{Tree, free, Piece, Wf, Has, up, bytes}
 use Rattle.buddy_rules.specs.Nodes as Nodes
-use Rattle.buddy_rules.specs.Nodes.{freeWord, Ent, Loan, L, node_of, Rep}
+use Rattle.buddy_rules.specs.Nodes.{free_word, Ent, Loan, L, node_of, Rep}
 use Rattle.buddy_rules.specs.Levels.{Ops, base_of}
 use Rattle.buddy_rules.specs.Returns.{entries, Out, climb}
-use Rattle.buddy_rules.specs.Lends.{grow, lend, headNode, loanNode}
+use Rattle.buddy_rules.specs.Lends.{grow, lend, head_node, loan_node}
 
 -- a function with another value at c
 abbrev pub with : {A : Type 0} → (ℕ → A) → ℕ → A → ℕ → A
@@ -34,7 +34,7 @@ module _ (u : ℕ) (O : Ops) where
     pub good : (i : ℕ) → i < s.count → O.Good (s.levels i)
     pub small : (i p : ℕ) → i < s.count → Nodes.vacant < (O.ent (s.levels i) p).tag → 2 * p + 1 < nowhere
     pub tall : (c : ℕ) → s.high c ≤ s.count
-    pub held : (c : ℕ) → T c ≡ free → (s.high c ≡ 0) × (s.top c ≡ freeWord)
+    pub held : (c : ℕ) → T c ≡ free → (s.high c ≡ 0) × (s.top c ≡ free_word)
     pub vacant : (c : ℕ) → s.high c ≡ 0 → T c ≡ free
     pub wf : (c : ℕ) → Wf (s.high c) (T c)
     pub rep : (c : ℕ) → Rep u (entries O s.levels) s.loans c (s.high c) 0 nowhere (s.top c) (T c)
@@ -66,8 +66,8 @@ module _ (u : ℕ) (O : Ops) where
   -- ---- a loan
 
   -- "Levels grow to hold it"
-  abbrev pub grownTo : ℕ → Store → Store
-  grownTo n s = record { count = n; levels = s.levels; loans = s.loans; live = s.live; high = s.high; top = s.top }
+  abbrev pub grown_to : ℕ → Store → Store
+  grown_to n s = record { count = n; levels = s.levels; loans = s.loans; live = s.live; high = s.high; top = s.top }
 
   -- loan k is made, and chunk c's top node is then h levels high and has the word w
   abbrev pub made : Store → ℕ → Loan → (ℕ → O.Lv) → ℕ → ℕ → Store
@@ -82,30 +82,30 @@ module _ (u : ℕ) (O : Ops) where
       }
 
   -- the head pair's entry of level i
-  abbrev pub headEnt : Store → ℕ → Ent
-  headEnt s i = O.ent (s.levels i) (O.head (s.levels i))
+  abbrev pub head_ent : Store → ℕ → Ent
+  head_ent s i = O.ent (s.levels i) (O.head (s.levels i))
 
   -- the loan of level lev that is cut out of the head's ready side d levels above it
-  abbrev pub cutLoan : Store → ℕ → ℕ → Loan
-  cutLoan s lev d =
+  abbrev pub cut_loan : Store → ℕ → ℕ → Loan
+  cut_loan s lev d =
       record {
-        chunk = (headEnt s (up d lev)).chunk;
-        at = base_of u (headEnt s (up d lev)) (up d lev);
+        chunk = (head_ent s (up d lev)).chunk;
+        at = base_of u (head_ent s (up d lev)) (up d lev);
         lev = lev;
-        node = loanNode u O s.levels lev (headNode u O s.levels (up d lev)) d;
+        node = loan_node u O s.levels lev (head_node u O s.levels (up d lev)) d;
       }
 
   unfoldable pub lent : Store → ℕ → ℕ → ℕ → Store
   lent s lev d k =
-      let c = (headEnt s (up d lev)).chunk in
-      made s k (cutLoan s lev d) (lend u O s.levels lev d k) (s.high c) (s.top c)
+      let c = (head_ent s (up d lev)).chunk in
+      made s k (cut_loan s lev d) (lend u O s.levels lev d k) (s.high c) (s.top c)
 
   -- a new chunk at the vacant place c, twice as long as the top level's nodes: its left end is lent as k. The top level is d
   -- levels above lev
-  abbrev pub newLoan : Store → ℕ → ℕ → Loan
-  newLoan s lev c = record { chunk = c; at = 0; lev = lev; node = node_of (O.newPlace (s.levels lev)) L }
+  abbrev pub new_loan : Store → ℕ → ℕ → Loan
+  new_loan s lev c = record { chunk = c; at = 0; lev = lev; node = node_of (O.new_place (s.levels lev)) L }
 
   unfoldable pub delivered : Store → ℕ → ℕ → ℕ → ℕ → Store
   delivered s lev d k c =
       let g = grow u O s.levels lev c 0 k nowhere (suc d) in
-      made s k (newLoan s lev c) g.levels (up (suc d) lev) g.top
+      made s k (new_loan s lev c) g.levels (up (suc d) lev) g.top

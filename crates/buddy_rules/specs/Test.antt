@@ -3,17 +3,17 @@
 -- place; and the count of leaves then tells that no ring lacks a ready pair.
 use Rattle.std.specs.Prelude.{Bool, true, cond, ◌&&◌, ◌||◌, not, List, [], ◌∷◌, ℕ, zero, suc, ◌+◌, ◌-◌, ◌%◌, eqb, leb, ltb}
 use Rattle.counter.specs.declared.settings.BuddySettings.{BuddySettings}
-use Rattle.slab.specs.Slab.{nowhere}
+use Rattle.slabs.specs.Slab.{nowhere}
 use Rattle.store_rules.specs.Loans.{size_at}
 use Rattle.buddy_trees.specs.Trees.{bytes}
-use Rattle.buddy_rules.specs.Nodes.{freeWord, saysLoan, loanSaid, pairSaid, Ent, L, R, node_of, tag_of}
-use Rattle.buddy_rules.specs.Tables.{Tables, signedOk, marks, givenIn, memoryIn, vacantLoan, loanAfter, loanSlab, chainStart, chainNext, vacantChunk, chunkAfter, chunkSlab, levelsIn, placesIn, chunkPlacesIn, chunkSizeIn, levelFrom, pairsIn, loanCell, loanIn, live_in, heldIn, highIn, topIn, initialLevels}
+use Rattle.buddy_rules.specs.Nodes.{free_word, says_loan, loan_said, pair_said, Ent, L, R, node_of, tag_of}
+use Rattle.buddy_rules.specs.Tables.{Tables, signed_ok, marks, given_in, memory_in, vacant_loan, loan_after, loan_slab, chain_start, chain_next, vacant_chunk, chunk_after, chunk_slab, levels_in, places_in, chunk_places_in, chunk_size_in, level_from, pairs_in, loan_cell, loan_in, live_in, held_in, high_in, top_in, initial_levels}
 use Rattle.lists.specs.Tests.{all}
-use Rattle.counter.specs.Limits.{levelsMost}
-use Rattle.slab.specs.Test.{vacancies, partedOk}
-use Rattle.book_rules.specs.Book.{serialOf}
-use Rattle.book_rules.specs.Chains.{chainsOk}
-use Rattle.buddy_rules.specs.LevelTest.{ringed, inUse, levelOk}
+use Rattle.counter.specs.Limits.{levels_most}
+use Rattle.slabs.specs.Test.{vacancies, parted_ok}
+use Rattle.book_rules.specs.Book.{serial_of}
+use Rattle.book_rules.specs.Chains.{chains_ok}
+use Rattle.buddy_rules.specs.LevelTest.{ringed, in_use, level_ok}
 
 -- p holds of each number below n
 abbrev pub every : (ℕ → Bool) → ℕ → Bool
@@ -25,108 +25,108 @@ unfoldable pub and_then : ℕ → (ℕ → ℕ) → ℕ
 and_then m f = cond (eqb m nowhere) nowhere (f m)
 
 -- how many loans are live
-unfoldable pub liveCount : Tables → ℕ
-liveCount t = placesIn t - vacancies (vacantLoan t) (placesIn t)
+unfoldable pub live_count : Tables → ℕ
+live_count t = places_in t - vacancies (vacant_loan t) (places_in t)
 
 -- how many chunks are held
-unfoldable pub heldCount : Tables → ℕ
-heldCount t = chunkPlacesIn t - vacancies (vacantChunk t) (chunkPlacesIn t)
+unfoldable pub held_count : Tables → ℕ
+held_count t = chunk_places_in t - vacancies (vacant_chunk t) (chunk_places_in t)
 
 module _ (s : BuddySettings) (t : Tables) where
   -- ---- down from the top: "A node is free, on loan, or split into a pair, and a pair is its two nodes"
 
   -- loan k is node n, of level l at o of chunk c
-  unfoldable pub leafOk : ℕ → ℕ → ℕ → ℕ → ℕ → Bool
-  leafOk k c l o n =
+  unfoldable pub leaf_ok : ℕ → ℕ → ℕ → ℕ → ℕ → Bool
+  leaf_ok k c l o n =
       live_in t k
-      && (eqb (loanIn s t k).chunk c
-      && (eqb (loanIn s t k).at o && (eqb (loanCell t size_at k) (bytes s.minimal l) && eqb (loanIn s t k).node n)))
+      && (eqb (loan_in s t k).chunk c
+      && (eqb (loan_in s t k).at o && (eqb (loan_cell t size_at k) (bytes s.minimal l) && eqb (loan_in s t k).node n)))
 
   -- the entry of the pair of node n, at o of chunk c: "no joinable pieces", and its tag says which side is ready
-  unfoldable pub entryOk : Ent → ℕ → ℕ → ℕ → Bool
-  entryOk e c o n =
-      not (eqb e.left freeWord && eqb e.right freeWord)
-      && (eqb e.tag (tag_of (eqb e.left freeWord) (eqb e.right freeWord)) && (eqb e.chunk c && (eqb e.off o && eqb e.up n)))
+  unfoldable pub entry_ok : Ent → ℕ → ℕ → ℕ → Bool
+  entry_ok e c o n =
+      not (eqb e.left free_word && eqb e.right free_word)
+      && (eqb e.tag (tag_of (eqb e.left free_word) (eqb e.right free_word)) && (eqb e.chunk c && (eqb e.off o && eqb e.up n)))
 
   -- of k pairs and loans that are still to be met, how many are left when node n of level l at o of chunk c, whose word is w, has
   -- been walked; nowhere where something is not right, or more is met than k
-  unfoldable pub leftNode : ℕ → ℕ → ℕ → ℕ → ℕ → ℕ → ℕ
-  leftNode zero c o n w k =
-      cond (eqb w freeWord) k (cond (saysLoan w) (cond (ltb 0 k && leafOk (loanSaid w) c zero o n) (k - 1) nowhere) nowhere)
-  leftNode (suc l) c o n w k =
-      cond (eqb w freeWord) k
-      (cond (saysLoan w) (cond (ltb 0 k && leafOk (loanSaid w) c (suc l) o n) (k - 1) nowhere)
-      (cond (ltb 0 k && entryOk (pairsIn s t l (pairSaid w)) c o n)
+  unfoldable pub left_node : ℕ → ℕ → ℕ → ℕ → ℕ → ℕ → ℕ
+  left_node zero c o n w k =
+      cond (eqb w free_word) k (cond (says_loan w) (cond (ltb 0 k && leaf_ok (loan_said w) c zero o n) (k - 1) nowhere) nowhere)
+  left_node (suc l) c o n w k =
+      cond (eqb w free_word) k
+      (cond (says_loan w) (cond (ltb 0 k && leaf_ok (loan_said w) c (suc l) o n) (k - 1) nowhere)
+      (cond (ltb 0 k && entry_ok (pairs_in s t l (pair_said w)) c o n)
       (and_then
-      (leftNode l c o (node_of (pairSaid w) L) (pairsIn s t l (pairSaid w)).left (k - 1))
-      (leftNode l c (o + bytes s.minimal l) (node_of (pairSaid w) R) (pairsIn s t l (pairSaid w)).right))
+      (left_node l c o (node_of (pair_said w) L) (pairs_in s t l (pair_said w)).left (k - 1))
+      (left_node l c (o + bytes s.minimal l) (node_of (pair_said w) R) (pairs_in s t l (pair_said w)).right))
       nowhere))
 
   -- the same when the chunk at place c has been walked, where there is one: its size, and its nodes; "a buddy store holds no wholly
   -- free chunk"
-  unfoldable pub leftChunk : ℕ → ℕ → ℕ
-  leftChunk c k =
-      cond (heldIn t c)
+  unfoldable pub left_chunk : ℕ → ℕ → ℕ
+  left_chunk c k =
+      cond (held_in t c)
       (cond
-      (eqb (chunkSizeIn t c) (bytes s.minimal (highIn s t c))
-      && (ltb 0 (highIn s t c)
-      && (leb (initialLevels s) (highIn s t c)
-      && (leb (highIn s t c) (levelsIn t) && not (eqb (topIn s t c) freeWord)))))
-      (leftNode (highIn s t c) c 0 nowhere (topIn s t c) k)
+      (eqb (chunk_size_in t c) (bytes s.minimal (high_in s t c))
+      && (ltb 0 (high_in s t c)
+      && (leb (initial_levels s) (high_in s t c)
+      && (leb (high_in s t c) (levels_in t) && not (eqb (top_in s t c) free_word)))))
+      (left_node (high_in s t c) c 0 nowhere (top_in s t c) k)
       nowhere)
       k
 
   -- and the chunks at the first n places
-  unfoldable pub leftChunks : ℕ → ℕ → ℕ
-  leftChunks zero k = k
-  leftChunks (suc n) k = and_then (leftChunks n k) (leftChunk n)
+  unfoldable pub left_chunks : ℕ → ℕ → ℕ
+  left_chunks zero k = k
+  left_chunks (suc n) k = and_then (left_chunks n k) (left_chunk n)
 
   -- how many pairs of the first n levels are in use, as their vacant chains tell it
-  unfoldable pub pairsInUse : ℕ → ℕ
-  pairsInUse zero = 0
-  pairsInUse (suc l) = pairsInUse l + inUse (levelFrom s l) t.room
+  unfoldable pub pairs_in_use : ℕ → ℕ
+  pairs_in_use zero = 0
+  pairs_in_use (suc l) = pairs_in_use l + in_use (level_from s l) t.room
 
   -- how many stand in the rings of the first n levels
-  unfoldable pub pairsReady : ℕ → ℕ
-  pairsReady zero = 0
-  pairsReady (suc l) = pairsReady l + ringed (levelFrom s l) t.room
+  unfoldable pub pairs_ready : ℕ → ℕ
+  pairs_ready zero = 0
+  pairs_ready (suc l) = pairs_ready l + ringed (level_from s l) t.room
 
   -- a tree has one pair less than leaves, and its leaves are its loans and the free side of each ready pair: no ready pair is missing
   -- from the rings
-  unfoldable pub leavesOk : Bool
-  leavesOk = eqb (pairsReady (levelsIn t) + liveCount t) (pairsInUse (levelsIn t) + heldCount t)
+  unfoldable pub leaves_ok : Bool
+  leaves_ok = eqb (pairs_ready (levels_in t) + live_count t) (pairs_in_use (levels_in t) + held_count t)
 
   -- the walk down every chunk meets all that is in use
-  unfoldable pub countedOk : Bool
-  countedOk = eqb (leftChunks (chunkPlacesIn t) (pairsInUse (levelsIn t) + liveCount t)) 0
+  unfoldable pub counted_ok : Bool
+  counted_ok = eqb (left_chunks (chunk_places_in t) (pairs_in_use (levels_in t) + live_count t)) 0
 
   -- ---- the whole
 
   -- no two held chunks have one memory number, by comparing each with each: the code sorts
-  unfoldable pub memoriesOk : Bool
-  memoriesOk =
-      every (λ (c : ℕ). every (λ (d : ℕ). not (heldIn t c && heldIn t d) || not (eqb (memoryIn t c) (memoryIn t d))) c) (chunkPlacesIn t)
+  unfoldable pub memories_ok : Bool
+  memories_ok =
+      every (λ (c : ℕ). every (λ (d : ℕ). not (held_in t c && held_in t d) || not (eqb (memory_in t c) (memory_in t d))) c) (chunk_places_in t)
 
   -- a loan is of whole atom units
-  unfoldable pub unitsOk : ℕ → Bool
-  unitsOk k =
+  unfoldable pub units_ok : ℕ → Bool
+  units_ok k =
       not (live_in t k)
-      || (eqb ((loanIn s t k).at % (s.store.atom + 1)) 0 && eqb (loanCell t size_at k % (s.store.atom + 1)) 0)
+      || (eqb ((loan_in s t k).at % (s.store.atom + 1)) 0 && eqb (loan_cell t size_at k % (s.store.atom + 1)) 0)
 
-  abbrev pub soundRow : List Bool
-  soundRow =
-      signedOk marks t
-      ∷ leb (initialLevels s) (levelsIn t)
-      ∷ leb (levelsIn t) levelsMost
-      ∷ partedOk (vacantLoan t) (loanAfter t) (loanSlab t) s.store.loans
-      ∷ chainsOk (vacantLoan t) (chainStart t) (chainNext t) (serialOf t.loans) s.store.loans (placesIn t) (givenIn t)
-      ∷ partedOk (vacantChunk t) (chunkAfter s t) (chunkSlab s t) s.store.chunks
-      ∷ memoriesOk
-      ∷ every (λ (l : ℕ). levelOk (levelFrom s l) s.pairs t.room) (levelsIn t)
-      ∷ leavesOk
-      ∷ countedOk
-      ∷ every unitsOk (placesIn t)
+  abbrev pub sound_row : List Bool
+  sound_row =
+      signed_ok marks t
+      ∷ leb (initial_levels s) (levels_in t)
+      ∷ leb (levels_in t) levels_most
+      ∷ parted_ok (vacant_loan t) (loan_after t) (loan_slab t) s.store.loans
+      ∷ chains_ok (vacant_loan t) (chain_start t) (chain_next t) (serial_of t.loans) s.store.loans (places_in t) (given_in t)
+      ∷ parted_ok (vacant_chunk t) (chunk_after s t) (chunk_slab s t) s.store.chunks
+      ∷ memories_ok
+      ∷ every (λ (l : ℕ). level_ok (level_from s l) s.pairs t.room) (levels_in t)
+      ∷ leaves_ok
+      ∷ counted_ok
+      ∷ every units_ok (places_in t)
       ∷ []
 
-  unfoldable pub soundOk : Bool
-  soundOk = all soundRow
+  unfoldable pub sound_ok : Bool
+  sound_ok = all sound_row

@@ -15,66 +15,66 @@ use Rattle.words.specs.Rows.{row}
 use Rattle.words.proofs.Records.{cell_row}
 use Rattle.rounding_rules.proofs.Masks.{masked}
 use Rattle.counter.specs.InTable.{BuddyIn}
-use Rattle.counter.specs.Limits.{levelsMost}
+use Rattle.counter.specs.Limits.{levels_most}
 use Rattle.counter.specs.declared.settings.BuddySettings.{BuddySettings}
-use Rattle.slab.specs.Slab.{place_of, vacantAt, link_at}
-use Rattle.slab.specs.Test.{vacancies, partedOk}
-use Rattle.store_rules.specs.Loans.{places_at, loanWords, size_at, loanRow, offsetAt}
+use Rattle.slabs.specs.Slab.{place_of, vacant_at, link_at}
+use Rattle.slabs.specs.Test.{vacancies, parted_ok}
+use Rattle.store_rules.specs.Loans.{places_at, loan_words, size_at, loan_row, offset_at}
 use Rattle.store_rules.specs.declared.Loan.{Loan}
-use Rattle.buddy_rules.specs.Level.{levelWords, levelStart}
-use Rattle.buddy_rules.specs.LevelTest.{ringed, inUse, levelOk}
-use Rattle.buddy_levels.specs.Seen.{partSettings, partTables, levelPart}
-use Rattle.buddy_rules.specs.Tables.{levelsAt, initialLevels, chunkPlacesAt, chunkWords, chunkSizeAt, placeWords, after_at, vacantChunk, chunkAfter, chunkSlab, marks, Tables, signedOk}
-use Rattle.buddy_rules.specs.Test.{heldCount, pairsInUse, pairsReady, unitsOk}
+use Rattle.buddy_rules.specs.Level.{level_words, level_start}
+use Rattle.buddy_rules.specs.LevelTest.{ringed, in_use, level_ok}
+use Rattle.buddy_levels.specs.Seen.{part_settings, part_tables, level_part}
+use Rattle.buddy_rules.specs.Tables.{levels_at, initial_levels, chunk_places_at, chunk_words, chunk_size_at, place_words, after_at, vacant_chunk, chunk_after, chunk_slab, marks, Tables, signed_ok}
+use Rattle.buddy_rules.specs.Test.{held_count, pairs_in_use, pairs_ready, units_ok}
 
 module _ (s : BuddySettings) where
-  pub head-told : (t : Tables) (m : Bool) (l f : ℕ) → m ≡ signedOk marks t → l ≡ get_or t.head levelsAt 0 → f ≡ initialLevels s
-      → (m && (leb f l && leb l levelsMost)) ≡ (signedOk marks t && (leb (initialLevels s) (get_or t.head levelsAt 0) && leb (get_or t.head levelsAt 0) levelsMost))
-  head-told t m l f e g h = λ j. e j && (leb (h j) (g j) && leb (g j) levelsMost)
+  pub head_told : (t : Tables) (m : Bool) (l f : ℕ) → m ≡ signed_ok marks t → l ≡ get_or t.head levels_at 0 → f ≡ initial_levels s
+      → (m && (leb f l && leb l levels_most)) ≡ (signed_ok marks t && (leb (initial_levels s) (get_or t.head levels_at 0) && leb (get_or t.head levels_at 0) levels_most))
+  head_told t m l f e g h = λ j. e j && (leb (h j) (g j) && leb (g j) levels_most)
 
-  pub places-told : (n at v : ℕ) (chunks tree : List ℕ) (r : Bool) → n ≡ get_or chunks chunkPlacesAt 0 → at ≡ levelStart s.pairs levelsMost → v ≡ place_of (get_or tree at 0)
-      → r ≡ partedOk (vacantAt chunks chunkSizeAt chunkWords) (link_at tree (at + (placeWords + after_at)) placeWords) (record { places = n; vacant = v }) s.store.chunks
-      → r ≡ partedOk (vacantChunk (levelPart 0 chunks tree)) (chunkAfter s (levelPart 0 chunks tree)) (chunkSlab s (levelPart 0 chunks tree)) s.store.chunks
-  places-told n at v chunks tree r c e f g =
+  pub places_told : (n at v : ℕ) (chunks tree : List ℕ) (r : Bool) → n ≡ get_or chunks chunk_places_at 0 → at ≡ level_start s.pairs levels_most → v ≡ place_of (get_or tree at 0)
+      → r ≡ parted_ok (vacant_at chunks chunk_size_at chunk_words) (link_at tree (at + (place_words + after_at)) place_words) (record { places = n; vacant = v }) s.store.chunks
+      → r ≡ parted_ok (vacant_chunk (level_part 0 chunks tree)) (chunk_after s (level_part 0 chunks tree)) (chunk_slab s (level_part 0 chunks tree)) s.store.chunks
+  places_told n at v chunks tree r c e f g =
       g
-      ∙ (λ j. partedOk (vacantAt chunks chunkSizeAt chunkWords) (link_at tree (at + (placeWords + after_at)) placeWords) (record { places = c j; vacant = f j }) s.store.chunks)
-      ∙ (λ j. partedOk (vacantAt chunks chunkSizeAt chunkWords) (link_at tree (e j + (placeWords + after_at)) placeWords) (record { places = get_or chunks chunkPlacesAt 0; vacant = place_of (get_or tree (e j) 0) }) s.store.chunks)
+      ∙ (λ j. parted_ok (vacant_at chunks chunk_size_at chunk_words) (link_at tree (at + (place_words + after_at)) place_words) (record { places = c j; vacant = f j }) s.store.chunks)
+      ∙ (λ j. parted_ok (vacant_at chunks chunk_size_at chunk_words) (link_at tree (e j + (place_words + after_at)) place_words) (record { places = get_or chunks chunk_places_at 0; vacant = place_of (get_or tree (e j) 0) }) s.store.chunks)
 
   -- u of n places are used
-  pub held-told : (n u : ℕ) (chunks : List ℕ) → n ≡ get_or chunks chunkPlacesAt 0 → u ≡ n - vacancies (vacantAt chunks chunkSizeAt chunkWords) n → u ≡ heldCount (levelPart 0 chunks [])
-  unfolding heldCount
-  held-told n u chunks e f = f ∙ (λ j. e j - vacancies (vacantAt chunks chunkSizeAt chunkWords) (e j))
+  pub held_told : (n u : ℕ) (chunks : List ℕ) → n ≡ get_or chunks chunk_places_at 0 → u ≡ n - vacancies (vacant_at chunks chunk_size_at chunk_words) n → u ≡ held_count (level_part 0 chunks [])
+  unfolding held_count
+  held_told n u chunks e f = f ∙ (λ j. e j - vacancies (vacant_at chunks chunk_size_at chunk_words) (e j))
 
 -- ---- a level, which begins at base
 
-pub level-fits : (pairs l base m : ℕ) → l < levelsMost → base ≡ levelStart pairs l → levelStart pairs levelsMost ≤ m → base + levelWords pairs ≤ m
-level-fits pairs l base m h e f =
-    let g : l + 1 ≤ levelsMost = omega arith in
-    omega (arith, e, f, mul-le-mul_left (levelWords pairs) g, mul-add (levelWords pairs) l 1)
+pub level_fits : (pairs l base m : ℕ) → l < levels_most → base ≡ level_start pairs l → level_start pairs levels_most ≤ m → base + level_words pairs ≤ m
+level_fits pairs l base m h e f =
+    let g : l + 1 ≤ levels_most = omega arith in
+    omega (arith, e, f, mul-le-mul_left (level_words pairs) g, mul-add (level_words pairs) l 1)
 
-pub good-told : (pairs l base : ℕ) (tree : List ℕ) (r : Bool) → base ≡ levelStart pairs l → r ≡ levelOk base pairs tree → r ≡ levelOk (levelStart pairs l) pairs tree
-good-told pairs l base tree r e f = f ∙ ap (λ (b : ℕ). levelOk b pairs tree) e
+pub good_told : (pairs l base : ℕ) (tree : List ℕ) (r : Bool) → base ≡ level_start pairs l → r ≡ level_ok base pairs tree → r ≡ level_ok (level_start pairs l) pairs tree
+good_told pairs l base tree r e f = f ∙ ap (λ (b : ℕ). level_ok b pairs tree) e
 
 -- ---- the pairs in use and the ready ones, level by level
 
 module _ (pairs : ℕ) (tree : List ℕ) where
-  pub pairs-none : 0 ≡ pairsInUse (partSettings 0 pairs 0) (levelPart 0 [] tree) 0
-  unfolding pairsInUse
-  pairs-none = refl
+  pub pairs_none : 0 ≡ pairs_in_use (part_settings 0 pairs 0) (level_part 0 [] tree) 0
+  unfolding pairs_in_use
+  pairs_none = refl
 
-  pub ready-none : 0 ≡ pairsReady (partSettings 0 pairs 0) (levelPart 0 [] tree) 0
-  unfolding pairsReady
-  ready-none = refl
+  pub ready_none : 0 ≡ pairs_ready (part_settings 0 pairs 0) (level_part 0 [] tree) 0
+  unfolding pairs_ready
+  ready_none = refl
 
   -- u of the level that begins at base, x of those before it
-  module _ (l base u x : ℕ) (b : base ≡ levelStart pairs l) where
-    pub pairs_next : x ≡ pairsInUse (partSettings 0 pairs 0) (levelPart 0 [] tree) l → u ≡ inUse base tree → x + u ≡ pairsInUse (partSettings 0 pairs 0) (levelPart 0 [] tree) (l + 1)
-    unfolding pairsInUse
-    pairs_next e f = rw (add-one l) (ap₂ ◌+◌ e (f ∙ ap (λ (i : ℕ). inUse i tree) b))
+  module _ (l base u x : ℕ) (b : base ≡ level_start pairs l) where
+    pub pairs_next : x ≡ pairs_in_use (part_settings 0 pairs 0) (level_part 0 [] tree) l → u ≡ in_use base tree → x + u ≡ pairs_in_use (part_settings 0 pairs 0) (level_part 0 [] tree) (l + 1)
+    unfolding pairs_in_use
+    pairs_next e f = rw (add-one l) (ap₂ ◌+◌ e (f ∙ ap (λ (i : ℕ). in_use i tree) b))
 
-    pub ready-next : x ≡ pairsReady (partSettings 0 pairs 0) (levelPart 0 [] tree) l → u ≡ ringed base tree → x + u ≡ pairsReady (partSettings 0 pairs 0) (levelPart 0 [] tree) (l + 1)
-    unfolding pairsReady
-    ready-next e f = rw (add-one l) (ap₂ ◌+◌ e (f ∙ ap (λ (i : ℕ). ringed i tree) b))
+    pub ready_next : x ≡ pairs_ready (part_settings 0 pairs 0) (level_part 0 [] tree) l → u ≡ ringed base tree → x + u ≡ pairs_ready (part_settings 0 pairs 0) (level_part 0 [] tree) (l + 1)
+    unfolding pairs_ready
+    ready_next e f = rw (add-one l) (ap₂ ◌+◌ e (f ∙ ap (λ (i : ℕ). ringed i tree) b))
 
 -- ---- a loan's units
 
@@ -83,21 +83,21 @@ abbrev units : BuddySettings → Loan → Bool
 units s l = eqb (l.offset % (s.store.atom + 1)) 0 && eqb (l.size % (s.store.atom + 1)) 0
 
 -- the code takes them by the atom's mask
-pub masked-told : (s : BuddySettings) → BuddyIn s → (l : Loan)
+pub masked_told : (s : BuddySettings) → BuddyIn s → (l : Loan)
     → (eqb l.size 0 || (eqb (bit_and l.offset s.store.atom) 0 && eqb (bit_and l.size s.store.atom) 0)) ≡ (eqb l.size 0 || units s l)
-masked-told s fit l = rw (masked l.offset fit.store.atom, masked l.size fit.store.atom)
+masked_told s fit l = rw (masked l.offset fit.store.atom, masked l.size fit.store.atom)
 
 twice : (a b : Bool) → (a || b) ≡ (not (not a) || b)
 twice true b = refl
 twice false b = refl
 
-module _ (s : BuddySettings) (k : ℕ) (loans : List ℕ) (l : Loan) (is : l ≡ row loanRow k loans) (used : k < get_or loans places_at 0) where
-  size_is : l.size ≡ get_or loans (cell_of size_at loanWords k) 0
-  size_is = ap (λ (x : Loan). x.size) is ∙ sym (cell_row loans size_at loanWords k)
+module _ (s : BuddySettings) (k : ℕ) (loans : List ℕ) (l : Loan) (is : l ≡ row loan_row k loans) (used : k < get_or loans places_at 0) where
+  size_is : l.size ≡ get_or loans (cell_of size_at loan_words k) 0
+  size_is = ap (λ (x : Loan). x.size) is ∙ sym (cell_row loans size_at loan_words k)
 
-  offset-is : l.offset ≡ get_or loans (cell_of offsetAt loanWords k) 0
-  offset-is = ap (λ (x : Loan). x.offset) is ∙ sym (cell_row loans offsetAt loanWords k)
+  offset_is : l.offset ≡ get_or loans (cell_of offset_at loan_words k) 0
+  offset_is = ap (λ (x : Loan). x.offset) is ∙ sym (cell_row loans offset_at loan_words k)
 
-  pub units-told : (r : Bool) → r ≡ (eqb l.size 0 || units s l) → r ≡ unitsOk s (partTables 0 loans [] [] []) k
-  unfolding unitsOk
-  units-told r e = e ∙ rw (lt-ltb k (get_or loans places_at 0) used, sym size_is, sym offset-is) (twice (eqb l.size 0) (units s l))
+  pub units_told : (r : Bool) → r ≡ (eqb l.size 0 || units s l) → r ≡ units_ok s (part_tables 0 loans [] [] []) k
+  unfolding units_ok
+  units_told r e = e ∙ rw (lt-ltb k (get_or loans places_at 0) used, sym size_is, sym offset_is) (twice (eqb l.size 0) (units s l))

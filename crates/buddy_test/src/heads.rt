@@ -1,14 +1,14 @@
 // The head, the slab of chunk places, the levels, and the loans' units.
 ghost use Rattle.std.specs.Prelude.{◌≡◌, true, ◌&&◌, ◌||◌, [], ◌+◌, ◌*◌, ◌%◌, ◌≤◌, eqb, leb, length, get_or};
 ghost use Rattle.counter.specs.InTable.{BuddyIn};
-ghost use Rattle.counter.specs.Limits.{levelsMost, pairsMost, loansMost};
-ghost use Rattle.slab.specs.Test.{partedOk};
-ghost use Rattle.store_rules.specs.Loans.{places_at, loanWords};
-ghost use Rattle.buddy_rules.specs.LevelTest.{levelOk};
-ghost use Rattle.buddy_rules.specs.Level.{levelStart};
-ghost use Rattle.buddy_rules.specs.Tables.{tables, marks, signedOk, levelsAt, chunkPlacesAt, initialLevels, vacantChunk, chunkAfter, chunkSlab};
-ghost use Rattle.buddy_rules.specs.Test.{every, pairsInUse, pairsReady, heldCount, unitsOk};
-ghost use Rattle.buddy_levels.specs.Seen.{partSettings, partTables, levelPart};
+ghost use Rattle.counter.specs.Limits.{levels_most, pairs_most, loans_most};
+ghost use Rattle.slabs.specs.Test.{parted_ok};
+ghost use Rattle.store_rules.specs.Loans.{places_at, loan_words};
+ghost use Rattle.buddy_rules.specs.LevelTest.{level_ok};
+ghost use Rattle.buddy_rules.specs.Level.{level_start};
+ghost use Rattle.buddy_rules.specs.Tables.{tables, marks, signed_ok, levels_at, chunk_places_at, initial_levels, vacant_chunk, chunk_after, chunk_slab};
+ghost use Rattle.buddy_rules.specs.Test.{every, pairs_in_use, pairs_ready, held_count, units_ok};
+ghost use Rattle.buddy_levels.specs.Seen.{part_settings, part_tables, level_part};
 
 use buddy_levels::Tested;
 use buddy_rules::{
@@ -16,13 +16,13 @@ use buddy_rules::{
     LOANS_MARK, PLACE_WORDS, ROOM_MARK,
 };
 use counter::{BuddySettings, LEVELS_MOST};
-use slab::{Parts, Slab};
+use slabs::{Parts, Slab};
 use store_rules::Loan;
 use words::MARK_AT;
 
 // Whether each table begins with its mark.
 fn is_signed(head: &[u64], loans: &[u64], chunks: &[u64], index: &[u64], tree: &[u64]) -> bool
-    ensures { result ≡ signedOk marks (tables head.now loans.now chunks.now index.now tree.now) }
+    ensures { result ≡ signed_ok marks (tables head.now loans.now chunks.now index.now tree.now) }
 {
     (words::word(head, MARK_AT) == HEAD_MARK)
         & (words::word(loans, MARK_AT) == LOANS_MARK)
@@ -40,7 +40,7 @@ pub fn is_head(
     index: &[u64],
     tree: &[u64],
 ) -> bool
-    ensures { result ≡ (signedOk marks (tables head.now loans.now chunks.now index.now tree.now) && (leb (initialLevels s) (get_or head.now levelsAt 0) && leb (get_or head.now levelsAt 0) levelsMost)) }
+    ensures { result ≡ (signed_ok marks (tables head.now loans.now chunks.now index.now tree.now) && (leb (initial_levels s) (get_or head.now levels_at 0) && leb (get_or head.now levels_at 0) levels_most)) }
 {
     let levels = words::word(head, LEVELS_AT);
     let first = rounding::level(s.initial, s.minimal) as u64;
@@ -50,18 +50,18 @@ pub fn is_head(
 
 // Whether the first n chunk places are parted into used and vacant ones, and how many chunks are held where they are.
 pub fn are_places(s: BuddySettings, n: u64, chunks: &[u64], tree: &[u64]) -> Parts
-    requires { BuddyIn s × (n ≡ get_or chunks.now chunkPlacesAt 0) }
-    ensures ok_value { result.ok ≡ partedOk (vacantChunk (levelPart 0 chunks.now tree.now)) (chunkAfter s (levelPart 0 chunks.now tree.now)) (chunkSlab s (levelPart 0 chunks.now tree.now)) s.store.chunks }
-    ensures used_value { (result.ok ≡ true → result.used ≡ heldCount (levelPart 0 chunks.now [])) × (result.used ≤ n) }
+    requires { BuddyIn s × (n ≡ get_or chunks.now chunk_places_at 0) }
+    ensures ok_value { result.ok ≡ parted_ok (vacant_chunk (level_part 0 chunks.now tree.now)) (chunk_after s (level_part 0 chunks.now tree.now)) (chunk_slab s (level_part 0 chunks.now tree.now)) s.store.chunks }
+    ensures used_value { (result.ok ≡ true → result.used ≡ held_count (level_part 0 chunks.now [])) × (result.used ≤ n) }
 {
     let own = s.store;
     let at = buddy_levels::chunks_from(s.pairs);
     let places = Slab {
         places: n,
-        vacant: slab::led_to(tree, at),
+        vacant: slabs::led_to(tree, at),
     };
     let after = at + (PLACE_WORDS + AFTER_AT);
-    slab::test_parts(
+    slabs::test_parts(
         places,
         own.chunks as u64,
         chunks,
@@ -75,9 +75,9 @@ pub fn are_places(s: BuddySettings, n: u64, chunks: &[u64], tree: &[u64]) -> Par
 
 // Whether the chain and the ring of each level are right, and how many pairs are in use and how many of them ready where they are.
 pub fn are_good(pairs: usize, levels: u64, tree: &[u64]) -> Tested
-    requires { (pairs ≤ pairsMost) × (levels ≤ levelsMost) × (levelStart pairs levelsMost ≤ length tree.now) }
-    ensures ok_value { result.ok ≡ every (λ l. levelOk (levelStart pairs l) pairs tree.now) levels }
-    ensures used_value { (result.ok ≡ true → (result.used ≡ pairsInUse (partSettings 0 pairs 0) (levelPart 0 [] tree.now) levels) × (result.ready ≡ pairsReady (partSettings 0 pairs 0) (levelPart 0 [] tree.now) levels)) × (result.used ≤ levels * pairsMost) × (result.ready ≤ levels * pairsMost) }
+    requires { (pairs ≤ pairs_most) × (levels ≤ levels_most) × (level_start pairs levels_most ≤ length tree.now) }
+    ensures ok_value { result.ok ≡ every (λ l. level_ok (level_start pairs l) pairs tree.now) levels }
+    ensures used_value { (result.ok ≡ true → (result.used ≡ pairs_in_use (part_settings 0 pairs 0) (level_part 0 [] tree.now) levels) × (result.ready ≡ pairs_ready (part_settings 0 pairs 0) (level_part 0 [] tree.now) levels)) × (result.used ≤ levels * pairs_most) × (result.ready ≤ levels * pairs_most) }
 {
     let mut used = 0;
     let mut ready = 0;
@@ -115,8 +115,8 @@ fn is_units(s: BuddySettings, l: Loan) -> bool
 
 // Whether each loan in the first n places is.
 pub fn are_units(s: BuddySettings, n: u64, loans: &[u64]) -> bool
-    requires { BuddyIn s × (n ≤ loansMost) × (n ≡ get_or loans.now places_at 0) × (loanWords + loanWords * n ≤ length loans.now) }
-    ensures { result ≡ every (unitsOk s (partTables 0 loans.now [] [] [])) n }
+    requires { BuddyIn s × (n ≤ loans_most) × (n ≡ get_or loans.now places_at 0) × (loan_words + loan_words * n ≤ length loans.now) }
+    ensures { result ≡ every (units_ok s (part_tables 0 loans.now [] [] [])) n }
 {
     let mut k = 0;
     while k < n {

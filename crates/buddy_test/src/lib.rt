@@ -4,10 +4,10 @@ mod memories;
 
 ghost use Rattle.std.specs.Prelude.{◌≡◌, ◌+◌, ◌*◌, ◌≤◌, eqb, get_or};
 ghost use Rattle.counter.specs.InTable.{BuddyIn};
-ghost use Rattle.counter.specs.Limits.{levelsMost, pairsMost, loansMost, chunksMost};
-ghost use Rattle.buddy_rules.specs.Tables.{tables, chunkPlacesAt, Lengths};
-ghost use Rattle.buddy_rules.specs.Test.{pairsInUse, liveCount, countedOk, soundOk};
-ghost use Rattle.buddy_levels.specs.Seen.{partTables};
+ghost use Rattle.counter.specs.Limits.{levels_most, pairs_most, loans_most, chunks_most};
+ghost use Rattle.buddy_rules.specs.Tables.{tables, chunk_places_at, Lengths};
+ghost use Rattle.buddy_rules.specs.Test.{pairs_in_use, live_count, counted_ok, sound_ok};
+ghost use Rattle.buddy_levels.specs.Seen.{part_tables};
 ghost use Rattle.buddy_walk.specs.Walks.{Within};
 
 use buddy_levels::Tested;
@@ -18,7 +18,7 @@ use store_rules::{GIVEN_AT, PLACES_AT};
 // Whether the rings have every ready pair: a chunk's tree has one pair less than leaves, and those are its loans and a side of each
 // ready pair.
 fn are_leaves(pairs: Tested, live: u64, held: u64) -> bool
-    requires { (pairs.used ≤ levelsMost * pairsMost) × (pairs.ready ≤ levelsMost * pairsMost) × (live ≤ loansMost) × (held ≤ chunksMost) }
+    requires { (pairs.used ≤ levels_most * pairs_most) × (pairs.ready ≤ levels_most * pairs_most) × (live ≤ loans_most) × (held ≤ chunks_most) }
     ensures { result ≡ eqb (pairs.ready + live) (pairs.used + held) }
 {
     pairs.ready + live == pairs.used + held
@@ -35,8 +35,8 @@ fn are_met(
     index: &[u64],
     tree: &[u64],
 ) -> bool
-    requires { BuddyIn s × (levels ≤ levelsMost) × (held ≤ chunksMost) × (held ≡ get_or chunks.now chunkPlacesAt 0) × Within levels s.pairs s.store.loans loans.now index.now tree.now × (count ≡ pairsInUse s (partTables levels loans.now chunks.now index.now tree.now) levels + liveCount (partTables levels loans.now chunks.now index.now tree.now)) }
-    ensures { result ≡ countedOk s (partTables levels loans.now chunks.now index.now tree.now) }
+    requires { BuddyIn s × (levels ≤ levels_most) × (held ≤ chunks_most) × (held ≡ get_or chunks.now chunk_places_at 0) × Within levels s.pairs s.store.loans loans.now index.now tree.now × (count ≡ pairs_in_use s (part_tables levels loans.now chunks.now index.now tree.now) levels + live_count (part_tables levels loans.now chunks.now index.now tree.now)) }
+    ensures { result ≡ counted_ok s (part_tables levels loans.now chunks.now index.now tree.now) }
 {
     let left = buddy_walk::left_chunks(s, levels, held, count, loans, chunks, index, tree);
     left == 0
@@ -52,7 +52,7 @@ pub fn is_sound(
     tree: &[u64],
 ) -> bool
     requires { BuddyIn s × Lengths s (tables head.now loans.now chunks.now index.now tree.now) }
-    ensures { result ≡ soundOk s (tables head.now loans.now chunks.now index.now tree.now) }
+    ensures { result ≡ sound_ok s (tables head.now loans.now chunks.now index.now tree.now) }
 {
     if !heads::is_head(s, head, loans, chunks, index, tree) {
         return false;

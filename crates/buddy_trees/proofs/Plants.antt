@@ -8,43 +8,43 @@ use lib.Dec.{ltb}
 use borrow.Author.Tests.{lt-ltb, le-ltb}
 use Rattle.buddy_trees.specs.Trees.{Tree, free, loan, split, Taken, Apart, Wf, up, bytes, Piece, Has, Free, spine, plant, Planted}
 use Rattle.buddy_trees.proofs.Bytes.{bytes_pos}
-use Rattle.buddy_trees.proofs.Fills.{free_in}
+use Rattle.buddy_trees.proofs.Fills.{free_in_lem}
 
-pub apart-left : (a b : Tree) → Taken a → Apart a b
-apart-left free b h = absurd h
-apart-left (loan k) b h = tt
-apart-left (split c d) b h = tt
+pub apart_left : (a b : Tree) → Taken a → Apart a b
+apart_left free b h = absurd h
+apart_left (loan k) b h = tt
+apart_left (split c d) b h = tt
 
-pub apart-right : (a b : Tree) → Taken b → Apart a b
-apart-right free free h = absurd h
-apart-right free (loan k) h = tt
-apart-right free (split c d) h = tt
-apart-right (loan k) b h = tt
-apart-right (split c d) b h = tt
+pub apart_right : (a b : Tree) → Taken b → Apart a b
+apart_right free free h = absurd h
+apart_right free (loan k) h = tt
+apart_right free (split c d) h = tt
+apart_right (loan k) b h = tt
+apart_right (split c d) b h = tt
 
 -- ---- a free node split down to a loan
 
-pub spine-taken : (d k : ℕ) → Taken (spine d k)
-spine-taken zero k = tt
-spine-taken (suc d) k = tt
+pub spine_taken : (d k : ℕ) → Taken (spine d k)
+spine_taken zero k = tt
+spine_taken (suc d) k = tt
 
-pub spine-wf : (d lev k : ℕ) → Wf (up d lev) (spine d k)
-spine-wf zero lev k = tt
-spine-wf (suc d) lev k = (apart-left (spine d k) free (spine-taken d k), spine-wf d lev k, tt)
+pub spine_wf : (d lev k : ℕ) → Wf (up d lev) (spine d k)
+spine_wf zero lev k = tt
+spine_wf (suc d) lev k = (apart_left (spine d k) free (spine_taken d k), spine_wf d lev k, tt)
 
 module _ (u : ℕ) where
   -- the spine's one loan stands at its start
-  pub spine-has : (d lev k x : ℕ) (y : Piece) → Has u (up d lev) x (spine d k) y ↔ ((y.at ≡ x) × (y.lev ≡ lev) × (y.who ≡ k + 1))
-  spine-has zero lev k x y = ((λ h. h), (λ h. h))
-  spine-has (suc d) lev k x y = (⊎_elim (spine-has d lev k x y).0 (λ h. absurd h), (λ h. inl ((spine-has d lev k x y).1 h)))
+  pub spine_has : (d lev k x : ℕ) (y : Piece) → Has u (up d lev) x (spine d k) y ↔ ((y.at ≡ x) × (y.lev ≡ lev) × (y.who ≡ k + 1))
+  spine_has zero lev k x y = ((λ h. h), (λ h. h))
+  spine_has (suc d) lev k x y = (⊎_elim (spine_has d lev k x y).0 (λ h. absurd h), (λ h. inl ((spine_has d lev k x y).1 h)))
 
   -- ---- a tree planted in a free node
 
-  pub plant-taken : (l o x : ℕ) (s t : Tree) → Taken s → Taken (plant u l o x s t)
-  plant-taken l o x s free h = h
-  plant-taken l o x s (loan k) h = tt
-  plant-taken zero o x s (split a b) h = tt
-  plant-taken (suc l) o x s (split a b) h = go (ltb x (o + bytes u l)) _ _ _ _
+  pub plant_taken : (l o x : ℕ) (s t : Tree) → Taken s → Taken (plant u l o x s t)
+  plant_taken l o x s free h = h
+  plant_taken l o x s (loan k) h = tt
+  plant_taken zero o x s (split a b) h = tt
+  plant_taken (suc l) o x s (split a b) h = go (ltb x (o + bytes u l)) _ _ _ _
     where
       go : (e : Bool) (a b c d : Tree) → Taken (cond e (split a b) (split c d))
       go true a b c d = tt
@@ -59,11 +59,11 @@ module _ (u : ℕ) where
   planted l o (loan k) s x m p w v n h = absurd h
   planted zero o (split a b) s x m p w v n h = absurd h
   planted (suc l) o (split a b) s x m p w v n (inl h) =
-      let i = free_in u l o a x m h in
+      let i = free_in_lem u l o a x m h in
       let r = planted l o a s x m p w.1 v n h in
       let e : ltb x (o + bytes u l) ≡ true = lt-ltb x (o + bytes u l) (omega (arith, bytes_pos u m p)) in
       rw e (record {
-        wf = (apart-left (plant u l o x s a) b (plant-taken l o x s a n), r.wf, w.2);
+        wf = (apart_left (plant u l o x s a) b (plant_taken l o x s a n), r.wf, w.2);
         has = λ y. (
           ⊎_elim (λ j. ⊎_elim (λ k. inl (inl k)) (λ k. inr k) ((r.has y).0 j)) (λ j. inl (inr j)),
           ⊎_elim (⊎_elim (λ j. inl ((r.has y).1 (inl j))) (λ j. inr j)) (λ j. inl ((r.has y).1 (inr j))),
@@ -71,11 +71,11 @@ module _ (u : ℕ) where
       })
   planted (suc l) o (split a b) s x m p w v n (inr h) =
       let c = o + bytes u l in
-      let i = free_in u l c b x m h in
+      let i = free_in_lem u l c b x m h in
       let r = planted l c b s x m p w.2 v n h in
       let e : ltb x c ≡ false = le-ltb x c (omega arith) in
       rw e (record {
-        wf = (apart-right a (plant u l c x s b) (plant-taken l c x s b n), w.1, r.wf);
+        wf = (apart_right a (plant u l c x s b) (plant_taken l c x s b n), w.1, r.wf);
         has = λ y. (
           ⊎_elim (λ j. inl (inl j)) (λ j. ⊎_elim (λ k. inl (inr k)) (λ k. inr k) ((r.has y).0 j)),
           ⊎_elim (⊎_elim (λ j. inl j) (λ j. inr ((r.has y).1 (inl j)))) (λ j. inr ((r.has y).1 (inr j))),

@@ -3,15 +3,15 @@ mod walk;
 
 ghost use Rattle.std.specs.Prelude.{◌≡◌, ◌≤◌, ◌<◌, get_or};
 ghost use Rattle.counter.specs.InTable.{BuddyIn};
-ghost use Rattle.counter.specs.Limits.{levelsMost, chunksMost};
-ghost use Rattle.buddy_levels.specs.Seen.{partTables};
-ghost use Rattle.buddy_rules.specs.Tables.{chunkPlacesAt};
-ghost use Rattle.buddy_rules.specs.Test.{leftChunk, leftChunks};
+ghost use Rattle.counter.specs.Limits.{levels_most, chunks_most};
+ghost use Rattle.buddy_levels.specs.Seen.{part_tables};
+ghost use Rattle.buddy_rules.specs.Tables.{chunk_places_at};
+ghost use Rattle.buddy_rules.specs.Test.{left_chunk, left_chunks};
 ghost use Rattle.buddy_walk.specs.Walks.{Within};
 
 use buddy_rules::{CHUNK_SIZE_AT, CHUNK_WORDS, FREE_WORD, PLACE_WORDS, TOP_AT};
 use counter::BuddySettings;
-use slab::NOWHERE;
+use slabs::NOWHERE;
 
 // Of so many pairs and loans still to be met, how many are left when the chunk at a place, where there is one, has been walked: NOWHERE
 // where its size is not one of the store's, or it is not right from its top node down. No chunk is wholly free.
@@ -25,8 +25,8 @@ fn left_chunk(
     index: &[u64],
     tree: &[u64],
 ) -> u64
-    requires { BuddyIn s × (levels ≤ levelsMost) × (c < chunksMost) × (c < get_or chunks.now chunkPlacesAt 0) × Within levels s.pairs s.store.loans loans.now index.now tree.now }
-    ensures { result ≡ leftChunk s (partTables levels loans.now chunks.now index.now tree.now) c left }
+    requires { BuddyIn s × (levels ≤ levels_most) × (c < chunks_most) × (c < get_or chunks.now chunk_places_at 0) × Within levels s.pairs s.store.loans loans.now index.now tree.now }
+    ensures { result ≡ left_chunk s (part_tables levels loans.now chunks.now index.now tree.now) c left }
 {
     let size = words::cell(chunks, CHUNK_SIZE_AT, CHUNK_WORDS, c as usize);
     if size == 0 {
@@ -63,8 +63,8 @@ pub fn left_chunks(
     index: &[u64],
     tree: &[u64],
 ) -> u64
-    requires { BuddyIn s × (levels ≤ levelsMost) × (n ≤ chunksMost) × (n ≡ get_or chunks.now chunkPlacesAt 0) × Within levels s.pairs s.store.loans loans.now index.now tree.now }
-    ensures { result ≡ leftChunks s (partTables levels loans.now chunks.now index.now tree.now) n left }
+    requires { BuddyIn s × (levels ≤ levels_most) × (n ≤ chunks_most) × (n ≡ get_or chunks.now chunk_places_at 0) × Within levels s.pairs s.store.loans loans.now index.now tree.now }
+    ensures { result ≡ left_chunks s (part_tables levels loans.now chunks.now index.now tree.now) n left }
 {
     let mut rest = left;
     let mut c = 0;

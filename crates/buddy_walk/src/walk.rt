@@ -2,20 +2,20 @@
 // what it meets of the pairs in use and the loans. The tests before it have shown that the tables have the words of every place ever
 // used, so no word is asked for whether it is there.
 ghost use Rattle.std.specs.Prelude.{◌≡◌, [], ℕ, ◌+◌, ◌*◌, ◌^◌, ◌≤◌, ◌<◌, eqb, length, get_or};
-ghost use Rattle.counter.specs.Limits.{levelsMost, loansMost, minimalBits};
-ghost use Rattle.store_rules.specs.Loans.{places_at, loanWords};
-ghost use Rattle.book_rules.specs.Book.{indexWords};
+ghost use Rattle.counter.specs.Limits.{levels_most, loans_most, minimal_bits};
+ghost use Rattle.store_rules.specs.Loans.{places_at, loan_words};
+ghost use Rattle.book_rules.specs.Book.{index_words};
 ghost use Rattle.buddy_trees.specs.Trees.{bytes};
-ghost use Rattle.buddy_rules.specs.Nodes.{freeWord, tag_of};
+ghost use Rattle.buddy_rules.specs.Nodes.{free_word, tag_of};
 ghost use Rattle.buddy_rules.specs.Tables.{columns};
-ghost use Rattle.buddy_levels.specs.Pairs.{entFrom};
-ghost use Rattle.buddy_rules.specs.Test.{entryOk, leftNode};
-ghost use Rattle.buddy_levels.specs.Seen.{partSettings, loanPart};
-ghost use Rattle.buddy_walk.specs.Walks.{Within, leftLeaf, leftPair};
+ghost use Rattle.buddy_levels.specs.Pairs.{ent_from};
+ghost use Rattle.buddy_rules.specs.Test.{entry_ok, left_node};
+ghost use Rattle.buddy_levels.specs.Seen.{part_settings, loan_part};
+ghost use Rattle.buddy_walk.specs.Walks.{Within, left_leaf, left_pair};
 
 use buddy_levels::{Pair, USED_AT};
 use buddy_rules::{EXHAUSTED, FREE_WORD, LEFT_READY, RIGHT_READY};
-use slab::NOWHERE;
+use slabs::NOWHERE;
 use store_rules::{CHUNK_AT, LOAN_WORDS, OFFSET_AT, PLACES_AT, SIZE_AT};
 
 // Of so many pairs and loans still to be met, how many are left when the loan of this node, which is so long, has been met: NOWHERE
@@ -31,8 +31,8 @@ fn left_at_loan(
     loans: &[u64],
     index: &[u64],
 ) -> u64
-    requires { (most ≤ loansMost) × (get_or loans.now places_at 0 ≤ most) × (loanWords + loanWords * most ≤ length loans.now) × (indexWords most + columns * (most + 1) ≤ length index.now) }
-    ensures { (minimal level : ℕ) → 0 < minimal → size ≡ bytes minimal level → result ≡ leftLeaf (partSettings minimal 0 most) (loanPart loans.now index.now []) place chunk level offset node left }
+    requires { (most ≤ loans_most) × (get_or loans.now places_at 0 ≤ most) × (loan_words + loan_words * most ≤ length loans.now) × (index_words most + columns * (most + 1) ≤ length index.now) }
+    ensures { (minimal level : ℕ) → 0 < minimal → size ≡ bytes minimal level → result ≡ left_leaf (part_settings minimal 0 most) (loan_part loans.now index.now []) place chunk level offset node left }
 {
     if loans[PLACES_AT] <= place {
         return NOWHERE;
@@ -50,7 +50,7 @@ fn left_at_loan(
 
 // The tag of a pair whose left and right nodes have these words.
 fn tag_of(left: u64, right: u64) -> u64
-    ensures { result ≡ tag_of (eqb left freeWord) (eqb right freeWord) }
+    ensures { result ≡ tag_of (eqb left free_word) (eqb right free_word) }
 {
     if left == FREE_WORD {
         return LEFT_READY;
@@ -64,7 +64,7 @@ fn tag_of(left: u64, right: u64) -> u64
 
 // Whether a pair is that of this node, and ready where one of its nodes is free; not both, since they would be joined.
 fn is_entry(e: Pair, chunk: u64, offset: u64, node: u64) -> bool
-    ensures { result ≡ entryOk (partSettings 0 0 0) (loanPart [] [] []) (entFrom e) chunk offset node }
+    ensures { result ≡ entry_ok (part_settings 0 0 0) (loan_part [] [] []) (ent_from e) chunk offset node }
 {
     let free = (e.left == FREE_WORD) & (e.right == FREE_WORD);
     let stands = (e.chunk == chunk) & ((e.off == offset) & (e.up == node));
@@ -87,8 +87,8 @@ pub fn left_at_node(
     index: &[u64],
     tree: &[u64],
 ) -> u64
-    requires { Within level pairs most loans.now index.now tree.now × (level ≤ levelsMost) × (offset + size ≤ 2 ^ (minimalBits + levelsMost)) }
-    ensures { (minimal : ℕ) → 0 < minimal → size ≡ bytes minimal level → result ≡ leftNode (partSettings minimal pairs most) (loanPart loans.now index.now tree.now) level chunk offset node word left }
+    requires { Within level pairs most loans.now index.now tree.now × (level ≤ levels_most) × (offset + size ≤ 2 ^ (minimal_bits + levels_most)) }
+    ensures { (minimal : ℕ) → 0 < minimal → size ≡ bytes minimal level → result ≡ left_node (part_settings minimal pairs most) (loan_part loans.now index.now tree.now) level chunk offset node word left }
 {
     if word == FREE_WORD {
         return left;
@@ -134,8 +134,8 @@ fn left_at_pair(
     index: &[u64],
     tree: &[u64],
 ) -> u64
-    requires { Within (level + 1) pairs most loans.now index.now tree.now × (level < levelsMost) × (offset + 2 * size ≤ 2 ^ (minimalBits + levelsMost)) }
-    ensures { (minimal : ℕ) → 0 < minimal → size ≡ bytes minimal level → result ≡ leftPair (partSettings minimal pairs most) (loanPart loans.now index.now tree.now) level chunk offset node p left }
+    requires { Within (level + 1) pairs most loans.now index.now tree.now × (level < levels_most) × (offset + 2 * size ≤ 2 ^ (minimal_bits + levels_most)) }
+    ensures { (minimal : ℕ) → 0 < minimal → size ≡ bytes minimal level → result ≡ left_pair (part_settings minimal pairs most) (loan_part loans.now index.now tree.now) level chunk offset node p left }
 {
     let base = buddy_levels::level_from(pairs, level as usize);
     if tree[base + USED_AT] <= p {

@@ -1,39 +1,39 @@
 -- The worked days of 01 that are marked * : what the definitions give beside what the paper says, as one checked table.
 use Rattle.std.specs.Prelude.{◌≡◌, refl, false, List, [], ◌∷◌, ◌++◌, map, ℕ, take, replicate}
 use Rattle.std.proofs.Common.{sym, ap, ◌∙◌}
-use Rattle.rounding_rules.specs.Masks.{onesOk, powerOk}
-use Rattle.rounding_rules.specs.Raising.{up_to, downTo, bits, powerUp}
-use Rattle.rounding_rules.specs.Growth.{ceilDiv, grown, doubled}
+use Rattle.rounding_rules.specs.Masks.{ones_ok, power_ok}
+use Rattle.rounding_rules.specs.Raising.{up_to, down_to, bits, power_up}
+use Rattle.rounding_rules.specs.Growth.{ceil_div, grown, doubled}
 use Rattle.counter.specs.Paper as Paper
-use Rattle.counter.specs.Table.{alignmentOk, storeOk, freeListOk, heapsUpto}
+use Rattle.counter.specs.Table.{alignment_ok, store_ok, free_list_ok, heaps_upto}
 use Rattle.counter.specs.declared.account.OpenOrder.TheVariants.{Nothing}
 use Rattle.counter.specs.declared.settings.FreeListSettings.{FreeListSettings}
-use Rattle.heap.specs.Heap.{plusOf, chargedOf, releasedOf, bearsOk, agreesOk}
+use Rattle.heap.specs.Heap.{plus_of, charged_of, released_of, bears_ok, agrees_ok}
 use Rattle.words.specs.Words.{blank}
-use Rattle.slab.specs.Slab.{inserted}
-use Rattle.store_rules.specs.Tables.{signedOk}
-use Rattle.slab.specs.Test.{vacancies, leads, partedOk}
-use Rattle.store_rules.specs.Delivery.{deliveryOk}
-use Rattle.store_rules.specs.Loans.{loansOf}
-use Rattle.store_rules.specs.Outcomes.{out, listed, chargedAccount, releasedAccount}
-use Rattle.store_rules.specs.Tests.{coversOk}
-use Rattle.book_rules.specs.Book.{counted, entered, enteredIndex, seekIn, wordTo, struck, struckIndex}
-use Rattle.book_rules.specs.Chains.{linkOk, leftAfter, left_of, chainsOk}
-use Rattle.freelist_rules.specs.Walk.{fillsOk, sizedOk, chunkOk, loanOk}
-use Rattle.freelist_rules.specs.Place.{fitsIn, findFrom, cutOff}
+use Rattle.slabs.specs.Slab.{inserted}
+use Rattle.store_rules.specs.Tables.{signed_ok}
+use Rattle.slabs.specs.Test.{vacancies, leads, parted_ok}
+use Rattle.store_rules.specs.Delivery.{delivery_ok}
+use Rattle.store_rules.specs.Loans.{loans_of}
+use Rattle.store_rules.specs.Outcomes.{out, listed, charged_account, released_account}
+use Rattle.store_rules.specs.Tests.{covers_ok}
+use Rattle.book_rules.specs.Book.{counted, entered, entered_index, seek_in, word_to, struck, struck_index}
+use Rattle.book_rules.specs.Chains.{link_ok, left_after, left_of, chains_ok}
+use Rattle.freelist_rules.specs.Walk.{fills_ok, sized_ok, chunk_ok, loan_ok}
+use Rattle.freelist_rules.specs.Place.{fits_in, find_from, cut_off}
 use Rattle.freelist_rules.specs.Join.{insert}
-use Rattle.freelist_rules.specs.Threads.{threaded, unthreaded, cutGaps, insertGap, around, stayingGaps, followed, leadsOk, frontsOk}
+use Rattle.freelist_rules.specs.Threads.{threaded, unthreaded, cut_gaps, insert_gap, around, staying_gaps, followed, leads_ok, fronts_ok}
 use Rattle.freelist_rules.specs.Release.{staying, leaving, remaining}
-use Rattle.freelist_rules.specs.Tables.{Tables, tables, lengthsOk, ordered, store_of, soundOk, laidGaps, laidChunks, marks}
-use Rattle.freelist_outcomes.specs.Gate.{inTableOk, accountOk, gateOf}
-use Rattle.freelist_outcomes.specs.Ask.{sizeOk, roomOk, countOk, objectsOk, decideAsk, takenTables, orderedTables, carryAsk, planAsk, askOf}
-use Rattle.freelist_outcomes.specs.Deliver.{deliverGateOf, deliveredTables, carryFate, planDeliver, carryDeliver, deliverOf}
-use Rattle.freelist_outcomes.specs.Return.{onLoanOk, givenTables, releasedTables, releaseOf, decideReturn, planReturn, carryReturn, returnOf}
-use Rattle.freelist_outcomes.specs.SetUp.{freshTables, fitOk, planSetUp, carrySetUp, setUpOf}
-use Rattle.days.specs.Facts.{Fact, left, back, Day, day, ranks, account, openFor, made}
-use Rattle.days.specs.Splitting.{splitting, split-worked}
-use Rattle.usage_rules.specs.Usage.{servesOk, patternOf, wantedOf, key_of}
-use Rattle.usage_rules.specs.Ranking.{before, placed, order, rowAs, row_of}
+use Rattle.freelist_rules.specs.Tables.{Tables, tables, lengths_ok, ordered, store_of, sound_ok, laid_gaps, laid_chunks, marks}
+use Rattle.freelist_outcomes.specs.Gate.{in_table_ok, account_ok, gate_of}
+use Rattle.freelist_outcomes.specs.Ask.{size_ok, room_ok, count_ok, objects_ok, decide_ask, taken_tables, ordered_tables, carry_ask, plan_ask, ask_of}
+use Rattle.freelist_outcomes.specs.Deliver.{deliver_gate_of, delivered_tables, carry_fate, plan_deliver, carry_deliver, deliver_of}
+use Rattle.freelist_outcomes.specs.Return.{on_loan_ok, given_tables, released_tables, release_of, decide_return, plan_return, carry_return, return_of}
+use Rattle.freelist_outcomes.specs.SetUp.{fresh_tables, fit_ok, plan_set_up, carry_set_up, set_up_of}
+use Rattle.days.specs.Facts.{Fact, left, back, Day, day, ranks, account, open_for, made}
+use Rattle.days.specs.Splitting.{splitting, split_worked}
+use Rattle.usage_rules.specs.Usage.{serves_ok, pattern_of, wanted_of, key_of}
+use Rattle.usage_rules.specs.Ranking.{before, placed, order, row_as, row_of}
 use Rattle.usage_rules.specs.declared.Row.{Row}
 
 -- a row's types, the best first
@@ -41,8 +41,8 @@ abbrev pub types : Row → List ℕ
 types r = take r.count r.types
 
 -- and its mask after them
-abbrev pub typesMask : Row → List ℕ
-typesMask r = types r ++ (r.mask ∷ [])
+abbrev pub types_mask : Row → List ℕ
+types_mask r = types r ++ (r.mask ∷ [])
 
 -- "Types with words 1, 6, 14, 7, 17."
 abbrev pub stand : List ℕ
@@ -51,15 +51,15 @@ stand = 1 ∷ 6 ∷ 14 ∷ 7 ∷ 17 ∷ []
 pub ranking : List Day
 ranking =
     -- "Usage 0: 0, 3, 1, 2, mask 15."
-    ranks (typesMask (row_of stand 0)) (0 ∷ 3 ∷ 1 ∷ 2 ∷ 15 ∷ [])
+    ranks (types_mask (row_of stand 0)) (0 ∷ 3 ∷ 1 ∷ 2 ∷ 15 ∷ [])
     -- "Usage 4: 2, 1, 3, mask 14."
-    ∷ ranks (typesMask (row_of stand 4)) (2 ∷ 1 ∷ 3 ∷ 14 ∷ [])
+    ∷ ranks (types_mask (row_of stand 4)) (2 ∷ 1 ∷ 3 ∷ 14 ∷ [])
     -- "Usage 8: 1, 2, 3."
     ∷ ranks (types (row_of stand 8)) (1 ∷ 2 ∷ 3 ∷ [])
     -- "Usage 16: 1, 2, 0, 3, mask 15."
-    ∷ ranks (typesMask (row_of stand 16)) (1 ∷ 2 ∷ 0 ∷ 3 ∷ 15 ∷ [])
+    ∷ ranks (types_mask (row_of stand 16)) (1 ∷ 2 ∷ 0 ∷ 3 ∷ 15 ∷ [])
     -- "Wanted: usage 0 gives 8, 16 gives 0, 5 gives 15."
-    ∷ ranks (wantedOf 0 ∷ wantedOf 16 ∷ wantedOf 5 ∷ []) (8 ∷ 0 ∷ 15 ∷ [])
+    ∷ ranks (wanted_of 0 ∷ wanted_of 16 ∷ wanted_of 5 ∷ []) (8 ∷ 0 ∷ 15 ∷ [])
     ∷ []
 
 -- "Free list, atom mask 63, start 4,096, final 16,384."
@@ -79,8 +79,8 @@ opening =
     (marks.room ∷ 0 ∷ 0 ∷ 0 ∷ 0 ∷ 0 ∷ 0 ∷ 0 ∷ 0 ∷ 0 ∷ 0 ∷ 0 ∷ 0 ∷ 0 ∷ 0 ∷ 0 ∷ 0 ∷ 0 ∷ 0 ∷ 0 ∷ 0 ∷ 0 ∷ 0 ∷ 0 ∷ [])
 
 -- the 128 is on loan
-abbrev pub withOne : Tables
-withOne =
+abbrev pub with_one : Tables
+with_one =
     tables
     (marks.head ∷ 8192 ∷ [])
     (marks.loans ∷ 1 ∷ 1 ∷ 0 ∷ 1 ∷ 1 ∷ 3968 ∷ 128 ∷ 0 ∷ 0 ∷ 0 ∷ 0 ∷ 0 ∷ 0 ∷ 0 ∷ 0 ∷ [])
@@ -89,8 +89,8 @@ withOne =
     (marks.room ∷ 1 ∷ 0 ∷ 0 ∷ 1 ∷ 0 ∷ 3968 ∷ 0 ∷ 0 ∷ 0 ∷ 0 ∷ 0 ∷ 0 ∷ 0 ∷ 0 ∷ 0 ∷ 0 ∷ 0 ∷ 0 ∷ 0 ∷ 0 ∷ 0 ∷ 0 ∷ 0 ∷ [])
 
 -- and the 896; the next order raises nothing: 8,192 it is already
-abbrev pub withTwo : Tables
-withTwo =
+abbrev pub with_two : Tables
+with_two =
     tables
     (marks.head ∷ 8192 ∷ [])
     (marks.loans ∷ 2 ∷ 2 ∷ 0 ∷ 1 ∷ 1 ∷ 3968 ∷ 128 ∷ 2 ∷ 1 ∷ 3072 ∷ 896 ∷ 0 ∷ 0 ∷ 0 ∷ 0 ∷ [])
@@ -99,8 +99,8 @@ withTwo =
     (marks.room ∷ 1 ∷ 0 ∷ 0 ∷ 1 ∷ 0 ∷ 3072 ∷ 0 ∷ 0 ∷ 0 ∷ 0 ∷ 0 ∷ 0 ∷ 0 ∷ 0 ∷ 0 ∷ 0 ∷ 0 ∷ 0 ∷ 0 ∷ 0 ∷ 0 ∷ 0 ∷ 0 ∷ [])
 
 -- and the 5,056, of chunk 2
-abbrev pub withThree : Tables
-withThree =
+abbrev pub with_three : Tables
+with_three =
     tables
     (marks.head ∷ 16384 ∷ [])
     (marks.loans ∷ 3 ∷ 3 ∷ 0 ∷ 1 ∷ 1 ∷ 3968 ∷ 128 ∷ 2 ∷ 1 ∷ 3072 ∷ 896 ∷ 3 ∷ 2 ∷ 3136 ∷ 5056 ∷ [])
@@ -119,8 +119,8 @@ less_one =
     (marks.room ∷ 3 ∷ 0 ∷ 0 ∷ 1 ∷ 0 ∷ 3072 ∷ 0 ∷ 1 ∷ 3968 ∷ 4096 ∷ 2 ∷ 2 ∷ 0 ∷ 3136 ∷ 2 ∷ 0 ∷ 0 ∷ 0 ∷ 0 ∷ 0 ∷ 0 ∷ 0 ∷ 0 ∷ [])
 
 -- and the 896: chunk 1 is gone
-abbrev pub lessTwo : Tables
-lessTwo =
+abbrev pub less_two : Tables
+less_two =
     tables
     (marks.head ∷ 16384 ∷ [])
     (marks.loans ∷ 3 ∷ 3 ∷ 0 ∷ 0 ∷ 1 ∷ 3968 ∷ 0 ∷ 0 ∷ 1 ∷ 3072 ∷ 0 ∷ 3 ∷ 2 ∷ 3136 ∷ 5056 ∷ [])
@@ -132,53 +132,53 @@ lessTwo =
 
 pub lending : List Day
 lending =
-    day (left (out (setUpOf list (tables (replicate 2 9) (replicate 16 9) (replicate 9 9) (replicate 20 9) (replicate 24 9))).said
+    day (left (out (set_up_of list (tables (replicate 2 9) (replicate 16 9) (replicate 9 9) (replicate 20 9) (replicate 24 9))).said
     (account 0 0 0 10 Nothing)
-    (setUpOf list (tables (replicate 2 9) (replicate 16 9) (replicate 9 9) (replicate 20 9) (replicate 24 9))).tables))
+    (set_up_of list (tables (replicate 2 9) (replicate 16 9) (replicate 9 9) (replicate 20 9) (replicate 24 9))).tables))
     (left (out Paper.ready (account 0 0 0 10 Nothing) opening))
     -- "Ask 100: order 4,096, block 3,968 size 128."
-    ∷ day (left (askOf list (account 0 0 0 10 Nothing) 100 0 opening))
-    (left (out (Paper.order 7 4096 0 false) (account 0 0 0 10 (openFor 100 4096)) opening))
-    ∷ day (left (deliverOf list (account 0 0 0 10 (openFor 100 4096)) (made 50) opening))
-    (left (out (Paper.block 1 1 3968 128) (account 4096 4096 0 9 Nothing) withOne))
+    ∷ day (left (ask_of list (account 0 0 0 10 Nothing) 100 0 opening))
+    (left (out (Paper.order 7 4096 0 false) (account 0 0 0 10 (open_for 100 4096)) opening))
+    ∷ day (left (deliver_of list (account 0 0 0 10 (open_for 100 4096)) (made 50) opening))
+    (left (out (Paper.block 1 1 3968 128) (account 4096 4096 0 9 Nothing) with_one))
     -- "Then 256 with mask 1,023: offset 3,072, size 896."
-    ∷ day (left (askOf list (account 4096 4096 0 9 Nothing) 256 1023 withOne))
-    (left (out (Paper.block 2 1 3072 896) (account 4096 4096 0 9 Nothing) withTwo))
+    ∷ day (left (ask_of list (account 4096 4096 0 9 Nothing) 256 1023 with_one))
+    (left (out (Paper.block 2 1 3072 896) (account 4096 4096 0 9 Nothing) with_two))
     -- "Then 5,000: order 8,192, chunk 2, offset 3,136, size 5,056."
-    ∷ day (left (askOf list (account 4096 4096 0 9 Nothing) 5000 0 withTwo))
-    (left (out (Paper.order 7 8192 0 false) (account 4096 4096 0 9 (openFor 5000 8192)) withTwo))
-    ∷ day (left (deliverOf list (account 4096 4096 0 9 (openFor 5000 8192)) (made 51) withTwo))
-    (left (out (Paper.block 3 2 3136 5056) (account 12288 12288 0 8 Nothing) withThree))
+    ∷ day (left (ask_of list (account 4096 4096 0 9 Nothing) 5000 0 with_two))
+    (left (out (Paper.order 7 8192 0 false) (account 4096 4096 0 9 (open_for 5000 8192)) with_two))
+    ∷ day (left (deliver_of list (account 4096 4096 0 9 (open_for 5000 8192)) (made 51) with_two))
+    (left (out (Paper.block 3 2 3136 5056) (account 12288 12288 0 8 Nothing) with_three))
     -- "Return the 128, then the 896: chunk 1 is released."
-    ∷ day (back (returnOf list (account 12288 12288 0 8 Nothing) (record { serial = 1; chunk = 1; offset = 3968; size = 128 }) withThree (replicate 2 0)))
+    ∷ day (back (return_of list (account 12288 12288 0 8 Nothing) (record { serial = 1; chunk = 1; offset = 3968; size = 128 }) with_three (replicate 2 0)))
     (back (listed (Paper.released 0) (account 12288 12288 0 8 Nothing) less_one (replicate 2 0)))
-    ∷ day (back (returnOf list (account 12288 12288 0 8 Nothing) (record { serial = 2; chunk = 1; offset = 3072; size = 896 }) less_one (replicate 2 0)))
-    (back (listed (Paper.released 1) (account 8192 12288 4096 9 Nothing) lessTwo (50 ∷ 0 ∷ [])))
+    ∷ day (back (return_of list (account 12288 12288 0 8 Nothing) (record { serial = 2; chunk = 1; offset = 3072; size = 896 }) less_one (replicate 2 0)))
+    (back (listed (Paper.released 1) (account 8192 12288 4096 9 Nothing) less_two (50 ∷ 0 ∷ [])))
     ∷ []
 
 pub days : List Day
 days = (ranking ++ lending) ++ splitting
 
 -- on each of these days the definitions give what the paper says
-first-worked : map (λ (d : Day). d.gives) (ranking ++ lending) ≡ map (λ (d : Day). d.says) (ranking ++ lending)
-unfolding ranking lending servesOk patternOf wantedOf key_of before placed order rowAs alignmentOk storeOk freeListOk
-    heapsUpto onesOk powerOk up_to downTo bits powerUp ceilDiv grown doubled plusOf chargedOf releasedOf bearsOk
-    agreesOk inserted vacancies leads partedOk deliveryOk loansOf chargedAccount releasedAccount coversOk
-    blank signedOk counted entered enteredIndex seekIn wordTo struck struckIndex linkOk leftAfter left_of chainsOk
-    fillsOk sizedOk chunkOk loanOk fitsIn findFrom cutOff insert staying leaving remaining lengthsOk ordered store_of
-    soundOk laidGaps laidChunks inTableOk accountOk gateOf sizeOk roomOk countOk objectsOk decideAsk takenTables orderedTables
-    carryAsk planAsk askOf deliverGateOf deliveredTables carryFate planDeliver carryDeliver deliverOf onLoanOk
-    givenTables releasedTables releaseOf decideReturn planReturn carryReturn returnOf freshTables fitOk
-    planSetUp carrySetUp setUpOf threaded unthreaded cutGaps insertGap around stayingGaps followed leadsOk frontsOk
-first-worked = refl
+first_worked : map (λ (d : Day). d.gives) (ranking ++ lending) ≡ map (λ (d : Day). d.says) (ranking ++ lending)
+unfolding ranking lending serves_ok pattern_of wanted_of key_of before placed order row_as alignment_ok store_ok free_list_ok
+    heaps_upto ones_ok power_ok up_to down_to bits power_up ceil_div grown doubled plus_of charged_of released_of bears_ok
+    agrees_ok inserted vacancies leads parted_ok delivery_ok loans_of charged_account released_account covers_ok
+    blank signed_ok counted entered entered_index seek_in word_to struck struck_index link_ok left_after left_of chains_ok
+    fills_ok sized_ok chunk_ok loan_ok fits_in find_from cut_off insert staying leaving remaining lengths_ok ordered store_of
+    sound_ok laid_gaps laid_chunks in_table_ok account_ok gate_of size_ok room_ok count_ok objects_ok decide_ask taken_tables ordered_tables
+    carry_ask plan_ask ask_of deliver_gate_of delivered_tables carry_fate plan_deliver carry_deliver deliver_of on_loan_ok
+    given_tables released_tables release_of decide_return plan_return carry_return return_of fresh_tables fit_ok
+    plan_set_up carry_set_up set_up_of threaded unthreaded cut_gaps insert_gap around staying_gaps followed leads_ok fronts_ok
+first_worked = refl
 
-map-append : (f : Day → Fact) (xs ys : List Day) → map f (xs ++ ys) ≡ map f xs ++ map f ys
-map-append f [] ys = refl
-map-append f (x ∷ xs) ys = ap (λ (zs : List Fact). f x ∷ zs) (map-append f xs ys)
+map_append : (f : Day → Fact) (xs ys : List Day) → map f (xs ++ ys) ≡ map f xs ++ map f ys
+map_append f [] ys = refl
+map_append f (x ∷ xs) ys = ap (λ (zs : List Fact). f x ∷ zs) (map_append f xs ys)
 
 pub worked : map (λ (d : Day). d.gives) days ≡ map (λ (d : Day). d.says) days
 unfolding days
 worked =
-    map-append (λ (d : Day). d.gives) (ranking ++ lending) splitting
-    ∙ (λ j. first-worked j ++ split-worked j)
-    ∙ sym (map-append (λ (d : Day). d.says) (ranking ++ lending) splitting)
+    map_append (λ (d : Day). d.gives) (ranking ++ lending) splitting
+    ∙ (λ j. first_worked j ++ split_worked j)
+    ∙ sym (map_append (λ (d : Day). d.says) (ranking ++ lending) splitting)

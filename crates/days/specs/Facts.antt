@@ -1,6 +1,6 @@
 -- A fact of a worked day: what a definition gives, and what the paper says.
 use Rattle.std.specs.Prelude.{false, List, ◌∷◌, ℕ, replicate}
-use Rattle.counter.specs.Account.{noHeap}
+use Rattle.counter.specs.Account.{no_heap}
 use Rattle.counter.specs.Paper.{Said}
 use Rattle.counter.specs.declared.account.Account.{Account}
 use Rattle.counter.specs.declared.account.OpenOrder.{OpenOrder}
@@ -34,13 +34,13 @@ account used allocated deallocated objects order =
     record {
       heaps =
           record { size = 0; used = used; allocated = record { hi = 0; lo = allocated }; deallocated = record { hi = 0; lo = deallocated } }
-          ∷ replicate 15 noHeap;
+          ∷ replicate 15 no_heap;
       objects = objects;
       order = order;
     }
 
-abbrev pub openFor : ℕ → ℕ → OpenOrder
-openFor size z =
+abbrev pub open_for : ℕ → ℕ → OpenOrder
+open_for size z =
     Kept (record { ask = record { size = size; mask = 0 }; order = record { store = 7; size = z; memtype = 0; map = false } })
 
 -- the memory is made, and a map was not wanted

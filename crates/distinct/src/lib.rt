@@ -5,7 +5,7 @@ mod sorting;
 ghost use Rattle.std.specs.Prelude.{◌≡◌, true, ◌≤◌, ◌<◌, length};
 ghost use Rattle.lists.specs.Members.{Distinct};
 ghost use Rattle.words.specs.Words.{widest, at_most};
-ghost use Rattle.counter.specs.Limits.{chunksMost};
+ghost use Rattle.counter.specs.Limits.{chunks_most};
 ghost use Rattle.distinct.specs.Column.{column};
 ghost use Rattle.distinct.specs.Order.{climbing};
 
@@ -15,7 +15,7 @@ use words::cell;
 
 // Whether the words at `at` of the first n records, of w words each, all differ.
 pub fn is_distinct(t: &[u64], at: usize, w: usize, n: usize) -> bool
-    requires { (0 < w) × (w ≤ widest) × (n ≤ chunksMost) × (at ≤ at_most) }
+    requires { (0 < w) × (w ≤ widest) × (n ≤ chunks_most) × (at ≤ at_most) }
     ensures { (result ≡ true → Distinct (column t.now at w n)) × (Distinct (column t.now at w n) → result ≡ true) }
 {
     let mut found = [0u64; CHUNKS_MOST];

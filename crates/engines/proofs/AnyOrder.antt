@@ -12,19 +12,19 @@ use Rattle.counter.specs.Account.{Typed}
 use Rattle.counter.specs.Gate.{pass}
 use Rattle.counter.specs.Paper.{Said}
 use Rattle.counter.specs.Paper as Paper
-use Rattle.store_rules.specs.Outcomes.{releasedAccount}
+use Rattle.store_rules.specs.Outcomes.{released_account}
 use Rattle.store_rules.specs.Views.{View, All, sizes}
 use Rattle.store_rules.specs.declared.Chunk.{Chunk}
-use Rattle.store_rules.proofs.Going.{told-once}
-use Rattle.store_rules.proofs.Permuted.{perm-mem, perm-apart}
+use Rattle.store_rules.proofs.Going.{told_once}
+use Rattle.store_rules.proofs.Permuted.{perm_mem, perm_apart}
 use Rattle.engines.specs.Ends.{Lot}
 use Rattle.engines.specs.Engines.{Engine}
-use Rattle.engines.specs.Histories.{State, storeAt, Slip, blocksOf, step, run, saids, handBack, handing, toldIn}
-use Rattle.engines.proofs.HandedBack.{Ready, Handed, handed-told, hand, less}
+use Rattle.engines.specs.Histories.{State, store_at, Slip, blocks_of, step, run, saids, hand_back, handing, told_in}
+use Rattle.engines.proofs.HandedBack.{Ready, Handed, handed_told, hand, less}
 use Rattle.engines.proofs.Visits.{store_other}
 
 module _ (K : Type 0) (E : K → Engine) (w : State) (i : ℕ) (e : K) (s : (E e).shape.Settings) (here : i < length w.stores) (typed : Typed w.account)
-    (passes : (E e).shape.gate s w.account (storeAt w i) ≡ pass) (ps : List Slip) (lot : Lot (E e).shape (blocksOf ps) (storeAt w i))
+    (passes : (E e).shape.gate s w.account (store_at w i) ≡ pass) (ps : List Slip) (lot : Lot (E e).shape (blocks_of ps) (store_at w i))
     (long : All (λ (p : Slip). ((E e).shape.store s).chunks ≤ length p.1) ps) where
   ready : Ready K E i e s w
   ready = record { here = here; typed = typed; passes = passes }
@@ -33,67 +33,67 @@ module _ (K : Type 0) (E : K → Engine) (w : State) (i : ℕ) (e : K) (s : (E e
   all = hand K E i e s w ps ready lot long
 
   -- no return is refused
-  pub none-refused : All (λ (x : Said). (n : ℕ) × (x ≡ Paper.released n)) (saids K E w (handing K E i e s ps))
-  none-refused = all.taken
+  pub none_refused : All (λ (x : Said). (n : ℕ) × (x ≡ Paper.released n)) (saids K E w (handing K E i e s ps))
+  none_refused = all.taken
 
   -- the end is the one that the set of blocks decides: loans with their whole records, free pieces, held chunks
-  pub end-view : (E e).shape.view s (storeAt (run K E w (handing K E i e s ps)) i) ≡ (E e).shape.at_once s (blocksOf ps) (storeAt w i)
-  end-view = all.view
+  pub end_view : (E e).shape.view s (store_at (run K E w (handing K E i e s ps)) i) ≡ (E e).shape.at_once s (blocks_of ps) (store_at w i)
+  end_view = all.view
 
   -- and its counts are as they were
-  pub end_rest : (E e).shape.rest s (storeAt (run K E w (handing K E i e s ps)) i) ≡ (E e).shape.rest s (storeAt w i)
+  pub end_rest : (E e).shape.rest s (store_at (run K E w (handing K E i e s ps)) i) ≡ (E e).shape.rest s (store_at w i)
   end_rest = all.rest
 
   -- heap used and totals, and the objects: less the chunks that are held no more
-  pub end-account : (run K E w (handing K E i e s ps)).account ≡ releasedAccount ((E e).shape.store s) w.account
-      (length ((E e).shape.view s (storeAt w i)).chunks - length ((E e).shape.at_once s (blocksOf ps) (storeAt w i)).chunks)
-      (sizes ((E e).shape.view s (storeAt w i)).chunks - sizes ((E e).shape.at_once s (blocksOf ps) (storeAt w i)).chunks)
-  end-account = all.account ∙ ap (less K E i e s w) end-view
+  pub end_account : (run K E w (handing K E i e s ps)).account ≡ released_account ((E e).shape.store s) w.account
+      (length ((E e).shape.view s (store_at w i)).chunks - length ((E e).shape.at_once s (blocks_of ps) (store_at w i)).chunks)
+      (sizes ((E e).shape.view s (store_at w i)).chunks - sizes ((E e).shape.at_once s (blocks_of ps) (store_at w i)).chunks)
+  end_account = all.account ∙ ap (less K E i e s w) end_view
 
   -- the memory numbers told on the way are those of the chunks that were held and are held no more
-  pub end-told : (m : ℕ) → Memᴰ m (toldIn K E w (handing K E i e s ps))
-      ↔ ((c : Chunk) × Memᴰ c ((E e).shape.view s (storeAt w i)).chunks × (c.memory ≡ m) × (Memᴰ c ((E e).shape.at_once s (blocksOf ps) (storeAt w i)).chunks → ⊥))
-  end-told = handed-told K E i e s w ps all
+  pub end_told : (m : ℕ) → Memᴰ m (told_in K E w (handing K E i e s ps))
+      ↔ ((c : Chunk) × Memᴰ c ((E e).shape.view s (store_at w i)).chunks × (c.memory ≡ m) × (Memᴰ c ((E e).shape.at_once s (blocks_of ps) (store_at w i)).chunks → ⊥))
+  end_told = handed_told K E i e s w ps all
 
   -- as many as there are of those
-  pub end-count : length (toldIn K E w (handing K E i e s ps)) + length ((E e).shape.at_once s (blocksOf ps) (storeAt w i)).chunks ≡ length ((E e).shape.view s (storeAt w i)).chunks
-  end-count = omega (arith, all.goes.count, ap (λ (v : View). length v.chunks) end-view)
+  pub end_count : length (told_in K E w (handing K E i e s ps)) + length ((E e).shape.at_once s (blocks_of ps) (store_at w i)).chunks ≡ length ((E e).shape.view s (store_at w i)).chunks
+  end_count = omega (arith, all.goes.count, ap (λ (v : View). length v.chunks) end_view)
 
   -- and none of them twice
-  pub end-once : Distinct (toldIn K E w (handing K E i e s ps))
-  end-once =
-      told-once ((E e).shape.view s (storeAt w i)).chunks ((E e).shape.view s (storeAt (run K E w (handing K E i e s ps)) i)).chunks (toldIn K E w (handing K E i e s ps)) all.goes
-      ((E e).keeps.apart s (storeAt w i) ((E e).keeps.passed-fits s w.account (storeAt w i) passes) ((E e).keeps.passed-sound s w.account (storeAt w i) passes)).memories
+  pub end_once : Distinct (told_in K E w (handing K E i e s ps))
+  end_once =
+      told_once ((E e).shape.view s (store_at w i)).chunks ((E e).shape.view s (store_at (run K E w (handing K E i e s ps)) i)).chunks (told_in K E w (handing K E i e s ps)) all.goes
+      ((E e).keeps.apart s (store_at w i) ((E e).keeps.passed_fits s w.account (store_at w i) passes) ((E e).keeps.passed_sound s w.account (store_at w i) passes)).memories
 
   -- the other stores are as they were
-  pub end-others : (j : ℕ) → (j ≡ i → ⊥) → storeAt (run K E w (handing K E i e s ps)) j ≡ storeAt w j
-  end-others j n = go w ps
+  pub end_others : (j : ℕ) → (j ≡ i → ⊥) → store_at (run K E w (handing K E i e s ps)) j ≡ store_at w j
+  end_others j n = go w ps
     where
-      go : (u : State) (qs : List Slip) → storeAt (run K E u (handing K E i e s qs)) j ≡ storeAt u j
+      go : (u : State) (qs : List Slip) → store_at (run K E u (handing K E i e s qs)) j ≡ store_at u j
       go u [] = refl
-      go u (q ∷ qs) = let v = handBack K E i e s q in go (step K E u v) qs ∙ store_other K E u v j (λ z. n (sym z))
+      go u (q ∷ qs) = let v = hand_back K E i e s q in go (step K E u v) qs ∙ store_other K E u v j (λ z. n (sym z))
 
   -- any two orders of the same blocks, with any lists long enough, end alike
-  module _ (qs : List Slip) (same : Permᴰ (blocksOf ps) (blocksOf qs)) (long' : All (λ (p : Slip). ((E e).shape.store s).chunks ≤ length p.1) qs) where
+  module _ (qs : List Slip) (same : Permᴰ (blocks_of ps) (blocks_of qs)) (long' : All (λ (p : Slip). ((E e).shape.store s).chunks ≤ length p.1) qs) where
     other : Handed K E i e s w qs
     other =
-        hand K E i e s w qs ready (record { lent = λ b m. lot.lent b (perm-mem b same m); apart = perm-apart same lot.apart })
+        hand K E i e s w qs ready (record { lent = λ b m. lot.lent b (perm_mem b same m); apart = perm_apart same lot.apart })
         long'
 
-    at-once : (E e).shape.at_once s (blocksOf ps) (storeAt w i) ≡ (E e).shape.at_once s (blocksOf qs) (storeAt w i)
-    at-once = (E e).ends.same s w.account (blocksOf ps) (blocksOf qs) (storeAt w i) passes lot same
+    at_once_lem : (E e).shape.at_once s (blocks_of ps) (store_at w i) ≡ (E e).shape.at_once s (blocks_of qs) (store_at w i)
+    at_once_lem = (E e).ends.same s w.account (blocks_of ps) (blocks_of qs) (store_at w i) passes lot same
 
     -- with the same loans, free pieces and held chunks
-    pub same-view-end : (E e).shape.view s (storeAt (run K E w (handing K E i e s ps)) i) ≡ (E e).shape.view s (storeAt (run K E w (handing K E i e s qs)) i)
-    same-view-end = end-view ∙ at-once ∙ sym other.view
+    pub same_view_end : (E e).shape.view s (store_at (run K E w (handing K E i e s ps)) i) ≡ (E e).shape.view s (store_at (run K E w (handing K E i e s qs)) i)
+    same_view_end = end_view ∙ at_once_lem ∙ sym other.view
 
     -- the same heap totals and object count
-    pub same-account-end : (run K E w (handing K E i e s ps)).account ≡ (run K E w (handing K E i e s qs)).account
-    same-account-end = all.account ∙ ap (less K E i e s w) same-view-end ∙ sym other.account
+    pub same_account_end : (run K E w (handing K E i e s ps)).account ≡ (run K E w (handing K E i e s qs)).account
+    same_account_end = all.account ∙ ap (less K E i e s w) same_view_end ∙ sym other.account
 
     -- and the same chunks released
-    pub same-told-end : (m : ℕ) → Memᴰ m (toldIn K E w (handing K E i e s ps)) ↔ Memᴰ m (toldIn K E w (handing K E i e s qs))
-    same-told-end m =
+    pub same_told_end : (m : ℕ) → Memᴰ m (told_in K E w (handing K E i e s ps)) ↔ Memᴰ m (told_in K E w (handing K E i e s qs))
+    same_told_end m =
         Iff.trans
-        (subst (λ (v : View). Memᴰ m (toldIn K E w (handing K E i e s ps)) ↔ ((c : Chunk) × Memᴰ c ((E e).shape.view s (storeAt w i)).chunks × (c.memory ≡ m) × (Memᴰ c v.chunks → ⊥))) at-once (end-told m))
-        (Iff.symm (handed-told K E i e s w qs other m))
+        (subst (λ (v : View). Memᴰ m (told_in K E w (handing K E i e s ps)) ↔ ((c : Chunk) × Memᴰ c ((E e).shape.view s (store_at w i)).chunks × (c.memory ≡ m) × (Memᴰ c v.chunks → ⊥))) at_once_lem (end_told m))
+        (Iff.symm (handed_told K E i e s w qs other m))

@@ -8,13 +8,13 @@ use Prim.Native.Nat.{◌+◌, ◌≤◌, ◌<◌}
 use native.Mathlib.Omega.{arith}
 use lib.Dec.{eqb}
 use borrow.Author.Tests.{eq-eqb, eqb-true}
-use Rattle.lists.proofs.Bools.{and_left, and_right, and_both, told, true-false, not_yes}
+use Rattle.lists.proofs.Bools.{and_left, and_right, and_both, told, true_false, not_yes}
 use Rattle.counter.specs.declared.answers.Block.{Block}
 use Rattle.store_rules.specs.Views.{Matches, OnLoan}
 use Rattle.store_rules.specs.declared.Loan.{Loan}
-use Rattle.store_rules.proofs.Keyed.{key-not, not_key}
-use Rattle.store_rules.proofs.Lessening.{those, those-mem, those-yes, mem-those}
-use Rattle.engines.specs.Ledger.{sameBlock, blocksLess, Exactly, NoSerialTwice, NoByteTwice, Fine}
+use Rattle.store_rules.proofs.Keyed.{key_not, not_key}
+use Rattle.store_rules.proofs.Lessening.{those, those_mem, those_yes, mem_those}
+use Rattle.engines.specs.Ledger.{same_block, blocks_less, Exactly, NoSerialTwice, NoByteTwice, Fine}
 use Rattle.engines.specs.Tells.{Same}
 
 -- a block is its serial, chunk, offset and size
@@ -22,14 +22,14 @@ block_words : (b c : Block) → b.serial ≡ c.serial → b.chunk ≡ c.chunk �
 block_words b c p q r s = (λ i. record { serial = p i; chunk = q i; offset = r i; size = s i })
 
 -- a loan matches one block only
-pub block-is : (b c : Block) (l : Loan) → Matches b l → Matches c l → b ≡ c
-block-is b c l m k =
+pub block_is : (b c : Block) (l : Loan) → Matches b l → Matches c l → b ≡ c
+block_is b c l m k =
     block_words b c (sym m.serial ∙ k.serial) (sym m.chunk ∙ k.chunk) (sym m.offset ∙ k.offset) (sym m.size ∙ k.size)
 
 -- ---- a block struck out
 
-same_block : (b c : Block) → sameBlock b c ≡ true → c ≡ b
-same_block b c e =
+same_block_lem : (b c : Block) → same_block b c ≡ true → c ≡ b
+same_block_lem b c e =
     let p = eqb c.serial b.serial in
     let q = eqb c.chunk b.chunk in
     let r = eqb c.offset b.offset in
@@ -38,35 +38,35 @@ same_block b c e =
     let v = and_right q (r && s) u in
     block_words c b (eqb-true _ _ (and_left p (q && (r && s)) e)) (eqb-true _ _ (and_left q (r && s) u)) (eqb-true _ _ (and_left r s v)) (eqb-true _ _ (and_right r s v))
 
-block_same : (b c : Block) → c ≡ b → sameBlock b c ≡ true
-block_same b c e = ap (sameBlock b) e ∙ and_both _ _ (eq-eqb b.serial b.serial refl) (and_both _ _ (eq-eqb b.chunk b.chunk refl) (and_both _ _ (eq-eqb b.offset b.offset refl) (eq-eqb b.size b.size refl)))
+block_same : (b c : Block) → c ≡ b → same_block b c ≡ true
+block_same b c e = ap (same_block b) e ∙ and_both _ _ (eq-eqb b.serial b.serial refl) (and_both _ _ (eq-eqb b.chunk b.chunk refl) (and_both _ _ (eq-eqb b.offset b.offset refl) (eq-eqb b.size b.size refl)))
 
-less-those : (b : Block) (bs : List Block) → blocksLess b bs ≡ those (λ (c : Block). not (sameBlock b c)) bs
-less-those b [] = refl
-less-those b (c ∷ bs) = go (sameBlock b c) (less-those b bs)
+less_those : (b : Block) (bs : List Block) → blocks_less b bs ≡ those (λ (c : Block). not (same_block b c)) bs
+less_those b [] = refl
+less_those b (c ∷ bs) = go (same_block b c) (less_those b bs)
   where
-    go : (x : Bool) → blocksLess b bs ≡ those (λ (d : Block). not (sameBlock b d)) bs → cond x (blocksLess b bs) (c ∷ blocksLess b bs) ≡ cond (not x) (c ∷ those (λ (d : Block). not (sameBlock b d)) bs) (those (λ (d : Block). not (sameBlock b d)) bs)
+    go : (x : Bool) → blocks_less b bs ≡ those (λ (d : Block). not (same_block b d)) bs → cond x (blocks_less b bs) (c ∷ blocks_less b bs) ≡ cond (not x) (c ∷ those (λ (d : Block). not (same_block b d)) bs) (those (λ (d : Block). not (same_block b d)) bs)
     go true ih = ih
     go false ih = ap (λ (ds : List Block). c ∷ ds) ih
 
 -- the blocks left are the others
-pub less-blocks : (b : Block) (bs : List Block) (c : Block) → Memᴰ c (blocksLess b bs) ↔ (Memᴰ c bs × (c ≡ b → ⊥))
-less-blocks b bs c = (there, back)
+pub less_blocks : (b : Block) (bs : List Block) (c : Block) → Memᴰ c (blocks_less b bs) ↔ (Memᴰ c bs × (c ≡ b → ⊥))
+less_blocks b bs c = (there, back)
   where
-    there : Memᴰ c (blocksLess b bs) → Memᴰ c bs × (c ≡ b → ⊥)
+    there : Memᴰ c (blocks_less b bs) → Memᴰ c bs × (c ≡ b → ⊥)
     there m =
-        let k = subst (Memᴰ c) (less-those b bs) m in
-        (those-mem _ c bs k, λ e. true-false (sameBlock b c) (block_same b c e) (not_yes (sameBlock b c) (those-yes _ c bs k)))
+        let k = subst (Memᴰ c) (less_those b bs) m in
+        (those_mem _ c bs k, λ e. true_false (same_block b c) (block_same b c e) (not_yes (same_block b c) (those_yes _ c bs k)))
 
-    back : Memᴰ c bs × (c ≡ b → ⊥) → Memᴰ c (blocksLess b bs)
+    back : Memᴰ c bs × (c ≡ b → ⊥) → Memᴰ c (blocks_less b bs)
     back w =
-        subst (Memᴰ c) (sym (less-those b bs))
-        (mem-those _ c bs w.0 (ap not (⊎_elim (λ e. absurd (w.1 (same_block b c e))) (λ e. e) (told (sameBlock b c)))))
+        subst (Memᴰ c) (sym (less_those b bs))
+        (mem_those _ c bs w.0 (ap not (⊎_elim (λ e. absurd (w.1 (same_block_lem b c e))) (λ e. e) (told (same_block b c)))))
 
 -- ---- loans that are exactly these blocks
 
-pub none-exactly : (ls : List Loan) → ls ≡ [] → Exactly ls []
-none-exactly ls e =
+pub none_exactly : (ls : List Loan) → ls ≡ [] → Exactly ls []
+none_exactly ls e =
     record {
       each = λ b. ((λ w. absurd (none w.0 w.1)), (λ m. absurd (Memᴰ.not-nil m)));
       every = λ l m. absurd (none l m);
@@ -77,8 +77,8 @@ none-exactly ls e =
     none l m = Memᴰ.not-nil (subst (Memᴰ l) e m)
 
 -- the same loans, in whatever order
-pub same-exactly : (ks ls : List Loan) (bs : List Block) → Same ks ls → Exactly ls bs → Exactly ks bs
-same-exactly ks ls bs S E =
+pub same_exactly : (ks ls : List Loan) (bs : List Block) → Same ks ls → Exactly ls bs → Exactly ks bs
+same_exactly ks ls bs S E =
     record {
       each = λ b. ((λ w. (E.each b).0 (w.0, (S w.0).0 w.1, w.2)), (λ m. let w = (E.each b).1 m in (w.0, (S w.0).1 w.1, w.2)));
       every = λ l m. E.every l ((S l).0 m);
@@ -87,12 +87,12 @@ same-exactly ks ls bs S E =
 
 -- one more of both, with a higher serial than the loans before it
 module _ (b : Block) (n : Loan) (ls : List Loan) (bs : List Block) (its : Matches b n) (new : (l : Loan) → Memᴰ l ls → l.serial < b.serial) (E : Exactly ls bs) where
-  more-each : (c : Block) → OnLoan c (n ∷ ls) ↔ Memᴰ c (b ∷ bs)
-  more-each c = (there, back)
+  more_each : (c : Block) → OnLoan c (n ∷ ls) ↔ Memᴰ c (b ∷ bs)
+  more_each c = (there, back)
     where
       there : OnLoan c (n ∷ ls) → Memᴰ c (b ∷ bs)
       there w =
-          ⊎_elim (λ q. Memᴰ.head (block-is c b n (subst (Matches c) q w.2) its)) (λ k. Memᴰ.tail ((E.each c).0 (w.0, k, w.2)))
+          ⊎_elim (λ q. Memᴰ.head (block_is c b n (subst (Matches c) q w.2) its)) (λ k. Memᴰ.tail ((E.each c).0 (w.0, k, w.2)))
           (Memᴰ.cases_cons w.1)
 
       back : Memᴰ c (b ∷ bs) → OnLoan c (n ∷ ls)
@@ -100,8 +100,8 @@ module _ (b : Block) (n : Loan) (ls : List Loan) (bs : List Block) (its : Matche
           ⊎_elim (λ e. (n, Memᴰ.head refl, subst (λ (d : Block). Matches d n) (sym e) its)) (λ k. let w = (E.each c).1 k in (w.0, Memᴰ.tail w.1, w.2))
           (Memᴰ.cases_cons m)
 
-  more-every : (l : Loan) → Memᴰ l (n ∷ ls) → (c : Block) × Memᴰ c (b ∷ bs) × Matches c l
-  more-every l m =
+  more_every : (l : Loan) → Memᴰ l (n ∷ ls) → (c : Block) × Memᴰ c (b ∷ bs) × Matches c l
+  more_every l m =
       ⊎_elim (λ e. (b, Memᴰ.head refl, subst (Matches b) (sym e) its)) (λ k. let w = E.every l k in (w.0, Memᴰ.tail w.1, w.2))
       (Memᴰ.cases_cons m)
 
@@ -109,8 +109,8 @@ module _ (b : Block) (n : Loan) (ls : List Loan) (bs : List Block) (its : Matche
   not_new : (c : Block) (l : Loan) → Memᴰ l ls → Matches c l → Matches c n → ⊥
   not_new c l m p q = let h = new l m in omega (arith, p.serial, q.serial, its.serial)
 
-  more-one : (c : Block) (k l : Loan) → Memᴰ k (n ∷ ls) → Memᴰ l (n ∷ ls) → Matches c k → Matches c l → k ≡ l
-  more-one c k l p q x y = go (Memᴰ.cases_cons p) (Memᴰ.cases_cons q)
+  more_one : (c : Block) (k l : Loan) → Memᴰ k (n ∷ ls) → Memᴰ l (n ∷ ls) → Matches c k → Matches c l → k ≡ l
+  more_one c k l p q x y = go (Memᴰ.cases_cons p) (Memᴰ.cases_cons q)
     where
       go : (k ≡ n) ⊎ Memᴰ k ls → (l ≡ n) ⊎ Memᴰ l ls → k ≡ l
       go (inl e) (inl f) = e ∙ sym f
@@ -118,21 +118,21 @@ module _ (b : Block) (n : Loan) (ls : List Loan) (bs : List Block) (its : Matche
       go (inr m) (inl f) = absurd (not_new c k m x (subst (Matches c) f y))
       go (inr i) (inr j) = E.one c k l i j x y
 
-  pub more-exactly : Exactly (n ∷ ls) (b ∷ bs)
-  more-exactly = record { each = more-each; every = more-every; one = more-one }
+  pub more_exactly : Exactly (n ∷ ls) (b ∷ bs)
+  more_exactly = record { each = more_each; every = more_every; one = more_one }
 
 -- one struck out
-pub less-exactly : (b : Block) (ks ls : List Loan) (bs : List Block) → ((l : Loan) → Memᴰ l ks ↔ (Memᴰ l ls × (Matches b l → ⊥))) → Exactly ls bs → Exactly ks (blocksLess b bs)
-less-exactly b ks ls bs left E =
+pub less_exactly : (b : Block) (ks ls : List Loan) (bs : List Block) → ((l : Loan) → Memᴰ l ks ↔ (Memᴰ l ls × (Matches b l → ⊥))) → Exactly ls bs → Exactly ks (blocks_less b bs)
+less_exactly b ks ls bs left E =
     record {
       each = λ c. (
-        (λ w. let y = (left w.0).0 w.1 in (less-blocks b bs c).1 ((E.each c).0 (w.0, y.0, w.2), λ e. y.1 (subst (λ (d : Block). Matches d w.0) e w.2))),
-        (λ m. let v = (less-blocks b bs c).0 m in let w = (E.each c).1 v.0 in (w.0, (left w.0).1 (w.1, λ x. v.1 (block-is c b w.0 w.2 x)), w.2)),
+        (λ w. let y = (left w.0).0 w.1 in (less_blocks b bs c).1 ((E.each c).0 (w.0, y.0, w.2), λ e. y.1 (subst (λ (d : Block). Matches d w.0) e w.2))),
+        (λ m. let v = (less_blocks b bs c).0 m in let w = (E.each c).1 v.0 in (w.0, (left w.0).1 (w.1, λ x. v.1 (block_is c b w.0 w.2 x)), w.2)),
       );
       every = λ l m.
           let y = (left l).0 m in
           let w = E.every l y.0 in
-          (w.0, (less-blocks b bs w.0).1 (w.1, λ e. y.1 (subst (λ (d : Block). Matches d l) e w.2)), w.2);
+          (w.0, (less_blocks b bs w.0).1 (w.1, λ e. y.1 (subst (λ (d : Block). Matches d l) e w.2)), w.2);
       one = λ c k l p q. E.one c k l ((left k).0 p).0 ((left l).0 q).0;
     }
 
@@ -151,8 +151,8 @@ module _ (b : Block) (ls : List Loan) (bs : List Block) (E : Exactly ls bs) (new
       let its : Matches c w.0 = w.2 in
       ⊎_elim (λ h. inl (omega (arith, its.offset, its.size))) (λ h. inr (omega (arith, its.offset, its.size))) (apart w.0 w.1 (its.chunk ∙ e))
 
-  pub more-fine : Fine bs → Fine (b ∷ bs)
-  more-fine F = ((not_key (λ (c : Block). c.serial) b.serial bs other, F.0), bytes)
+  pub more_fine : Fine bs → Fine (b ∷ bs)
+  more_fine F = ((not_key (λ (c : Block). c.serial) b.serial bs other, F.0), bytes)
     where
       other : (c : Block) → Memᴰ c bs → b.serial ≡ c.serial → ⊥
       other c m e = let w = (E.each c).1 m in let h = new w.0 w.1 in omega (arith, w.2.serial)
@@ -168,13 +168,13 @@ module _ (b : Block) (ls : List Loan) (bs : List Block) (E : Exactly ls bs) (new
           go (inr x) (inl y) = subst (Clear c) (sym y) (free c x (e ∙ ap (λ (z : Block). z.chunk) y))
           go (inr x) (inr y) = F.1 c d x y ne e
 
-less-once : (b : Block) (bs : List Block) → NoSerialTwice bs → NoSerialTwice (blocksLess b bs)
-less-once b [] w = tt
-less-once b (c ∷ bs) w = go (sameBlock b c) (less-once b bs w.1)
+less_once : (b : Block) (bs : List Block) → NoSerialTwice bs → NoSerialTwice (blocks_less b bs)
+less_once b [] w = tt
+less_once b (c ∷ bs) w = go (same_block b c) (less_once b bs w.1)
   where
-    go : (x : Bool) → NoSerialTwice (blocksLess b bs) → NoSerialTwice (cond x (blocksLess b bs) (c ∷ blocksLess b bs))
+    go : (x : Bool) → NoSerialTwice (blocks_less b bs) → NoSerialTwice (cond x (blocks_less b bs) (c ∷ blocks_less b bs))
     go true ih = ih
-    go false ih = (not_key (λ (d : Block). d.serial) c.serial (blocksLess b bs) (λ d m. key-not (λ (d : Block). d.serial) c.serial bs w.0 d ((less-blocks b bs d).0 m).0), ih)
+    go false ih = (not_key (λ (d : Block). d.serial) c.serial (blocks_less b bs) (λ d m. key_not (λ (d : Block). d.serial) c.serial bs w.0 d ((less_blocks b bs d).0 m).0), ih)
 
-pub less-fine : (b : Block) (bs : List Block) → Fine bs → Fine (blocksLess b bs)
-less-fine b bs F = (less-once b bs F.0, λ c d p q. F.1 c d ((less-blocks b bs c).0 p).0 ((less-blocks b bs d).0 q).0)
+pub less_fine : (b : Block) (bs : List Block) → Fine bs → Fine (blocks_less b bs)
+less_fine b bs F = (less_once b bs F.0, λ c d p q. F.1 c d ((less_blocks b bs c).0 p).0 ((less_blocks b bs d).0 q).0)

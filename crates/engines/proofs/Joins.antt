@@ -6,7 +6,7 @@ use mathlib.Core.List.{List, [], ◌∷◌, Memᴰ}
 use Rattle.counter.specs.declared.answers.Block.{Block}
 use Rattle.store_rules.specs.Views.{block, Matches}
 use Rattle.store_rules.specs.declared.Loan.{Loan}
-use Rattle.store_rules.proofs.Amid.{Amid, amid-member}
+use Rattle.store_rules.proofs.Amid.{Amid, amid_member}
 use Rattle.engines.specs.Tells.{Same, Joined}
 
 -- the block that a loan matches
@@ -16,14 +16,14 @@ block_of l = block l.serial l.chunk l.offset l.size
 pub own_block : (l : Loan) → Matches (block_of l) l
 own_block l = record { serial = refl; chunk = refl; offset = refl; size = refl }
 
-pub none-joined : (ks ls : List Loan) → ks ≡ ls → Joined ks ls []
-none-joined ks ls e l = ((λ m. subst (Memᴰ l) e m), (λ m. subst (Memᴰ l) (sym e) m))
+pub none_joined : (ks ls : List Loan) → ks ≡ ls → Joined ks ls []
+none_joined ks ls e l = ((λ m. subst (Memᴰ l) e m), (λ m. subst (Memᴰ l) (sym e) m))
 
-pub amid-joined : (b : Block) (n : Loan) (before after : List Loan) → Matches b n → Amid n before after → Joined after before (b ∷ [])
-amid-joined b n before after its w = (
+pub amid_joined : (b : Block) (n : Loan) (before after : List Loan) → Matches b n → Amid n before after → Joined after before (b ∷ [])
+amid_joined b n before after its w = (
   n,
   its,
-  λ l. let m = amid-member n before after w l in (
+  λ l. let m = amid_member n before after w l in (
     (λ k. ⊎_elim (λ i. Memᴰ.tail i) (λ e. Memᴰ.head e) (m.0 k)),
     (λ k. m.1 (⊎_elim (λ e. inr e) (λ i. inl i) (Memᴰ.cases_cons k))),
   ),

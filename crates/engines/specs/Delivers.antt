@@ -4,16 +4,16 @@ use Rattle.counter.specs.Gate.{pass}
 use Rattle.counter.specs.Paper as Paper
 use Rattle.counter.specs.declared.account.Account.{Account}
 use Rattle.counter.specs.declared.account.OpenOrder.TheVariants.{Kept}
-use Rattle.store_rules.specs.Orders.{orderFrom, keptFrom}
-use Rattle.store_rules.specs.Outcomes.{withOrder}
+use Rattle.store_rules.specs.Orders.{order_from, kept_from}
+use Rattle.store_rules.specs.Outcomes.{with_order}
 use Rattle.engines.specs.Shapes.{Tables, Shape}
 use Rattle.engines.specs.Tells.{Ordered}
 
 pub record Delivers (E : Shape) : Type 0 where
   -- the order is for the size that this engine orders, and it is kept in the account with its ask, and nothing else there changes
   pub ordered : (s : E.Settings) (a : Account) (size mask : ℕ) (t : Tables) → Ordered (E.ask s a size mask t).said
-      → ((E.ask s a size mask t).said ≡ Paper.order_of (orderFrom (E.store s) (E.orderSize s size mask t)))
-      × ((E.ask s a size mask t).account ≡ withOrder a (Kept (keptFrom (E.store s) size mask (E.orderSize s size mask t))))
+      → ((E.ask s a size mask t).said ≡ Paper.order_of (order_from (E.store s) (E.order_size s size mask t)))
+      × ((E.ask s a size mask t).account ≡ with_order a (Kept (kept_from (E.store s) size mask (E.order_size s size mask t))))
   -- and it can be delivered
   pub deliverable : (s : E.Settings) (a : Account) (size mask : ℕ) (t : Tables) → E.gate s a t ≡ pass → Ordered (E.ask s a size mask t).said
-      → E.deliverGate s (E.ask s a size mask t).account (E.ask s a size mask t).tables ≡ pass
+      → E.deliver_gate s (E.ask s a size mask t).account (E.ask s a size mask t).tables ≡ pass

@@ -6,27 +6,27 @@ use Rattle.counter.specs.Paper as Paper
 use Rattle.counter.specs.declared.account.Account.{Account}
 use Rattle.counter.specs.declared.answers.Block.{Block}
 use Rattle.heap.specs.History.{Entry}
-use Rattle.store_rules.specs.Outcomes.{Listed, toFree}
+use Rattle.store_rules.specs.Outcomes.{Listed, to_free}
 use Rattle.engines.specs.Books.{books, takes}
 use Rattle.engines.specs.Engines.{Engine}
-use Rattle.engines.specs.Serials.{serialSaid}
-use Rattle.engines.specs.Shapes.{Tables, noTables, Call, setsUp, returns, does}
+use Rattle.engines.specs.Serials.{serial_said}
+use Rattle.engines.specs.Shapes.{Tables, no_tables, Call, sets_up, returns, does}
 
 -- the account, and the tables of each store
 pub record State : Type 0 where
   pub account : Account
   pub stores : List Tables
 
-abbrev pub storeAt : State → ℕ → Tables
-storeAt w i = get_or w.stores i noTables
+abbrev pub store_at : State → ℕ → Tables
+store_at w i = get_or w.stores i no_tables
 
 -- a block, and the list that is lent for its return
 abbrev pub Slip : Type 0
 Slip = Block × List ℕ
 
-abbrev pub blocksOf : List Slip → List Block
-blocksOf [] = []
-blocksOf (p ∷ ps) = p.0 ∷ blocksOf ps
+abbrev pub blocks_of : List Slip → List Block
+blocks_of [] = []
+blocks_of (p ∷ ps) = p.0 ∷ blocks_of ps
 
 -- K names the engines
 module _ (K : Type 0) (E : K → Engine) where
@@ -38,7 +38,7 @@ module _ (K : Type 0) (E : K → Engine) where
     pub call : Call (E by).shape.Own
 
   abbrev pub done : State → Visit → Listed Tables
-  done w v = does (E v.by).shape v.settings w.account (storeAt w v.at) v.call
+  done w v = does (E v.by).shape v.settings w.account (store_at w v.at) v.call
 
   abbrev pub step : State → Visit → State
   step w v = record { account = (done w v).account; stores = set w.stores v.at (done w v).tables }
@@ -55,46 +55,46 @@ module _ (K : Type 0) (E : K → Engine) where
   -- no set-up of store i is accepted
   abbrev pub NoSetUp : ℕ → State → List Visit → Type 0
   NoSetUp i w [] = Unit {0}
-  NoSetUp i w (v ∷ vs) = (v.at ≡ i → v.call ≡ setsUp → (done w v).said ≡ Paper.ready → ⊥) × NoSetUp i (step w v) vs
+  NoSetUp i w (v ∷ vs) = (v.at ≡ i → v.call ≡ sets_up → (done w v).said ≡ Paper.ready → ⊥) × NoSetUp i (step w v) vs
 
   -- the serials that store i gives, in order
-  abbrev pub serialsAt : ℕ → State → List Visit → List ℕ
-  serialsAt i w [] = []
-  serialsAt i w (v ∷ vs) = cond (eqb v.at i) (serialSaid (done w v).said) [] ++ serialsAt i (step w v) vs
+  abbrev pub serials_at : ℕ → State → List Visit → List ℕ
+  serials_at i w [] = []
+  serials_at i w (v ∷ vs) = cond (eqb v.at i) (serial_said (done w v).said) [] ++ serials_at i (step w v) vs
 
   -- ---- the account
 
-  abbrev pub heapOf : Visit → ℕ
-  heapOf v = ((E v.by).shape.store v.settings).heap
+  abbrev pub heap_of : Visit → ℕ
+  heap_of v = ((E v.by).shape.store v.settings).heap
 
-  abbrev pub booksHere : State → Visit → List Entry
-  booksHere w v = books (E v.by).shape v.settings w.account (storeAt w v.at) v.call (done w v)
+  abbrev pub books_here : State → Visit → List Entry
+  books_here w v = books (E v.by).shape v.settings w.account (store_at w v.at) v.call (done w v)
 
   -- what a history books on heap j
-  abbrev pub booksAt : ℕ → State → List Visit → List Entry
-  booksAt j w [] = []
-  booksAt j w (v ∷ vs) = cond (eqb (heapOf v) j) (booksHere w v) [] ++ booksAt j (step w v) vs
+  abbrev pub books_at : ℕ → State → List Visit → List Entry
+  books_at j w [] = []
+  books_at j w (v ∷ vs) = cond (eqb (heap_of v) j) (books_here w v) [] ++ books_at j (step w v) vs
 
   -- over a history: memory numbers accepted, and memory numbers released or given back
-  abbrev pub acceptedIn : State → List Visit → ℕ
-  acceptedIn w [] = 0
-  acceptedIn w (v ∷ vs) = takes (E v.by).shape v.call (done w v).said + acceptedIn (step w v) vs
+  abbrev pub accepted_in : State → List Visit → ℕ
+  accepted_in w [] = 0
+  accepted_in w (v ∷ vs) = takes (E v.by).shape v.call (done w v).said + accepted_in (step w v) vs
 
-  abbrev pub freedIn : State → List Visit → ℕ
-  freedIn w [] = 0
-  freedIn w (v ∷ vs) = toFree (done w v).said + freedIn (step w v) vs
+  abbrev pub freed_in : State → List Visit → ℕ
+  freed_in w [] = 0
+  freed_in w (v ∷ vs) = to_free (done w v).said + freed_in (step w v) vs
 
   -- ---- blocks handed back one after the other. Demand 3: "return any set of different blocks on loan, nothing else between"
 
   -- a return at store i
-  abbrev pub handBack : ℕ → (k : K) → (E k).shape.Settings → Slip → Visit
-  handBack i k s p = record { at = i; by = k; settings = s; call = returns p.0 p.1 }
+  abbrev pub hand_back : ℕ → (k : K) → (E k).shape.Settings → Slip → Visit
+  hand_back i k s p = record { at = i; by = k; settings = s; call = returns p.0 p.1 }
 
   abbrev pub handing : ℕ → (k : K) → (E k).shape.Settings → List Slip → List Visit
   handing i k s [] = []
-  handing i k s (p ∷ ps) = handBack i k s p ∷ handing i k s ps
+  handing i k s (p ∷ ps) = hand_back i k s p ∷ handing i k s ps
 
   -- the memory numbers told on the way: of each call as many of its list as it says
-  abbrev pub toldIn : State → List Visit → List ℕ
-  toldIn w [] = []
-  toldIn w (v ∷ vs) = take (toFree (done w v).said) (done w v).list ++ toldIn (step w v) vs
+  abbrev pub told_in : State → List Visit → List ℕ
+  told_in w [] = []
+  told_in w (v ∷ vs) = take (to_free (done w v).said) (done w v).list ++ told_in (step w v) vs

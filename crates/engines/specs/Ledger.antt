@@ -9,7 +9,7 @@ use Rattle.store_rules.specs.Views.{Matches, OnLoan}
 use Rattle.store_rules.specs.declared.Loan.{Loan}
 use Rattle.engines.specs.Engines.{Engine}
 use Rattle.engines.specs.Histories.{State, Visit, done, step}
-use Rattle.engines.specs.Shapes.{Call, setsUp, asks, delivers, returns, others}
+use Rattle.engines.specs.Shapes.{Call, sets_up, asks, delivers, returns, others}
 use Rattle.engines.specs.Tells.{lent_by}
 
 -- a block was lent, or a block was taken back
@@ -18,38 +18,38 @@ pub data Note : Type 0 where
   back : Block → Note
 
 -- what the answer to an ask or a delivery says of that, and the answer to a return of block b
-abbrev pub lentNote : Said → List Note
-lentNote said = map lent (lent_by said)
+abbrev pub lent_note : Said → List Note
+lent_note said = map lent (lent_by said)
 
-abbrev pub backNote : Block → Said → List Note
-backNote b Paper.ready = []
-backNote b (Paper.block serial chunk offset size) = []
-backNote b (Paper.order store size memtype map) = []
-backNote b (Paper.released n) = back b ∷ []
-backNote b Paper.ranked = []
-backNote b (Paper.refusal n given) = []
+abbrev pub back_note : Block → Said → List Note
+back_note b Paper.ready = []
+back_note b (Paper.block serial chunk offset size) = []
+back_note b (Paper.order store size memtype map) = []
+back_note b (Paper.released n) = back b ∷ []
+back_note b Paper.ranked = []
+back_note b (Paper.refusal n given) = []
 
 abbrev pub note_of : {Own : Type 0} → Call Own → Said → List Note
-note_of setsUp said = []
-note_of (asks size mask) said = lentNote said
-note_of (delivers o) said = lentNote said
-note_of (returns b list) said = backNote b said
+note_of sets_up said = []
+note_of (asks size mask) said = lent_note said
+note_of (delivers o) said = lent_note said
+note_of (returns b list) said = back_note b said
 note_of (others c list) said = []
 
 -- 7: "this serial, chunk, offset and size", of two blocks
-abbrev pub sameBlock : Block → Block → Bool
-sameBlock b c = eqb c.serial b.serial && (eqb c.chunk b.chunk && (eqb c.offset b.offset && eqb c.size b.size))
+abbrev pub same_block : Block → Block → Bool
+same_block b c = eqb c.serial b.serial && (eqb c.chunk b.chunk && (eqb c.offset b.offset && eqb c.size b.size))
 
 -- the blocks with b struck out
-abbrev pub blocksLess : Block → List Block → List Block
-blocksLess b [] = []
-blocksLess b (c ∷ bs) = cond (sameBlock b c) (blocksLess b bs) (c ∷ blocksLess b bs)
+abbrev pub blocks_less : Block → List Block → List Block
+blocks_less b [] = []
+blocks_less b (c ∷ bs) = cond (same_block b c) (blocks_less b bs) (c ∷ blocks_less b bs)
 
 -- the blocks lent and not since taken back, where bs were on loan before
 abbrev pub ledger : List Block → List Note → List Block
 ledger bs [] = bs
 ledger bs (lent b ∷ ns) = ledger (b ∷ bs) ns
-ledger bs (back b ∷ ns) = ledger (blocksLess b bs) ns
+ledger bs (back b ∷ ns) = ledger (blocks_less b bs) ns
 
 -- the loans ls are exactly the blocks bs: "A block carries serial, chunk, offset, size."
 pub record Exactly (ls : List Loan) (bs : List Block) : Type 0 where
@@ -77,6 +77,6 @@ Fine bs = NoSerialTwice bs × NoByteTwice bs
 -- K names the engines
 module _ (K : Type 0) (E : K → Engine) where
   -- what is heard at store i, in order
-  abbrev pub notesAt : ℕ → State → List (Visit K E) → List Note
-  notesAt i w [] = []
-  notesAt i w (v ∷ vs) = cond (eqb v.at i) (note_of v.call (done K E w v).said) [] ++ notesAt i (step K E w v) vs
+  abbrev pub notes_at : ℕ → State → List (Visit K E) → List Note
+  notes_at i w [] = []
+  notes_at i w (v ∷ vs) = cond (eqb v.at i) (note_of v.call (done K E w v).said) [] ++ notes_at i (step K E w v) vs

@@ -9,17 +9,17 @@ use Rattle.counter.specs.declared.answers.Block.{Block}
 use Rattle.store_rules.specs.Outcomes.{listed}
 use Rattle.store_rules.specs.Views.{All}
 use Rattle.store_rules.specs.declared.Loan.{Loan}
-use Rattle.store_rules.specs.Rows.{listRows}
-use Rattle.engines.specs.Shapes.{Tables, Call, setsUp, Shape, does, Marked, words_of}
+use Rattle.store_rules.specs.Rows.{list_rows}
+use Rattle.engines.specs.Shapes.{Tables, Call, sets_up, Shape, does, Marked, words_of}
 
 -- the serial of a block that is lent
-abbrev pub serialSaid : Said → List ℕ
-serialSaid Paper.ready = []
-serialSaid (Paper.block serial chunk offset size) = serial ∷ []
-serialSaid (Paper.order store size memtype map) = []
-serialSaid (Paper.released n) = []
-serialSaid Paper.ranked = []
-serialSaid (Paper.refusal n back) = []
+abbrev pub serial_said : Said → List ℕ
+serial_said Paper.ready = []
+serial_said (Paper.block serial chunk offset size) = serial ∷ []
+serial_said (Paper.order store size memtype map) = []
+serial_said (Paper.released n) = []
+serial_said Paper.ranked = []
+serial_said (Paper.refusal n back) = []
 
 -- g + 1, g + 2, and so on, n of them
 abbrev pub up_from : ℕ → ℕ → List ℕ
@@ -34,19 +34,19 @@ pub record Gone (E : Shape) (k : ℕ) (t : Tables) : Type 0 where
 
 -- a call gives as many serials as it lends blocks, the next ones, and the mark stays
 pub record Counted (E : Shape) (t t' : Tables) (said : Said) : Type 0 where
-  pub gives : E.given t' ≡ E.given t + length (serialSaid said)
-  pub nexts : serialSaid said ≡ up_from (E.given t) (length (serialSaid said))
+  pub gives : E.given t' ≡ E.given t + length (serial_said said)
+  pub nexts : serial_said said ≡ up_from (E.given t) (length (serial_said said))
   pub marks : Marked E t'
 
 pub record Counts (E : Shape) : Type 0 where
   -- a store set up has the mark and gave no serial
-  pub begins : (s : E.Settings) (t : Tables) → (E.setUp s t).said ≡ Paper.ready → Marked E (E.setUp s t).tables × (E.given (E.setUp s t).tables ≡ 0)
-  pub counted : (s : E.Settings) (a : Account) (t : Tables) (c : Call E.Own) → (c ≡ setsUp → ⊥) → Marked E t → Counted E t (does E s a t c).tables (does E s a t c).said
+  pub begins : (s : E.Settings) (t : Tables) → (E.set_up s t).said ≡ Paper.ready → Marked E (E.set_up s t).tables × (E.given (E.set_up s t).tables ≡ 0)
+  pub counted : (s : E.Settings) (a : Account) (t : Tables) (c : Call E.Own) → (c ≡ sets_up → ⊥) → Marked E t → Counted E t (does E s a t c).tables (does E s a t c).said
   -- a serial that is gone stays so
-  pub gone-stays : (k : ℕ) (s : E.Settings) (a : Account) (t : Tables) (c : Call E.Own) → (c ≡ setsUp → ⊥) → Gone E k t → Gone E k (does E s a t c).tables
+  pub gone_stays : (k : ℕ) (s : E.Settings) (a : Account) (t : Tables) (c : Call E.Own) → (c ≡ sets_up → ⊥) → Gone E k t → Gone E k (does E s a t c).tables
   -- a return that was taken leaves the block's serial gone
-  pub released-gone : (s : E.Settings) (a : Account) (b : Block) (t : Tables) (list : List ℕ) (n : ℕ) → (E.return s a b t list).said ≡ Paper.released n
+  pub released_gone : (s : E.Settings) (a : Account) (b : Block) (t : Tables) (list : List ℕ) (n : ℕ) → (E.return s a b t list).said ≡ Paper.released n
       → Gone E b.serial (E.return s a b t list).tables
   -- and its return is refused from then on, with nothing changed: as 7, or as one of the earlier rows 1 to 4
-  pub gone-refused : (s : E.Settings) (a : Account) (b : Block) (t : Tables) (list : List ℕ) → Gone E b.serial t
-      → (n : ℕ) × (E.return s a b t list ≡ listed (Paper.refusal n []) a t list) × ((n ≡ 7) ⊎ Given (listRows (words_of E) s a t list) n)
+  pub gone_refused : (s : E.Settings) (a : Account) (b : Block) (t : Tables) (list : List ℕ) → Gone E b.serial t
+      → (n : ℕ) × (E.return s a b t list ≡ listed (Paper.refusal n []) a t list) × ((n ≡ 7) ⊎ Given (list_rows (words_of E) s a t list) n)

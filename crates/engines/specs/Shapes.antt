@@ -9,7 +9,7 @@ use Rattle.counter.specs.declared.answers.Outcome.{Outcome}
 use Rattle.counter.specs.declared.settings.StoreSettings.{StoreSettings}
 use Rattle.store_rules.specs.Delivery.{Engine}
 use Rattle.store_rules.specs.Outcomes.{Out, Listed, listed}
-pub use Rattle.store_rules.specs.Tables.{Tables, noTables, Begun}
+pub use Rattle.store_rules.specs.Tables.{Tables, no_tables, Begun}
 use Rattle.store_rules.specs.Views.{View}
 use Rattle.store_rules.specs.declared.Loan.{Loan}
 use Rattle.store_rules.specs.declared.Region.{Region}
@@ -22,7 +22,7 @@ mark_of t = get_or t.head 0 0
 -- a call with what it is given: a size and a mask, an outcome, a block and a lent list, or one that only this engine has, with
 -- a lent list
 pub data Call (Own : Type 0) : Type 0 where
-  setsUp : Call Own
+  sets_up : Call Own
   asks : ℕ → ℕ → Call Own
   delivers : Outcome → Call Own
   returns : Block → List ℕ → Call Own
@@ -33,7 +33,7 @@ pub record Shape : Type 1 where
   pub Settings : Type 0
   pub store : Settings → StoreSettings
   pub Own : Type 0
-  pub setUp : Settings → Tables → Begun
+  pub set_up : Settings → Tables → Begun
   pub ask : Settings → Account → ℕ → ℕ → Tables → Out Tables
   pub deliver : Settings → Account → Outcome → Tables → Out Tables
   pub return : Settings → Account → Block → Tables → List ℕ → Listed Tables
@@ -54,7 +54,7 @@ pub record Shape : Type 1 where
   pub Joinable : Settings → Region → Region → Type 0
   -- ---- when no held chunk has a fitting free place for a size and a mask; how long the chunk is that is ordered then
   pub Needed : Settings → ℕ → ℕ → Tables → Type 0
-  pub orderSize : Settings → ℕ → ℕ → Tables → ℕ
+  pub order_size : Settings → ℕ → ℕ → Tables → ℕ
   -- ---- the words of 01's rows that are an engine's own; the rest is said once, in Rows. 1: settings and tables; 5: a mask of the
   -- allowed form that it does not take; 6: the size; 8 and 10: what it may run out of besides
   pub Fits : Settings → Tables → Type 0
@@ -63,10 +63,10 @@ pub record Shape : Type 1 where
   pub Roomless : Settings → ℕ → ℕ → Tables → Type 0
   pub Numberless : Settings → Tables → Type 0
   -- the rows of a call that only this engine has
-  pub ownRows : Settings → Account → Own → Tables → List ℕ → Reasons
+  pub own_rows : Settings → Account → Own → Tables → List ℕ → Reasons
   -- ---- the tests 1 to 4 of an ask, and of a delivery
   pub gate : Settings → Account → Tables → Verdict
-  pub deliverGate : Settings → Account → Tables → Verdict
+  pub deliver_gate : Settings → Account → Tables → Verdict
   -- ---- several blocks come back: the end that 01's rules give
   pub at_once : Settings → List Block → Tables → View
 
@@ -81,7 +81,7 @@ words_of E =
       view = E.view;
       Sound = E.Sound;
       Needed = E.Needed;
-      orderSize = E.orderSize;
+      order_size = E.order_size;
       Fits = E.Fits;
       MaskHigh = E.MaskHigh;
       SizeOff = E.SizeOff;
@@ -92,7 +92,7 @@ words_of E =
 module _ (E : Shape) where
   -- what a call says and leaves; a call that is lent no list leaves none
   abbrev pub does : E.Settings → Account → Tables → Call E.Own → Listed Tables
-  does s a t setsUp = listed (E.setUp s t).said a (E.setUp s t).tables []
+  does s a t sets_up = listed (E.set_up s t).said a (E.set_up s t).tables []
   does s a t (asks size mask) = listed (E.ask s a size mask t).said (E.ask s a size mask t).account (E.ask s a size mask t).tables []
   does s a t (delivers o) = listed (E.deliver s a o t).said (E.deliver s a o t).account (E.deliver s a o t).tables []
   does s a t (returns b list) = E.return s a b t list
@@ -103,9 +103,9 @@ module _ (E : Shape) where
   Marked t = mark_of t ≡ E.mark
 
 -- the list that a call is lent
-abbrev pub lentList : {Own : Type 0} → Call Own → List ℕ
-lentList setsUp = []
-lentList (asks size mask) = []
-lentList (delivers o) = []
-lentList (returns b list) = list
-lentList (others c list) = list
+abbrev pub lent_list : {Own : Type 0} → Call Own → List ℕ
+lent_list sets_up = []
+lent_list (asks size mask) = []
+lent_list (delivers o) = []
+lent_list (returns b list) = list
+lent_list (others c list) = list

@@ -50,24 +50,24 @@ Refused x = (n : ℕ) × (back : List ℕ) × (x ≡ Paper.refusal n back)
 
 pub record Tells (E : Shape) : Type 0 where
   -- each call answers in its own forms
-  pub set-up-says : (s : E.Settings) (t : Tables) → ((E.setUp s t).said ≡ Paper.ready) ⊎ Refused (E.setUp s t).said
-  pub ask-says : (s : E.Settings) (a : Account) (size mask : ℕ) (t : Tables)
+  pub set_up_says : (s : E.Settings) (t : Tables) → ((E.set_up s t).said ≡ Paper.ready) ⊎ Refused (E.set_up s t).said
+  pub ask_says : (s : E.Settings) (a : Account) (size mask : ℕ) (t : Tables)
       → Blocked (E.ask s a size mask t).said ⊎ (Ordered (E.ask s a size mask t).said ⊎ Refused (E.ask s a size mask t).said)
-  pub deliver-says : (s : E.Settings) (a : Account) (o : Outcome) (t : Tables) → Blocked (E.deliver s a o t).said ⊎ Refused (E.deliver s a o t).said
-  pub return-says : (s : E.Settings) (a : Account) (b : Block) (t : Tables) (list : List ℕ) → Released (E.return s a b t list).said ⊎ Refused (E.return s a b t list).said
-  pub other-says : (s : E.Settings) (a : Account) (c : E.Own) (t : Tables) (list : List ℕ) → Released (E.other s a c t list).said ⊎ Refused (E.other s a c t list).said
+  pub deliver_says : (s : E.Settings) (a : Account) (o : Outcome) (t : Tables) → Blocked (E.deliver s a o t).said ⊎ Refused (E.deliver s a o t).said
+  pub return_says : (s : E.Settings) (a : Account) (b : Block) (t : Tables) (list : List ℕ) → Released (E.return s a b t list).said ⊎ Refused (E.return s a b t list).said
+  pub other_says : (s : E.Settings) (a : Account) (c : E.Own) (t : Tables) (list : List ℕ) → Released (E.other s a c t list).said ⊎ Refused (E.other s a c t list).said
   -- a store set up has no loan
-  pub fresh : (s : E.Settings) (t : Tables) → (E.setUp s t).said ≡ Paper.ready → E.loans (E.setUp s t).tables ≡ []
+  pub fresh : (s : E.Settings) (t : Tables) → (E.set_up s t).said ≡ Paper.ready → E.loans (E.set_up s t).tables ≡ []
   -- an ask and a delivery that lend a block add one loan, which matches it, and whatever else they say they leave the loans
-  pub ask-loans : (s : E.Settings) (a : Account) (size mask : ℕ) (t : Tables)
+  pub ask_loans : (s : E.Settings) (a : Account) (size mask : ℕ) (t : Tables)
       → Joined (E.loans (E.ask s a size mask t).tables) (E.loans t) (lent_by (E.ask s a size mask t).said)
-  pub deliver-loans : (s : E.Settings) (a : Account) (o : Outcome) (t : Tables)
+  pub deliver_loans : (s : E.Settings) (a : Account) (o : Outcome) (t : Tables)
       → Joined (E.loans (E.deliver s a o t).tables) (E.loans t) (lent_by (E.deliver s a o t).said)
   -- so does a call that only this engine has
-  pub other-loans : (s : E.Settings) (a : Account) (c : E.Own) (t : Tables) (list : List ℕ) → Same (E.loans (E.other s a c t list).tables) (E.loans t)
+  pub other_loans : (s : E.Settings) (a : Account) (c : E.Own) (t : Tables) (list : List ℕ) → Same (E.loans (E.other s a c t list).tables) (E.loans t)
   -- an ask leaves the held chunks, and a delivery that lends a block adds the one that it lies in, of the delivered memory and
   -- the order's size
-  pub ask-chunks : (s : E.Settings) (a : Account) (size mask : ℕ) (t : Tables) → (E.view s (E.ask s a size mask t).tables).chunks ≡ (E.view s t).chunks
-  pub deliver-chunks : (s : E.Settings) (a : Account) (o : Outcome) (t : Tables) (serial number offset len : ℕ) → (E.deliver s a o t).said ≡ Paper.block serial number offset len
+  pub ask_chunks : (s : E.Settings) (a : Account) (size mask : ℕ) (t : Tables) → (E.view s (E.ask s a size mask t).tables).chunks ≡ (E.view s t).chunks
+  pub deliver_chunks : (s : E.Settings) (a : Account) (o : Outcome) (t : Tables) (serial number offset len : ℕ) → (E.deliver s a o t).said ≡ Paper.block serial number offset len
       → (k : KeptOrder) × (m : Memory) × (a.order ≡ Kept k) × (o ≡ O.Made m)
       × ((c : Chunk) → Memᴰ c (E.view s (E.deliver s a o t).tables).chunks ↔ (Memᴰ c (E.view s t).chunks ⊎ (c ≡ chunk number m.number k.order.size)))

@@ -8,125 +8,125 @@ use native.Mathlib.Omega.{arith}
 use lib.ListN.{length}
 use lib.Seq.{sets}
 use borrow.Author.Tests.{leb-true}
-use Rattle.lists.proofs.Bools.{told, true-false}
+use Rattle.lists.proofs.Bools.{told, true_false}
 use Rattle.counter.specs.Account.{heap_at}
-use Rattle.counter.specs.Gate.{Verdict, pass, refuse, verdictOf, gated}
+use Rattle.counter.specs.Gate.{Verdict, pass, refuse, verdict_of, gated}
 use Rattle.counter.specs.declared.refusal.Gate.{Gate}
 use Rattle.counter.specs.declared.refusal.Gate.TheVariants as G
-use Rattle.returning.specs.Backs.{backOf}
+use Rattle.returning.specs.Backs.{back_of}
 use Rattle.returning.specs.declared.Back.{Back}
 use Rattle.returning.specs.declared.Back.TheVariants as B
-use Rattle.counter.specs.Limits.{objectsMost}
+use Rattle.counter.specs.Limits.{objects_most}
 use Rattle.counter.specs.Paper as Paper
 use Rattle.counter.specs.declared.account.Account.{Account}
 use Rattle.counter.specs.declared.answers.Block.{Block}
 use Rattle.counter.specs.declared.settings.FreeListSettings.{FreeListSettings}
-use Rattle.store_rules.specs.Outcomes.{Listed, listed, listOk, releasedAccount}
-use Rattle.store_rules.specs.Shares.{releasedShare}
+use Rattle.store_rules.specs.Outcomes.{Listed, listed, list_ok, released_account}
+use Rattle.store_rules.specs.Shares.{released_share}
 use Rattle.store_rules.proofs.Holders.{holding, order_by, holder}
-use Rattle.store_rules.proofs.Shares.{held-released}
-use Rattle.freelist_rules.specs.Release.{memoriesOf, bytes_of}
+use Rattle.store_rules.proofs.Shares.{held_released}
+use Rattle.freelist_rules.specs.Release.{memories_of, bytes_of}
 use Rattle.freelist_rules.specs.Pieces.{total}
 use Rattle.freelist_rules.specs.Tables.{Tables, tables, chunks_in, store_of}
 use Rattle.store_rules.specs.declared.Chunk.{Chunk}
 use Rattle.store_rules.specs.declared.Share.{Share}
-use Rattle.freelist_outcomes.specs.Gate.{accountOk, gateOf}
-use Rattle.freelist_outcomes.specs.Return.{Plan, deny, back, word_for, onLoanOk, givenTables, decideReturn, planReturn, goneFrom, releasedTables, releaseOf, carryReturn, returnOf, planCleanUp, carryCleanUp, cleanUpOf}
-use Rattle.freelist.proofs.Backing.{backs-ready, strikes-ready}
-use Rattle.freelist.proofs.Releasing.{frees-ready, objects-ready}
-use Rattle.freelist_rules.proofs.Fits.{lengths-are, are-lengths}
-use Rattle.freelist_outcomes.proofs.Given.{given-lengths, given-sound}
-use Rattle.freelist_outcomes.proofs.Passing.{Passed, gate-passed}
+use Rattle.freelist_outcomes.specs.Gate.{account_ok, gate_of}
+use Rattle.freelist_outcomes.specs.Return.{Plan, deny, back, word_for, on_loan_ok, given_tables, decide_return, plan_return, gone_from, released_tables, release_of, carry_return, return_of, plan_clean_up, carry_clean_up, clean_up_of}
+use Rattle.freelist.proofs.Backing.{backs_ready, strikes_ready}
+use Rattle.freelist.proofs.Releasing.{frees_ready, objects_ready}
+use Rattle.freelist_rules.proofs.Fits.{lengths_are, are_lengths}
+use Rattle.freelist_outcomes.proofs.Given.{given_lengths, given_sound}
+use Rattle.freelist_outcomes.proofs.Passing.{Passed, gate_passed}
 use Rattle.freelist.specs.Ready.{Releases, TakesBack, ReturnReady, CleanUpReady}
 
 -- ---- a plan that carries
 
-abbrev isBack : Plan → Bool
-isBack (deny n) = false
-isBack (back w) = true
+abbrev is_back : Plan → Bool
+is_back (deny n) = false
+is_back (back w) = true
 
-not-denied : (w n : ℕ) → back w ≡ deny n → ⊥
-not-denied w n e = true-false true refl (ap isBack e)
+not_denied : (w n : ℕ) → back w ≡ deny n → ⊥
+not_denied w n e = true_false true refl (ap is_back e)
 
 same_back : (v w : ℕ) → back v ≡ back w → v ≡ w
 same_back v w e = cc
 
-module _ (s : FreeListSettings) (a : Account) (b : Block) (t : Tables) (list : Bool) (w : ℕ) (e : back w ≡ planReturn s a b t list) where
-  passes : pass ≡ gateOf s a t list
-  unfolding planReturn
-  passes = by (gateOf s a t list) e
+module _ (s : FreeListSettings) (a : Account) (b : Block) (t : Tables) (list : Bool) (w : ℕ) (e : back w ≡ plan_return s a b t list) where
+  passes : pass ≡ gate_of s a t list
+  unfolding plan_return
+  passes = by (gate_of s a t list) e
     where
-      by : (v : Verdict) → back w ≡ gated deny v (decideReturn s b t) → pass ≡ v
+      by : (v : Verdict) → back w ≡ gated deny v (decide_return s b t) → pass ≡ v
       by pass p = refl
-      by (refuse n) p = absurd (not-denied w n p)
+      by (refuse n) p = absurd (not_denied w n p)
 
-  decided : back w ≡ decideReturn s b t
-  unfolding planReturn
-  decided = e ∙ ap (λ (v : Verdict). gated deny v (decideReturn s b t)) (sym passes)
+  decided : back w ≡ decide_return s b t
+  unfolding plan_return
+  decided = e ∙ ap (λ (v : Verdict). gated deny v (decide_return s b t)) (sym passes)
 
-  on-loan : onLoanOk s b t ≡ true
-  unfolding decideReturn
-  on-loan =
+  on_loan_lem : on_loan_ok s b t ≡ true
+  unfolding decide_return
+  on_loan_lem =
       ⊎_elim (λ o. o)
-      (λ o. absurd (not-denied w 7 (decided ∙ ap (λ (x : Bool). cond x (back (word_for s b t)) (deny 7)) o)))
-      (told (onLoanOk s b t))
+      (λ o. absurd (not_denied w 7 (decided ∙ ap (λ (x : Bool). cond x (back (word_for s b t)) (deny 7)) o)))
+      (told (on_loan_ok s b t))
 
   -- the word is the one that was found
-  word-is : w ≡ word_for s b t
-  unfolding decideReturn
-  word-is = same_back w (word_for s b t) (decided ∙ ap (λ (x : Bool). cond x (back (word_for s b t)) (deny 7)) on-loan)
+  word_is : w ≡ word_for s b t
+  unfolding decide_return
+  word_is = same_back w (word_for s b t) (decided ∙ ap (λ (x : Bool). cond x (back (word_for s b t)) (deny 7)) on_loan_lem)
 
 -- ---- the facts
 
-long-enough : (s : FreeListSettings) (t : Tables) (list : List ℕ) → listOk s.store list ≡ true → chunks_in t ≤ s.store.chunks → chunks_in t ≤ length list
-long-enough s t list e h = omega (arith, leb-true s.store.chunks (length list) e)
+long_enough : (s : FreeListSettings) (t : Tables) (list : List ℕ) → list_ok s.store list ≡ true → chunks_in t ≤ s.store.chunks → chunks_in t ≤ length list
+long_enough s t list e h = omega (arith, leb-true s.store.chunks (length list) e)
 
-module _ (s : FreeListSettings) (share : Share) (t : Tables) (list : List ℕ) (few : share.objects ≤ objectsMost) where
+module _ (s : FreeListSettings) (share : Share) (t : Tables) (list : List ℕ) (few : share.objects ≤ objects_most) where
   abbrev held : Account
   held = holder s.store share
 
-  cleaned-releases : pass ≡ gateOf s held t (listOk s.store list) → Releases s share.objects false t list
-  unfolding accountOk holding
-  cleaned-releases e =
-      let p = gate-passed s held t (listOk s.store list) e in (
-        frees-ready s t p.settings p.sound p.lengths list (long-enough s t list p.listed p.sound.chunks_fit),
-        objects-ready s t p.settings p.sound (heap_at held s.store.heap) share.objects (total (λ (c : Chunk). c.size) (store_of s t).chunks) false p.covered,
+  cleaned_releases : pass ≡ gate_of s held t (list_ok s.store list) → Releases s share.objects false t list
+  unfolding account_ok holding
+  cleaned_releases e =
+      let p = gate_passed s held t (list_ok s.store list) e in (
+        frees_ready s t p.settings p.sound p.lengths list (long_enough s t list p.listed p.sound.chunks_fit),
+        objects_ready s t p.settings p.sound (heap_at held s.store.heap) share.objects (total (λ (c : Chunk). c.size) (store_of s t).chunks) false p.covered,
       )
 
-  pub clean-up-ready : (p : Gate) → verdictOf p ≡ planCleanUp s held t (listOk s.store list) → CleanUpReady s share.objects t list p
-  clean-up-ready (G.Shut r) e = tt
-  clean-up-ready G.Go e = cleaned-releases e
+  pub clean_up_ready : (p : Gate) → verdict_of p ≡ plan_clean_up s held t (list_ok s.store list) → CleanUpReady s share.objects t list p
+  clean_up_ready (G.Shut r) e = tt
+  clean_up_ready G.Go e = cleaned_releases e
 
-  module _ (b : Block) (w : ℕ) (e : back w ≡ planReturn s held b t (listOk s.store list)) where
-    abbrev gate : Passed s held t (listOk s.store list)
-    gate = gate-passed s held t (listOk s.store list) (passes s held b t (listOk s.store list) w e)
+  module _ (b : Block) (w : ℕ) (e : back w ≡ plan_return s held b t (list_ok s.store list)) where
+    abbrev gate : Passed s held t (list_ok s.store list)
+    gate = gate_passed s held t (list_ok s.store list) (passes s held b t (list_ok s.store list) w e)
 
-    abbrev lent : onLoanOk s b t ≡ true
-    lent = on-loan s held b t (listOk s.store list) w e
+    abbrev lent : on_loan_ok s b t ≡ true
+    lent = on_loan_lem s held b t (list_ok s.store list) w e
 
     -- the tables that the block leaves are sound too
-    returned-releases : Releases s share.objects true (givenTables s b (word_for s b t) t) list
-    unfolding givenTables accountOk holding
-    returned-releases =
-        let after = givenTables s b (word_for s b t) t in
-        let long = lengths-are s t gate.lengths in
-        let sound = given-sound s t gate.settings long gate.sound b lent in (
-          frees-ready s after gate.settings sound (are-lengths s after (given-lengths s t gate.settings long gate.sound b lent)) list (long-enough s t list gate.listed gate.sound.chunks_fit),
-          objects-ready s after gate.settings sound (heap_at held s.store.heap) share.objects (total (λ (c : Chunk). c.size) (store_of s t).chunks) true gate.covered,
+    returned_releases : Releases s share.objects true (given_tables s b (word_for s b t) t) list
+    unfolding given_tables account_ok holding
+    returned_releases =
+        let after = given_tables s b (word_for s b t) t in
+        let long = lengths_are s t gate.lengths in
+        let sound = given_sound s t gate.settings long gate.sound b lent in (
+          frees_ready s after gate.settings sound (are_lengths s after (given_lengths s t gate.settings long gate.sound b lent)) list (long_enough s t list gate.listed gate.sound.chunks_fit),
+          objects_ready s after gate.settings sound (heap_at held s.store.heap) share.objects (total (λ (c : Chunk). c.size) (store_of s t).chunks) true gate.covered,
         )
 
     takes_back : TakesBack s share.objects b w t list
     takes_back =
-        subst (λ (v : ℕ). TakesBack s share.objects b v t list) (sym (word-is s held b t (listOk s.store list) w e))
+        subst (λ (v : ℕ). TakesBack s share.objects b v t list) (sym (word_is s held b t (list_ok s.store list) w e))
         record {
-          backs = backs-ready s t gate.settings gate.sound b lent gate.lengths;
-          strikes = strikes-ready s t gate.settings gate.sound b lent gate.lengths;
-          releases = returned-releases;
+          backs = backs_ready s t gate.settings gate.sound b lent gate.lengths;
+          strikes = strikes_ready s t gate.settings gate.sound b lent gate.lengths;
+          releases = returned_releases;
         }
 
-  pub return-ready : (b : Block) (p : Back) → backOf p ≡ planReturn s held b t (listOk s.store list) → ReturnReady s share.objects b t list p
-  return-ready b (B.Refuse r) e = tt
-  return-ready b (B.From w) e = takes_back b w e
+  pub return_ready : (b : Block) (p : Back) → back_of p ≡ plan_return s held b t (list_ok s.store list) → ReturnReady s share.objects b t list p
+  return_ready b (B.Refuse r) e = tt
+  return_ready b (B.From w) e = takes_back b w e
 
 -- ---- carried out
 
@@ -135,85 +135,85 @@ module _ (s : FreeListSettings) (share : Share) (spare : Bool) (chunks regions l
   abbrev begun : Tables
   begun = tables [] [] chunks [] regions
 
-  pub let-go-done : (count bytes : ℕ) (said : Paper.Said) (after : Share) (c' r' l' : List ℕ)
-      → count ≡ length (goneFrom s spare begun) → bytes ≡ bytes_of (goneFrom s spare begun)
-      → tables [] [] c' [] r' ≡ releasedTables s spare begun
-      → l' ≡ sets list 0 (memoriesOf (store_of s begun).chunks (goneFrom s spare begun))
-      → after ≡ releasedShare share count bytes → said ≡ Paper.released count
-      → listed said (holder s.store after) (tables [] [] c' [] r') l' ≡ releaseOf s (holder s.store share) spare begun list
-  unfolding releaseOf
-  let-go-done count bytes said after c' r' l' e b t l x y =
+  pub let_go_done : (count bytes : ℕ) (said : Paper.Said) (after : Share) (c' r' l' : List ℕ)
+      → count ≡ length (gone_from s spare begun) → bytes ≡ bytes_of (gone_from s spare begun)
+      → tables [] [] c' [] r' ≡ released_tables s spare begun
+      → l' ≡ sets list 0 (memories_of (store_of s begun).chunks (gone_from s spare begun))
+      → after ≡ released_share share count bytes → said ≡ Paper.released count
+      → listed said (holder s.store after) (tables [] [] c' [] r') l' ≡ release_of s (holder s.store share) spare begun list
+  unfolding release_of
+  let_go_done count bytes said after c' r' l' e b t l x y =
       let account = holder s.store share in
-      let x-is = ap (holder s.store) x ∙ sym (held-released s.store share (order_by share.idle) count bytes) ∙ (λ j. releasedAccount s.store account (e j) (b j)) in
-      let y-is = y ∙ ap Paper.released e in
-      (λ j. listed (y-is j) (x-is j) (t j) (l j))
+      let x_is = ap (holder s.store) x ∙ sym (held_released s.store share (order_by share.idle) count bytes) ∙ (λ j. released_account s.store account (e j) (b j)) in
+      let y_is = y ∙ ap Paper.released e in
+      (λ j. listed (y_is j) (x_is j) (t j) (l j))
 
 -- a release looks at neither head, loans nor index, and leaves them
-pub releases-few : (s : FreeListSettings) (objects : ℕ) (spare : Bool) (t : Tables) (list : List ℕ) → Releases s objects spare t list → Releases s objects spare (tables [] [] t.chunks [] t.room) list
+pub releases_few : (s : FreeListSettings) (objects : ℕ) (spare : Bool) (t : Tables) (list : List ℕ) → Releases s objects spare t list → Releases s objects spare (tables [] [] t.chunks [] t.room) list
 unfolding store_of
-releases-few s objects spare t list r = r
+releases_few s objects spare t list r = r
 
 module _ (s : FreeListSettings) (a : Account) (spare : Bool) (said : Paper.Said) (account : Account) (chunks regions list c' r' l' : List ℕ)
-    (e : listed said account (tables [] [] c' [] r') l' ≡ releaseOf s a spare (tables [] [] chunks [] regions) list) where
-  pub beside : (head loans index : List ℕ) → listed said account (tables head loans c' index r') l' ≡ releaseOf s a spare (tables head loans chunks index regions) list
-  unfolding releaseOf releasedTables store_of
+    (e : listed said account (tables [] [] c' [] r') l' ≡ release_of s a spare (tables [] [] chunks [] regions) list) where
+  pub beside : (head loans index : List ℕ) → listed said account (tables head loans c' index r') l' ≡ release_of s a spare (tables head loans chunks index regions) list
+  unfolding release_of released_tables store_of
   beside head loans index = ap (λ (y : Listed Tables). listed y.said y.account (tables head loans y.tables.chunks index y.tables.room) y.list) e
 
 module _ (s : FreeListSettings) (a : Account) (b : Block) (at : ℕ) (loans chunks regions index l' r' i' : List ℕ)
-    (e : tables [] l' chunks i' r' ≡ givenTables s b at (tables [] loans chunks index regions)) where
+    (e : tables [] l' chunks i' r' ≡ given_tables s b at (tables [] loans chunks index regions)) where
   -- what a release asks of the tables that the block leaves holds of them as they are written
-  pub releases-now : (objects : ℕ) (list : List ℕ) → Releases s objects true (givenTables s b at (tables [] loans chunks index regions)) list → Releases s objects true (tables [] [] chunks [] r') list
+  pub releases_now : (objects : ℕ) (list : List ℕ) → Releases s objects true (given_tables s b at (tables [] loans chunks index regions)) list → Releases s objects true (tables [] [] chunks [] r') list
   unfolding store_of
-  releases-now objects list r = subst (λ (x : Tables). Releases s objects true (tables [] [] x.chunks [] x.room) list) (sym e) r
+  releases_now objects list r = subst (λ (x : Tables). Releases s objects true (tables [] [] x.chunks [] x.room) list) (sym e) r
 
   pub taken_in : (list c'' r'' m : List ℕ) (said : Paper.Said) (account : Account)
-      → listed said account (tables [] [] c'' [] r'') m ≡ releaseOf s a true (tables [] [] chunks [] r') list
-      → listed said account (tables [] l' c'' i' r'') m ≡ releaseOf s a true (givenTables s b at (tables [] loans chunks index regions)) list
+      → listed said account (tables [] [] c'' [] r'') m ≡ release_of s a true (tables [] [] chunks [] r') list
+      → listed said account (tables [] l' c'' i' r'') m ≡ release_of s a true (given_tables s b at (tables [] loans chunks index regions)) list
   taken_in list c'' r'' m said account p =
-      beside s a true said account chunks r' list c'' r'' m p [] l' i' ∙ ap (λ (t : Tables). releaseOf s a true t list) e
+      beside s a true said account chunks r' list c'' r'' m p [] l' i' ∙ ap (λ (t : Tables). release_of s a true t list) e
 
 -- nor does a return look at the head, which it leaves
-pub takes-few : (s : FreeListSettings) (objects : ℕ) (b : Block) (w : ℕ) (t : Tables) (list : List ℕ) → TakesBack s objects b w t list → TakesBack s objects b w (tables [] t.loans t.chunks t.index t.room) list
-unfolding givenTables store_of
-takes-few s objects b w t list k = record { backs = k.backs; strikes = k.strikes; releases = k.releases }
+pub takes_few : (s : FreeListSettings) (objects : ℕ) (b : Block) (w : ℕ) (t : Tables) (list : List ℕ) → TakesBack s objects b w t list → TakesBack s objects b w (tables [] t.loans t.chunks t.index t.room) list
+unfolding given_tables store_of
+takes_few s objects b w t list k = record { backs = k.backs; strikes = k.strikes; releases = k.releases }
 
-pub with-head : (s : FreeListSettings) (a : Account) (b : Block) (at : ℕ) (said : Paper.Said) (account : Account) (head loans chunks index regions list l' c' i' r' m : List ℕ)
-    → listed said account (tables [] l' c' i' r') m ≡ releaseOf s a true (givenTables s b at (tables [] loans chunks index regions)) list
-    → listed said account (tables head l' c' i' r') m ≡ releaseOf s a true (givenTables s b at (tables head loans chunks index regions)) list
-unfolding releaseOf releasedTables givenTables store_of
-with-head s a b at said account head loans chunks index regions list l' c' i' r' m e =
+pub with_head : (s : FreeListSettings) (a : Account) (b : Block) (at : ℕ) (said : Paper.Said) (account : Account) (head loans chunks index regions list l' c' i' r' m : List ℕ)
+    → listed said account (tables [] l' c' i' r') m ≡ release_of s a true (given_tables s b at (tables [] loans chunks index regions)) list
+    → listed said account (tables head l' c' i' r') m ≡ release_of s a true (given_tables s b at (tables head loans chunks index regions)) list
+unfolding release_of released_tables given_tables store_of
+with_head s a b at said account head loans chunks index regions list l' c' i' r' m e =
     ap (λ (y : Listed Tables). listed y.said y.account (tables head y.tables.loans y.tables.chunks y.tables.index y.tables.room) y.list) e
 
 module _ (s : FreeListSettings) (share : Share) (t : Tables) (list : List ℕ) where
   abbrev before : Account
   before = holder s.store share
 
-  pub return_refused : (b : Block) (p q : Back) (n : ℕ) (after : Share) (said : Paper.Said) → p ≡ q → backOf q ≡ deny n → after ≡ share → said ≡ Paper.refusal n []
-      → listed said (holder s.store after) t list ≡ carryReturn s before b t list (backOf p)
-  unfolding carryReturn
+  pub return_refused : (b : Block) (p q : Back) (n : ℕ) (after : Share) (said : Paper.Said) → p ≡ q → back_of q ≡ deny n → after ≡ share → said ≡ Paper.refusal n []
+      → listed said (holder s.store after) t list ≡ carry_return s before b t list (back_of p)
+  unfolding carry_return
   return_refused b p q n after said f e same says =
-      (λ j. listed (says j) (holder s.store (same j)) t list) ∙ ap (carryReturn s before b t list) (sym e) ∙ ap (λ (x : Back). carryReturn s before b t list (backOf x)) (sym f)
+      (λ j. listed (says j) (holder s.store (same j)) t list) ∙ ap (carry_return s before b t list) (sym e) ∙ ap (λ (x : Back). carry_return s before b t list (back_of x)) (sym f)
 
-  pub return-taken : (b : Block) (p q : Back) (w : ℕ) (r : Listed Tables) → p ≡ q → backOf q ≡ back w → r ≡ releaseOf s before true (givenTables s b w t) list → r ≡ carryReturn s before b t list (backOf p)
-  unfolding carryReturn
-  return-taken b p q w r f e d = d ∙ ap (carryReturn s before b t list) (sym e) ∙ ap (λ (x : Back). carryReturn s before b t list (backOf x)) (sym f)
+  pub return_taken : (b : Block) (p q : Back) (w : ℕ) (r : Listed Tables) → p ≡ q → back_of q ≡ back w → r ≡ release_of s before true (given_tables s b w t) list → r ≡ carry_return s before b t list (back_of p)
+  unfolding carry_return
+  return_taken b p q w r f e d = d ∙ ap (carry_return s before b t list) (sym e) ∙ ap (λ (x : Back). carry_return s before b t list (back_of x)) (sym f)
 
-  pub clean-refused : (p q : Gate) (n : ℕ) (after : Share) (said : Paper.Said) → p ≡ q → verdictOf q ≡ refuse n → after ≡ share → said ≡ Paper.refusal n []
-      → listed said (holder s.store after) t list ≡ carryCleanUp s before t list (verdictOf p)
-  unfolding carryCleanUp
-  clean-refused p q n after said f e same says =
-      (λ j. listed (says j) (holder s.store (same j)) t list) ∙ ap (carryCleanUp s before t list) (sym e) ∙ ap (λ (x : Gate). carryCleanUp s before t list (verdictOf x)) (sym f)
+  pub clean_refused : (p q : Gate) (n : ℕ) (after : Share) (said : Paper.Said) → p ≡ q → verdict_of q ≡ refuse n → after ≡ share → said ≡ Paper.refusal n []
+      → listed said (holder s.store after) t list ≡ carry_clean_up s before t list (verdict_of p)
+  unfolding carry_clean_up
+  clean_refused p q n after said f e same says =
+      (λ j. listed (says j) (holder s.store (same j)) t list) ∙ ap (carry_clean_up s before t list) (sym e) ∙ ap (λ (x : Gate). carry_clean_up s before t list (verdict_of x)) (sym f)
 
-  pub clean-went : (p q : Gate) (r : Listed Tables) → p ≡ q → verdictOf q ≡ pass → r ≡ releaseOf s before false t list → r ≡ carryCleanUp s before t list (verdictOf p)
-  unfolding carryCleanUp
-  clean-went p q r f e d = d ∙ ap (carryCleanUp s before t list) (sym e) ∙ ap (λ (x : Gate). carryCleanUp s before t list (verdictOf x)) (sym f)
+  pub clean_went : (p q : Gate) (r : Listed Tables) → p ≡ q → verdict_of q ≡ pass → r ≡ release_of s before false t list → r ≡ carry_clean_up s before t list (verdict_of p)
+  unfolding carry_clean_up
+  clean_went p q r f e d = d ∙ ap (carry_clean_up s before t list) (sym e) ∙ ap (λ (x : Gate). carry_clean_up s before t list (verdict_of x)) (sym f)
 
   -- ---- the calls
 
-  pub return-done : (b : Block) (p : Back) → backOf p ≡ planReturn s before b t (listOk s.store list) → carryReturn s before b t list (backOf p) ≡ returnOf s before b t list
-  unfolding returnOf
-  return-done b p e = ap (carryReturn s before b t list) e
+  pub return_done : (b : Block) (p : Back) → back_of p ≡ plan_return s before b t (list_ok s.store list) → carry_return s before b t list (back_of p) ≡ return_of s before b t list
+  unfolding return_of
+  return_done b p e = ap (carry_return s before b t list) e
 
-  pub clean-done : (p : Gate) → verdictOf p ≡ planCleanUp s before t (listOk s.store list) → carryCleanUp s before t list (verdictOf p) ≡ cleanUpOf s before t list
-  unfolding cleanUpOf
-  clean-done p e = ap (carryCleanUp s before t list) e
+  pub clean_done : (p : Gate) → verdict_of p ≡ plan_clean_up s before t (list_ok s.store list) → carry_clean_up s before t list (verdict_of p) ≡ clean_up_of s before t list
+  unfolding clean_up_of
+  clean_done p e = ap (carry_clean_up s before t list) e

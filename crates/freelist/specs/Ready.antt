@@ -2,7 +2,7 @@
 use Rattle.std.specs.Prelude.{◌≡◌, Bool, true, false, List, ℕ, ◌+◌, ◌≤◌, length}
 use Rattle.rounding_rules.specs.Masks.{Ones}
 use Rattle.counter.specs.InTable.{FreeListIn}
-use Rattle.counter.specs.Limits.{objectsMost}
+use Rattle.counter.specs.Limits.{objects_most}
 use Rattle.counter.specs.declared.account.KeptOrder.{KeptOrder}
 use Rattle.counter.specs.declared.answers.Block.{Block}
 use Rattle.counter.specs.declared.refusal.Gate.{Gate}
@@ -12,8 +12,8 @@ use Rattle.book_rules.specs.Ready.{Strikes}
 use Rattle.freelist_rules.specs.Records.{region}
 use Rattle.freelist_rules.specs.Place.{cut}
 use Rattle.freelist_rules.specs.Tables.{Tables, Lengths, store_of}
-use Rattle.freelist_outcomes.specs.Deliver.{deliveredTables}
-use Rattle.freelist_outcomes.specs.Return.{givenTables, goneFrom}
+use Rattle.freelist_outcomes.specs.Deliver.{delivered_tables}
+use Rattle.freelist_outcomes.specs.Return.{given_tables, gone_from}
 use Rattle.freelist_decide.specs.Plans.{Planned}
 use Rattle.freelist_decide.specs.declared.deciding.Buying.{Buying}
 use Rattle.freelist_decide.specs.declared.deciding.Plan.{Plan}
@@ -26,7 +26,7 @@ use Rattle.store.specs.declared.comings.Coming.{Coming}
 use Rattle.store.specs.declared.comings.Coming.TheVariants as Coming
 use Rattle.freelist.specs.declared.plans.Delivery.{Delivery}
 use Rattle.freelist.specs.declared.plans.Delivery.TheVariants as Delivery
-use Rattle.book_rules.specs.Book.{ledTo}
+use Rattle.book_rules.specs.Book.{led_to}
 
 -- ---- set-up
 
@@ -59,7 +59,7 @@ pub record KeepReady (s : FreeListSettings) (k : KeptOrder) (memory : ℕ) (t : 
   pub aligned : Ones 63 b.mask
   pub small : b.size ≤ k.order.size
   pub adds : Adds s t.chunks t.room
-  pub lends : Lends s (length (store_of s t).regions) (cut b.mask b.size (region 0 0 k.order.size)) b.loan.place t.loans (deliveredTables s memory k.order.size t).chunks t.index (deliveredTables s memory k.order.size t).room
+  pub lends : Lends s (length (store_of s t).regions) (cut b.mask b.size (region 0 0 k.order.size)) b.loan.place t.loans (delivered_tables s memory k.order.size t).chunks t.index (delivered_tables s memory k.order.size t).room
 
 abbrev pub ComingReady : FreeListSettings → Tables → Buying → Coming → Type 0
 ComingReady s t b (Coming.Refuse r) = Unit {0}
@@ -74,13 +74,13 @@ DeliverReady s t (Delivery.Come c b) = ComingReady s t b c
 
 -- the chunks that go can be released, and the device objects allowed again stay within their limit
 abbrev pub Releases : FreeListSettings → ℕ → Bool → Tables → List ℕ → Type 0
-Releases s objects spare t list = Frees s t.chunks t.room list × (objects + length (goneFrom s spare t) ≤ objectsMost)
+Releases s objects spare t list = Frees s t.chunks t.room list × (objects + length (gone_from s spare t) ≤ objects_most)
 
 -- the loan that word w leads to can be struck out, its block go back, and then wholly free chunks go
 pub record TakesBack (s : FreeListSettings) (objects : ℕ) (b : Block) (w : ℕ) (t : Tables) (list : List ℕ) : Type 0 where
   pub backs : Backs s b w t.chunks t.index t.room
-  pub strikes : Strikes w (ledTo t.index w) t.loans t.index
-  pub releases : Releases s objects true (givenTables s b w t) list
+  pub strikes : Strikes w (led_to t.index w) t.loans t.index
+  pub releases : Releases s objects true (given_tables s b w t) list
 
 abbrev pub ReturnReady : FreeListSettings → ℕ → Block → Tables → List ℕ → Back → Type 0
 ReturnReady s objects b t list (Back.Refuse r) = Unit {0}

@@ -1,22 +1,22 @@
 // Plans carried out: the tables written, and what is answered.
 ghost use Rattle.std.specs.Prelude.{◌≡◌, true, [], ℕ};
-ghost use Rattle.counter.specs.Gate.{verdictOf};
-ghost use Rattle.counter.specs.Paper.{setUpSaid, askSaid, deliverSaid, releaseSaid};
+ghost use Rattle.counter.specs.Gate.{verdict_of};
+ghost use Rattle.counter.specs.Paper.{set_up_said, ask_said, deliver_said, release_said};
 ghost use Rattle.counter.specs.declared.account.Account.{Account};
 ghost use Rattle.counter.specs.declared.account.OpenOrder.{OpenOrder};
 ghost use Rattle.store_rules.specs.Delivery as Fates;
 ghost use Rattle.store_rules.specs.Outcomes.{out, listed};
-ghost use Rattle.store_rules.specs.Shares.{askLeft};
+ghost use Rattle.store_rules.specs.Shares.{ask_left};
 ghost use Rattle.store_rules.proofs.Holders.{holding, holder};
-ghost use Rattle.store.specs.Comings.{comingOf};
-ghost use Rattle.returning.specs.Backs.{backOf};
+ghost use Rattle.store.specs.Comings.{coming_of};
+ghost use Rattle.returning.specs.Backs.{back_of};
 ghost use Rattle.freelist_rules.specs.Tables.{tables};
-ghost use Rattle.freelist_outcomes.specs.Ask.{carryAsk};
-ghost use Rattle.freelist_outcomes.specs.Deliver.{carryFate, carryDeliver};
-ghost use Rattle.freelist_outcomes.specs.Return.{givenTables, releaseOf, carryReturn, carryCleanUp};
-ghost use Rattle.freelist_outcomes.specs.SetUp.{begun, carrySetUp};
+ghost use Rattle.freelist_outcomes.specs.Ask.{carry_ask};
+ghost use Rattle.freelist_outcomes.specs.Deliver.{carry_fate, carry_deliver};
+ghost use Rattle.freelist_outcomes.specs.Return.{given_tables, release_of, carry_return, carry_clean_up};
+ghost use Rattle.freelist_outcomes.specs.SetUp.{begun, carry_set_up};
 ghost use Rattle.freelist_decide.specs.Plans.{plan_of, Planned};
-ghost use Rattle.freelist.specs.Deliveries.{deliveryOf};
+ghost use Rattle.freelist.specs.Deliveries.{delivery_of};
 ghost use Rattle.freelist.specs.Ready.{SetUpReady, AskReady, KeepReady, ComingReady, DeliverReady, TakesBack, ReturnReady, CleanUpReady};
 
 use crate::plans::Delivery;
@@ -38,7 +38,7 @@ pub fn carry_set_up(
     regions: &mut [u64],
 ) -> SetUpAnswer
     requires { SetUpReady s (tables head.old loans.old chunks.old index.old regions.old) plan }
-    ensures { begun (setUpSaid result) (tables head.new loans.new chunks.new index.new regions.new) ≡ carrySetUp s (tables head.old loans.old chunks.old index.old regions.old) (verdictOf plan) }
+    ensures { begun (set_up_said result) (tables head.new loans.new chunks.new index.new regions.new) ≡ carry_set_up s (tables head.old loans.old chunks.old index.old regions.old) (verdict_of plan) }
 {
     match plan {
         Gate::Shut(refusal) => SetUpAnswer::Refused(Refused {
@@ -63,7 +63,7 @@ pub fn carry_ask(
     regions: &mut [u64],
 ) -> AskAnswer
     requires { AskReady s (tables head.old loans.old chunks.now index.old regions.old) plan }
-    ensures { (a : Account) (size mask : ℕ) → Planned s size mask (tables head.old loans.old chunks.now index.old regions.old) plan → out (askSaid result) (askLeft a size mask (askSaid result)) (tables head.new loans.new chunks.now index.new regions.new) ≡ carryAsk s a size mask (tables head.old loans.old chunks.now index.old regions.old) (plan_of plan) }
+    ensures { (a : Account) (size mask : ℕ) → Planned s size mask (tables head.old loans.old chunks.now index.old regions.old) plan → out (ask_said result) (ask_left a size mask (ask_said result)) (tables head.new loans.new chunks.now index.new regions.new) ≡ carry_ask s a size mask (tables head.old loans.old chunks.now index.old regions.old) (plan_of plan) }
 {
     match plan {
         Plan::Refuse(refusal) => store::refuse_ask(refusal),
@@ -106,7 +106,7 @@ fn keep_chunk(
     regions: &mut [u64],
 ) -> DeliveredShare
     requires { KeepReady s k memory (tables head.old loans.old chunks.old index.old regions.old) b }
-    ensures { (order : OpenOrder) → out (deliverSaid result.answer) (holding s.store result.share result.order) (tables head.new loans.new chunks.new index.new regions.new) ≡ carryFate s (holding s.store share order) k (tables head.old loans.old chunks.old index.old regions.old) (Fates.kept memory) }
+    ensures { (order : OpenOrder) → out (deliver_said result.answer) (holding s.store result.share result.order) (tables head.new loans.new chunks.new index.new regions.new) ≡ carry_fate s (holding s.store share order) k (tables head.old loans.old chunks.old index.old regions.old) (Fates.kept memory) }
 {
     let order = k.order;
     let loan = b.loan;
@@ -144,7 +144,7 @@ fn carry_coming(
     regions: &mut [u64],
 ) -> DeliveredShare
     requires { ComingReady s (tables head.old loans.old chunks.old index.old regions.old) b coming }
-    ensures { out (deliverSaid result.answer) (holding s.store result.share result.order) (tables head.new loans.new chunks.new index.new regions.new) ≡ carryDeliver s (holding s.store share order) (tables head.old loans.old chunks.old index.old regions.old) (comingOf coming) }
+    ensures { out (deliver_said result.answer) (holding s.store result.share result.order) (tables head.new loans.new chunks.new index.new regions.new) ≡ carry_deliver s (holding s.store share order) (tables head.old loans.old chunks.old index.old regions.old) (coming_of coming) }
 {
     match coming {
         Coming::Refuse(r) => store::refuse_delivery(share, order, r),
@@ -174,7 +174,7 @@ pub fn carry_deliver(
     regions: &mut [u64],
 ) -> DeliveredShare
     requires { DeliverReady s (tables head.old loans.old chunks.old index.old regions.old) plan }
-    ensures { out (deliverSaid result.answer) (holding s.store result.share result.order) (tables head.new loans.new chunks.new index.new regions.new) ≡ carryDeliver s (holding s.store share order) (tables head.old loans.old chunks.old index.old regions.old) (deliveryOf plan) }
+    ensures { out (deliver_said result.answer) (holding s.store result.share result.order) (tables head.new loans.new chunks.new index.new regions.new) ≡ carry_deliver s (holding s.store share order) (tables head.old loans.old chunks.old index.old regions.old) (delivery_of plan) }
 {
     match plan {
         Delivery::Shut(r) => store::refuse_delivery(share, order, r),
@@ -200,7 +200,7 @@ fn take_in(
     list: &mut [u64],
 ) -> ReleasedShare
     requires { TakesBack s share.objects b at (tables [] loans.old chunks.old index.old regions.old) list.old }
-    ensures { listed (releaseSaid result.answer) (holder s.store result.share) (tables [] loans.new chunks.new index.new regions.new) list.new ≡ releaseOf s (holder s.store share) true (givenTables s b at (tables [] loans.old chunks.old index.old regions.old)) list.old }
+    ensures { listed (release_said result.answer) (holder s.store result.share) (tables [] loans.new chunks.new index.new regions.new) list.new ≡ release_of s (holder s.store share) true (given_tables s b at (tables [] loans.old chunks.old index.old regions.old)) list.old }
 {
     freelist_place::take_back(s, b, at, loans, chunks, index, regions);
     let f = freelist_release::release(s, true, chunks, regions, list);
@@ -220,7 +220,7 @@ pub fn carry_return(
     list: &mut [u64],
 ) -> ReleasedShare
     requires { ReturnReady s share.objects b (tables head.now loans.old chunks.old index.old regions.old) list.old plan }
-    ensures { listed (releaseSaid result.answer) (holder s.store result.share) (tables head.now loans.new chunks.new index.new regions.new) list.new ≡ carryReturn s (holder s.store share) b (tables head.now loans.old chunks.old index.old regions.old) list.old (backOf plan) }
+    ensures { listed (release_said result.answer) (holder s.store result.share) (tables head.now loans.new chunks.new index.new regions.new) list.new ≡ carry_return s (holder s.store share) b (tables head.now loans.old chunks.old index.old regions.old) list.old (back_of plan) }
 {
     match plan {
         Back::Refuse(refusal) => store::refuse_return(share, refusal),
@@ -240,7 +240,7 @@ pub fn carry_clean_up(
     list: &mut [u64],
 ) -> ReleasedShare
     requires { CleanUpReady s share.objects (tables head.now loans.now chunks.old index.now regions.old) list.old plan }
-    ensures { listed (releaseSaid result.answer) (holder s.store result.share) (tables head.now loans.now chunks.new index.now regions.new) list.new ≡ carryCleanUp s (holder s.store share) (tables head.now loans.now chunks.old index.now regions.old) list.old (verdictOf plan) }
+    ensures { listed (release_said result.answer) (holder s.store result.share) (tables head.now loans.now chunks.new index.now regions.new) list.new ≡ carry_clean_up s (holder s.store share) (tables head.now loans.now chunks.old index.now regions.old) list.old (verdict_of plan) }
 {
     match plan {
         Gate::Shut(refusal) => store::refuse_return(share, refusal),

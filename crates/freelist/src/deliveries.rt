@@ -1,9 +1,9 @@
 // A delivery: the chunk is added and lent from, or the order is lost.
 ghost use Rattle.std.specs.Prelude.{◌≡◌};
-ghost use Rattle.counter.specs.Paper.{deliverSaid};
+ghost use Rattle.counter.specs.Paper.{deliver_said};
 ghost use Rattle.store_rules.specs.Outcomes.{out};
 ghost use Rattle.freelist_rules.specs.Tables.{tables};
-ghost use Rattle.freelist_outcomes.specs.Deliver.{deliverOf};
+ghost use Rattle.freelist_outcomes.specs.Deliver.{deliver_of};
 
 use counter::{Account, Delivered, FreeListSettings, Outcome};
 
@@ -17,7 +17,7 @@ pub fn deliver(
     index: &mut [u64],
     regions: &mut [u64],
 ) -> Delivered
-    ensures { out (deliverSaid result.answer) result.account (tables head.new loans.new chunks.new index.new regions.new) ≡ deliverOf s a o (tables head.old loans.old chunks.old index.old regions.old) }
+    ensures { out (deliver_said result.answer) result.account (tables head.new loans.new chunks.new index.new regions.new) ≡ deliver_of s a o (tables head.old loans.old chunks.old index.old regions.old) }
 {
     let own = s.store;
     let share = store_accounts::share_of(own, a);

@@ -1,9 +1,9 @@
 // A return and a clean-up: what is taken back, and the wholly free chunks that go.
 ghost use Rattle.std.specs.Prelude.{◌≡◌};
-ghost use Rattle.counter.specs.Paper.{releaseSaid};
+ghost use Rattle.counter.specs.Paper.{release_said};
 ghost use Rattle.store_rules.specs.Outcomes.{listed};
 ghost use Rattle.freelist_rules.specs.Tables.{tables};
-ghost use Rattle.freelist_outcomes.specs.Return.{returnOf, cleanUpOf};
+ghost use Rattle.freelist_outcomes.specs.Return.{return_of, clean_up_of};
 
 use counter::{Account, Block, FreeListSettings, Released};
 
@@ -19,7 +19,7 @@ pub fn return_block(
     regions: &mut [u64],
     list: &mut [u64],
 ) -> Released
-    ensures { listed (releaseSaid result.answer) result.account (tables head.now loans.new chunks.new index.new regions.new) list.new ≡ returnOf s a b (tables head.now loans.old chunks.old index.old regions.old) list.old }
+    ensures { listed (release_said result.answer) result.account (tables head.now loans.new chunks.new index.new regions.new) list.new ≡ return_of s a b (tables head.now loans.old chunks.old index.old regions.old) list.old }
 {
     let own = s.store;
     let share = store_accounts::share_of(own, a);
@@ -38,7 +38,7 @@ pub fn clean_up(
     regions: &mut [u64],
     list: &mut [u64],
 ) -> Released
-    ensures { listed (releaseSaid result.answer) result.account (tables head.now loans.now chunks.new index.now regions.new) list.new ≡ cleanUpOf s a (tables head.now loans.now chunks.old index.now regions.old) list.old }
+    ensures { listed (release_said result.answer) result.account (tables head.now loans.now chunks.new index.now regions.new) list.new ≡ clean_up_of s a (tables head.now loans.now chunks.old index.now regions.old) list.old }
 {
     let own = s.store;
     let share = store_accounts::share_of(own, a);

@@ -1,8 +1,8 @@
 // Set-up: a store with nothing in it.
 ghost use Rattle.std.specs.Prelude.{◌≡◌};
-ghost use Rattle.counter.specs.Paper.{setUpSaid};
+ghost use Rattle.counter.specs.Paper.{set_up_said};
 ghost use Rattle.freelist_rules.specs.Tables.{tables};
-ghost use Rattle.freelist_outcomes.specs.SetUp.{begun, setUpOf};
+ghost use Rattle.freelist_outcomes.specs.SetUp.{begun, set_up_of};
 
 use counter::{FreeListSettings, SetUpAnswer};
 
@@ -14,7 +14,7 @@ pub fn set_up(
     index: &mut [u64],
     regions: &mut [u64],
 ) -> SetUpAnswer
-    ensures { begun (setUpSaid result) (tables head.new loans.new chunks.new index.new regions.new) ≡ setUpOf s (tables head.old loans.old chunks.old index.old regions.old) }
+    ensures { begun (set_up_said result) (tables head.new loans.new chunks.new index.new regions.new) ≡ set_up_of s (tables head.old loans.old chunks.old index.old regions.old) }
 {
     let plan = crate::plans::plan_set_up(s, head, loans, chunks, index, regions);
     crate::carries::carry_set_up(s, plan, head, loans, chunks, index, regions)

@@ -2,11 +2,11 @@
 use Rattle.std.specs.Prelude.{◌≡◌, ℕ}
 use Rattle.counter.specs.Paper.{number_of}
 use Rattle.counter.specs.declared.settings.FreeListSettings.{FreeListSettings}
-use Rattle.slab.specs.declared.Taken.{Taken}
+use Rattle.slabs.specs.declared.Taken.{Taken}
 use Rattle.store_rules.specs.Orders as Orders
 use Rattle.book_rules.specs.Book.{taken_of}
-use Rattle.freelist_rules.specs.Place.{size_for, maskFor}
-use Rattle.freelist_rules.specs.Tables.{Tables, placesIn}
+use Rattle.freelist_rules.specs.Place.{size_for, mask_for}
+use Rattle.freelist_rules.specs.Tables.{Tables, places_in}
 use Rattle.freelist_outcomes.specs.Ask.{block_at}
 use Rattle.freelist_decide.specs.declared.deciding.Plan.{Plan}
 use Rattle.freelist_decide.specs.declared.deciding.Plan.TheVariants.{Refuse, Take, Buy}
@@ -25,4 +25,4 @@ Carries from n m loan (Buy b) = (b.size ≡ n) × (b.mask ≡ m) × (b.loan ≡ 
 -- of an ask: "Size is raised to a multiple of the atom unit", "the highest aligned place that ends within the region", and the
 -- place that the book has next
 abbrev pub Planned : FreeListSettings → ℕ → ℕ → Tables → Plan → Type 0
-Planned s size mask t = Carries (λ i. (block_at s size mask t i).start) (size_for s size) (maskFor s mask) (taken_of (placesIn t) t.index)
+Planned s size mask t = Carries (λ i. (block_at s size mask t i).start) (size_for s size) (mask_for s mask) (taken_of (places_in t) t.index)

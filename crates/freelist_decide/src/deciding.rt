@@ -2,18 +2,18 @@
 ghost use Rattle.std.specs.Prelude.{◌≡◌, [], ◌∷◌, ℕ, ◌<◌, ltb, length, get_or};
 ghost use Rattle.counter.specs.Limits.{spent};
 ghost use Rattle.counter.specs.Gate.{first};
-ghost use Rattle.store_rules.specs.Loans.{givenAt, places_at};
+ghost use Rattle.store_rules.specs.Loans.{given_at, places_at};
 ghost use Rattle.book_rules.specs.Book.{taken_of};
 ghost use Rattle.book_rules.specs.Ready.{Reads};
 ghost use Rattle.freelist_rules.specs.Place.{nowhere, at, size_for};
-ghost use Rattle.freelist_rules.specs.Tables.{tables, chunksAt, RegionsFit};
-ghost use Rattle.freelist_outcomes.specs.Ask.{sizeOk, roomOk, lateRow, planned, decideAsk};
+ghost use Rattle.freelist_rules.specs.Tables.{tables, chunks_at, RegionsFit};
+ghost use Rattle.freelist_outcomes.specs.Ask.{size_ok, room_ok, late_row, planned, decide_ask};
 ghost use Rattle.freelist_decide.specs.Plans.{plan_of, Carries, Planned};
 
 use counter::{FreeListSettings, Heap, Refusal};
 use freelist_regions::Found;
 use freelist_rules::{CHUNK_SIZE_AT, CHUNKS_AT, MADE_AT};
-use slab::Taken;
+use slabs::Taken;
 use store_rules::{GIVEN_AT, PLACES_AT};
 
 // The region that serves, where its block starts, and the place that the loan takes in the book.
@@ -42,7 +42,7 @@ pub enum Plan {
 }
 
 fn is_size(s: FreeListSettings, size: u64) -> bool
-    ensures { result ≡ sizeOk s size }
+    ensures { result ≡ size_ok s size }
 {
     (0 < size) & (size <= s.last)
 }
@@ -58,7 +58,7 @@ fn is_place(s: FreeListSettings, loan: Taken) -> bool
 // Region i serves, from `start` on.
 fn decide_take(s: FreeListSettings, i: usize, start: u64, loans: &[u64], index: &[u64]) -> Plan
     requires { Reads s.store.loans (get_or loans.now places_at 0) loans.now index.now }
-    ensures result_value { plan_of result ≡ planned s 0 (tables [] loans.now [] index.now []) (at i) (first ((roomOk s (tables [] loans.now [] index.now []) (at i), 8) ∷ (ltb (get_or loans.now givenAt 0) spent, 10) ∷ [])) }
+    ensures result_value { plan_of result ≡ planned s 0 (tables [] loans.now [] index.now []) (at i) (first ((room_ok s (tables [] loans.now [] index.now []) (at i), 8) ∷ (ltb (get_or loans.now given_at 0) spent, 10) ∷ [])) }
     ensures by_index { (from : ℕ → ℕ) → (n m : ℕ) → start ≡ from i → Carries from n m (taken_of (get_or loans.now places_at 0) index.now) result }
 {
     let loan = book::next_place_in(loans[PLACES_AT], index);
@@ -87,8 +87,8 @@ fn decide_buy(
     chunks: &[u64],
     index: &[u64],
 ) -> Plan
-    requires { Reads s.store.loans (get_or loans.now places_at 0) loans.now index.now × (chunksAt < length chunks.now) }
-    ensures by_index { (asked : ℕ) → size ≡ size_for s asked → plan_of result ≡ planned s asked (tables head.now loans.now chunks.now index.now []) nowhere (first (lateRow s h objects asked (tables head.now loans.now chunks.now index.now []) nowhere)) }
+    requires { Reads s.store.loans (get_or loans.now places_at 0) loans.now index.now × (chunks_at < length chunks.now) }
+    ensures by_index { (asked : ℕ) → size ≡ size_for s asked → plan_of result ≡ planned s asked (tables head.now loans.now chunks.now index.now []) nowhere (first (late_row s h objects asked (tables head.now loans.now chunks.now index.now []) nowhere)) }
     ensures by_index_2 { (from : ℕ → ℕ) → Carries from size mask (taken_of (get_or loans.now places_at 0) index.now) result }
 {
     let store = s.store;
@@ -126,8 +126,8 @@ pub fn decide(
     index: &[u64],
     regions: &[u64],
 ) -> Plan
-    requires { RegionsFit s regions.now × Reads s.store.loans (get_or loans.now places_at 0) loans.now index.now × (chunksAt < length chunks.now) }
-    ensures result_value { plan_of result ≡ decideAsk s h objects size mask (tables head.now loans.now chunks.now index.now regions.now) }
+    requires { RegionsFit s regions.now × Reads s.store.loans (get_or loans.now places_at 0) loans.now index.now × (chunks_at < length chunks.now) }
+    ensures result_value { plan_of result ≡ decide_ask s h objects size mask (tables head.now loans.now chunks.now index.now regions.now) }
     ensures planned { Planned s size mask (tables head.now loans.now chunks.now index.now regions.now) result }
 {
     if !counter::is_alignment(mask) {

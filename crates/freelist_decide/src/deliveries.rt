@@ -2,11 +2,11 @@
 ghost use Rattle.std.specs.Prelude.{◌≡◌, get_or};
 ghost use Rattle.words.specs.Rows.{rows};
 ghost use Rattle.store_rules.specs.Delivery.{holds};
-ghost use Rattle.store.specs.Comings.{comingOf, known_in};
-ghost use Rattle.freelist_rules.specs.Records.{chunkRow};
-ghost use Rattle.freelist_rules.specs.Tables.{chunksAt};
+ghost use Rattle.store.specs.Comings.{coming_of, known_in};
+ghost use Rattle.freelist_rules.specs.Records.{chunk_row};
+ghost use Rattle.freelist_rules.specs.Tables.{chunks_at};
 ghost use Rattle.freelist_rules.specs.Walk.{memories};
-ghost use Rattle.freelist_outcomes.specs.Deliver.{decideDeliver};
+ghost use Rattle.freelist_outcomes.specs.Deliver.{decide_deliver};
 
 use counter::{OpenOrder, Outcome};
 use freelist_rules::{CHUNK_MEMORY_AT, CHUNK_WORDS, CHUNKS_AT};
@@ -14,7 +14,7 @@ use store::{Coming, Engine};
 
 // Whether one of the first k chunks has this memory.
 fn is_held(chunks: &[u64], k: usize, memory: u64) -> bool
-    ensures { result ≡ holds memory (memories (rows chunkRow k chunks.now)) }
+    ensures { result ≡ holds memory (memories (rows chunk_row k chunks.now)) }
 {
     let mut held = false;
     let mut i = 0;
@@ -27,7 +27,7 @@ fn is_held(chunks: &[u64], k: usize, memory: u64) -> bool
 
 // Whether an outcome's memory is held already.
 fn is_known(o: Outcome, chunks: &[u64]) -> bool
-    ensures { result ≡ known_in (memories (rows chunkRow (get_or chunks.now chunksAt 0) chunks.now)) o }
+    ensures { result ≡ known_in (memories (rows chunk_row (get_or chunks.now chunks_at 0) chunks.now)) o }
 {
     match o {
         Outcome::Made(m) => is_held(chunks, words::word(chunks, CHUNKS_AT) as usize, m.number),
@@ -38,7 +38,7 @@ fn is_known(o: Outcome, chunks: &[u64]) -> bool
 
 // Test 13, and what the outcome leads to.
 pub fn decide_delivery(order: OpenOrder, o: Outcome, chunks: &[u64]) -> Coming
-    ensures { comingOf result ≡ decideDeliver o (memories (rows chunkRow (get_or chunks.now chunksAt 0) chunks.now)) order }
+    ensures { coming_of result ≡ decide_deliver o (memories (rows chunk_row (get_or chunks.now chunks_at 0) chunks.now)) order }
 {
     store::come(Engine::FreeList, order, o, is_known(o, chunks))
 }

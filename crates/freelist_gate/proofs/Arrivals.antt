@@ -16,21 +16,21 @@ use Rattle.counter.specs.declared.account.OpenOrder.{OpenOrder}
 use Rattle.counter.specs.declared.account.OpenOrder.TheVariants.{Nothing, Kept}
 use Rattle.counter.specs.declared.account.Order.{Order}
 use Rattle.counter.specs.declared.settings.FreeListSettings.{FreeListSettings}
-use Rattle.store_rules.specs.Orders.{Plan, deny, take, buy, orderFrom, sameOrder}
+use Rattle.store_rules.specs.Orders.{Plan, deny, take, buy, order_from, same_order}
 use Rattle.store_rules.proofs.Holders.{holding, holder}
-use Rattle.store_rules.specs.Tests.{openFor, coversOk}
+use Rattle.store_rules.specs.Tests.{open_for, covers_ok}
 use Rattle.store_rules.specs.declared.Share.{Share}
-use Rattle.store_rules.proofs.Shares.{held-heap}
-use Rattle.freelist_rules.specs.Tables.{Tables, chunksAt, store_of, soundOk}
-use Rattle.freelist_outcomes.specs.Ask.{decideAsk}
-use Rattle.freelist_outcomes.specs.Deliver.{stillOk, deliverGateOf}
-use Rattle.freelist_outcomes.specs.Gate.{inTableOk, accountOk}
-use Rattle.freelist_outcomes.proofs.Passing.{lent-in}
+use Rattle.store_rules.proofs.Shares.{held_heap}
+use Rattle.freelist_rules.specs.Tables.{Tables, chunks_at, store_of, sound_ok}
+use Rattle.freelist_outcomes.specs.Ask.{decide_ask}
+use Rattle.freelist_outcomes.specs.Deliver.{still_ok, deliver_gate_of}
+use Rattle.freelist_outcomes.specs.Gate.{in_table_ok, account_ok}
+use Rattle.freelist_outcomes.proofs.Passing.{lent_in_lem}
 use Rattle.freelist_decide.specs.Plans.{Planned}
 use Rattle.freelist_decide.specs.declared.deciding.Buying.{Buying}
 use Rattle.freelist_decide.specs.declared.deciding.Plan as Code
 use Rattle.freelist_decide.specs.declared.deciding.Plan.TheVariants.{Buy}
-use Rattle.freelist_gate.specs.Gates.{boughtGate, keptGate, BoughtAs, BoughtFor}
+use Rattle.freelist_gate.specs.Gates.{bought_gate, kept_gate, BoughtAs, BoughtFor}
 use Rattle.freelist_gate.specs.declared.deliveries.Passing.{Passing}
 use Rattle.freelist_gate.specs.declared.deliveries.Passing.TheVariants.{Shut, Go}
 use Rattle.freelist_gate.proofs.Gates.{bytes}
@@ -40,61 +40,61 @@ use Rattle.freelist_gate.proofs.Gates.{bytes}
 module _ (s : FreeListSettings) (h : Heap) (objects : ℕ) (order : Order) (z : ℕ) (chunks : List ℕ) where
   -- whether it is still the one that was told
   abbrev pub same : Bool
-  same = sameOrder order (orderFrom s.store z)
+  same = same_order order (order_from s.store z)
 
   abbrev pub covers : Bool
-  covers = coversOk h objects (get_or chunks chunksAt 0) (bytes (get_or chunks chunksAt 0) chunks)
+  covers = covers_ok h objects (get_or chunks chunks_at 0) (bytes (get_or chunks chunks_at 0) chunks)
 
-  pub bought-other : same ≡ false → refuse 3 ≡ boughtGate s h objects order z chunks
-  unfolding boughtGate
-  bought-other e = rw e refl
+  pub bought_other : same ≡ false → refuse 3 ≡ bought_gate s h objects order z chunks
+  unfolding bought_gate
+  bought_other e = rw e refl
 
-  pub bought-short : same ≡ true → covers ≡ false → refuse 4 ≡ boughtGate s h objects order z chunks
-  unfolding boughtGate
-  bought-short e f = rw (e, f) refl
+  pub bought_short : same ≡ true → covers ≡ false → refuse 4 ≡ bought_gate s h objects order z chunks
+  unfolding bought_gate
+  bought_short e f = rw (e, f) refl
 
-  pub bought-go : same ≡ true → covers ≡ true → pass ≡ boughtGate s h objects order z chunks
-  unfolding boughtGate
-  bought-go e f = rw (e, f) refl
+  pub bought_go : same ≡ true → covers ≡ true → pass ≡ bought_gate s h objects order z chunks
+  unfolding bought_gate
+  bought_go e f = rw (e, f) refl
 
 -- of the order's size
-pub ordered-size : (s : FreeListSettings) (order : Order) (z : ℕ) → sameOrder order (orderFrom s.store z) ≡ true → z ≡ order.size
-ordered-size s order z e = sym (eqb-true order.size z (and_left _ _ (and_right (eqb order.store s.store.number) _ e)))
+pub ordered_size : (s : FreeListSettings) (order : Order) (z : ℕ) → same_order order (order_from s.store z) ≡ true → z ≡ order.size
+ordered_size s order z e = sym (eqb-true order.size z (and_left _ _ (and_right (eqb order.store s.store.number) _ e)))
 
 -- ---- the gate
 
 module _ (s : FreeListSettings) (h : Heap) (objects : ℕ) (k : KeptOrder) (t : Tables) where
   abbrev decided : Plan ℕ
-  decided = decideAsk s h objects k.ask.size k.ask.mask t
+  decided = decide_ask s h objects k.ask.size k.ask.mask t
 
-  pub kept-torn : soundOk s t ≡ false → refuse 3 ≡ keptGate s h objects k t
-  unfolding keptGate
-  kept-torn e = rw e refl
+  pub kept_torn : sound_ok s t ≡ false → refuse 3 ≡ kept_gate s h objects k t
+  unfolding kept_gate
+  kept_torn e = rw e refl
 
-  pub kept-refused : (p : Plan ℕ) (n : ℕ) → soundOk s t ≡ true → p ≡ deny n → p ≡ decided → refuse 3 ≡ keptGate s h objects k t
-  unfolding keptGate
-  kept-refused p n e f g = rw (e, sym g ∙ f) refl
+  pub kept_refused : (p : Plan ℕ) (n : ℕ) → sound_ok s t ≡ true → p ≡ deny n → p ≡ decided → refuse 3 ≡ kept_gate s h objects k t
+  unfolding kept_gate
+  kept_refused p n e f g = rw (e, sym g ∙ f) refl
 
-  pub kept-taken : (p : Plan ℕ) (i : ℕ) → soundOk s t ≡ true → p ≡ take i → p ≡ decided → refuse 3 ≡ keptGate s h objects k t
-  unfolding keptGate
-  kept-taken p i e f g = rw (e, sym g ∙ f) refl
+  pub kept_taken : (p : Plan ℕ) (i : ℕ) → sound_ok s t ≡ true → p ≡ take i → p ≡ decided → refuse 3 ≡ kept_gate s h objects k t
+  unfolding kept_gate
+  kept_taken p i e f g = rw (e, sym g ∙ f) refl
 
-  pub kept-bought : (p : Plan ℕ) (z : ℕ) (v : Verdict) → soundOk s t ≡ true → p ≡ buy z → p ≡ decided → v ≡ boughtGate s h objects k.order z t.chunks → v ≡ keptGate s h objects k t
-  unfolding keptGate boughtGate store_of
-  kept-bought p z v e f g b = b ∙ rw (e, sym g ∙ f) refl
+  pub kept_bought : (p : Plan ℕ) (z : ℕ) (v : Verdict) → sound_ok s t ≡ true → p ≡ buy z → p ≡ decided → v ≡ bought_gate s h objects k.order z t.chunks → v ≡ kept_gate s h objects k t
+  unfolding kept_gate bought_gate store_of
+  kept_bought p z v e f g b = b ∙ rw (e, sym g ∙ f) refl
 
 module _ (s : FreeListSettings) (a : Account) (t : Tables) where
-  lent-not : inTableOk s a t ≡ false → refuse 1 ≡ deliverGateOf s a t
-  unfolding deliverGateOf
-  lent-not e = rw e refl
+  lent_not : in_table_ok s a t ≡ false → refuse 1 ≡ deliver_gate_of s a t
+  unfolding deliver_gate_of
+  lent_not e = rw e refl
 
-  order-not : inTableOk s a t ≡ true → openFor s.store.number a.order ≡ false → refuse 2 ≡ deliverGateOf s a t
-  unfolding deliverGateOf
-  order-not e f = rw (e, f) refl
+  order_not : in_table_ok s a t ≡ true → open_for s.store.number a.order ≡ false → refuse 2 ≡ deliver_gate_of s a t
+  unfolding deliver_gate_of
+  order_not e f = rw (e, f) refl
 
-  order-kept : (h : Heap) (v : Verdict) (k : KeptOrder) → inTableOk s a t ≡ true → openFor s.store.number a.order ≡ true → a.order ≡ Kept k → h ≡ heap_at a s.store.heap → v ≡ keptGate s h a.objects k t → v ≡ deliverGateOf s a t
-  unfolding deliverGateOf keptGate accountOk
-  order-kept h v k e f o p g = g ∙ ap (λ (x : Heap). keptGate s x a.objects k t) p ∙ rw (e, f, ap (stillOk s a t) o) refl
+  order_kept : (h : Heap) (v : Verdict) (k : KeptOrder) → in_table_ok s a t ≡ true → open_for s.store.number a.order ≡ true → a.order ≡ Kept k → h ≡ heap_at a s.store.heap → v ≡ kept_gate s h a.objects k t → v ≡ deliver_gate_of s a t
+  unfolding deliver_gate_of kept_gate account_ok
+  order_kept h v k e f o p g = g ∙ ap (λ (x : Heap). kept_gate s x a.objects k t) p ∙ rw (e, f, ap (still_ok s a t) o) refl
 
 -- by the share and the order
 module _ (s : FreeListSettings) (share : Share) (order : OpenOrder) (t : Tables) where
@@ -102,37 +102,37 @@ module _ (s : FreeListSettings) (share : Share) (order : OpenOrder) (t : Tables)
   held = holding s.store share order
 
   -- test 1 looks at no order
-  lent-held : {b : Bool} → inTableOk s (holder s.store share) t ≡ b → inTableOk s held t ≡ b
-  unfolding inTableOk holding
-  lent-held e = e
+  lent_held : {b : Bool} → in_table_ok s (holder s.store share) t ≡ b → in_table_ok s held t ≡ b
+  unfolding in_table_ok holding
+  lent_held e = e
 
-  pub delivery-lent : inTableOk s (holder s.store share) t ≡ false → refuse 1 ≡ deliverGateOf s held t
-  delivery-lent e = lent-not s held t (lent-held e)
+  pub delivery_lent : in_table_ok s (holder s.store share) t ≡ false → refuse 1 ≡ deliver_gate_of s held t
+  delivery_lent e = lent_not s held t (lent_held e)
 
-  pub delivery-order : inTableOk s (holder s.store share) t ≡ true → openFor s.store.number order ≡ false → refuse 2 ≡ deliverGateOf s held t
+  pub delivery_order : in_table_ok s (holder s.store share) t ≡ true → open_for s.store.number order ≡ false → refuse 2 ≡ deliver_gate_of s held t
   unfolding holding
-  delivery-order e f = order-not s held t (lent-held e) f
+  delivery_order e f = order_not s held t (lent_held e) f
 
   -- no order is open
-  pub delivery-none : inTableOk s (holder s.store share) t ≡ true → order ≡ Nothing → refuse 2 ≡ deliverGateOf s held t
-  delivery-none e f = delivery-order e (ap (openFor s.store.number) f)
+  pub delivery_none : in_table_ok s (holder s.store share) t ≡ true → order ≡ Nothing → refuse 2 ≡ deliver_gate_of s held t
+  delivery_none e f = delivery_order e (ap (open_for s.store.number) f)
 
-  pub delivery-kept : (v : Verdict) (k : KeptOrder) → inTableOk s (holder s.store share) t ≡ true → openFor s.store.number order ≡ true → order ≡ Kept k → v ≡ keptGate s share.heap share.objects k t → v ≡ deliverGateOf s held t
+  pub delivery_kept : (v : Verdict) (k : KeptOrder) → in_table_ok s (holder s.store share) t ≡ true → open_for s.store.number order ≡ true → order ≡ Kept k → v ≡ kept_gate s share.heap share.objects k t → v ≡ deliver_gate_of s held t
   unfolding holding
-  delivery-kept v k e f o g =
-      order-kept s held t share.heap v k (lent-held e) f o (sym (held-heap s.store share order (lent-in s held t (lent-held e)).0.store.heap)) g
+  delivery_kept v k e f o g =
+      order_kept s held t share.heap v k (lent_held e) f o (sym (held_heap s.store share order (lent_in_lem s held t (lent_held e)).0.store.heap)) g
 
 -- ---- what it tells
 
 module _ (s : FreeListSettings) (k : KeptOrder) (t : Tables) where
-  pub bought-for : (b : Buying) (p : Code.Plan) (r : Passing) → p ≡ Buy b → Planned s k.ask.size k.ask.mask t p → BoughtAs k.order b r → BoughtFor s k t r
-  bought-for b p (Shut n) e c o = tt
-  bought-for b p (Go x) e c (f, z) =
+  pub bought_for : (b : Buying) (p : Code.Plan) (r : Passing) → p ≡ Buy b → Planned s k.ask.size k.ask.mask t p → BoughtAs k.order b r → BoughtFor s k t r
+  bought_for b p (Shut n) e c o = tt
+  bought_for b p (Go x) e c (f, z) =
       (ap (λ (y : Buying). y.order) f ∙ z, subst (λ (y : Buying). Planned s k.ask.size k.ask.mask t (Buy y)) (sym f) (subst (Planned s k.ask.size k.ask.mask t) e c))
 
   -- of the order that is open
-  pub open-for : (order : OpenOrder) (j : KeptOrder) (r : Passing) → order ≡ Kept j → BoughtFor s j t r → order ≡ Kept k → BoughtFor s k t r
-  open-for order j r e b f = subst (λ (x : KeptOrder). BoughtFor s x t r) (same (sym e ∙ f)) b
+  pub open_for_lem : (order : OpenOrder) (j : KeptOrder) (r : Passing) → order ≡ Kept j → BoughtFor s j t r → order ≡ Kept k → BoughtFor s k t r
+  open_for_lem order j r e b f = subst (λ (x : KeptOrder). BoughtFor s x t r) (same (sym e ∙ f)) b
     where
       same : Kept j ≡ Kept k → j ≡ k
       same p = cc

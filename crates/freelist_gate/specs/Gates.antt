@@ -7,13 +7,13 @@ use Rattle.counter.specs.declared.account.Heap.{Heap}
 use Rattle.counter.specs.declared.account.KeptOrder.{KeptOrder}
 use Rattle.counter.specs.declared.account.Order.{Order}
 use Rattle.counter.specs.declared.settings.FreeListSettings.{FreeListSettings}
-use Rattle.store_rules.specs.Orders.{orderFrom, sameOrder, leadsTo}
-use Rattle.store_rules.specs.Tests.{coversOk}
-use Rattle.freelist_rules.specs.Records.{chunkRow}
+use Rattle.store_rules.specs.Orders.{order_from, same_order, leads_to}
+use Rattle.store_rules.specs.Tests.{covers_ok}
+use Rattle.freelist_rules.specs.Records.{chunk_row}
 use Rattle.freelist_rules.specs.Pieces.{total}
-use Rattle.freelist_rules.specs.Tables.{Tables, chunksAt, chunks_in, store_of, soundOk}
+use Rattle.freelist_rules.specs.Tables.{Tables, chunks_at, chunks_in, store_of, sound_ok}
 use Rattle.store_rules.specs.declared.Chunk.{Chunk}
-use Rattle.freelist_outcomes.specs.Ask.{decideAsk}
+use Rattle.freelist_outcomes.specs.Ask.{decide_ask}
 use Rattle.freelist_decide.specs.Plans.{Planned}
 use Rattle.freelist_decide.specs.declared.deciding.Buying.{Buying}
 use Rattle.freelist_decide.specs.declared.deciding.Plan.TheVariants.{Buy}
@@ -22,34 +22,34 @@ use Rattle.freelist_gate.specs.declared.deliveries.Passing.TheVariants.{Shut, Go
 
 -- 3 and 4 of an ask, a return and a clean-up
 
-unfoldable pub storeGate : FreeListSettings → Heap → ℕ → Tables → Verdict
-storeGate s h objects t =
+unfoldable pub store_gate : FreeListSettings → Heap → ℕ → Tables → Verdict
+store_gate s h objects t =
     first
-    ((soundOk s t, 3)
-    ∷ (coversOk h objects (chunks_in t) (total (λ (c : Chunk). c.size) (store_of s t).chunks), 4)
+    ((sound_ok s t, 3)
+    ∷ (covers_ok h objects (chunks_in t) (total (λ (c : Chunk). c.size) (store_of s t).chunks), 4)
     ∷ [])
 
 -- 3 and 4 of a delivery, of the order that is kept
-unfoldable pub keptGate : FreeListSettings → Heap → ℕ → KeptOrder → Tables → Verdict
-keptGate s h objects k t =
+unfoldable pub kept_gate : FreeListSettings → Heap → ℕ → KeptOrder → Tables → Verdict
+kept_gate s h objects k t =
     first
-    ((soundOk s t && leadsTo s.store k.order (decideAsk s h objects k.ask.size k.ask.mask t), 3)
-    ∷ (coversOk h objects (chunks_in t) (total (λ (c : Chunk). c.size) (store_of s t).chunks), 4)
+    ((sound_ok s t && leads_to s.store k.order (decide_ask s h objects k.ask.size k.ask.mask t), 3)
+    ∷ (covers_ok h objects (chunks_in t) (total (λ (c : Chunk). c.size) (store_of s t).chunks), 4)
     ∷ [])
 
 -- the same where the kept ask comes to an order of z bytes
-unfoldable pub boughtGate : FreeListSettings → Heap → ℕ → Order → ℕ → List ℕ → Verdict
-boughtGate s h objects order z chunks =
+unfoldable pub bought_gate : FreeListSettings → Heap → ℕ → Order → ℕ → List ℕ → Verdict
+bought_gate s h objects order z chunks =
     first
-    ((sameOrder order (orderFrom s.store z), 3)
-    ∷ (coversOk h objects (get_or chunks chunksAt 0) (total (λ (c : Chunk). c.size) (rows chunkRow (get_or chunks chunksAt 0) chunks)), 4)
+    ((same_order order (order_from s.store z), 3)
+    ∷ (covers_ok h objects (get_or chunks chunks_at 0) (total (λ (c : Chunk). c.size) (rows chunk_row (get_or chunks chunks_at 0) chunks)), 4)
     ∷ [])
 
 -- ---- the code's words for a delivery's gate
 
-abbrev pub passOf : Passing → Verdict
-passOf (Shut r) = refuse (number_of r)
-passOf (Go b) = pass
+abbrev pub pass_of : Passing → Verdict
+pass_of (Shut r) = refuse (number_of r)
+pass_of (Go b) = pass
 
 -- what is passed on is b, of the order's size
 abbrev pub BoughtAs : Order → Buying → Passing → Type 0

@@ -2,16 +2,16 @@
 ghost use Rattle.std.specs.Prelude.{◌≡◌, true, ◌*◌, ◌≤◌, get_or};
 ghost use Rattle.words.specs.Rows.{rows};
 ghost use Rattle.counter.specs.InTable.{FreeListIn};
-ghost use Rattle.counter.specs.Limits.{chunksMost, chunkSizeMost};
+ghost use Rattle.counter.specs.Limits.{chunks_most, chunk_size_most};
 ghost use Rattle.counter.specs.declared.account.KeptOrder.{KeptOrder};
 ghost use Rattle.counter.specs.declared.account.OpenOrder.TheVariants.{Kept};
-ghost use Rattle.store_rules.specs.Orders.{orderFrom, sameOrder};
+ghost use Rattle.store_rules.specs.Orders.{order_from, same_order};
 ghost use Rattle.store_rules.proofs.Holders.{holding};
-ghost use Rattle.freelist_rules.specs.Records.{chunkRow};
+ghost use Rattle.freelist_rules.specs.Records.{chunk_row};
 ghost use Rattle.freelist_rules.specs.Pieces.{total};
-ghost use Rattle.freelist_rules.specs.Tables.{tables, lengthsOk, chunksAt};
-ghost use Rattle.freelist_outcomes.specs.Deliver.{deliverGateOf};
-ghost use Rattle.freelist_gate.specs.Gates.{boughtGate, keptGate, passOf, BoughtAs, BoughtFor};
+ghost use Rattle.freelist_rules.specs.Tables.{tables, lengths_ok, chunks_at};
+ghost use Rattle.freelist_outcomes.specs.Deliver.{deliver_gate_of};
+ghost use Rattle.freelist_gate.specs.Gates.{bought_gate, kept_gate, pass_of, BoughtAs, BoughtFor};
 
 use crate::gating::{is_covered, is_in_table};
 use counter::{FreeListSettings, Heap, KeptOrder, OpenOrder, Order, Refusal};
@@ -27,7 +27,7 @@ pub enum Passing {
 
 // Whether the chunk that the kept ask comes to is still the one that was ordered.
 fn is_still(s: FreeListSettings, order: Order, size: u64) -> bool
-    ensures { result ≡ sameOrder order (orderFrom s.store size) }
+    ensures { result ≡ same_order order (order_from s.store size) }
 {
     let store = s.store;
     store_accounts::same_order(order, store_accounts::order_from(store, size))
@@ -42,8 +42,8 @@ fn gate_bought(
     b: Buying,
     chunks: &[u64],
 ) -> Passing
-    requires { (get_or chunks.now chunksAt 0 ≤ chunksMost) × ((j : _) → j ≤ get_or chunks.now chunksAt 0 → total (λ c. c.size) (rows chunkRow j chunks.now) ≤ j * chunkSizeMost) }
-    ensures result_value { passOf result ≡ boughtGate s h objects order b.order chunks.now }
+    requires { (get_or chunks.now chunks_at 0 ≤ chunks_most) × ((j : _) → j ≤ get_or chunks.now chunks_at 0 → total (λ c. c.size) (rows chunk_row j chunks.now) ≤ j * chunk_size_most) }
+    ensures result_value { pass_of result ≡ bought_gate s h objects order b.order chunks.now }
     ensures bought_as { BoughtAs order b result }
 {
     if !is_still(s, order, b.order) {
@@ -67,8 +67,8 @@ fn gate_kept(
     index: &[u64],
     regions: &[u64],
 ) -> Passing
-    requires { FreeListIn s × (lengthsOk s (tables head.now loans.now chunks.now index.now regions.now) ≡ true) }
-    ensures result_value { passOf result ≡ keptGate s h objects k (tables head.now loans.now chunks.now index.now regions.now) }
+    requires { FreeListIn s × (lengths_ok s (tables head.now loans.now chunks.now index.now regions.now) ≡ true) }
+    ensures result_value { pass_of result ≡ kept_gate s h objects k (tables head.now loans.now chunks.now index.now regions.now) }
     ensures bought_for { BoughtFor s k (tables head.now loans.now chunks.now index.now regions.now) result }
 {
     if !freelist_test::is_sound(s, head, loans, chunks, index, regions) {
@@ -96,7 +96,7 @@ pub fn gate_delivery(
     index: &[u64],
     regions: &[u64],
 ) -> Passing
-    ensures result_value { passOf result ≡ deliverGateOf s (holding s.store share order) (tables head.now loans.now chunks.now index.now regions.now) }
+    ensures result_value { pass_of result ≡ deliver_gate_of s (holding s.store share order) (tables head.now loans.now chunks.now index.now regions.now) }
     ensures bought_for { (k : KeptOrder) → order ≡ Kept k → BoughtFor s k (tables head.now loans.now chunks.now index.now regions.now) result }
 {
     if !is_in_table(s, share, head, loans, chunks, index, regions) {

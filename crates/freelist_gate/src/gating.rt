@@ -1,17 +1,17 @@
 // The gate of every call: the tests 1 to 4, in that order.
 ghost use Rattle.std.specs.Prelude.{◌≡◌, true, ◌*◌, ◌≤◌, get_or};
 ghost use Rattle.words.specs.Rows.{rows};
-ghost use Rattle.counter.specs.Gate.{verdictOf};
+ghost use Rattle.counter.specs.Gate.{verdict_of};
 ghost use Rattle.counter.specs.InTable.{FreeListIn};
-ghost use Rattle.counter.specs.Limits.{chunksMost, chunkSizeMost};
+ghost use Rattle.counter.specs.Limits.{chunks_most, chunk_size_most};
 ghost use Rattle.store_rules.proofs.Holders.{holder};
-ghost use Rattle.store_rules.specs.Tests.{coversOk};
-ghost use Rattle.freelist_rules.specs.Records.{chunkRow};
+ghost use Rattle.store_rules.specs.Tests.{covers_ok};
+ghost use Rattle.freelist_rules.specs.Records.{chunk_row};
 ghost use Rattle.freelist_rules.specs.Pieces.{total};
-ghost use Rattle.freelist_rules.specs.Tables.{tables, lengthsOk, chunksAt};
-ghost use Rattle.freelist_outcomes.specs.Gate.{inTableOk, gateOf};
-ghost use Rattle.freelist_outcomes.specs.SetUp.{fitOk};
-ghost use Rattle.freelist_gate.specs.Gates.{storeGate};
+ghost use Rattle.freelist_rules.specs.Tables.{tables, lengths_ok, chunks_at};
+ghost use Rattle.freelist_outcomes.specs.Gate.{in_table_ok, gate_of};
+ghost use Rattle.freelist_outcomes.specs.SetUp.{fit_ok};
+ghost use Rattle.freelist_gate.specs.Gates.{store_gate};
 
 use book::ENTRY_WORDS;
 use counter::{FreeListSettings, Gate, Heap, Refusal};
@@ -27,7 +27,7 @@ pub fn lengths_fit(
     regions: &[u64],
 ) -> bool
     requires { FreeListIn s }
-    ensures { result ≡ lengthsOk s (tables head.now loans.now chunks.now index.now regions.now) }
+    ensures { result ≡ lengths_ok s (tables head.now loans.now chunks.now index.now regions.now) }
 {
     let store = s.store;
     (head.len() == HEAD_WORDS)
@@ -46,7 +46,7 @@ pub fn is_fit(
     index: &[u64],
     regions: &[u64],
 ) -> bool
-    ensures { result ≡ fitOk s (tables head.now loans.now chunks.now index.now regions.now) }
+    ensures { result ≡ fit_ok s (tables head.now loans.now chunks.now index.now regions.now) }
 {
     if s.in_table() {
         lengths_fit(s, head, loans, chunks, index, regions)
@@ -65,7 +65,7 @@ pub fn is_in_table(
     index: &[u64],
     regions: &[u64],
 ) -> bool
-    ensures { result ≡ inTableOk s (holder s.store share) (tables head.now loans.now chunks.now index.now regions.now) }
+    ensures { result ≡ in_table_ok s (holder s.store share) (tables head.now loans.now chunks.now index.now regions.now) }
 {
     if s.in_table() {
         let heap = share.heap;
@@ -78,8 +78,8 @@ pub fn is_in_table(
 
 // The bytes of the first k chunks.
 fn chunk_bytes(chunks: &[u64], k: usize) -> u64
-    requires { (k ≤ chunksMost) × ((j : _) → j ≤ k → total (λ c. c.size) (rows chunkRow j chunks.now) ≤ j * chunkSizeMost) }
-    ensures { result ≡ total (λ c. c.size) (rows chunkRow k chunks.now) }
+    requires { (k ≤ chunks_most) × ((j : _) → j ≤ k → total (λ c. c.size) (rows chunk_row j chunks.now) ≤ j * chunk_size_most) }
+    ensures { result ≡ total (λ c. c.size) (rows chunk_row k chunks.now) }
 {
     let mut sum = 0u64;
     let mut i = 0;
@@ -92,8 +92,8 @@ fn chunk_bytes(chunks: &[u64], k: usize) -> u64
 
 // Test 4, of the store's own heap.
 pub fn is_covered(h: Heap, objects: u32, chunks: &[u64]) -> bool
-    requires { (get_or chunks.now chunksAt 0 ≤ chunksMost) × ((j : _) → j ≤ get_or chunks.now chunksAt 0 → total (λ c. c.size) (rows chunkRow j chunks.now) ≤ j * chunkSizeMost) }
-    ensures { result ≡ coversOk h objects (get_or chunks.now chunksAt 0) (total (λ c. c.size) (rows chunkRow (get_or chunks.now chunksAt 0) chunks.now)) }
+    requires { (get_or chunks.now chunks_at 0 ≤ chunks_most) × ((j : _) → j ≤ get_or chunks.now chunks_at 0 → total (λ c. c.size) (rows chunk_row j chunks.now) ≤ j * chunk_size_most) }
+    ensures { result ≡ covers_ok h objects (get_or chunks.now chunks_at 0) (total (λ c. c.size) (rows chunk_row (get_or chunks.now chunks_at 0) chunks.now)) }
 {
     let k = words::word(chunks, CHUNKS_AT);
     store_accounts::covers(h, objects, k, chunk_bytes(chunks, k as usize))
@@ -110,8 +110,8 @@ fn gate_store(
     index: &[u64],
     regions: &[u64],
 ) -> Gate
-    requires { FreeListIn s × (lengthsOk s (tables head.now loans.now chunks.now index.now regions.now) ≡ true) }
-    ensures { verdictOf result ≡ storeGate s h objects (tables head.now loans.now chunks.now index.now regions.now) }
+    requires { FreeListIn s × (lengths_ok s (tables head.now loans.now chunks.now index.now regions.now) ≡ true) }
+    ensures { verdict_of result ≡ store_gate s h objects (tables head.now loans.now chunks.now index.now regions.now) }
 {
     if !freelist_test::is_sound(s, head, loans, chunks, index, regions) {
         return Gate::Shut(Refusal::Torn);
@@ -133,7 +133,7 @@ pub fn gate(
     index: &[u64],
     regions: &[u64],
 ) -> Gate
-    ensures { verdictOf result ≡ gateOf s (holder s.store share) (tables head.now loans.now chunks.now index.now regions.now) list }
+    ensures { verdict_of result ≡ gate_of s (holder s.store share) (tables head.now loans.now chunks.now index.now regions.now) list }
 {
     let lent = is_in_table(s, share, head, loans, chunks, index, regions);
     if !(lent & list) {

@@ -1,7 +1,7 @@
 // Chunks found by number.
 ghost use Rattle.std.specs.Prelude.{◌≡◌};
 ghost use Rattle.words.specs.Rows.{rows};
-ghost use Rattle.freelist_rules.specs.Records.{chunkRow};
+ghost use Rattle.freelist_rules.specs.Records.{chunk_row};
 ghost use Rattle.freelist_marks.specs.Numbered.{numbered};
 ghost use Rattle.freelist_marks.specs.Releasable.{NumbersRise};
 
@@ -10,8 +10,8 @@ use store_rules::Chunk;
 
 // The chunk with this number, of the first k; a record of zeros where there is none.
 pub fn find_chunk(t: &[u64], k: usize, number: u64) -> Chunk
-    requires { NumbersRise (rows chunkRow k t.now) }
-    ensures { result ≡ numbered number (rows chunkRow k t.now) }
+    requires { NumbersRise (rows chunk_row k t.now) }
+    ensures { result ≡ numbered number (rows chunk_row k t.now) }
 {
     let j = seat(t, k, number);
     let c = chunk_at(t, j);

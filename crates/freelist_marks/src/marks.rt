@@ -2,10 +2,10 @@
 ghost use Rattle.std.specs.Prelude.{◌≡◌, ◌&&◌, not, [], ◌+◌, ◌≤◌, length};
 ghost use Rattle.std.proofs.lemmas.List.Edits.{sets};
 ghost use Rattle.words.specs.Rows.{row, rows};
-ghost use Rattle.counter.specs.Limits.{loansMost, chunksMost};
-ghost use Rattle.freelist_rules.specs.Records.{chunkRow, gapRow};
-ghost use Rattle.freelist_rules.specs.Release.{wholly, leaving, memoriesOf, bytes_of};
-ghost use Rattle.freelist_rules.specs.Threads.{regionIn, freeOf};
+ghost use Rattle.counter.specs.Limits.{loans_most, chunks_most};
+ghost use Rattle.freelist_rules.specs.Records.{chunk_row, gap_row};
+ghost use Rattle.freelist_rules.specs.Release.{wholly, leaving, memories_of, bytes_of};
+ghost use Rattle.freelist_rules.specs.Threads.{region_in, free_of};
 ghost use Rattle.freelist_marks.specs.Turned.{turned};
 ghost use Rattle.freelist_marks.specs.Numbered.{fills};
 ghost use Rattle.freelist_marks.specs.Releasable.{NumbersRise, Releasable};
@@ -30,8 +30,8 @@ fn is_all(r: Region, c: Chunk) -> bool
 
 // Whether the region is all of its chunk. Few start at 0, and only those look their chunk up.
 pub fn is_whole(chunks: &[u64], k: usize, r: Region) -> bool
-    requires { NumbersRise (rows chunkRow k chunks.now) }
-    ensures { result ≡ wholly (rows chunkRow k chunks.now) r }
+    requires { NumbersRise (rows chunk_row k chunks.now) }
+    ensures { result ≡ wholly (rows chunk_row k chunks.now) r }
 {
     if r.start == 0 {
         let c = find_chunk(chunks, k, r.chunk);
@@ -43,8 +43,8 @@ pub fn is_whole(chunks: &[u64], k: usize, r: Region) -> bool
 
 // Whether region i is all of its chunk, and is not spared. Few start at 0, and only those look their chunk up.
 pub fn goes_at(chunks: &[u64], k: usize, regions: &[u64], i: usize, spared: bool) -> bool
-    requires { NumbersRise (rows chunkRow k chunks.now) }
-    ensures { result ≡ (not spared && wholly (rows chunkRow k chunks.now) (regionIn (row gapRow i regions.now))) }
+    requires { NumbersRise (rows chunk_row k chunks.now) }
+    ensures { result ≡ (not spared && wholly (rows chunk_row k chunks.now) (region_in (row gap_row i regions.now))) }
 {
     let start = words::cell(regions, REGION_START_AT, REGION_WORDS, i);
     if start == 0 {
@@ -79,11 +79,11 @@ pub fn mark(
     spare: bool,
     list: &mut [u64],
 ) -> Marked
-    requires k_in_bounds { (k ≤ length list.old) × (n ≤ loansMost + chunksMost) }
-    requires releasable { Releasable (rows chunkRow k chunks.now) (freeOf (rows gapRow n regions.now)) }
-    ensures count_value { result.count ≡ length (leaving (rows chunkRow k chunks.now) spare [] (freeOf (rows gapRow n regions.now))) }
-    ensures bytes_value { result.bytes ≡ bytes_of (leaving (rows chunkRow k chunks.now) spare [] (freeOf (rows gapRow n regions.now))) }
-    ensures list_after { list.new ≡ sets list.old 0 (memoriesOf (rows chunkRow k chunks.now) (leaving (rows chunkRow k chunks.now) spare [] (freeOf (rows gapRow n regions.now)))) }
+    requires k_in_bounds { (k ≤ length list.old) × (n ≤ loans_most + chunks_most) }
+    requires releasable { Releasable (rows chunk_row k chunks.now) (free_of (rows gap_row n regions.now)) }
+    ensures count_value { result.count ≡ length (leaving (rows chunk_row k chunks.now) spare [] (free_of (rows gap_row n regions.now))) }
+    ensures bytes_value { result.bytes ≡ bytes_of (leaving (rows chunk_row k chunks.now) spare [] (free_of (rows gap_row n regions.now))) }
+    ensures list_after { list.new ≡ sets list.old 0 (memories_of (rows chunk_row k chunks.now) (leaving (rows chunk_row k chunks.now) spare [] (free_of (rows gap_row n regions.now)))) }
 {
     let mut i = 0;
     let mut m = 0;

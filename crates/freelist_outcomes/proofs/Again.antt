@@ -4,11 +4,11 @@ use mathlib.Core.Bool.{Bool, true, false, ◌&&◌}
 use mathlib.Core.List.{List}
 use Prim.Native.Nat.{ℕ, ◌+◌}
 use native.Mathlib.Omega.{arith}
-use Rattle.lists.proofs.Bools.{true-false, and_both}
+use Rattle.lists.proofs.Bools.{true_false, and_both}
 use Rattle.counter.specs.Account.{Typed, heap_at}
 use Rattle.counter.specs.Gate.{pass}
 use Rattle.counter.specs.InTable.{FreeListIn}
-use Rattle.counter.specs.Table.{freeListOk, heapsOk}
+use Rattle.counter.specs.Table.{free_list_ok, heaps_ok}
 use Rattle.counter.specs.declared.account.Account.{Account}
 use Rattle.counter.specs.declared.account.KeptOrder.{KeptOrder}
 use Rattle.counter.specs.declared.account.OpenOrder.{OpenOrder}
@@ -17,124 +17,124 @@ use Rattle.counter.specs.declared.answers.Block.{Block}
 use Rattle.counter.specs.declared.answers.Outcome.{Outcome}
 use Rattle.counter.specs.declared.settings.FreeListSettings.{FreeListSettings}
 use Rattle.counter.proofs.Gates.{passed, passes}
-use Rattle.counter.proofs.Tables.{free-list-all}
-use Rattle.heap.specs.Heap.{bearsOk, Within}
-use Rattle.store_rules.specs.Outcomes.{Out, Listed, releasedAccount}
-use Rattle.store_rules.specs.Tests.{no_order, openFor, gateRow}
+use Rattle.counter.proofs.Tables.{free_list_all}
+use Rattle.heap.specs.Heap.{bears_ok, Within}
+use Rattle.store_rules.specs.Outcomes.{Out, Listed, released_account}
+use Rattle.store_rules.specs.Tests.{no_order, open_for, gate_row}
 use Rattle.freelist_rules.specs.Records.{Store, chunk}
-use Rattle.freelist_rules.specs.Tables.{Tables, Lengths, lengthsOk, store_of, soundOk, SoundTables}
-use Rattle.freelist_rules.proofs.Fits.{lengths-are, are-lengths}
-use Rattle.freelist_rules.proofs.Tested.{tables-all}
-use Rattle.freelist_outcomes.specs.Gate.{inTableOk, accountOk, gateOf}
-use Rattle.freelist_outcomes.specs.Ask.{askOf}
-use Rattle.freelist_outcomes.specs.Deliver.{stillOk, deliverGateOf, carryFate, deliverOf}
-use Rattle.freelist_outcomes.specs.Return.{word_for, givenTables, releaseOf, returnOf, cleanUpOf}
-use Rattle.freelist_outcomes.proofs.Accounts.{account-same, released-heaps, released-account, charged-heaps, charged-account, lost-heaps, lost-account}
-use Rattle.freelist_outcomes.proofs.Arrives.{lent-lengths, lent-store, lent-tables-sound}
-use Rattle.freelist_outcomes.proofs.Changed.{released-lengths, released-tables-sound}
-use Rattle.freelist_outcomes.proofs.Comes.{Open, AskComes, lends, orders, ask-comes, DeliverComes, keeps, loses, deliver-comes, ReturnComes, takes, return-comes, CleanUpComes, cleans, clean-up-comes}
-use Rattle.freelist_outcomes.proofs.Given.{given-lengths, given-store, given-sound}
-use Rattle.freelist_outcomes.proofs.Taken.{taken-lengths, taken-store, taken-sound}
+use Rattle.freelist_rules.specs.Tables.{Tables, Lengths, lengths_ok, store_of, sound_ok, SoundTables}
+use Rattle.freelist_rules.proofs.Fits.{lengths_are, are_lengths}
+use Rattle.freelist_rules.proofs.Tested.{tables_all}
+use Rattle.freelist_outcomes.specs.Gate.{in_table_ok, account_ok, gate_of}
+use Rattle.freelist_outcomes.specs.Ask.{ask_of}
+use Rattle.freelist_outcomes.specs.Deliver.{still_ok, deliver_gate_of, carry_fate, deliver_of}
+use Rattle.freelist_outcomes.specs.Return.{word_for, given_tables, release_of, return_of, clean_up_of}
+use Rattle.freelist_outcomes.proofs.Accounts.{account_same, released_heaps, released_account_lem, charged_heaps, charged_account_lem, lost_heaps, lost_account_lem}
+use Rattle.freelist_outcomes.proofs.Arrives.{lent_lengths, lent_store, lent_tables_sound}
+use Rattle.freelist_outcomes.proofs.Changed.{released_lengths, released_tables_sound}
+use Rattle.freelist_outcomes.proofs.Comes.{Open, AskComes, lends, orders, ask_comes, DeliverComes, keeps, loses, deliver_comes, ReturnComes, takes, return_comes, CleanUpComes, cleans, clean_up_comes}
+use Rattle.freelist_outcomes.proofs.Given.{given_lengths, given_store, given_sound}
+use Rattle.freelist_outcomes.proofs.Taken.{taken_lengths, taken_store, taken_sound}
 
 -- what tests 1 to 4 ask for
-pub gate-passes : (s : FreeListSettings) (a : Account) (t : Tables) → FreeListIn s → heapsOk a.heaps ≡ true → Lengths s t → no_order a.order ≡ true → SoundTables s t → accountOk s a t ≡ true → gateOf s a t true ≡ pass
-unfolding gateOf inTableOk
-gate-passes s a t fit heaps lengths none sound covered =
-    passes (gateRow (inTableOk s a t && true) (no_order a.order) (soundOk s t) (accountOk s a t)) (
-      and_both (inTableOk s a t) true (and_both (freeListOk s) (heapsOk a.heaps && lengthsOk s t) (free-list-all s fit) (and_both (heapsOk a.heaps) (lengthsOk s t) heaps (are-lengths s t lengths))) refl,
-      (none, (tables-all s t fit sound, (covered, tt))),
+pub gate_passes : (s : FreeListSettings) (a : Account) (t : Tables) → FreeListIn s → heaps_ok a.heaps ≡ true → Lengths s t → no_order a.order ≡ true → SoundTables s t → account_ok s a t ≡ true → gate_of s a t true ≡ pass
+unfolding gate_of in_table_ok
+gate_passes s a t fit heaps lengths none sound covered =
+    passes (gate_row (in_table_ok s a t && true) (no_order a.order) (sound_ok s t) (account_ok s a t)) (
+      and_both (in_table_ok s a t) true (and_both (free_list_ok s) (heaps_ok a.heaps && lengths_ok s t) (free_list_all s fit) (and_both (heaps_ok a.heaps) (lengths_ok s t) heaps (are_lengths s t lengths))) refl,
+      (none, (tables_all s t fit sound, (covered, tt))),
     )
 
 -- after a release from a store that is right with its account
-release-passes : (s : FreeListSettings) (a : Account) (t : Tables) (spare : Bool) (list : List ℕ) → FreeListIn s → heapsOk a.heaps ≡ true → Lengths s t → no_order a.order ≡ true → SoundTables s t
-    → Within (heap_at a s.store.heap) → accountOk s a t ≡ true → gateOf s (releaseOf s a spare t list).account (releaseOf s a spare t list).tables true ≡ pass
-unfolding releaseOf releasedAccount
-release-passes s a t spare list fit heaps lengths none sound within covered =
-    gate-passes s (releaseOf s a spare t list).account (releaseOf s a spare t list).tables fit
-    (released-heaps s a t fit lengths sound spare heaps)
-    (released-lengths s t fit lengths sound spare)
+release_passes : (s : FreeListSettings) (a : Account) (t : Tables) (spare : Bool) (list : List ℕ) → FreeListIn s → heaps_ok a.heaps ≡ true → Lengths s t → no_order a.order ≡ true → SoundTables s t
+    → Within (heap_at a s.store.heap) → account_ok s a t ≡ true → gate_of s (release_of s a spare t list).account (release_of s a spare t list).tables true ≡ pass
+unfolding release_of released_account
+release_passes s a t spare list fit heaps lengths none sound within covered =
+    gate_passes s (release_of s a spare t list).account (release_of s a spare t list).tables fit
+    (released_heaps s a t fit lengths sound spare heaps)
+    (released_lengths s t fit lengths sound spare)
     none
-    (released-tables-sound s t fit lengths sound spare)
-    (released-account s a t fit lengths sound spare within covered)
+    (released_tables_sound s t fit lengths sound spare)
+    (released_account_lem s a t fit lengths sound spare within covered)
 
 -- 1 to 4 pass: values in the table, no order open, the store sound, the account covering it
-module _ (s : FreeListSettings) (a : Account) (t : Tables) (typed : Typed a) (passes-now : gateOf s a t true ≡ pass) where
+module _ (s : FreeListSettings) (a : Account) (t : Tables) (typed : Typed a) (passes_now : gate_of s a t true ≡ pass) where
   -- no order is open
   none_open : no_order a.order ≡ true
-  unfolding gateOf
-  none_open = (passed (gateRow (inTableOk s a t && true) (no_order a.order) (soundOk s t) (accountOk s a t)) passes-now).1.0
+  unfolding gate_of
+  none_open = (passed (gate_row (in_table_ok s a t && true) (no_order a.order) (sound_ok s t) (account_ok s a t)) passes_now).1.0
 
   -- after an ask that opened no order tests 1 to 4 pass again
-  pub ask-again : (size mask : ℕ) → no_order (askOf s a size mask t).account.order ≡ true → gateOf s (askOf s a size mask t).account (askOf s a size mask t).tables true ≡ pass
-  ask-again size mask = go (askOf s a size mask t) (ask-comes s a size mask t)
+  pub ask_again : (size mask : ℕ) → no_order (ask_of s a size mask t).account.order ≡ true → gate_of s (ask_of s a size mask t).account (ask_of s a size mask t).tables true ≡ pass
+  ask_again size mask = go (ask_of s a size mask t) (ask_comes s a size mask t)
     where
-      go : (o : Out Tables) → AskComes s a size mask t o → no_order o.account.order ≡ true → gateOf s o.account o.tables true ≡ pass
-      go _ (AskComes.denied n) none = passes-now
+      go : (o : Out Tables) → AskComes s a size mask t o → no_order o.account.order ≡ true → gate_of s o.account o.tables true ≡ pass
+      go _ (AskComes.denied n) none = passes_now
       go o (lends i p v) none =
-          let lengths = lengths-are s t p.lengths in
-          gate-passes s a o.tables p.settings p.heaps
-          (taken-lengths s t p.settings lengths p.sound size mask i v.aligned v.some v.place v.found)
+          let lengths = lengths_are s t p.lengths in
+          gate_passes s a o.tables p.settings p.heaps
+          (taken_lengths s t p.settings lengths p.sound size mask i v.aligned v.some v.place v.found)
           none
-          (taken-sound s t p.settings lengths p.sound size mask i v.aligned v.some v.place v.found)
-          (account-same s a t o.tables (ap (λ (x : Store). x.chunks) (taken-store s t p.settings lengths p.sound size mask i v.aligned v.some v.place v.found)) p.covered)
-      go _ (orders p v) none = absurd (true-false false none refl)
+          (taken_sound s t p.settings lengths p.sound size mask i v.aligned v.some v.place v.found)
+          (account_same s a t o.tables (ap (λ (x : Store). x.chunks) (taken_store s t p.settings lengths p.sound size mask i v.aligned v.some v.place v.found)) p.covered)
+      go _ (orders p v) none = absurd (true_false false none refl)
 
   -- and after a return, taken or not
-  pub return-again : (b : Block) (list : List ℕ) → gateOf s (returnOf s a b t list).account (returnOf s a b t list).tables true ≡ pass
-  return-again b list = go (returnOf s a b t list) (return-comes s a b t list)
+  pub return_again : (b : Block) (list : List ℕ) → gate_of s (return_of s a b t list).account (return_of s a b t list).tables true ≡ pass
+  return_again b list = go (return_of s a b t list) (return_comes s a b t list)
     where
-      go : (r : Listed Tables) → ReturnComes s a b t list r → gateOf s r.account r.tables true ≡ pass
-      go _ (ReturnComes.denied n) = passes-now
+      go : (r : Listed Tables) → ReturnComes s a b t list r → gate_of s r.account r.tables true ≡ pass
+      go _ (ReturnComes.denied n) = passes_now
       go _ (takes p on) =
-          let lengths = lengths-are s t p.lengths in
-          let u = givenTables s b (word_for s b t) t in
-          release-passes s a u true list p.settings p.heaps (given-lengths s t p.settings lengths p.sound b on) none_open (given-sound s t p.settings lengths p.sound b on) (typed.totals s.store.heap)
-          (account-same s a t u (ap (λ (x : Store). x.chunks) (given-store s t p.settings lengths p.sound b on)) p.covered)
+          let lengths = lengths_are s t p.lengths in
+          let u = given_tables s b (word_for s b t) t in
+          release_passes s a u true list p.settings p.heaps (given_lengths s t p.settings lengths p.sound b on) none_open (given_sound s t p.settings lengths p.sound b on) (typed.totals s.store.heap)
+          (account_same s a t u (ap (λ (x : Store). x.chunks) (given_store s t p.settings lengths p.sound b on)) p.covered)
 
   -- and after a clean-up
-  pub clean-up-again : (list : List ℕ) → gateOf s (cleanUpOf s a t list).account (cleanUpOf s a t list).tables true ≡ pass
-  clean-up-again list = go (cleanUpOf s a t list) (clean-up-comes s a t list)
+  pub clean_up_again : (list : List ℕ) → gate_of s (clean_up_of s a t list).account (clean_up_of s a t list).tables true ≡ pass
+  clean_up_again list = go (clean_up_of s a t list) (clean_up_comes s a t list)
     where
-      go : (r : Listed Tables) → CleanUpComes s a t list r → gateOf s r.account r.tables true ≡ pass
-      go _ (CleanUpComes.denied n) = passes-now
-      go _ (cleans p) = release-passes s a t false list p.settings p.heaps (lengths-are s t p.lengths) none_open p.sound (typed.totals s.store.heap) p.covered
+      go : (r : Listed Tables) → CleanUpComes s a t list r → gate_of s r.account r.tables true ≡ pass
+      go _ (CleanUpComes.denied n) = passes_now
+      go _ (cleans p) = release_passes s a t false list p.settings p.heaps (lengths_are s t p.lengths) none_open p.sound (typed.totals s.store.heap) p.covered
 
 -- a delivery's gate asks for an order of this store
-deliver-for : (s : FreeListSettings) (a : Account) (t : Tables) → deliverGateOf s a t ≡ pass → openFor s.store.number a.order ≡ true
-unfolding deliverGateOf
-deliver-for s a t g = (passed (gateRow (inTableOk s a t) (openFor s.store.number a.order) (soundOk s t && stillOk s a t a.order) (accountOk s a t)) g).1.0
+deliver_for : (s : FreeListSettings) (a : Account) (t : Tables) → deliver_gate_of s a t ≡ pass → open_for s.store.number a.order ≡ true
+unfolding deliver_gate_of
+deliver_for s a t g = (passed (gate_row (in_table_ok s a t) (open_for s.store.number a.order) (sound_ok s t && still_ok s a t a.order) (account_ok s a t)) g).1.0
 
 -- and after a delivery that closed the order, into an account that has all its heaps: one that lacks the store's heap
 -- charges nothing for the chunk, and 4 would fail
-pub deliver-again : (s : FreeListSettings) (a : Account) (o : Outcome) (t : Tables) → Typed a → deliverGateOf s a t ≡ pass → no_order (deliverOf s a o t).account.order ≡ true
-    → gateOf s (deliverOf s a o t).account (deliverOf s a o t).tables true ≡ pass
-unfolding carryFate
-deliver-again s a o t typed passes-now = go (deliverOf s a o t) (deliver-comes s a o t)
+pub deliver_again : (s : FreeListSettings) (a : Account) (o : Outcome) (t : Tables) → Typed a → deliver_gate_of s a t ≡ pass → no_order (deliver_of s a o t).account.order ≡ true
+    → gate_of s (deliver_of s a o t).account (deliver_of s a o t).tables true ≡ pass
+unfolding carry_fate
+deliver_again s a o t typed passes_now = go (deliver_of s a o t) (deliver_comes s a o t)
   where
     -- the gate asked for an order
-    open_none : (x : OpenOrder) → openFor s.store.number x ≡ true → no_order x ≡ true → ⊥
-    open_none Nothing e f = true-false false e refl
-    open_none (Kept k) e f = true-false false f refl
+    open_none : (x : OpenOrder) → open_for s.store.number x ≡ true → no_order x ≡ true → ⊥
+    open_none Nothing e f = true_false false e refl
+    open_none (Kept k) e f = true_false false f refl
 
-    bears : (k : KeptOrder) → Open s a t k → bearsOk (heap_at a s.store.heap) k.order.size ≡ true
-    bears k w = ap (bearsOk (heap_at a s.store.heap)) w.size ∙ w.buys.bears
+    bears : (k : KeptOrder) → Open s a t k → bears_ok (heap_at a s.store.heap) k.order.size ≡ true
+    bears k w = ap (bears_ok (heap_at a s.store.heap)) w.size ∙ w.buys.bears
 
-    go : (r : Out Tables) → DeliverComes s a o t r → no_order r.account.order ≡ true → gateOf s r.account r.tables true ≡ pass
-    go _ (DeliverComes.denied n) none = absurd (open_none a.order (deliver-for s a t passes-now) none)
+    go : (r : Out Tables) → DeliverComes s a o t r → no_order r.account.order ≡ true → gate_of s r.account r.tables true ≡ pass
+    go _ (DeliverComes.denied n) none = absurd (open_none a.order (deliver_for s a t passes_now) none)
     go r (keeps k m e w new) none =
-        gate-passes s r.account r.tables w.settings
-        (charged-heaps s a t w.settings k.order.size (bears k w) w.heaps)
-        (lent-lengths s a t k w m.number new)
+        gate_passes s r.account r.tables w.settings
+        (charged_heaps s a t w.settings k.order.size (bears k w) w.heaps)
+        (lent_lengths s a t k w m.number new)
         none
-        (lent-tables-sound s a t k w m.number new)
-        (charged-account s a t w.settings k.order.size (bears k w) (omega (arith, typed.heaps, w.settings.store.heap)) w.buys.object w.covered r.tables
+        (lent_tables_sound s a t k w m.number new)
+        (charged_account_lem s a t w.settings k.order.size (bears k w) (omega (arith, typed.heaps, w.settings.store.heap)) w.buys.object w.covered r.tables
         (chunk ((store_of s t).made + 1) m.number k.order.size)
         refl
-        (ap (λ (x : Store). x.chunks) (lent-store s a t k w m.number new)))
+        (ap (λ (x : Store). x.chunks) (lent_store s a t k w m.number new)))
     go r (loses k n charged back w e h) none =
-        gate-passes s r.account t w.settings
-        (lost-heaps s a t w.settings k.order.size (bears k w) charged back w.heaps)
-        (lengths-are s t w.lengths)
+        gate_passes s r.account t w.settings
+        (lost_heaps s a t w.settings k.order.size (bears k w) charged back w.heaps)
+        (lengths_are s t w.lengths)
         none
         w.sound
-        (lost-account s a t w.settings k.order.size (bears k w) charged back w.covered)
+        (lost_account_lem s a t w.settings k.order.size (bears k w) charged back w.covered)

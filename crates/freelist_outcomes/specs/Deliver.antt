@@ -11,59 +11,59 @@ use Rattle.counter.specs.declared.account.OpenOrder.{OpenOrder}
 use Rattle.counter.specs.declared.account.OpenOrder.TheVariants.{Nothing, Kept}
 use Rattle.counter.specs.declared.answers.Outcome.{Outcome}
 use Rattle.counter.specs.declared.settings.FreeListSettings.{FreeListSettings}
-pub use Rattle.store_rules.specs.Arrivals.{Arrival, deny, go, arrivalOf}
-use Rattle.store_rules.specs.Delivery.{Fate, kept, lost, freeList}
-use Rattle.store_rules.specs.Orders.{leadsTo}
-use Rattle.store_rules.specs.Outcomes.{Out, out, chargedAccount, lostAccount, blockSaid}
-use Rattle.store_rules.specs.Tests.{openFor, gateRow}
+pub use Rattle.store_rules.specs.Arrivals.{Arrival, deny, go, arrival_of}
+use Rattle.store_rules.specs.Delivery.{Fate, kept, lost, free_list}
+use Rattle.store_rules.specs.Orders.{leads_to}
+use Rattle.store_rules.specs.Outcomes.{Out, out, charged_account, lost_account, block_said}
+use Rattle.store_rules.specs.Tests.{open_for, gate_row}
 use Rattle.freelist_rules.specs.Records.{region, chunk}
-use Rattle.freelist_rules.specs.Tables.{Tables, tables, madeAt, chunkSizeAt, store_of, soundOk, laidChunks, gapsIn, wholeIn, laidGaps}
+use Rattle.freelist_rules.specs.Tables.{Tables, tables, made_at, chunk_size_at, store_of, sound_ok, laid_chunks, gaps_in, whole_in, laid_gaps}
 use Rattle.freelist_rules.specs.Walk.{memories}
-use Rattle.freelist_outcomes.specs.Gate.{inTableOk, accountOk}
-use Rattle.freelist_outcomes.specs.Ask.{decideAsk, loanFrom, takenTables}
-use Rattle.freelist_rules.specs.Threads.{gap, beforeIn}
+use Rattle.freelist_outcomes.specs.Gate.{in_table_ok, account_ok}
+use Rattle.freelist_outcomes.specs.Ask.{decide_ask, loan_from, taken_tables}
+use Rattle.freelist_rules.specs.Threads.{gap, before_in}
 
 -- 3 on a delivery: the kept ask still leads to the order that was told
-abbrev pub stillOk : FreeListSettings → Account → Tables → OpenOrder → Bool
-stillOk s a t Nothing = false
-stillOk s a t (Kept k) =
-    leadsTo s.store k.order (decideAsk s (heap_at a s.store.heap) a.objects k.ask.size k.ask.mask t)
+abbrev pub still_ok : FreeListSettings → Account → Tables → OpenOrder → Bool
+still_ok s a t Nothing = false
+still_ok s a t (Kept k) =
+    leads_to s.store k.order (decide_ask s (heap_at a s.store.heap) a.objects k.ask.size k.ask.mask t)
 
 -- the gate of a delivery: an order is to be open for this store
-unfoldable pub deliverGateOf : FreeListSettings → Account → Tables → Verdict
-deliverGateOf s a t =
-    first (gateRow (inTableOk s a t) (openFor s.store.number a.order) (soundOk s t && stillOk s a t a.order) (accountOk s a t))
+unfoldable pub deliver_gate_of : FreeListSettings → Account → Tables → Verdict
+deliver_gate_of s a t =
+    first (gate_row (in_table_ok s a t) (open_for s.store.number a.order) (sound_ok s t && still_ok s a t a.order) (account_ok s a t))
 
 -- a chunk of z bytes under the next number, wholly free
-unfoldable pub deliveredTables : FreeListSettings → ℕ → ℕ → Tables → Tables
-deliveredTables s memory z t =
+unfoldable pub delivered_tables : FreeListSettings → ℕ → ℕ → Tables → Tables
+delivered_tables s memory z t =
     tables
-    (set t.head chunkSizeAt (doubled z s.last))
+    (set t.head chunk_size_at (doubled z s.last))
     t.loans
-    (set (laidChunks ((store_of s t).chunks ++ (chunk ((store_of s t).made + 1) memory z ∷ [])) t.chunks) madeAt ((store_of s t).made + 1))
+    (set (laid_chunks ((store_of s t).chunks ++ (chunk ((store_of s t).made + 1) memory z ∷ [])) t.chunks) made_at ((store_of s t).made + 1))
     t.index
-    (laidGaps (gapsIn t ++ (gap (region ((store_of s t).made + 1) 0 z) (beforeIn s.store.loans t.index 0) ∷ [])) (wholeIn t + 1) t.room)
+    (laid_gaps (gaps_in t ++ (gap (region ((store_of s t).made + 1) 0 z) (before_in s.store.loans t.index 0) ∷ [])) (whole_in t + 1) t.room)
 
 -- it is kept, and the kept ask is served from its region, the last; or it is lost
-unfoldable pub carryFate : FreeListSettings → Account → KeptOrder → Tables → Fate → Out Tables
-carryFate s a k t (kept memory) =
+unfoldable pub carry_fate : FreeListSettings → Account → KeptOrder → Tables → Fate → Out Tables
+carry_fate s a k t (kept memory) =
     out
-    (blockSaid
-    (loanFrom s k.ask.size k.ask.mask (deliveredTables s memory k.order.size t) (length (store_of s t).regions)))
-    (chargedAccount s.store a k.order.size)
-    (takenTables s k.ask.size k.ask.mask (deliveredTables s memory k.order.size t) (length (store_of s t).regions))
-carryFate s a k t (lost n charged back) = out (Paper.refusal n back) (lostAccount s.store a k.order.size charged back) t
+    (block_said
+    (loan_from s k.ask.size k.ask.mask (delivered_tables s memory k.order.size t) (length (store_of s t).regions)))
+    (charged_account s.store a k.order.size)
+    (taken_tables s k.ask.size k.ask.mask (delivered_tables s memory k.order.size t) (length (store_of s t).regions))
+carry_fate s a k t (lost n charged back) = out (Paper.refusal n back) (lost_account s.store a k.order.size charged back) t
 
 -- 13
-abbrev pub decideDeliver : Outcome → List ℕ → OpenOrder → Arrival
-decideDeliver = arrivalOf freeList
+abbrev pub decide_deliver : Outcome → List ℕ → OpenOrder → Arrival
+decide_deliver = arrival_of free_list
 
-unfoldable pub planDeliver : FreeListSettings → Account → Outcome → Tables → Arrival
-planDeliver s a o t = gated deny (deliverGateOf s a t) (decideDeliver o (memories (store_of s t).chunks) a.order)
+unfoldable pub plan_deliver : FreeListSettings → Account → Outcome → Tables → Arrival
+plan_deliver s a o t = gated deny (deliver_gate_of s a t) (decide_deliver o (memories (store_of s t).chunks) a.order)
 
-unfoldable pub carryDeliver : FreeListSettings → Account → Tables → Arrival → Out Tables
-carryDeliver s a t (deny n) = out (Paper.refusal n []) a t
-carryDeliver s a t (go k f) = carryFate s a k t f
+unfoldable pub carry_deliver : FreeListSettings → Account → Tables → Arrival → Out Tables
+carry_deliver s a t (deny n) = out (Paper.refusal n []) a t
+carry_deliver s a t (go k f) = carry_fate s a k t f
 
-unfoldable pub deliverOf : FreeListSettings → Account → Outcome → Tables → Out Tables
-deliverOf s a o t = carryDeliver s a t (planDeliver s a o t)
+unfoldable pub deliver_of : FreeListSettings → Account → Outcome → Tables → Out Tables
+deliver_of s a o t = carry_deliver s a t (plan_deliver s a o t)

@@ -8,10 +8,10 @@ use Rattle.counter.specs.declared.settings.FreeListSettings.{FreeListSettings}
 use Rattle.store_rules.specs.Views.{View}
 use Rattle.store_rules.specs.Words.{Words}
 use Rattle.freelist_rules.specs.Records.{Store}
-use Rattle.freelist_rules.specs.Tables.{Tables, Lengths, store_of, SoundTables, givenIn}
+use Rattle.freelist_rules.specs.Tables.{Tables, Lengths, store_of, SoundTables, given_in}
 use Rattle.store_rules.specs.declared.Chunk.{Chunk}
 use Rattle.store_rules.specs.declared.Region.{Region}
-use Rattle.freelist_outcomes.specs.Ask.{raisedFor}
+use Rattle.freelist_outcomes.specs.Ask.{raised_for}
 
 -- ---- 6
 
@@ -43,17 +43,17 @@ Needed s size mask t = Fitting size mask (store_of s t) → ⊥
 abbrev pub seen : Store → View
 seen v = record { loans = v.loans; chunks = v.chunks; free = v.regions }
 
-abbrev pub listWords : Words
-listWords =
+abbrev pub list_words : Words
+list_words =
     record {
       Settings = FreeListSettings;
       Tables = Tables;
       store = λ s. s.store;
-      given = givenIn;
+      given = given_in;
       view = λ s t. seen (store_of s t);
       Sound = SoundTables;
       Needed = Needed;
-      orderSize = λ s size mask t. raisedFor s size t;
+      order_size = λ s size mask t. raised_for s size t;
       Fits = λ s t. FreeListIn s × Lengths s t;
       MaskHigh = λ s mask. ⊥;
       SizeOff = λ s size mask. SizeOff s size;

@@ -3,41 +3,41 @@ use Rattle.std.specs.Prelude.{Bool, ◌&&◌, List, [], ◌∷◌, ℕ, ◌+◌,
 use Rattle.words.specs.Words.{blank}
 use Rattle.counter.specs.Gate.{Verdict, pass, refuse, first}
 use Rattle.counter.specs.Paper as Paper
-use Rattle.counter.specs.Table.{freeListOk}
+use Rattle.counter.specs.Table.{free_list_ok}
 use Rattle.counter.specs.declared.settings.FreeListSettings.{FreeListSettings}
-use Rattle.store_rules.specs.Loans.{loanWords}
-use Rattle.freelist_rules.specs.Threads.{threadWords}
+use Rattle.store_rules.specs.Loans.{loan_words}
+use Rattle.freelist_rules.specs.Threads.{thread_words}
 pub use Rattle.store_rules.specs.Tables.{Begun, begun}
-use Rattle.freelist_rules.specs.Records.{chunkWords}
-use Rattle.freelist_rules.specs.Tables.{Tables, tables, marks, lengthsOk, roomWords}
+use Rattle.freelist_rules.specs.Records.{chunk_words}
+use Rattle.freelist_rules.specs.Tables.{Tables, tables, marks, lengths_ok, room_words}
 
 -- the mark, and the chunk size of the settings
-abbrev pub freshHead : FreeListSettings → List ℕ
-freshHead s = marks.head ∷ s.start ∷ []
+abbrev pub fresh_head : FreeListSettings → List ℕ
+fresh_head s = marks.head ∷ s.start ∷ []
 
 -- every word of every table is written, whatever was lent: the marks; no loan, no chunk, no link, no region
-unfoldable pub freshTables : FreeListSettings → Tables
-freshTables s =
+unfoldable pub fresh_tables : FreeListSettings → Tables
+fresh_tables s =
     tables
-    (freshHead s)
-    (blank (loanWords + loanWords * s.store.loans) marks.loans 0)
-    (blank (chunkWords + chunkWords * s.store.chunks) marks.chunks 0)
-    (blank (threadWords s.store.loans) marks.index 0)
-    (blank (roomWords s) marks.room 0)
+    (fresh_head s)
+    (blank (loan_words + loan_words * s.store.loans) marks.loans 0)
+    (blank (chunk_words + chunk_words * s.store.chunks) marks.chunks 0)
+    (blank (thread_words s.store.loans) marks.index 0)
+    (blank (room_words s) marks.room 0)
 
 -- 1, but for the account, which set-up does not take
-unfoldable pub fitOk : FreeListSettings → Tables → Bool
-fitOk s t = freeListOk s && lengthsOk s t
+unfoldable pub fit_ok : FreeListSettings → Tables → Bool
+fit_ok s t = free_list_ok s && lengths_ok s t
 
 -- "Set-up and ranking test only 1"
-unfoldable pub planSetUp : FreeListSettings → Tables → Verdict
-planSetUp s t = first ((fitOk s t, 1) ∷ [])
+unfoldable pub plan_set_up : FreeListSettings → Tables → Verdict
+plan_set_up s t = first ((fit_ok s t, 1) ∷ [])
 
 -- a refusal leaves every word as it was
-unfoldable pub carrySetUp : FreeListSettings → Tables → Verdict → Begun
-carrySetUp s t (refuse n) = begun (Paper.refusal n []) t
-carrySetUp s t pass = begun Paper.ready (freshTables s)
+unfoldable pub carry_set_up : FreeListSettings → Tables → Verdict → Begun
+carry_set_up s t (refuse n) = begun (Paper.refusal n []) t
+carry_set_up s t pass = begun Paper.ready (fresh_tables s)
 
 -- the call
-unfoldable pub setUpOf : FreeListSettings → Tables → Begun
-setUpOf s t = carrySetUp s t (planSetUp s t)
+unfoldable pub set_up_of : FreeListSettings → Tables → Begun
+set_up_of s t = carry_set_up s t (plan_set_up s t)

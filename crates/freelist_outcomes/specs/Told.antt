@@ -3,7 +3,7 @@
 use Rattle.std.specs.Prelude.{◌≡◌, ◌↔◌, ℕ, ◌+◌, length, take, drop}
 use mathlib.Core.List.{List, Memᴰ}
 use Rattle.counter.specs.declared.settings.FreeListSettings.{FreeListSettings}
-pub use Rattle.store_rules.specs.Outcomes.{toFree}
+pub use Rattle.store_rules.specs.Outcomes.{to_free}
 use Rattle.freelist_rules.specs.Tables.{Tables, store_of}
 use Rattle.store_rules.specs.declared.Chunk.{Chunk}
 

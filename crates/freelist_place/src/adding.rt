@@ -1,8 +1,8 @@
 // A chunk added: it stands after the others, wholly free.
 ghost use Rattle.std.specs.Prelude.{◌≡◌, [], length, set};
-ghost use Rattle.freelist_rules.specs.Threads.{threadWords};
-ghost use Rattle.freelist_rules.specs.Tables.{tables, madeAt, chunksAt};
-ghost use Rattle.freelist_outcomes.specs.Deliver.{deliveredTables};
+ghost use Rattle.freelist_rules.specs.Threads.{thread_words};
+ghost use Rattle.freelist_rules.specs.Tables.{tables, made_at, chunks_at};
+ghost use Rattle.freelist_outcomes.specs.Deliver.{delivered_tables};
 ghost use Rattle.freelist_place.specs.Ready.{Adds};
 
 use counter::FreeListSettings;
@@ -11,7 +11,7 @@ use store_rules::Chunk;
 
 // So many chunks are held, and this chunk number was given last.
 fn count_chunk(chunks: &mut [u64], held: u64, number: u64)
-    ensures { chunks.new ≡ set (set chunks.old chunksAt held) madeAt number }
+    ensures { chunks.new ≡ set (set chunks.old chunks_at held) made_at number }
 {
     words::put(chunks, CHUNKS_AT, held);
     words::put(chunks, MADE_AT, number);
@@ -27,8 +27,8 @@ pub fn add_chunk(
     index: &[u64],
     regions: &mut [u64],
 )
-    requires { Adds s chunks.old regions.old × (length index.now ≡ threadWords s.store.loans) }
-    ensures { tables head.new [] chunks.new index.now regions.new ≡ deliveredTables s memory size (tables head.old [] chunks.old index.now regions.old) }
+    requires { Adds s chunks.old regions.old × (length index.now ≡ thread_words s.store.loans) }
+    ensures { tables head.new [] chunks.new index.now regions.new ≡ delivered_tables s memory size (tables head.old [] chunks.old index.now regions.old) }
 {
     let own = s.store;
     let last = crate::threads::before_of(index, own.loans, 0);

@@ -2,8 +2,8 @@
 ghost use Rattle.std.specs.Prelude.{◌≡◌, length};
 ghost use Rattle.words.specs.Words.{blank};
 ghost use Rattle.counter.specs.InTable.{FreeListIn};
-ghost use Rattle.freelist_rules.specs.Tables.{tables, marks, headWords, Lengths};
-ghost use Rattle.freelist_outcomes.specs.SetUp.{freshHead, freshTables};
+ghost use Rattle.freelist_rules.specs.Tables.{tables, marks, head_words, Lengths};
+ghost use Rattle.freelist_outcomes.specs.SetUp.{fresh_head, fresh_tables};
 
 use counter::FreeListSettings;
 use freelist_rules::{CHUNK_SIZE_AT, CHUNKS_MARK, HEAD_MARK, INDEX_MARK, LOANS_MARK, ROOM_MARK};
@@ -11,8 +11,8 @@ use words::MARK_AT;
 
 // The mark, and the chunk size at first.
 fn fresh_head(s: FreeListSettings, head: &mut [u64])
-    requires { length head.old ≡ headWords }
-    ensures { head.new ≡ freshHead s }
+    requires { length head.old ≡ head_words }
+    ensures { head.new ≡ fresh_head s }
 {
     words::put(head, MARK_AT, HEAD_MARK);
     words::put(head, CHUNK_SIZE_AT, s.start);
@@ -39,7 +39,7 @@ pub fn fresh(
     regions: &mut [u64],
 )
     requires { FreeListIn s × Lengths s (tables head.old loans.old chunks.old index.old regions.old) }
-    ensures { tables head.new loans.new chunks.new index.new regions.new ≡ freshTables s }
+    ensures { tables head.new loans.new chunks.new index.new regions.new ≡ fresh_tables s }
 {
     fresh_head(s, head);
     clear(loans, chunks, regions);

@@ -1,60 +1,60 @@
 -- A region cut short, in words.
 use Rattle.std.proofs.Common.{◌≡◌, ℕ, suc, ◌+◌, ◌-◌, ◌*◌, ◌<◌, ◌≤◌, List, length, get_or, set, sym, ap, ◌∙◌, add-one, arith, length-set, le-ltb, lt-ltb}
 use Rattle.words.specs.Words.{closed}
-use Rattle.words.specs.Rows.{rows, row, laid, written, removeAt}
-use Rattle.words.proofs.Records.{length-rows, get_d_rows, updated-at, removed-at, length-removeAt}
+use Rattle.words.specs.Rows.{rows, row, laid, written, remove_at}
+use Rattle.words.proofs.Records.{length_rows, get_d_rows, updated_at, removed_at, length_remove_at}
 use Rattle.freelist_rules.specs.declared.Gap.{Gap}
-use Rattle.freelist_rules.specs.Records.{gapRow, regionWords}
-use Rattle.freelist_rules.specs.Threads.{noGap, renamedFrom, cutGaps}
-use Rattle.freelist_rules.proofs.GapLists.{renamedFrom-length}
-use Rattle.freelist_regions.specs.Ended.{endedAt, endedGap}
-use Rattle.freelist_regions.proofs.Renaming.{rest, rest-laid}
+use Rattle.freelist_rules.specs.Records.{gap_row, region_words}
+use Rattle.freelist_rules.specs.Threads.{no_gap, renamed_from, cut_gaps}
+use Rattle.freelist_rules.proofs.GapLists.{renamed_from_length}
+use Rattle.freelist_regions.specs.Ended.{ended_at, ended_gap}
+use Rattle.freelist_regions.proofs.Renaming.{rest, rest_laid}
 
 -- ---- in records
 
 module _ (x i r : ℕ) (gs : List Gap) where
-  pub cut-part : (get_or gs i noGap).start < x → cutGaps x i r gs ≡ renamedFrom (suc i) (get_or gs i noGap).front r (set gs i (endedGap x (get_or gs i noGap)))
-  unfolding cutGaps
-  cut-part h = rw (lt-ltb (get_or gs i noGap).start x h)
+  pub cut_part : (get_or gs i no_gap).start < x → cut_gaps x i r gs ≡ renamed_from (suc i) (get_or gs i no_gap).front r (set gs i (ended_gap x (get_or gs i no_gap)))
+  unfolding cut_gaps
+  cut_part h = rw (lt-ltb (get_or gs i no_gap).start x h)
 
-  pub cut-whole : x ≤ (get_or gs i noGap).start → cutGaps x i r gs ≡ renamedFrom i (get_or gs i noGap).front r (removeAt i gs)
-  unfolding cutGaps
-  cut-whole h = rw (le-ltb (get_or gs i noGap).start x h)
+  pub cut_whole : x ≤ (get_or gs i no_gap).start → cut_gaps x i r gs ≡ renamed_from i (get_or gs i no_gap).front r (remove_at i gs)
+  unfolding cut_gaps
+  cut_whole h = rw (le-ltb (get_or gs i no_gap).start x h)
 
 -- ---- in words
 
-module _ (t : List ℕ) (n i x r : ℕ) (h : i < n) (room : regionWords + regionWords * n ≤ length t) (g : Gap) (e : g ≡ row gapRow i t) where
+module _ (t : List ℕ) (n i x r : ℕ) (h : i < n) (room : region_words + region_words * n ≤ length t) (g : Gap) (e : g ≡ row gap_row i t) where
   abbrev gs : List Gap
-  gs = rows gapRow n t
+  gs = rows gap_row n t
 
   long : length gs ≡ n
-  long = length-rows gapRow n t
+  long = length_rows gap_row n t
 
-  is : g ≡ get_or gs i noGap
-  is = e ∙ sym (get_d_rows gapRow n i t noGap h)
+  is : g ≡ get_or gs i no_gap
+  is = e ∙ sym (get_d_rows gap_row n i t no_gap h)
 
   -- so many gaps are left, laid in v
   abbrev Left : ℕ → List ℕ → Type 0
-  Left m v = (m ≡ length (cutGaps x i r gs)) × (v ≡ laid gapRow (cutGaps x i r gs) t)
+  Left m v = (m ≡ length (cut_gaps x i r gs)) × (v ≡ laid gap_row (cut_gaps x i r gs) t)
 
   -- qs with those from j on named anew
-  left : (m j : ℕ) (qs : List Gap) (u v : List ℕ) → m ≤ n → length qs ≡ m → cutGaps x i r gs ≡ renamedFrom j (get_or gs i noGap).front r qs → u ≡ laid gapRow qs t → v ≡ rest m j g.front r u → Left m v
+  left : (m j : ℕ) (qs : List Gap) (u v : List ℕ) → m ≤ n → length qs ≡ m → cut_gaps x i r gs ≡ renamed_from j (get_or gs i no_gap).front r qs → u ≡ laid gap_row qs t → v ≡ rest m j g.front r u → Left m v
   left m j qs u v k l c w z =
-      let room' : regionWords + regionWords * m ≤ length t = omega (arith, room, k) in (
-        sym (ap length c ∙ renamedFrom-length (get_or gs i noGap).front r j qs ∙ l),
-        z ∙ rest-laid m j g.front r t u qs room' l w ∙ ap (λ (d : Gap). laid gapRow (renamedFrom j d.front r qs) t) is ∙ ap (λ (xs : List Gap). laid gapRow xs t) (sym c),
+      let room' : region_words + region_words * m ≤ length t = omega (arith, room, k) in (
+        sym (ap length c ∙ renamed_from_length (get_or gs i no_gap).front r j qs ∙ l),
+        z ∙ rest_laid m j g.front r t u qs room' l w ∙ ap (λ (d : Gap). laid gap_row (renamed_from j d.front r qs) t) is ∙ ap (λ (xs : List Gap). laid gap_row xs t) (sym c),
       )
 
-  pub cut_short : (u v : List ℕ) → g.start < x → u ≡ endedAt i x t → v ≡ rest n (i + 1) g.front r u → Left n v
-  unfolding endedAt
+  pub cut_short : (u v : List ℕ) → g.start < x → u ≡ ended_at i x t → v ≡ rest n (i + 1) g.front r u → Left n v
+  unfolding ended_at
   cut_short u v s w z =
-      let d : Gap = endedGap x (get_or gs i noGap) in
-      let under : (get_or gs i noGap).start < x = omega (arith, s, ap (λ (q : Gap). q.start) is) in
-      let y : u ≡ laid gapRow (set gs i d) t = w ∙ ap (λ (q : Gap). written gapRow i (endedGap x q) t) (sym e ∙ is) ∙ updated-at gapRow n i d t h room in
-      left n (suc i) (set gs i d) u v (omega arith) (length-set gs i d ∙ long) (cut-part x i r gs under) y (z ∙ ap (λ (j : ℕ). rest n j g.front r u) (add-one i))
+      let d : Gap = ended_gap x (get_or gs i no_gap) in
+      let under : (get_or gs i no_gap).start < x = omega (arith, s, ap (λ (q : Gap). q.start) is) in
+      let y : u ≡ laid gap_row (set gs i d) t = w ∙ ap (λ (q : Gap). written gap_row i (ended_gap x q) t) (sym e ∙ is) ∙ updated_at gap_row n i d t h room in
+      left n (suc i) (set gs i d) u v (omega arith) (length-set gs i d ∙ long) (cut_part x i r gs under) y (z ∙ ap (λ (j : ℕ). rest n j g.front r u) (add-one i))
 
-  pub cut_out : (u v : List ℕ) → x ≤ g.start → u ≡ closed regionWords n i t → v ≡ rest (n - 1) i g.front r u → Left (n - 1) v
+  pub cut_out : (u v : List ℕ) → x ≤ g.start → u ≡ closed region_words n i t → v ≡ rest (n - 1) i g.front r u → Left (n - 1) v
   cut_out u v s w z =
-      let past : x ≤ (get_or gs i noGap).start = omega (arith, s, ap (λ (q : Gap). q.start) is) in
-      let l : length (removeAt i gs) ≡ n - 1 = length-removeAt i gs (omega (arith, long, h)) ∙ ap (λ (k : ℕ). k - 1) long in
-      left (n - 1) i (removeAt i gs) u v (omega arith) l (cut-whole x i r gs past) (w ∙ removed-at gapRow n i t h room) z
+      let past : x ≤ (get_or gs i no_gap).start = omega (arith, s, ap (λ (q : Gap). q.start) is) in
+      let l : length (remove_at i gs) ≡ n - 1 = length_remove_at i gs (omega (arith, long, h)) ∙ ap (λ (k : ℕ). k - 1) long in
+      left (n - 1) i (remove_at i gs) u v (omega arith) l (cut_whole x i r gs past) (w ∙ removed_at gap_row n i t h room) z

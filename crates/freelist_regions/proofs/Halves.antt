@@ -1,6 +1,6 @@
 -- The turns of a search by halves in what parts at a place.
 use Rattle.std.proofs.Common.{◌≡◌, ℕ, ◌+◌, ◌-◌, ◌<◌, ◌≤◌, Bool, true, false, ap, ◌∙◌, ⊎_elim, arith}
-use Rattle.lists.proofs.Bools.{told, true-false, same?}
+use Rattle.lists.proofs.Bools.{told, true_false, same?}
 use Rattle.freelist_regions.specs.Stand.{Parting}
 
 -- what holds at m holds from m on
@@ -13,7 +13,7 @@ pub raised : (f : ℕ → Bool) (n m : ℕ) → m < n → Parting f n → f m �
 raised f n m b p e i h =
     ⊎_elim
     (λ (t : f i ≡ true).
-    ⊎_elim (λ (q : i ≡ m). ap f q ∙ e) (λ (ne : i ≡ m → ⊥). absurd (true-false (f m) (p i m (omega (arith, ne)) b t) e)) (same? i m))
+    ⊎_elim (λ (q : i ≡ m). ap f q ∙ e) (λ (ne : i ≡ m → ⊥). absurd (true_false (f m) (p i m (omega (arith, ne)) b t) e)) (same? i m))
     (λ (t : f i ≡ false). t)
     (told (f i))
 

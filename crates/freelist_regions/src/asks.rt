@@ -2,8 +2,8 @@
 ghost use Rattle.std.specs.Prelude.{◌≡◌, ◌≤◌};
 ghost use Rattle.rounding_rules.specs.Masks.{Ones};
 ghost use Rattle.counter.specs.InTable.{FreeListIn};
-ghost use Rattle.counter.specs.Limits.{alignBits};
-ghost use Rattle.freelist_rules.specs.Place.{size_for, maskFor};
+ghost use Rattle.counter.specs.Limits.{align_bits};
+ghost use Rattle.freelist_rules.specs.Place.{size_for, mask_for};
 
 use counter::FreeListSettings;
 
@@ -18,8 +18,8 @@ pub fn size_for(s: FreeListSettings, size: u64) -> u64
 
 // The mask that a place is aligned to.
 pub fn mask_for(s: FreeListSettings, mask: u64) -> u64
-    requires { FreeListIn s × Ones alignBits mask }
-    ensures { result ≡ maskFor s mask }
+    requires { FreeListIn s × Ones align_bits mask }
+    ensures { result ≡ mask_for s mask }
 {
     let store = s.store;
     rounding::join_masks(mask, store.atom)

@@ -2,10 +2,10 @@
 ghost use Rattle.std.specs.Prelude.{◌≡◌, ◌+◌, ◌-◌, ◌*◌, ◌^◌, ◌<◌, ◌≤◌, true, ◌&&◌, length, if◌then◌else◌, nat_lt};
 ghost use Rattle.words.specs.Words.{cell_of};
 ghost use Rattle.words.specs.Rows.{row, rows, laid};
-ghost use Rattle.freelist_rules.specs.Records.{gapRow, regionWords, regionEndAt};
+ghost use Rattle.freelist_rules.specs.Records.{gap_row, region_words, region_end_at};
 ghost use Rattle.freelist_rules.specs.Pieces.{lo, hi, Rising};
 ghost use Rattle.freelist_rules.specs.Join.{meets, insert};
-ghost use Rattle.freelist_rules.specs.Threads.{regionIn, freeOf, insertGap, around};
+ghost use Rattle.freelist_rules.specs.Threads.{region_in, free_of, insert_gap, around};
 ghost use Rattle.freelist_regions.specs.Order.{RegionsStand, LowPlace};
 ghost use Rattle.freelist_regions.specs.Settled.{reached, settled, behind, CanSettle};
 
@@ -24,8 +24,8 @@ pub struct Joined {
 
 // Whether the region before place k ends where b starts.
 fn touches_before(t: &[u64], k: usize, b: Region) -> bool
-    requires { regionWords + regionWords * k ≤ length t.now }
-    ensures { result ≡ (nat_lt 0 k && meets (regionIn (row gapRow (k - 1) t.now)) b) }
+    requires { region_words + region_words * k ≤ length t.now }
+    ensures { result ≡ (nat_lt 0 k && meets (region_in (row gap_row (k - 1) t.now)) b) }
 {
     if 0 < k {
         let chunk = word_at(t, REGION_CHUNK_AT, k - 1);
@@ -38,8 +38,8 @@ fn touches_before(t: &[u64], k: usize, b: Region) -> bool
 
 // Whether b ends where the region at k, of n, starts.
 fn touches_next(t: &[u64], n: usize, k: usize, b: Region) -> bool
-    requires { regionWords + regionWords * n ≤ length t.now }
-    ensures { result ≡ (nat_lt k n && meets b (regionIn (row gapRow k t.now))) }
+    requires { region_words + region_words * n ≤ length t.now }
+    ensures { result ≡ (nat_lt k n && meets b (region_in (row gap_row k t.now))) }
 {
     if k < n {
         let chunk = word_at(t, REGION_CHUNK_AT, k);
@@ -52,8 +52,8 @@ fn touches_next(t: &[u64], n: usize, k: usize, b: Region) -> bool
 
 // Where the region that b is part of starts.
 fn start_of(t: &[u64], k: usize, b: Region, before: bool) -> u64
-    requires { (before ≡ true → 0 < k) × (regionWords + regionWords * k ≤ length t.now) }
-    ensures { result ≡ (if before then (row gapRow (k - 1) t.now).start else b.start) }
+    requires { (before ≡ true → 0 < k) × (region_words + region_words * k ≤ length t.now) }
+    ensures { result ≡ (if before then (row gap_row (k - 1) t.now).start else b.start) }
 {
     if before {
         let start = word_at(t, REGION_START_AT, k - 1);
@@ -64,8 +64,8 @@ fn start_of(t: &[u64], k: usize, b: Region, before: bool) -> u64
 
 // And where it ends.
 fn end_of(t: &[u64], k: usize, b: Region, next: bool) -> u64
-    requires { next ≡ true → cell_of regionEndAt regionWords k < length t.now }
-    ensures { result ≡ (if next then (row gapRow k t.now).end else b.end) }
+    requires { next ≡ true → cell_of region_end_at region_words k < length t.now }
+    ensures { result ≡ (if next then (row gap_row k t.now).end else b.end) }
 {
     if next {
         let end = word_at(t, REGION_END_AT, k);
@@ -76,8 +76,8 @@ fn end_of(t: &[u64], k: usize, b: Region, next: bool) -> u64
 
 // The region that b is part of then, between its neighbours before k and at k, by which of them it touches.
 fn reach(t: &[u64], k: usize, b: Region, before: bool, next: bool) -> Region
-    requires { (before ≡ true → 0 < k) × (regionWords + regionWords * k ≤ length t.now) × (next ≡ true → cell_of regionEndAt regionWords k < length t.now) }
-    ensures { result ≡ reached before next (regionIn (row gapRow (k - 1) t.now)) (regionIn (row gapRow k t.now)) b }
+    requires { (before ≡ true → 0 < k) × (region_words + region_words * k ≤ length t.now) × (next ≡ true → cell_of region_end_at region_words k < length t.now) }
+    ensures { result ≡ reached before next (region_in (row gap_row (k - 1) t.now)) (region_in (row gap_row k t.now)) b }
 {
     Region {
         chunk: b.chunk,
@@ -89,8 +89,8 @@ fn reach(t: &[u64], k: usize, b: Region, before: bool, next: bool) -> Region
 // The gap that b is part of, put in place of the neighbours that b touches, or between them; how many there are then.
 fn settle(t: &mut [u64], n: usize, k: usize, before: bool, next: bool, g: Gap) -> usize
     requires { CanSettle before next n k t.old }
-    ensures value { result ≡ length (settled before next k g (rows gapRow n t.old)) }
-    ensures t_after { t.new ≡ laid gapRow (settled before next k g (rows gapRow n t.old)) t.old }
+    ensures value { result ≡ length (settled before next k g (rows gap_row n t.old)) }
+    ensures t_after { t.new ≡ laid gap_row (settled before next k g (rows gap_row n t.old)) t.old }
 {
     if before {
         if next {
@@ -121,10 +121,10 @@ fn past(k: usize, before: bool) -> usize
 // b, which the record `loan` was on loan on, put among n free regions by its place and joined with both neighbours; the record
 // `front` is in front of it, and of those behind it that named `loan`.
 pub fn join_region(t: &mut [u64], n: usize, b: Region, loan: u64, front: u64) -> Joined
-    requires { (regionWords + regionWords * n ≤ length t.old) × Rising lo hi 1 0 (freeOf (rows gapRow n t.old)) × RegionsStand (freeOf (rows gapRow n t.old)) × LowPlace b.start × (regionWords + regionWords * length (insert b (freeOf (rows gapRow n t.old))) ≤ length t.old) }
-    ensures count_value { result.count ≡ length (insertGap b loan front (rows gapRow n t.old)) }
-    ensures region_value { result.region ≡ around b (freeOf (rows gapRow n t.old)) }
-    ensures t_after { t.new ≡ laid gapRow (insertGap b loan front (rows gapRow n t.old)) t.old }
+    requires { (region_words + region_words * n ≤ length t.old) × Rising lo hi 1 0 (free_of (rows gap_row n t.old)) × RegionsStand (free_of (rows gap_row n t.old)) × LowPlace b.start × (region_words + region_words * length (insert b (free_of (rows gap_row n t.old))) ≤ length t.old) }
+    ensures count_value { result.count ≡ length (insert_gap b loan front (rows gap_row n t.old)) }
+    ensures region_value { result.region ≡ around b (free_of (rows gap_row n t.old)) }
+    ensures t_after { t.new ≡ laid gap_row (insert_gap b loan front (rows gap_row n t.old)) t.old }
 {
     let k = stands_at(t, n, b.chunk, b.start);
     let before = touches_before(t, k, b);

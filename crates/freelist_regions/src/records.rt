@@ -3,9 +3,9 @@
 ghost use Rattle.std.specs.Prelude.{◌≡◌, ◌<◌, length, slice_index, slice_set};
 ghost use Rattle.words.specs.Words.{cell_of};
 ghost use Rattle.words.specs.Rows.{row, written};
-ghost use Rattle.freelist_rules.specs.Records.{chunkRow, gapRow, regionWords, regionEndAt, regionFrontAt};
-ghost use Rattle.freelist_rules.specs.Threads.{regionIn};
-ghost use Rattle.freelist_regions.specs.Ended.{endedAt};
+ghost use Rattle.freelist_rules.specs.Records.{chunk_row, gap_row, region_words, region_end_at, region_front_at};
+ghost use Rattle.freelist_rules.specs.Threads.{region_in};
+ghost use Rattle.freelist_regions.specs.Ended.{ended_at};
 
 use freelist_rules::{
     CHUNK_BYTES_AT, CHUNK_MEMORY_AT, CHUNK_NUMBER_AT, CHUNK_WORDS, Gap, REGION_CHUNK_AT,
@@ -15,14 +15,14 @@ use store_rules::{Chunk, Region};
 
 // The word of region i, where the table has it: `at` is where that of the first region stands.
 pub fn word_at(t: &[u64], at: usize, i: usize) -> u64
-    requires { cell_of at regionWords i < length t.now }
-    ensures { result ≡ slice_index t.now (cell_of at regionWords i) }
+    requires { cell_of at region_words i < length t.now }
+    ensures { result ≡ slice_index t.now (cell_of at region_words i) }
 {
     t[at + REGION_WORDS * i]
 }
 
 pub fn region_at(t: &[u64], i: usize) -> Region
-    ensures { result ≡ regionIn (row gapRow i t.now) }
+    ensures { result ≡ region_in (row gap_row i t.now) }
 {
     Region {
         chunk: words::cell(t, REGION_CHUNK_AT, REGION_WORDS, i),
@@ -33,8 +33,8 @@ pub fn region_at(t: &[u64], i: usize) -> Region
 
 // A gap that the table has.
 pub fn gap_at(t: &[u64], i: usize) -> Gap
-    requires { cell_of regionFrontAt regionWords i < length t.now }
-    ensures { result ≡ row gapRow i t.now }
+    requires { cell_of region_front_at region_words i < length t.now }
+    ensures { result ≡ row gap_row i t.now }
 {
     Gap {
         chunk: word_at(t, REGION_CHUNK_AT, i),
@@ -46,16 +46,16 @@ pub fn gap_at(t: &[u64], i: usize) -> Gap
 
 // A word of region i written, where the table has it.
 pub fn put_word_at(t: &mut [u64], at: usize, i: usize, v: u64)
-    requires { cell_of at regionWords i < length t.old }
-    ensures { t.new ≡ slice_set t.old (cell_of at regionWords i) v }
+    requires { cell_of at region_words i < length t.old }
+    ensures { t.new ≡ slice_set t.old (cell_of at region_words i) v }
 {
     t[at + REGION_WORDS * i] = v;
 }
 
 // A gap written where the table has room for it.
 pub fn put_gap(t: &mut [u64], i: usize, g: Gap)
-    requires { cell_of regionFrontAt regionWords i < length t.old }
-    ensures { t.new ≡ written gapRow i g t.old }
+    requires { cell_of region_front_at region_words i < length t.old }
+    ensures { t.new ≡ written gap_row i g t.old }
 {
     put_word_at(t, REGION_CHUNK_AT, i, g.chunk);
     put_word_at(t, REGION_START_AT, i, g.start);
@@ -65,14 +65,14 @@ pub fn put_gap(t: &mut [u64], i: usize, g: Gap)
 
 // Region i ends at `place` from now on.
 pub fn end_at(t: &mut [u64], i: usize, place: u64)
-    requires { cell_of regionEndAt regionWords i < length t.old }
-    ensures { t.new ≡ endedAt i place t.old }
+    requires { cell_of region_end_at region_words i < length t.old }
+    ensures { t.new ≡ ended_at i place t.old }
 {
     put_word_at(t, REGION_END_AT, i, place);
 }
 
 pub fn chunk_at(t: &[u64], i: usize) -> Chunk
-    ensures { result ≡ row chunkRow i t.now }
+    ensures { result ≡ row chunk_row i t.now }
 {
     Chunk {
         number: words::cell(t, CHUNK_NUMBER_AT, CHUNK_WORDS, i),
@@ -82,7 +82,7 @@ pub fn chunk_at(t: &[u64], i: usize) -> Chunk
 }
 
 pub fn put_chunk(t: &mut [u64], i: usize, c: Chunk)
-    ensures { t.new ≡ written chunkRow i c t.old }
+    ensures { t.new ≡ written chunk_row i c t.old }
 {
     words::put_cell(t, CHUNK_NUMBER_AT, CHUNK_WORDS, i, c.number);
     words::put_cell(t, CHUNK_MEMORY_AT, CHUNK_WORDS, i, c.memory);

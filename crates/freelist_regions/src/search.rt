@@ -3,10 +3,10 @@ ghost use Rattle.std.specs.Prelude.{◌≡◌, ℕ, ◌+◌, ◌*◌, ◌<◌, �
 ghost use Rattle.rounding_rules.specs.Masks.{Ones};
 ghost use Rattle.words.specs.Words.{cell_of};
 ghost use Rattle.words.specs.Rows.{rows};
-ghost use Rattle.freelist_rules.specs.Records.{region, gapRow, regionWords, regionEndAt};
-ghost use Rattle.freelist_rules.specs.Threads.{freeOf};
-ghost use Rattle.freelist_rules.specs.Place.{fitsIn, find};
-ghost use Rattle.freelist_regions.specs.Found.{foundOf, Starts, NoneFits};
+ghost use Rattle.freelist_rules.specs.Records.{region, gap_row, region_words, region_end_at};
+ghost use Rattle.freelist_rules.specs.Threads.{free_of};
+ghost use Rattle.freelist_rules.specs.Place.{fits_in, find};
+ghost use Rattle.freelist_regions.specs.Found.{found_of, Starts, NoneFits};
 
 use crate::records::word_at;
 use freelist_rules::{REGION_END_AT, REGION_START_AT};
@@ -25,14 +25,14 @@ pub enum Found {
 
 // Whether a region has as many bytes: most that do not serve fail by this alone. Where it fails, no mask makes the region serve.
 fn is_long(start: u64, end: u64, size: u64) -> bool
-    ensures { result ≡ false → (mask chunk : ℕ) → fitsIn mask size (region chunk start end) ≡ false }
+    ensures { result ≡ false → (mask chunk : ℕ) → fits_in mask size (region chunk start end) ≡ false }
 {
     size <= std::num::wrapping_sub_u64(end, start)
 }
 
 // The same of region i.
 fn is_long_at(t: &[u64], i: usize, size: u64) -> bool
-    requires { cell_of regionEndAt regionWords i < length t.now }
+    requires { cell_of region_end_at region_words i < length t.now }
     ensures { result ≡ false → NoneFits size t.now i (i + 1) }
 {
     let start = word_at(t, REGION_START_AT, i);
@@ -42,7 +42,7 @@ fn is_long_at(t: &[u64], i: usize, size: u64) -> bool
 
 // Whether neither of the two regions from i on has as many bytes.
 fn are_half_short(t: &[u64], i: usize, size: u64) -> bool
-    requires { regionWords + regionWords * (i + 2) ≤ length t.now }
+    requires { region_words + region_words * (i + 2) ≤ length t.now }
     ensures { result ≡ true → NoneFits size t.now i (i + 2) }
 {
     if is_long_at(t, i + 1, size) {
@@ -53,7 +53,7 @@ fn are_half_short(t: &[u64], i: usize, size: u64) -> bool
 
 // Whether none of the four has.
 fn are_short(t: &[u64], i: usize, size: u64) -> bool
-    requires { regionWords + regionWords * (i + 4) ≤ length t.now }
+    requires { region_words + region_words * (i + 4) ≤ length t.now }
     ensures { result ≡ true → NoneFits size t.now i (i + 4) }
 {
     if are_half_short(t, i + HALF, size) {
@@ -64,7 +64,7 @@ fn are_short(t: &[u64], i: usize, size: u64) -> bool
 
 // The first n regions without those at the end that are too short, by fours: most of an ask's time goes by here.
 fn without_short(t: &[u64], n: usize, size: u64) -> usize
-    requires { regionWords + regionWords * n ≤ length t.now }
+    requires { region_words + region_words * n ≤ length t.now }
     ensures { (result ≤ n) × NoneFits size t.now result n }
 {
     let mut k = n;
@@ -80,7 +80,7 @@ fn without_short(t: &[u64], n: usize, size: u64) -> usize
 // Whether it has an aligned place for them that ends within it.
 fn has_place(start: u64, end: u64, mask: u64, size: u64) -> bool
     requires { Ones 63 mask }
-    ensures { (chunk : ℕ) → result ≡ fitsIn mask size (region chunk start end) }
+    ensures { (chunk : ℕ) → result ≡ fits_in mask size (region chunk start end) }
 {
     if size <= end {
         let place = rounding::lower_to_unit(end - size, mask);
@@ -92,9 +92,9 @@ fn has_place(start: u64, end: u64, mask: u64, size: u64) -> bool
 
 // The last of the first n regions that has an aligned place for `size` bytes that ends within it. `mask` holds the atom mask.
 pub fn find_fit(t: &[u64], n: usize, mask: u64, size: u64) -> Found
-    requires { Ones 63 mask × (regionWords + regionWords * n ≤ length t.now) }
-    ensures result_value { foundOf result ≡ find mask size (freeOf (rows gapRow n t.now)) }
-    ensures starts { Starts mask size (freeOf (rows gapRow n t.now)) result }
+    requires { Ones 63 mask × (region_words + region_words * n ≤ length t.now) }
+    ensures result_value { found_of result ≡ find mask size (free_of (rows gap_row n t.now)) }
+    ensures starts { Starts mask size (free_of (rows gap_row n t.now)) result }
 {
     let mut k = without_short(t, n, size);
     while 0 < k {

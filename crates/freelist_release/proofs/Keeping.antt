@@ -7,21 +7,21 @@ use native.Mathlib.Omega.{arith}
 use lib.ListN.{length, drop, length-append, drop_of_length-le}
 use lib.Seq.{append_snoc}
 use Rattle.words.specs.Rows.{Layout, row, laid, written}
-use Rattle.words.proofs.Records.{rows-laid, laid-rows, row-behind, drop_past, length-laid, laid-laid, appended}
+use Rattle.words.proofs.Records.{rows_laid, laid_rows, row_behind, drop_past, length_laid, laid_laid, appended}
 
 module _ {R : Type 0} (L : Layout R) where
   -- a record at or past the end of those laid is as it was
-  row-past : (ys : List R) (t : List ℕ) (i : ℕ) → length ys ≤ i → L.width + L.width * i + L.width ≤ length t → row L i (laid L ys t) ≡ row L i t
-  row-past ys t i h k =
+  row_past : (ys : List R) (t : List ℕ) (i : ℕ) → length ys ≤ i → L.width + L.width * i + L.width ≤ length t → row L i (laid L ys t) ≡ row L i t
+  row_past ys t i h k =
       let w : ℕ = L.width in
       let m : w * length ys ≤ w * i = mul-le-mul_left w h in
-      row-behind L i (laid L ys t) t (omega (arith, length-laid L ys t (omega arith))) k (drop_past L ys t i (omega arith) h)
+      row_behind L i (laid L ys t) t (omega (arith, length_laid L ys t (omega arith))) k (drop_past L ys t i (omega arith) h)
 
   laid_next : (ys : List R) (r : R) (t : List ℕ) → L.width + L.width * length ys + L.width ≤ length t → written L (length ys) r (laid L ys t) ≡ laid L (ys ++ (r ∷ [])) t
   laid_next ys r t h =
-      appended L (length ys) r (laid L ys t) (rw (length-laid L ys t (omega arith)) h)
-      ∙ ap (λ (z : List R). laid L (z ++ (r ∷ [])) (laid L ys t)) (rows-laid L ys t (omega arith))
-      ∙ laid-laid L (ys ++ (r ∷ [])) ys t (omega arith) (omega (arith, length-append ys (r ∷ [])))
+      appended L (length ys) r (laid L ys t) (rw (length_laid L ys t (omega arith)) h)
+      ∙ ap (λ (z : List R). laid L (z ++ (r ∷ [])) (laid L ys t)) (rows_laid L ys t (omega arith))
+      ∙ laid_laid L (ys ++ (r ∷ [])) ys t (omega arith) (omega (arith, length-append ys (r ∷ [])))
 
   -- of the first i records, those that f leaves stand in front
   pub record Kept (f : List R → List R) (rs : List R) (t u : List ℕ) (i kept : ℕ) : Type 0 where
@@ -32,20 +32,20 @@ module _ {R : Type 0} (L : Layout R) where
     pub within : kept ≤ i
 
   module _ (f : List R → List R) (rs : List R) (t : List ℕ) where
-    pub kept-none : L.width ≤ length t → Kept f rs t t 0 0
-    kept-none h = record { front = []; so_far = refl; count = refl; table = sym (laid-rows L 0 t (omega (arith, mul-zero L.width))); within = omega arith }
+    pub kept_none : L.width ≤ length t → Kept f rs t t 0 0
+    kept_none h = record { front = []; so_far = refl; count = refl; table = sym (laid_rows L 0 t (omega (arith, mul-zero L.width))); within = omega arith }
 
     module _ (u : List ℕ) (i kept : ℕ) (now : Kept f rs t u i kept) where
       pub kept_row : L.width + L.width * i + L.width ≤ length t → row L i u ≡ row L i t
-      kept_row h = ap (row L i) now.table ∙ row-past now.front t i (omega (arith, now.count, now.within)) h
+      kept_row h = ap (row L i) now.table ∙ row_past now.front t i (omega (arith, now.count, now.within)) h
 
-      pub kept-length : (n : ℕ) → i ≤ n → L.width + L.width * n ≤ length t → length u ≡ length t
-      kept-length n g h =
+      pub kept_length : (n : ℕ) → i ≤ n → L.width + L.width * n ≤ length t → length u ≡ length t
+      kept_length n g h =
           let m : L.width * length now.front ≤ L.width * n = mul-le-mul_left L.width (omega (arith, now.count, now.within)) in
-          ap length now.table ∙ length-laid L now.front t (omega (arith, m, h))
+          ap length now.table ∙ length_laid L now.front t (omega (arith, m, h))
 
-      pub kept-past : f (drop i rs) ≡ f (drop (i + 1) rs) → Kept f rs t u (i + 1) kept
-      kept-past e =
+      pub kept_past : f (drop i rs) ≡ f (drop (i + 1) rs) → Kept f rs t u (i + 1) kept
+      kept_past e =
           record {
             front = now.front;
             so_far = now.so_far ∙ ap (λ (z : List R). now.front ++ z) e;
@@ -65,7 +65,7 @@ module _ {R : Type 0} (L : Layout R) where
             within = omega (arith, now.within);
           }
 
-      pub kept-all : f [] ≡ [] → length rs ≤ i → (kept ≡ length (f rs)) × (u ≡ laid L (f rs) t)
-      kept-all none h =
+      pub kept_all : f [] ≡ [] → length rs ≤ i → (kept ≡ length (f rs)) × (u ≡ laid L (f rs) t)
+      kept_all none h =
           let e : now.front ≡ f rs = sym (now.so_far ∙ ap (λ (z : List R). now.front ++ f z) (drop_of_length-le rs h) ∙ ap (λ (z : List R). now.front ++ z) none ∙ append-nil now.front) in
           (now.count ∙ ap length e, now.table ∙ ap (λ (z : List R). laid L z t) e)

@@ -2,10 +2,10 @@
 ghost use Rattle.std.specs.Prelude.{◌≡◌, [], ◌+◌, ◌*◌, ◌≤◌, length};
 ghost use Rattle.std.proofs.lemmas.List.Edits.{sets};
 ghost use Rattle.words.specs.Rows.{rows, laid};
-ghost use Rattle.counter.specs.Limits.{loansMost, chunksMost};
-ghost use Rattle.freelist_rules.specs.Records.{chunkRow, chunkWords, gapRow, regionWords};
-ghost use Rattle.freelist_rules.specs.Release.{leaving, remaining, memoriesOf, bytes_of};
-ghost use Rattle.freelist_rules.specs.Threads.{freeOf, stayingGaps};
+ghost use Rattle.counter.specs.Limits.{loans_most, chunks_most};
+ghost use Rattle.freelist_rules.specs.Records.{chunk_row, chunk_words, gap_row, region_words};
+ghost use Rattle.freelist_rules.specs.Release.{leaving, remaining, memories_of, bytes_of};
+ghost use Rattle.freelist_rules.specs.Threads.{free_of, staying_gaps};
 ghost use Rattle.freelist_marks.specs.Releasable.{Releasable};
 
 use crate::keeps::{keep_chunks, keep_regions};
@@ -29,15 +29,15 @@ pub fn drop_chunks(
     spare: bool,
     list: &mut [u64],
 ) -> Tally
-    requires k_in_bounds { (chunkWords + chunkWords * k ≤ length chunks.old) × (regionWords + regionWords * n ≤ length regions.old) × (k ≤ length list.old) × (n ≤ loansMost + chunksMost) }
-    requires releasable { Releasable (rows chunkRow k chunks.old) (freeOf (rows gapRow n regions.old)) }
-    ensures count_value { result.count ≡ length (leaving (rows chunkRow k chunks.old) spare [] (freeOf (rows gapRow n regions.old))) }
-    ensures bytes_value { result.bytes ≡ bytes_of (leaving (rows chunkRow k chunks.old) spare [] (freeOf (rows gapRow n regions.old))) }
-    ensures chunks_value { result.chunks ≡ length (remaining (leaving (rows chunkRow k chunks.old) spare [] (freeOf (rows gapRow n regions.old))) (rows chunkRow k chunks.old)) }
-    ensures regions_value { result.regions ≡ length (stayingGaps (rows chunkRow k chunks.old) spare (rows gapRow n regions.old)) }
-    ensures chunks_after { chunks.new ≡ laid chunkRow (remaining (leaving (rows chunkRow k chunks.old) spare [] (freeOf (rows gapRow n regions.old))) (rows chunkRow k chunks.old)) chunks.old }
-    ensures regions_after { regions.new ≡ laid gapRow (stayingGaps (rows chunkRow k chunks.old) spare (rows gapRow n regions.old)) regions.old }
-    ensures list_after { list.new ≡ sets list.old 0 (memoriesOf (rows chunkRow k chunks.old) (leaving (rows chunkRow k chunks.old) spare [] (freeOf (rows gapRow n regions.old)))) }
+    requires k_in_bounds { (chunk_words + chunk_words * k ≤ length chunks.old) × (region_words + region_words * n ≤ length regions.old) × (k ≤ length list.old) × (n ≤ loans_most + chunks_most) }
+    requires releasable { Releasable (rows chunk_row k chunks.old) (free_of (rows gap_row n regions.old)) }
+    ensures count_value { result.count ≡ length (leaving (rows chunk_row k chunks.old) spare [] (free_of (rows gap_row n regions.old))) }
+    ensures bytes_value { result.bytes ≡ bytes_of (leaving (rows chunk_row k chunks.old) spare [] (free_of (rows gap_row n regions.old))) }
+    ensures chunks_value { result.chunks ≡ length (remaining (leaving (rows chunk_row k chunks.old) spare [] (free_of (rows gap_row n regions.old))) (rows chunk_row k chunks.old)) }
+    ensures regions_value { result.regions ≡ length (staying_gaps (rows chunk_row k chunks.old) spare (rows gap_row n regions.old)) }
+    ensures chunks_after { chunks.new ≡ laid chunk_row (remaining (leaving (rows chunk_row k chunks.old) spare [] (free_of (rows gap_row n regions.old))) (rows chunk_row k chunks.old)) chunks.old }
+    ensures regions_after { regions.new ≡ laid gap_row (staying_gaps (rows chunk_row k chunks.old) spare (rows gap_row n regions.old)) regions.old }
+    ensures list_after { list.new ≡ sets list.old 0 (memories_of (rows chunk_row k chunks.old) (leaving (rows chunk_row k chunks.old) spare [] (free_of (rows gap_row n regions.old)))) }
 {
     let m = mark(chunks, k, regions, n, spare, list);
     let left = keep_regions(chunks, k, regions, n, spare);

@@ -1,8 +1,8 @@
 // What stays, moved together in its table. Records are read before those in front of them are written over.
 ghost use Rattle.std.specs.Prelude.{◌≡◌, ◌*◌, ◌≤◌, ◌+◌, length, take};
 ghost use Rattle.words.specs.Rows.{rows, laid};
-ghost use Rattle.freelist_rules.specs.Records.{chunkRow, chunkWords, gapRow, regionWords};
-ghost use Rattle.freelist_rules.specs.Threads.{stayingGaps};
+ghost use Rattle.freelist_rules.specs.Records.{chunk_row, chunk_words, gap_row, region_words};
+ghost use Rattle.freelist_rules.specs.Threads.{staying_gaps};
 ghost use Rattle.freelist_release.specs.Listed.{among, unlisted};
 ghost use Rattle.freelist_marks.specs.Releasable.{NumbersRise};
 
@@ -11,9 +11,9 @@ use freelist_regions::{chunk_at, gap_at, put_chunk, put_gap};
 
 // The regions that stay; how many they are.
 pub fn keep_regions(chunks: &[u64], k: usize, regions: &mut [u64], n: usize, spare: bool) -> usize
-    requires { (regionWords + regionWords * n ≤ length regions.old) × NumbersRise (rows chunkRow k chunks.now) }
-    ensures value { result ≡ length (stayingGaps (rows chunkRow k chunks.now) spare (rows gapRow n regions.old)) }
-    ensures regions_after { regions.new ≡ laid gapRow (stayingGaps (rows chunkRow k chunks.now) spare (rows gapRow n regions.old)) regions.old }
+    requires { (region_words + region_words * n ≤ length regions.old) × NumbersRise (rows chunk_row k chunks.now) }
+    ensures value { result ≡ length (staying_gaps (rows chunk_row k chunks.now) spare (rows gap_row n regions.old)) }
+    ensures regions_after { regions.new ≡ laid gap_row (staying_gaps (rows chunk_row k chunks.now) spare (rows gap_row n regions.old)) regions.old }
 {
     let mut i = 0;
     let mut kept = 0;
@@ -47,9 +47,9 @@ fn is_listed(list: &[u64], m: usize, x: u64) -> bool
 
 // The chunks whose memory is none of the first m words of the list; how many they are.
 pub fn keep_chunks(chunks: &mut [u64], k: usize, list: &[u64], m: usize) -> usize
-    requires { (chunkWords + chunkWords * k ≤ length chunks.old) × (m ≤ length list.now) }
-    ensures value { result ≡ length (unlisted (take m list.now) (rows chunkRow k chunks.old)) }
-    ensures chunks_after { chunks.new ≡ laid chunkRow (unlisted (take m list.now) (rows chunkRow k chunks.old)) chunks.old }
+    requires { (chunk_words + chunk_words * k ≤ length chunks.old) × (m ≤ length list.now) }
+    ensures value { result ≡ length (unlisted (take m list.now) (rows chunk_row k chunks.old)) }
+    ensures chunks_after { chunks.new ≡ laid chunk_row (unlisted (take m list.now) (rows chunk_row k chunks.old)) chunks.old }
 {
     let mut i = 0;
     let mut kept = 0;

@@ -5,9 +5,9 @@ mod spares;
 
 ghost use Rattle.std.specs.Prelude.{◌≡◌, [], length};
 ghost use Rattle.std.proofs.lemmas.List.Edits.{sets};
-ghost use Rattle.freelist_rules.specs.Release.{memoriesOf, bytes_of};
+ghost use Rattle.freelist_rules.specs.Release.{memories_of, bytes_of};
 ghost use Rattle.freelist_rules.specs.Tables.{tables, store_of};
-ghost use Rattle.freelist_outcomes.specs.Return.{goneFrom, releasedTables};
+ghost use Rattle.freelist_outcomes.specs.Return.{gone_from, released_tables};
 ghost use Rattle.freelist_release.specs.Frees.{Frees};
 
 use crate::dropping::drop_chunks;
@@ -32,10 +32,10 @@ pub fn release(
     list: &mut [u64],
 ) -> Freed
     requires { Frees s chunks.old regions.old list.old }
-    ensures count_value { result.count ≡ length (goneFrom s spare (tables [] [] chunks.old [] regions.old)) }
-    ensures bytes_value { result.bytes ≡ bytes_of (goneFrom s spare (tables [] [] chunks.old [] regions.old)) }
-    ensures regions_after { tables [] [] chunks.new [] regions.new ≡ releasedTables s spare (tables [] [] chunks.old [] regions.old) }
-    ensures list_after { list.new ≡ sets list.old 0 (memoriesOf (store_of s (tables [] [] chunks.old [] regions.old)).chunks (goneFrom s spare (tables [] [] chunks.old [] regions.old))) }
+    ensures count_value { result.count ≡ length (gone_from s spare (tables [] [] chunks.old [] regions.old)) }
+    ensures bytes_value { result.bytes ≡ bytes_of (gone_from s spare (tables [] [] chunks.old [] regions.old)) }
+    ensures regions_after { tables [] [] chunks.new [] regions.new ≡ released_tables s spare (tables [] [] chunks.old [] regions.old) }
+    ensures list_after { list.new ≡ sets list.old 0 (memories_of (store_of s (tables [] [] chunks.old [] regions.old)).chunks (gone_from s spare (tables [] [] chunks.old [] regions.old))) }
 {
     let k = chunks[CHUNKS_AT] as usize;
     let n = regions[REGION_COUNT_AT] as usize;

@@ -4,16 +4,16 @@ use mathlib.Core.List.{List}
 use Prim.Native.Nat.{ℕ, ◌+◌, ◌≤◌}
 use native.Mathlib.Omega.{arith}
 use lib.ListN.{get_or}
-use Rattle.book_rules.specs.Book.{indexWords}
-use Rattle.freelist_rules.specs.Threads.{afterFrom, beforeFrom, afterIn, beforeIn, Leads}
-use Rattle.freelist_rules.proofs.Threads.{leads-same}
+use Rattle.book_rules.specs.Book.{index_words}
+use Rattle.freelist_rules.specs.Threads.{after_from, before_from, after_in, before_in, Leads}
+use Rattle.freelist_rules.proofs.Threads.{leads_same}
 
-module _ (n : ℕ) (index index' : List ℕ) (behind : (k : ℕ) → indexWords n ≤ k → get_or index' k 0 ≡ get_or index k 0) where
-  pub after-stays : (r : ℕ) → afterIn n index' r ≡ afterIn n index r
-  after-stays r = behind (afterFrom n + r) (omega arith)
+module _ (n : ℕ) (index index' : List ℕ) (behind : (k : ℕ) → index_words n ≤ k → get_or index' k 0 ≡ get_or index k 0) where
+  pub after_stays : (r : ℕ) → after_in n index' r ≡ after_in n index r
+  after_stays r = behind (after_from n + r) (omega arith)
 
-  pub before-stays : (r : ℕ) → beforeIn n index' r ≡ beforeIn n index r
-  before-stays r = behind (beforeFrom n + r) (omega arith)
+  pub before_stays : (r : ℕ) → before_in n index' r ≡ before_in n index r
+  before_stays r = behind (before_from n + r) (omega arith)
 
-  pub leads_stays : (u : ℕ) (rs : List ℕ) → Leads (afterIn n index) (beforeIn n index) u rs → Leads (afterIn n index') (beforeIn n index') u rs
-  leads_stays u rs L = leads-same (afterIn n index) (beforeIn n index) (afterIn n index') (beforeIn n index') u rs L (λ x m. after-stays x) (λ x m. before-stays x)
+  pub leads_stays : (u : ℕ) (rs : List ℕ) → Leads (after_in n index) (before_in n index) u rs → Leads (after_in n index') (before_in n index') u rs
+  leads_stays u rs L = leads_same (after_in n index) (before_in n index) (after_in n index') (before_in n index') u rs L (λ x m. after_stays x) (λ x m. before_stays x)

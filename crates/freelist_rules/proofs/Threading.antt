@@ -8,45 +8,45 @@ use native.Mathlib.Omega.{arith}
 use lib.ListN.{length, length-map}
 use Rattle.lists.specs.Members.{Mem, NotIn, Distinct}
 use Rattle.counter.specs.declared.settings.FreeListSettings.{FreeListSettings}
-use Rattle.slab.specs.Test.{vacancies}
-use Rattle.store_rules.specs.Loans.{loansOf}
-use Rattle.freelist_rules.specs.Tables.{Tables, placesIn, store_of, vacantIn, recordsIn, alongIn}
-use Rattle.freelist_rules.specs.Threads.{afterIn, beforeIn, loanBy, Threaded}
-use Rattle.freelist_rules.proofs.Along.{loans-count, records-all, loans-order}
+use Rattle.slabs.specs.Test.{vacancies}
+use Rattle.store_rules.specs.Loans.{loans_of}
+use Rattle.freelist_rules.specs.Tables.{Tables, places_in, store_of, vacant_in, records_in, along_in}
+use Rattle.freelist_rules.specs.Threads.{after_in, before_in, loan_by, Threaded}
+use Rattle.freelist_rules.proofs.Along.{loans_count, records_all, loans_order}
 use Rattle.freelist_rules.proofs.GapLists.{Order}
 use Rattle.freelist_rules.proofs.Gaps.{LoansRise}
-use Rattle.freelist_rules.proofs.Ordered.{ordered-length}
-use Rattle.freelist_rules.proofs.Threads.{no_zero, leads-distinct, followed-leads}
+use Rattle.freelist_rules.proofs.Ordered.{ordered_length}
+use Rattle.freelist_rules.proofs.Threads.{no_zero, leads_distinct, followed_leads}
 
-module _ (s : FreeListSettings) (t : Tables) (T : Threaded s.store.loans (placesIn t) t.loans t.index (store_of s t).loans) where
-  pub records-count : length T.records ≡ placesIn t - vacancies (vacantIn t) (placesIn t)
+module _ (s : FreeListSettings) (t : Tables) (T : Threaded s.store.loans (places_in t) t.loans t.index (store_of s t).loans) where
+  pub records_count : length T.records ≡ places_in t - vacancies (vacant_in t) (places_in t)
   unfolding store_of
-  records-count =
+  records_count =
       omega (
         arith,
-        length-map T.records (loanBy t.loans),
+        length-map T.records (loan_by t.loans),
         ap length T.are,
-        ordered-length (loansOf (placesIn t) t.loans),
-        loans-count t.loans (placesIn t),
+        ordered_length (loans_of (places_in t) t.loans),
+        loans_count t.loans (places_in t),
       )
 
-  pub records-over : NotIn 0 T.records
-  records-over = no_zero T.records (λ r m. (T.right r m).0)
+  pub records_over : NotIn 0 T.records
+  records_over = no_zero T.records (λ r m. (T.right r m).0)
 
-  pub records-once : Distinct T.records
-  records-once = leads-distinct (afterIn s.store.loans t.index) (beforeIn s.store.loans t.index) T.records T.leads records-over
+  pub records_once : Distinct T.records
+  records_once = leads_distinct (after_in s.store.loans t.index) (before_in s.store.loans t.index) T.records T.leads records_over
 
   -- they are followed, and their loans are the store's
-  pub records-are : recordsIn s t ≡ T.records
-  records-are =
-      followed-leads (afterIn s.store.loans t.index) (beforeIn s.store.loans t.index) (placesIn t) T.records T.leads records-over (omega (arith, records-count))
+  pub records_are : records_in s t ≡ T.records
+  records_are =
+      followed_leads (after_in s.store.loans t.index) (before_in s.store.loans t.index) (places_in t) T.records T.leads records_over (omega (arith, records_count))
 
-  pub along-are : alongIn s t ≡ (store_of s t).loans
-  along-are = ap (map (loanBy t.loans)) records-are ∙ T.are
+  pub along_are : along_in s t ≡ (store_of s t).loans
+  along_are = ap (map (loan_by t.loans)) records_are ∙ T.are
 
-  pub records-order : LoansRise 0 (store_of s t).loans → Order t.loans T.records
-  records-order rise = loans-order t.loans 0 T.records (subst (LoansRise 0) (sym T.are) rise)
+  pub records_order : LoansRise 0 (store_of s t).loans → Order t.loans T.records
+  records_order rise = loans_order t.loans 0 T.records (subst (LoansRise 0) (sym T.are) rise)
 
   -- each place in use has one
-  pub records-each : (p : ℕ) → p < placesIn t → vacantIn t p ≡ false → Mem (suc p) T.records
-  records-each = records-all (vacantIn t) (placesIn t) T.records records-once T.right records-count
+  pub records_each : (p : ℕ) → p < places_in t → vacant_in t p ≡ false → Mem (suc p) T.records
+  records_each = records_all (vacant_in t) (places_in t) T.records records_once T.right records_count

@@ -2,10 +2,10 @@
 -- loans, free pieces, held and released chunks".
 use Rattle.std.specs.Prelude.{true, List, [], ◌∷◌}
 use Rattle.counter.specs.declared.answers.Block.{Block}
-pub use Rattle.store_rules.specs.Views.{among, loansLess}
+pub use Rattle.store_rules.specs.Views.{among, loans_less}
 use Rattle.freelist_rules.specs.Records.{Store}
 use Rattle.freelist_rules.specs.Steps.{released}
-use Rattle.freelist_rules.specs.Walk.{gapsOf}
+use Rattle.freelist_rules.specs.Walk.{gaps_of}
 
 -- those loans are left, and what lies between them in the held chunks is free
 abbrev pub without : List Block → Store → Store
@@ -14,9 +14,9 @@ without bs t =
       given = t.given;
       made = t.made;
       size = t.size;
-      loans = loansLess bs t.loans;
+      loans = loans_less bs t.loans;
       chunks = t.chunks;
-      regions = gapsOf t.chunks (loansLess bs t.loans);
+      regions = gaps_of t.chunks (loans_less bs t.loans);
     }
 
 -- and then the wholly free chunks go, but for the last region's; where nothing came back nothing is released

@@ -1,6 +1,6 @@
 -- Where the pieces of a store lie, byte by byte.
 use Rattle.std.specs.Prelude.{List, [], ◌∷◌, ℕ, ◌+◌, ◌*◌, ◌≤◌, ◌<◌}
-use Rattle.counter.specs.Limits.{chunkSizeMost}
+use Rattle.counter.specs.Limits.{chunk_size_most}
 use Rattle.store_rules.specs.declared.Loan.{Loan}
 use Rattle.freelist_rules.specs.Records.{region}
 unfoldable pub use Rattle.store_rules.specs.Views.{on}
@@ -14,7 +14,7 @@ piece l = region l.chunk l.offset (l.offset + l.size)
 -- byte x of chunk c on one line: chunks are at most 2^40 bytes long and lie twice as far apart, so that pieces of two
 -- chunks never meet
 abbrev pub line : ℕ → ℕ → ℕ
-line c x = 2 * chunkSizeMost * c + x
+line c x = 2 * chunk_size_most * c + x
 
 abbrev pub lo : Region → ℕ
 lo r = line r.chunk r.start

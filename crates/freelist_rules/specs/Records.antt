@@ -20,45 +20,45 @@ pub record Store : Type 0 where
 
 -- ---- in words: how many each takes, and where those of the first stand, behind the table's own record
 
-abbrev pub chunkWords : ℕ
-chunkWords = 3
+abbrev pub chunk_words : ℕ
+chunk_words = 3
 
-abbrev pub chunkNumberAt : ℕ
-chunkNumberAt = 3
+abbrev pub chunk_number_at : ℕ
+chunk_number_at = 3
 
-abbrev pub chunkMemoryAt : ℕ
-chunkMemoryAt = 4
+abbrev pub chunk_memory_at : ℕ
+chunk_memory_at = 4
 
-abbrev pub chunkBytesAt : ℕ
-chunkBytesAt = 5
+abbrev pub chunk_bytes_at : ℕ
+chunk_bytes_at = 5
 
-abbrev pub regionWords : ℕ
-regionWords = 4
+abbrev pub region_words : ℕ
+region_words = 4
 
-abbrev pub regionChunkAt : ℕ
-regionChunkAt = 4
+abbrev pub region_chunk_at : ℕ
+region_chunk_at = 4
 
-abbrev pub regionStartAt : ℕ
-regionStartAt = 5
+abbrev pub region_start_at : ℕ
+region_start_at = 5
 
-abbrev pub regionEndAt : ℕ
-regionEndAt = 6
+abbrev pub region_end_at : ℕ
+region_end_at = 6
 
-abbrev pub regionFrontAt : ℕ
-regionFrontAt = 7
+abbrev pub region_front_at : ℕ
+region_front_at = 7
 
 abbrev pub chunk_of : List ℕ → Chunk
-chunk_of t = chunk (get_or t chunkNumberAt 0) (get_or t chunkMemoryAt 0) (get_or t chunkBytesAt 0)
+chunk_of t = chunk (get_or t chunk_number_at 0) (get_or t chunk_memory_at 0) (get_or t chunk_bytes_at 0)
 
 abbrev pub gap_of : List ℕ → Gap
 gap_of t =
-    record { chunk = get_or t regionChunkAt 0; start = get_or t regionStartAt 0; end = get_or t regionEndAt 0; front = get_or t regionFrontAt 0 }
+    record { chunk = get_or t region_chunk_at 0; start = get_or t region_start_at 0; end = get_or t region_end_at 0; front = get_or t region_front_at 0 }
 
-abbrev pub wordsOfChunk : Chunk → List ℕ
-wordsOfChunk c = c.number ∷ c.memory ∷ c.size ∷ []
+abbrev pub words_of_chunk : Chunk → List ℕ
+words_of_chunk c = c.number ∷ c.memory ∷ c.size ∷ []
 
-abbrev pub wordsOfGap : Gap → List ℕ
-wordsOfGap g = g.chunk ∷ g.start ∷ g.end ∷ g.front ∷ []
+abbrev pub words_of_gap : Gap → List ℕ
+words_of_gap g = g.chunk ∷ g.start ∷ g.end ∷ g.front ∷ []
 
 -- three words behind three others, read and written again
 whole : (t : List ℕ) → 3 ≤ length t → get_or t 0 0 ∷ get_or t 1 0 ∷ get_or t 2 0 ∷ [] ≡ take 3 t
@@ -78,15 +78,15 @@ three (a ∷ b ∷ []) h = absurd (omega (arith, h))
 three (a ∷ b ∷ c ∷ []) h = (a, b, c, refl)
 three (a ∷ b ∷ c ∷ d ∷ own) h = absurd (omega (arith, h))
 
-pub chunk-again : (own : List ℕ) (c : Chunk) (rest : List ℕ) → length own ≡ 3 → chunk_of (own ++ (wordsOfChunk c ++ rest)) ≡ c
-chunk-again own c rest h = rw (three own h).3
+pub chunk_again : (own : List ℕ) (c : Chunk) (rest : List ℕ) → length own ≡ 3 → chunk_of (own ++ (words_of_chunk c ++ rest)) ≡ c
+chunk_again own c rest h = rw (three own h).3
 
-pub gap-again : (own : List ℕ) (g : Gap) (rest : List ℕ) → length own ≡ 4 → gap_of (own ++ (wordsOfGap g ++ rest)) ≡ g
-gap-again [] g rest h = absurd (omega (arith, h))
-gap-again (a ∷ own) g rest h = rw (three own (omega (arith, h))).3
+pub gap_again : (own : List ℕ) (g : Gap) (rest : List ℕ) → length own ≡ 4 → gap_of (own ++ (words_of_gap g ++ rest)) ≡ g
+gap_again [] g rest h = absurd (omega (arith, h))
+gap_again (a ∷ own) g rest h = rw (three own (omega (arith, h))).3
 
-abbrev pub chunkRow : Layout Chunk
-chunkRow = record { width = chunkWords; enc = wordsOfChunk; dec = chunk_of; enc-length = λ c. refl; dec-enc = chunk-again; enc-dec = read_again }
+abbrev pub chunk_row : Layout Chunk
+chunk_row = record { width = chunk_words; enc = words_of_chunk; dec = chunk_of; enc_length = λ c. refl; dec_enc = chunk_again; enc_dec = read_again }
 
-abbrev pub gapRow : Layout Gap
-gapRow = record { width = regionWords; enc = wordsOfGap; dec = gap_of; enc-length = λ g. refl; dec-enc = gap-again; enc-dec = Loans.read_again }
+abbrev pub gap_row : Layout Gap
+gap_row = record { width = region_words; enc = words_of_gap; dec = gap_of; enc_length = λ g. refl; dec_enc = gap_again; enc_dec = Loans.read_again }

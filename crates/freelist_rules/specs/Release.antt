@@ -34,22 +34,22 @@ leaving cs spare marked [] = marked
 leaving cs spare marked (r ∷ rs) = cond (goes cs spare r rs) (leaving cs spare (marked ++ (r ∷ [])) rs) (leaving cs spare (rotated marked) rs)
 
 -- a chunk goes where a region that goes covers it
-abbrev pub isCovered : List Region → Chunk → Bool
-isCovered [] c = false
-isCovered (r ∷ rs) c = covers r c || isCovered rs c
+abbrev pub is_covered : List Region → Chunk → Bool
+is_covered [] c = false
+is_covered (r ∷ rs) c = covers r c || is_covered rs c
 
 unfoldable pub remaining : List Region → List Chunk → List Chunk
 remaining gone [] = []
-remaining gone (c ∷ cs) = cond (isCovered gone c) (remaining gone cs) (c ∷ remaining gone cs)
+remaining gone (c ∷ cs) = cond (is_covered gone c) (remaining gone cs) (c ∷ remaining gone cs)
 
 -- the memory number and the size of a region's chunk
-abbrev pub memoryOf : List Chunk → Region → ℕ
-memoryOf [] r = 0
-memoryOf (c ∷ cs) r = cond (eqb r.chunk c.number) c.memory (memoryOf cs r)
+abbrev pub memory_of : List Chunk → Region → ℕ
+memory_of [] r = 0
+memory_of (c ∷ cs) r = cond (eqb r.chunk c.number) c.memory (memory_of cs r)
 
-abbrev pub memoriesOf : List Chunk → List Region → List ℕ
-memoriesOf cs [] = []
-memoriesOf cs (r ∷ rs) = memoryOf cs r ∷ memoriesOf cs rs
+abbrev pub memories_of : List Chunk → List Region → List ℕ
+memories_of cs [] = []
+memories_of cs (r ∷ rs) = memory_of cs r ∷ memories_of cs rs
 
 abbrev pub bytes_of : List Region → ℕ
 bytes_of [] = 0

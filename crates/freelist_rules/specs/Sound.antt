@@ -21,17 +21,17 @@ pub record Sound (s : FreeListSettings) (t : Store) : Type 0 where
   pub fills : (n x : ℕ) → loaned n x t.loans + free n x t.regions ≡ held n x t.chunks
   -- loans, free regions and chunks stand in order and are not empty; "no joinable pieces": between two free regions lies
   -- something
-  pub loans-rise : Rising (λ (l : Loan). lo (piece l)) (λ (l : Loan). hi (piece l)) 0 0 t.loans
-  pub regions-rise : Rising lo hi 1 0 t.regions
-  pub chunks-rise : Rising (λ (c : Chunk). c.number) (λ (c : Chunk). suc c.number) 0 1 t.chunks
+  pub loans_rise : Rising (λ (l : Loan). lo (piece l)) (λ (l : Loan). hi (piece l)) 0 0 t.loans
+  pub regions_rise : Rising lo hi 1 0 t.regions
+  pub chunks_rise : Rising (λ (c : Chunk). c.number) (λ (c : Chunk). suc c.number) 0 1 t.chunks
   -- "loans and chunks only numbers already given out", "loans have distinct serials", "held memory numbers differ"
-  pub chunks-made : All (λ (c : Chunk). c.number ≤ t.made) t.chunks
-  pub memories-differ : Differ (λ (c : Chunk). c.memory) t.chunks
-  pub serials-given : All (λ (l : Loan). (0 < l.serial) × (l.serial ≤ t.given)) t.loans
-  pub serials-differ : Differ (λ (l : Loan). l.serial) t.loans
+  pub chunks_made : All (λ (c : Chunk). c.number ≤ t.made) t.chunks
+  pub memories_differ : Differ (λ (c : Chunk). c.memory) t.chunks
+  pub serials_given : All (λ (l : Loan). (0 < l.serial) × (l.serial ≤ t.given)) t.loans
+  pub serials_differ : Differ (λ (l : Loan). l.serial) t.loans
   -- "a free list's, and its chunk size now, are min(start x 2^k, final)", "every chunk is at most the chunk size"
-  pub now-sized : Sized s t.size
-  pub chunks-sized : All (λ (c : Chunk). Sized s c.size × (c.size ≤ t.size)) t.chunks
+  pub now_sized : Sized s t.size
+  pub chunks_sized : All (λ (c : Chunk). Sized s c.size × (c.size ≤ t.size)) t.chunks
   -- "alignment to atom"
-  pub loans-units : All (λ (l : Loan). Units s l.offset × Units s l.size) t.loans
-  pub regions-units : All (λ (r : Region). Units s r.start × Units s r.end) t.regions
+  pub loans_units : All (λ (l : Loan). Units s l.offset × Units s l.size) t.loans
+  pub regions_units : All (λ (r : Region). Units s r.start × Units s r.end) t.regions

@@ -1,20 +1,20 @@
 -- What each call does to a store as lists of records. 01, "freelist.rs".
 use Rattle.std.specs.Prelude.{Bool, true, List, [], ◌∷◌, ◌++◌, ℕ, ◌+◌, get_or}
 use Rattle.rounding_rules.specs.Growth.{doubled}
-use Rattle.words.specs.Rows.{removeAt}
+use Rattle.words.specs.Rows.{remove_at}
 use Rattle.counter.specs.declared.answers.Block.{Block}
 use Rattle.counter.specs.declared.settings.FreeListSettings.{FreeListSettings}
-pub use Rattle.store_rules.specs.Loans.{noLoan}
+pub use Rattle.store_rules.specs.Loans.{no_loan}
 use Rattle.freelist_rules.specs.Records.{Store, region, chunk}
 use Rattle.freelist_rules.specs.Pieces.{piece}
-use Rattle.freelist_rules.specs.Place.{Found, nowhere, at, block, cutOff, lentLoan, putLoan}
+use Rattle.freelist_rules.specs.Place.{Found, nowhere, at, block, cut_off, lent_loan, put_loan}
 use Rattle.freelist_rules.specs.Join.{insert}
 use Rattle.freelist_rules.specs.Release.{staying, leaving, remaining}
 use Rattle.freelist_rules.specs.Seek.{seek}
 use Rattle.store_rules.specs.declared.Region.{Region}
 
-abbrev pub noRegion : Region
-noRegion = region 0 0 0
+abbrev pub no_region : Region
+no_region = region 0 0 0
 
 -- a store as set-up leaves it
 abbrev pub fresh : FreeListSettings → Store
@@ -22,7 +22,7 @@ fresh s = record { given = 0; made = 0; size = s.start; loans = []; chunks = [];
 
 -- region i serves an ask: its block is on loan under the next serial
 abbrev pub served : ℕ → ℕ → Store → ℕ → Region
-served mask n t i = block mask n (get_or t.regions i noRegion)
+served mask n t i = block mask n (get_or t.regions i no_region)
 
 abbrev pub lent : ℕ → ℕ → ℕ → Store → Store
 lent mask n i t =
@@ -30,9 +30,9 @@ lent mask n i t =
       given = t.given + 1;
       made = t.made;
       size = t.size;
-      loans = putLoan (lentLoan (t.given + 1) (served mask n t i)) t.loans;
+      loans = put_loan (lent_loan (t.given + 1) (served mask n t i)) t.loans;
       chunks = t.chunks;
-      regions = cutOff (served mask n t i).start i t.regions;
+      regions = cut_off (served mask n t i).start i t.regions;
     }
 
 -- an order: "chunk size becomes" z
@@ -52,15 +52,15 @@ delivered s memory z t =
     }
 
 -- the loan at i goes back among the free regions
-abbrev pub givenBack : ℕ → Store → Store
-givenBack i t =
+abbrev pub given_back : ℕ → Store → Store
+given_back i t =
     record {
       given = t.given;
       made = t.made;
       size = t.size;
-      loans = removeAt i t.loans;
+      loans = remove_at i t.loans;
       chunks = t.chunks;
-      regions = insert (piece (get_or t.loans i noLoan)) t.regions;
+      regions = insert (piece (get_or t.loans i no_loan)) t.regions;
     }
 
 -- the wholly free chunks go, the last region's spared or not
@@ -76,13 +76,13 @@ released spare t =
     }
 
 -- a block's return: its loan goes back, and wholly free chunks go; a block that is no loan changes nothing
-abbrev pub takenBack : Store → Found → Store
-takenBack t nowhere = t
-takenBack t (at i) = released true (givenBack i t)
+abbrev pub taken_back : Store → Found → Store
+taken_back t nowhere = t
+taken_back t (at i) = released true (given_back i t)
 
 abbrev pub returned : Block → Store → Store
-returned b t = takenBack t (seek b t.loans)
+returned b t = taken_back t (seek b t.loans)
 
-abbrev pub returnedAll : List Block → Store → Store
-returnedAll [] t = t
-returnedAll (b ∷ bs) t = returnedAll bs (returned b t)
+abbrev pub returned_all : List Block → Store → Store
+returned_all [] t = t
+returned_all (b ∷ bs) t = returned_all bs (returned b t)

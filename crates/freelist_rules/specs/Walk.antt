@@ -34,61 +34,61 @@ gaps n p z [] rest = cond (ltb p z) (region n p z ∷ rest) rest
 gaps n p z (l ∷ ls) rest =
     cond (ltb p l.offset) (region n p l.offset ∷ gaps n (l.offset + l.size) z ls rest) (gaps n (l.offset + l.size) z ls rest)
 
-abbrev pub gapsOf : List Chunk → List Loan → List Region
-gapsOf [] ls = []
-gapsOf (c ∷ cs) ls = gaps c.number 0 c.size (front c.number ls) (gapsOf cs (behind c.number ls))
+abbrev pub gaps_of : List Chunk → List Loan → List Region
+gaps_of [] ls = []
+gaps_of (c ∷ cs) ls = gaps c.number 0 c.size (front c.number ls) (gaps_of cs (behind c.number ls))
 
 abbrev pub same : Region → Region → Bool
 same a b = eqb a.chunk b.chunk && (eqb a.start b.start && eqb a.end b.end)
 
-abbrev pub sameAll : List Region → List Region → Bool
-sameAll [] [] = true
-sameAll [] (b ∷ bs) = false
-sameAll (a ∷ rs) [] = false
-sameAll (a ∷ rs) (b ∷ bs) = same a b && sameAll rs bs
+abbrev pub same_all : List Region → List Region → Bool
+same_all [] [] = true
+same_all [] (b ∷ bs) = false
+same_all (a ∷ rs) [] = false
+same_all (a ∷ rs) (b ∷ bs) = same a b && same_all rs bs
 
 -- the loans lie in the chunks, and the regions are the gaps between them
-unfoldable pub fillsOk : List Chunk → List Loan → List Region → Bool
-fillsOk cs ls rs = inside cs ls && sameAll rs (gapsOf cs ls)
+unfoldable pub fills_ok : List Chunk → List Loan → List Region → Bool
+fills_ok cs ls rs = inside cs ls && same_all rs (gaps_of cs ls)
 
 -- ---- a look at each record
 
 module _ {A : Type 0} where
-  abbrev pub allOk : (A → Bool) → List A → Bool
-  allOk p [] = true
-  allOk p (a ∷ xs) = p a && allOk p xs
+  abbrev pub all_ok : (A → Bool) → List A → Bool
+  all_ok p [] = true
+  all_ok p (a ∷ xs) = p a && all_ok p xs
 
 -- z is min(start x 2^k, final) for some k up to f, start being p
-abbrev pub sizedFrom : ℕ → ℕ → ℕ → ℕ → Bool
-sizedFrom zero p y z = eqb z (min p y)
-sizedFrom (suc f) p y z = eqb z (min p y) || sizedFrom f (2 * p) y z
+abbrev pub sized_from : ℕ → ℕ → ℕ → ℕ → Bool
+sized_from zero p y z = eqb z (min p y)
+sized_from (suc f) p y z = eqb z (min p y) || sized_from f (2 * p) y z
 
 -- forty doublings reach 2^40 from 1
-unfoldable pub sizedOk : FreeListSettings → ℕ → Bool
-sizedOk s z = sizedFrom 40 s.start s.last z
+unfoldable pub sized_ok : FreeListSettings → ℕ → Bool
+sized_ok s z = sized_from 40 s.start s.last z
 
-abbrev pub unitsOk : FreeListSettings → ℕ → Bool
-unitsOk s x = eqb (x % (s.store.atom + 1)) 0
+abbrev pub units_ok : FreeListSettings → ℕ → Bool
+units_ok s x = eqb (x % (s.store.atom + 1)) 0
 
 -- the chunks' numbers rise from b on
-abbrev pub numbersRise : ℕ → List Chunk → Bool
-numbersRise b [] = true
-numbersRise b (c ∷ cs) = leb b c.number && numbersRise (suc c.number) cs
+abbrev pub numbers_rise : ℕ → List Chunk → Bool
+numbers_rise b [] = true
+numbers_rise b (c ∷ cs) = leb b c.number && numbers_rise (suc c.number) cs
 
-unfoldable pub chunkOk : FreeListSettings → Store → Chunk → Bool
-chunkOk s t c = leb c.number t.made && (sizedOk s c.size && leb c.size t.size)
+unfoldable pub chunk_ok : FreeListSettings → Store → Chunk → Bool
+chunk_ok s t c = leb c.number t.made && (sized_ok s c.size && leb c.size t.size)
 
-unfoldable pub loanOk : FreeListSettings → Store → Loan → Bool
-loanOk s t l = ltb 0 l.serial && (leb l.serial t.given && (unitsOk s l.offset && unitsOk s l.size))
+unfoldable pub loan_ok : FreeListSettings → Store → Loan → Bool
+loan_ok s t l = ltb 0 l.serial && (leb l.serial t.given && (units_ok s l.offset && units_ok s l.size))
 
 -- no number stands twice, by comparing each with each: the code sorts
-abbrev pub apartFrom : ℕ → List ℕ → Bool
-apartFrom x [] = true
-apartFrom x (y ∷ l) = not (eqb x y) && apartFrom x l
+abbrev pub apart_from : ℕ → List ℕ → Bool
+apart_from x [] = true
+apart_from x (y ∷ l) = not (eqb x y) && apart_from x l
 
 abbrev pub apart : List ℕ → Bool
 apart [] = true
-apart (x ∷ l) = apartFrom x l && apart l
+apart (x ∷ l) = apart_from x l && apart l
 
 abbrev pub serials : List Loan → List ℕ
 serials ls = map (λ (l : Loan). l.serial) ls
@@ -98,13 +98,13 @@ memories cs = map (λ (c : Chunk). c.memory) cs
 
 -- ---- the whole
 
-abbrev pub soundRow : FreeListSettings → Store → List Bool
-soundRow s t =
-    sizedOk s t.size
-    ∷ numbersRise 1 t.chunks
-    ∷ allOk (chunkOk s t) t.chunks
-    ∷ allOk (loanOk s t) t.loans
-    ∷ fillsOk t.chunks t.loans t.regions
+abbrev pub sound_row : FreeListSettings → Store → List Bool
+sound_row s t =
+    sized_ok s t.size
+    ∷ numbers_rise 1 t.chunks
+    ∷ all_ok (chunk_ok s t) t.chunks
+    ∷ all_ok (loan_ok s t) t.loans
+    ∷ fills_ok t.chunks t.loans t.regions
     ∷ apart (memories t.chunks)
     ∷ apart (serials t.loans)
     ∷ []

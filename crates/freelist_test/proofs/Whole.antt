@@ -8,15 +8,15 @@ use lib.ListN.{length, get_or}
 use Rattle.lists.specs.Tests.{all}
 use Rattle.words.specs.Rows.{rows}
 use Rattle.counter.specs.declared.settings.FreeListSettings.{FreeListSettings}
-use Rattle.store_rules.specs.Loans.{givenAt, places_at, loansOf}
-use Rattle.slab.specs.Test.{vacancies}
-use Rattle.book_rules.specs.Kept.{keptOk}
-use Rattle.freelist_rules.specs.Records.{chunkRow, gapRow}
-use Rattle.freelist_rules.specs.Threads.{afterIn, beforeIn, freeOf, wholes, leadsOk, frontsOk}
-use Rattle.freelist_walk.specs.Walked.{walkOk}
-use Rattle.freelist_rules.specs.Tables.{Tables, tables, madeAt, chunkSizeAt, chunksAt, regionCountAt, regionsMost, store_of, partedIn, chainedIn, soundOk, marks, signedOk, placesIn, vacantIn, recordsIn, alongIn, gapsIn, whole_at, wholeIn}
-use Rattle.freelist_rules.specs.Walk.{allOk, sizedOk, numbersRise, chunkOk, loanOk, fillsOk, apart, memories}
-use Rattle.freelist_test.specs.Parts.{counted, headOk, lentOk, liveCount, eachOk, chunksOk, walkedOk}
+use Rattle.store_rules.specs.Loans.{given_at, places_at, loans_of}
+use Rattle.slabs.specs.Test.{vacancies}
+use Rattle.book_rules.specs.Kept.{kept_ok}
+use Rattle.freelist_rules.specs.Records.{chunk_row, gap_row}
+use Rattle.freelist_rules.specs.Threads.{after_in, before_in, free_of, wholes, leads_ok, fronts_ok}
+use Rattle.freelist_walk.specs.Walked.{walk_ok}
+use Rattle.freelist_rules.specs.Tables.{Tables, tables, made_at, chunk_size_at, chunks_at, region_count_at, regions_most, store_of, parted_in, chained_in, sound_ok, marks, signed_ok, places_in, vacant_in, records_in, along_in, gaps_in, whole_at, whole_in}
+use Rattle.freelist_rules.specs.Walk.{all_ok, sized_ok, numbers_rise, chunk_ok, loan_ok, fills_ok, apart, memories}
+use Rattle.freelist_test.specs.Parts.{counted, head_ok, lent_ok, live_count, each_ok, chunks_ok, walked_ok}
 
 -- fourteen tests from the left, as groups of three, three, four and four: the tenth goes before the sixth
 regroup : (a b c d e f g h i j k l m n o : Bool) → all (a ∷ b ∷ c ∷ d ∷ e ∷ f ∷ g ∷ h ∷ i ∷ j ∷ (k && l) ∷ m ∷ n ∷ o ∷ [])
@@ -31,67 +31,67 @@ sooner false b c d = refl
 
 module _ (s : FreeListSettings) (head loans chunks index regions : List ℕ) where
   abbrev whole : Bool
-  whole = soundOk s (tables head loans chunks index regions)
+  whole = sound_ok s (tables head loans chunks index regions)
 
   abbrev t : Tables
   t = tables head loans chunks index regions
 
   -- the groups, by the numbers that the code reads
-  abbrev chunksPart : ℕ → ℕ → ℕ → Bool
-  chunksPart made size k = chunksOk s made size (rows chunkRow k chunks)
+  abbrev chunks_part : ℕ → ℕ → ℕ → Bool
+  chunks_part made size k = chunks_ok s made size (rows chunk_row k chunks)
 
-  abbrev fillsPart : ℕ → ℕ → Bool
-  fillsPart k n = walkedOk s chunks k loans index regions n
+  abbrev fills_part : ℕ → ℕ → Bool
+  fills_part k n = walked_ok s chunks k loans index regions n
 
   -- the row is its groups
-  parts : whole ≡ (headOk s (tables head loans chunks index regions) (get_or regions regionCountAt 0) && (lentOk s loans index && (chunksPart (get_or chunks madeAt 0) (get_or head chunkSizeAt 0) (get_or chunks chunksAt 0)
-      && fillsPart (get_or chunks chunksAt 0) (get_or regions regionCountAt 0))))
-  unfolding soundOk store_of headOk lentOk keptOk chunksOk eachOk chunkOk loanOk walkedOk walkOk
+  parts : whole ≡ (head_ok s (tables head loans chunks index regions) (get_or regions region_count_at 0) && (lent_ok s loans index && (chunks_part (get_or chunks made_at 0) (get_or head chunk_size_at 0) (get_or chunks chunks_at 0)
+      && fills_part (get_or chunks chunks_at 0) (get_or regions region_count_at 0))))
+  unfolding sound_ok store_of head_ok lent_ok kept_ok chunks_ok each_ok chunk_ok loan_ok walked_ok walk_ok
   parts =
       regroup
-      (signedOk marks (tables head loans chunks index regions))
-      (leb (get_or chunks chunksAt 0) s.store.chunks)
-      (leb (get_or regions regionCountAt 0) (regionsMost s))
-      (partedIn s (tables [] loans [] index []))
-      (chainedIn s (tables [] loans [] index []))
-      (sizedOk s (get_or head chunkSizeAt 0))
-      (numbersRise 1 (rows chunkRow (get_or chunks chunksAt 0) chunks))
-      (allOk (chunkOk s (counted 0 (get_or chunks madeAt 0) (get_or head chunkSizeAt 0))) (rows chunkRow (get_or chunks chunksAt 0) chunks))
-      (apart (memories (rows chunkRow (get_or chunks chunksAt 0) chunks)))
-      (allOk (loanOk s (counted (get_or loans givenAt 0) 0 0)) (loansOf (get_or loans places_at 0) loans))
-      (leadsOk (afterIn s.store.loans index) (beforeIn s.store.loans index) (vacantIn t) (placesIn t) 0 (recordsIn s t))
-      (eqb (length (recordsIn s t)) (placesIn t - vacancies (vacantIn t) (placesIn t)))
-      (fillsOk (rows chunkRow (get_or chunks chunksAt 0) chunks) (alongIn s t) (freeOf (gapsIn t)))
-      (frontsOk loans (recordsIn s t) (gapsIn t))
-      (eqb (wholeIn t) (wholes (rows chunkRow (get_or chunks chunksAt 0) chunks) (freeOf (gapsIn t))))
-      ∙ ap (λ (b : Bool). headOk s t (get_or regions regionCountAt 0) && b)
-      (sooner (partedIn s t && chainedIn s t) (chunksPart (get_or chunks madeAt 0) (get_or head chunkSizeAt 0) (get_or chunks chunksAt 0)) (allOk (loanOk s (counted (get_or loans givenAt 0) 0 0)) (loansOf (get_or loans places_at 0) loans))
-      (fillsPart (get_or chunks chunksAt 0) (get_or regions regionCountAt 0)))
+      (signed_ok marks (tables head loans chunks index regions))
+      (leb (get_or chunks chunks_at 0) s.store.chunks)
+      (leb (get_or regions region_count_at 0) (regions_most s))
+      (parted_in s (tables [] loans [] index []))
+      (chained_in s (tables [] loans [] index []))
+      (sized_ok s (get_or head chunk_size_at 0))
+      (numbers_rise 1 (rows chunk_row (get_or chunks chunks_at 0) chunks))
+      (all_ok (chunk_ok s (counted 0 (get_or chunks made_at 0) (get_or head chunk_size_at 0))) (rows chunk_row (get_or chunks chunks_at 0) chunks))
+      (apart (memories (rows chunk_row (get_or chunks chunks_at 0) chunks)))
+      (all_ok (loan_ok s (counted (get_or loans given_at 0) 0 0)) (loans_of (get_or loans places_at 0) loans))
+      (leads_ok (after_in s.store.loans index) (before_in s.store.loans index) (vacant_in t) (places_in t) 0 (records_in s t))
+      (eqb (length (records_in s t)) (places_in t - vacancies (vacant_in t) (places_in t)))
+      (fills_ok (rows chunk_row (get_or chunks chunks_at 0) chunks) (along_in s t) (free_of (gaps_in t)))
+      (fronts_ok loans (records_in s t) (gaps_in t))
+      (eqb (whole_in t) (wholes (rows chunk_row (get_or chunks chunks_at 0) chunks) (free_of (gaps_in t))))
+      ∙ ap (λ (b : Bool). head_ok s t (get_or regions region_count_at 0) && b)
+      (sooner (parted_in s t && chained_in s t) (chunks_part (get_or chunks made_at 0) (get_or head chunk_size_at 0) (get_or chunks chunks_at 0)) (all_ok (loan_ok s (counted (get_or loans given_at 0) 0 0)) (loans_of (get_or loans places_at 0) loans))
+      (fills_part (get_or chunks chunks_at 0) (get_or regions region_count_at 0)))
 
   -- one group after the other, with what the code has read and was told
-  module _ (n : ℕ) (hd : Bool) (ns : n ≡ get_or regions regionCountAt 0) (hs : hd ≡ headOk s (tables head loans chunks index regions) n) where
-    head-is : headOk s (tables head loans chunks index regions) (get_or regions regionCountAt 0) ≡ hd
-    head-is = sym (hs ∙ ap (headOk s (tables head loans chunks index regions)) ns)
+  module _ (n : ℕ) (hd : Bool) (ns : n ≡ get_or regions region_count_at 0) (hs : hd ≡ head_ok s (tables head loans chunks index regions) n) where
+    head_is : head_ok s (tables head loans chunks index regions) (get_or regions region_count_at 0) ≡ hd
+    head_is = sym (hs ∙ ap (head_ok s (tables head loans chunks index regions)) ns)
 
-    pub head-fails : hd ≡ false → false ≡ whole
-    head-fails f = sym (parts ∙ rw (head-is ∙ f) refl)
+    pub head_fails : hd ≡ false → false ≡ whole
+    head_fails f = sym (parts ∙ rw (head_is ∙ f) refl)
 
-    module _ (ht : hd ≡ true) (ln : Bool) (ls : ln ≡ lentOk s loans index) where
-      pub loans-fail : ln ≡ false → false ≡ whole
-      loans-fail f = sym (parts ∙ rw (head-is ∙ ht, sym ls ∙ f) refl)
+    module _ (ht : hd ≡ true) (ln : Bool) (ls : ln ≡ lent_ok s loans index) where
+      pub loans_fail : ln ≡ false → false ≡ whole
+      loans_fail f = sym (parts ∙ rw (head_is ∙ ht, sym ls ∙ f) refl)
 
-      module _ (lt : ln ≡ true) (k size made : ℕ) (ch : Bool) (ks : k ≡ get_or chunks chunksAt 0) (zs : size ≡ get_or head chunkSizeAt 0) (ms : made ≡ get_or chunks madeAt 0)
-          (cs : ch ≡ chunksPart made size k) where
-        chunks-is : chunksPart (get_or chunks madeAt 0) (get_or head chunkSizeAt 0) (get_or chunks chunksAt 0) ≡ ch
-        chunks-is = sym (cs ∙ (λ j. chunksPart (ms j) (zs j) (ks j)))
+      module _ (lt : ln ≡ true) (k size made : ℕ) (ch : Bool) (ks : k ≡ get_or chunks chunks_at 0) (zs : size ≡ get_or head chunk_size_at 0) (ms : made ≡ get_or chunks made_at 0)
+          (cs : ch ≡ chunks_part made size k) where
+        chunks_is : chunks_part (get_or chunks made_at 0) (get_or head chunk_size_at 0) (get_or chunks chunks_at 0) ≡ ch
+        chunks_is = sym (cs ∙ (λ j. chunks_part (ms j) (zs j) (ks j)))
 
-        pub chunks-fail : ch ≡ false → false ≡ whole
-        chunks-fail f = sym (parts ∙ rw (head-is ∙ ht, sym ls ∙ lt, chunks-is ∙ f) refl)
+        pub chunks_fail : ch ≡ false → false ≡ whole
+        chunks_fail f = sym (parts ∙ rw (head_is ∙ ht, sym ls ∙ lt, chunks_is ∙ f) refl)
 
         -- the walk is left
-        pub walk-left : ch ≡ true → (p live : ℕ) (r : Bool) → p ≡ get_or loans places_at 0 → live ≡ liveCount loans
-            → r ≡ walkOk s.store.loans (rows chunkRow k chunks) loans p index (rows gapRow n regions) live (get_or regions whole_at 0) → r ≡ whole
-        unfolding walkedOk
-        walk-left ct p live r ps vs e =
-            e ∙ (λ j. walkOk s.store.loans (rows chunkRow (ks j) chunks) loans (ps j) index (rows gapRow (ns j) regions) (vs j) (get_or regions whole_at 0))
-            ∙ sym (parts ∙ rw (head-is ∙ ht, sym ls ∙ lt, chunks-is ∙ ct) refl)
+        pub walk_left : ch ≡ true → (p live : ℕ) (r : Bool) → p ≡ get_or loans places_at 0 → live ≡ live_count loans
+            → r ≡ walk_ok s.store.loans (rows chunk_row k chunks) loans p index (rows gap_row n regions) live (get_or regions whole_at 0) → r ≡ whole
+        unfolding walked_ok
+        walk_left ct p live r ps vs e =
+            e ∙ (λ j. walk_ok s.store.loans (rows chunk_row (ks j) chunks) loans (ps j) index (rows gap_row (ns j) regions) (vs j) (get_or regions whole_at 0))
+            ∙ sym (parts ∙ rw (head_is ∙ ht, sym ls ∙ lt, chunks_is ∙ ct) refl)

@@ -1,11 +1,11 @@
 // Each loan.
 ghost use Rattle.std.specs.Prelude.{◌≡◌, cond, ◌+◌, ◌*◌, ◌≤◌, eqb, length};
 ghost use Rattle.counter.specs.InTable.{FreeListIn};
-ghost use Rattle.counter.specs.Limits.{loansMost};
-ghost use Rattle.slab.specs.Slab.{vacantAt};
-ghost use Rattle.slab.specs.Test.{vacancies};
-ghost use Rattle.store_rules.specs.Loans.{loanWords, size_at, loansOf};
-ghost use Rattle.freelist_rules.specs.Walk.{allOk, loanOk};
+ghost use Rattle.counter.specs.Limits.{loans_most};
+ghost use Rattle.slabs.specs.Slab.{vacant_at};
+ghost use Rattle.slabs.specs.Test.{vacancies};
+ghost use Rattle.store_rules.specs.Loans.{loan_words, size_at, loans_of};
+ghost use Rattle.freelist_rules.specs.Walk.{all_ok, loan_ok};
 ghost use Rattle.freelist_test.specs.Parts.{counted};
 
 use counter::FreeListSettings;
@@ -21,7 +21,7 @@ pub struct Seen {
 // Whether a loan has a serial that was given, and lies in whole atom units.
 fn is_loan(s: FreeListSettings, given: u64, l: Loan) -> bool
     requires { FreeListIn s }
-    ensures { result ≡ loanOk s (counted given 0 0) l }
+    ensures { result ≡ loan_ok s (counted given 0 0) l }
 {
     let store = s.store;
     let atom = store.atom;
@@ -37,9 +37,9 @@ fn vacancy(size: u64) -> u64
 
 // Looks over the first n places once, and to the end, so that no turn branches: what is tested is sound nearly always.
 pub fn look_over(s: FreeListSettings, given: u64, loans: &[u64], n: usize) -> Seen
-    requires { FreeListIn s × (n ≤ loansMost) × (loanWords + loanWords * n ≤ length loans.now) }
-    ensures ok_value { result.ok ≡ allOk (loanOk s (counted given 0 0)) (loansOf n loans.now) }
-    ensures vacant_value { result.vacant ≡ vacancies (vacantAt loans.now size_at loanWords) n }
+    requires { FreeListIn s × (n ≤ loans_most) × (loan_words + loan_words * n ≤ length loans.now) }
+    ensures ok_value { result.ok ≡ all_ok (loan_ok s (counted given 0 0)) (loans_of n loans.now) }
+    ensures vacant_value { result.vacant ≡ vacancies (vacant_at loans.now size_at loan_words) n }
 {
     let mut ok = true;
     let mut vacant = 0;

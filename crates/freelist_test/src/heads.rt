@@ -1,8 +1,8 @@
 // The marks, and the counts of chunks and regions.
 ghost use Rattle.std.specs.Prelude.{◌≡◌};
 ghost use Rattle.counter.specs.InTable.{FreeListIn};
-ghost use Rattle.freelist_rules.specs.Tables.{tables, marks, signedOk};
-ghost use Rattle.freelist_test.specs.Parts.{headOk};
+ghost use Rattle.freelist_rules.specs.Tables.{tables, marks, signed_ok};
+ghost use Rattle.freelist_test.specs.Parts.{head_ok};
 
 use counter::FreeListSettings;
 use freelist_rules::{CHUNKS_AT, CHUNKS_MARK, HEAD_MARK, INDEX_MARK, LOANS_MARK, ROOM_MARK};
@@ -10,7 +10,7 @@ use words::MARK_AT;
 
 // Whether each table begins with its mark.
 fn is_signed(head: &[u64], loans: &[u64], chunks: &[u64], index: &[u64], regions: &[u64]) -> bool
-    ensures { result ≡ signedOk marks (tables head.now loans.now chunks.now index.now regions.now) }
+    ensures { result ≡ signed_ok marks (tables head.now loans.now chunks.now index.now regions.now) }
 {
     (words::word(head, MARK_AT) == HEAD_MARK)
         & (words::word(loans, MARK_AT) == LOANS_MARK)
@@ -30,7 +30,7 @@ pub fn is_head(
     n: u64,
 ) -> bool
     requires { FreeListIn s }
-    ensures { result ≡ headOk s (tables head.now loans.now chunks.now index.now regions.now) n }
+    ensures { result ≡ head_ok s (tables head.now loans.now chunks.now index.now regions.now) n }
 {
     let store = s.store;
     let most = store.loans + store.chunks;

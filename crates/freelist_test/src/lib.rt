@@ -7,7 +7,7 @@ mod loans;
 
 ghost use Rattle.std.specs.Prelude.{◌≡◌, true};
 ghost use Rattle.counter.specs.InTable.{FreeListIn};
-ghost use Rattle.freelist_rules.specs.Tables.{tables, lengthsOk, soundOk};
+ghost use Rattle.freelist_rules.specs.Tables.{tables, lengths_ok, sound_ok};
 
 use counter::FreeListSettings;
 use freelist_rules::{CHUNK_SIZE_AT, CHUNKS_AT, MADE_AT};
@@ -22,8 +22,8 @@ pub fn is_sound(
     index: &[u64],
     regions: &[u64],
 ) -> bool
-    requires { FreeListIn s × (lengthsOk s (tables head.now loans.now chunks.now index.now regions.now) ≡ true) }
-    ensures { result ≡ soundOk s (tables head.now loans.now chunks.now index.now regions.now) }
+    requires { FreeListIn s × (lengths_ok s (tables head.now loans.now chunks.now index.now regions.now) ≡ true) }
+    ensures { result ≡ sound_ok s (tables head.now loans.now chunks.now index.now regions.now) }
 {
     let n = freelist_regions::region_count(regions);
     if !heads::is_head(s, head, loans, chunks, index, regions, n as u64) {

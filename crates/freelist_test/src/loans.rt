@@ -1,9 +1,9 @@
 // The loans: each of them, the places that are vacant, and the chains that lead to each by its serial.
 ghost use Rattle.std.specs.Prelude.{◌≡◌, true, ◌+◌, ◌*◌, ◌≤◌, length};
 ghost use Rattle.counter.specs.InTable.{FreeListIn};
-ghost use Rattle.store_rules.specs.Loans.{loanWords};
-ghost use Rattle.book_rules.specs.Book.{indexWords};
-ghost use Rattle.freelist_test.specs.Parts.{lentOk, liveCount};
+ghost use Rattle.store_rules.specs.Loans.{loan_words};
+ghost use Rattle.book_rules.specs.Book.{index_words};
+ghost use Rattle.freelist_test.specs.Parts.{lent_ok, live_count};
 
 use crate::blocks::look_over;
 use counter::FreeListSettings;
@@ -18,9 +18,9 @@ pub struct Lent {
 
 // No place is looked at where they are said to be more than the limit. What the first look counts serves all that follow.
 pub fn are_lent(s: FreeListSettings, loans: &[u64], index: &[u64]) -> Lent
-    requires { FreeListIn s × (length loans.now ≡ loanWords + loanWords * s.store.loans) × (indexWords s.store.loans ≤ length index.now) }
-    ensures ok_value { result.ok ≡ lentOk s loans.now index.now }
-    ensures live_value { result.ok ≡ true → result.live ≡ liveCount loans.now }
+    requires { FreeListIn s × (length loans.now ≡ loan_words + loan_words * s.store.loans) × (index_words s.store.loans ≤ length index.now) }
+    ensures ok_value { result.ok ≡ lent_ok s loans.now index.now }
+    ensures live_value { result.ok ≡ true → result.live ≡ live_count loans.now }
 {
     let store = s.store;
     let most = store.loans;

@@ -6,7 +6,7 @@ use native.Mathlib.Omega.{arith}
 use lib.ListN.{get_or, drop}
 use Rattle.words.specs.Rows.{row}
 use Rattle.words.proofs.Records.{cell_row}
-use Rattle.freelist_rules.specs.Records.{chunk, region, chunkWords, chunkNumberAt, chunkMemoryAt, chunkBytesAt, regionWords, regionChunkAt, regionStartAt, regionEndAt, regionFrontAt, chunkRow, gapRow}
+use Rattle.freelist_rules.specs.Records.{chunk, region, chunk_words, chunk_number_at, chunk_memory_at, chunk_bytes_at, region_words, region_chunk_at, region_start_at, region_end_at, region_front_at, chunk_row, gap_row}
 use Rattle.freelist_rules.specs.Threads.{gap}
 
 module _ (t : List ℕ) (i : ℕ) where
@@ -14,17 +14,17 @@ module _ (t : List ℕ) (i : ℕ) where
   word : (w k : ℕ) → get_or t (w * i + k) 0 ≡ get_or (drop (w * i) t) k 0
   word w k = ap (λ (j : ℕ). get_or t j 0) (omega arith) ∙ cell_row t k w i
 
-  pub chunk_read : chunk (get_or t (chunkWords * i + chunkNumberAt) 0) (get_or t (chunkWords * i + chunkMemoryAt) 0) (get_or t (chunkWords * i + chunkBytesAt) 0) ≡ row chunkRow i t
+  pub chunk_read : chunk (get_or t (chunk_words * i + chunk_number_at) 0) (get_or t (chunk_words * i + chunk_memory_at) 0) (get_or t (chunk_words * i + chunk_bytes_at) 0) ≡ row chunk_row i t
   chunk_read =
-      let x = word chunkWords chunkNumberAt in
-      let y = word chunkWords chunkMemoryAt in
-      let z = word chunkWords chunkBytesAt in
+      let x = word chunk_words chunk_number_at in
+      let y = word chunk_words chunk_memory_at in
+      let z = word chunk_words chunk_bytes_at in
       (λ j. chunk (x j) (y j) (z j))
 
-  pub gap-read : gap (region (get_or t (regionWords * i + regionChunkAt) 0) (get_or t (regionWords * i + regionStartAt) 0) (get_or t (regionWords * i + regionEndAt) 0)) (get_or t (regionWords * i + regionFrontAt) 0) ≡ row gapRow i t
-  gap-read =
-      let x = word regionWords regionChunkAt in
-      let y = word regionWords regionStartAt in
-      let z = word regionWords regionEndAt in
-      let w = word regionWords regionFrontAt in
+  pub gap_read : gap (region (get_or t (region_words * i + region_chunk_at) 0) (get_or t (region_words * i + region_start_at) 0) (get_or t (region_words * i + region_end_at) 0)) (get_or t (region_words * i + region_front_at) 0) ≡ row gap_row i t
+  gap_read =
+      let x = word region_words region_chunk_at in
+      let y = word region_words region_start_at in
+      let z = word region_words region_end_at in
+      let w = word region_words region_front_at in
       (λ j. gap (region (x j) (y j) (z j)) (w j))

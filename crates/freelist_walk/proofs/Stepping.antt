@@ -9,64 +9,64 @@ use lib.Dec.{eqb, leb, ltb}
 use lib.ListN.{drop, get_or}
 use lib.Seq.{drop-cons}
 use borrow.Author.Tests.{eq-eqb, eqb-true, lt-ltb, ltb-true, le-leb, leb-true}
-use Rattle.lists.proofs.Bools.{and_left, and_right, and_both, told, true-false}
+use Rattle.lists.proofs.Bools.{and_left, and_right, and_both, told, true_false}
 use Rattle.words.specs.Words.{cell_of}
 use Rattle.words.specs.Rows.{row, rows}
-use Rattle.words.proofs.Records.{cell_row, length-rows, get_d_rows}
-use Rattle.store_rules.specs.Loans.{loanWords, chunkAt}
+use Rattle.words.proofs.Records.{cell_row, length_rows, get_d_rows}
+use Rattle.store_rules.specs.Loans.{loan_words, chunk_at}
 use Rattle.store_rules.specs.declared.Chunk.{Chunk}
 use Rattle.store_rules.specs.declared.Loan.{Loan}
 use Rattle.freelist_rules.specs.declared.Gap.{Gap}
-use Rattle.freelist_rules.specs.Records.{chunkRow, gapRow}
+use Rattle.freelist_rules.specs.Records.{chunk_row, gap_row}
 use Rattle.freelist_rules.specs.Pieces.{Rising}
-use Rattle.freelist_rules.specs.Threads.{afterIn, beforeIn, loanBy}
-use Rattle.freelist_rules.specs.Walk.{numbersRise}
-use Rattle.freelist_rules.proofs.Base.{at_in, rising-mono, rising-apart}
-use Rattle.freelist_rules.proofs.Decides.{numbers-yes}
+use Rattle.freelist_rules.specs.Threads.{after_in, before_in, loan_by}
+use Rattle.freelist_rules.specs.Walk.{numbers_rise}
+use Rattle.freelist_rules.proofs.Base.{at_in, rising_mono, rising_apart}
+use Rattle.freelist_rules.proofs.Decides.{numbers_yes}
 use Rattle.freelist_rules.proofs.Facts.{Small, ChunksRise}
 use Rattle.freelist_walk.specs.Left.{Ground, Between, all_of, Left}
-use Rattle.freelist_walk.specs.Turn.{GapPassed, LoanPassed, overLoan, overChunk, groundOf, LeftAt, Stands, nextOk, Turned}
+use Rattle.freelist_walk.specs.Turn.{GapPassed, LoanPassed, over_loan, over_chunk, ground_of, LeftAt, Stands, next_ok, Turned}
 use Rattle.freelist_walk.specs.declared.passes.Passed.{Passed}
 use Rattle.freelist_walk.specs.declared.turns.Reached.{Reached}
-use Rattle.freelist_walk.proofs.Passing.{between-one}
-use Rattle.freelist_walk.proofs.Turning.{First, Over, loan-on, loan-back, None, Through, chunk-on, chunk_back}
+use Rattle.freelist_walk.proofs.Passing.{between_one}
+use Rattle.freelist_walk.proofs.Turning.{First, Over, loan_on, loan_back, None, Through, chunk_on, chunk_back}
 
 -- ---- what remains of a list
 
-drop-in : {A : Type 0} (i : ℕ) (xs : List A) (a : A) → Memᴰ a (drop i xs) → Memᴰ a xs
-drop-in zero xs a m = m
-drop-in (suc i) [] a m = m
-drop-in (suc i) (x ∷ xs) a m = Memᴰ.tail (drop-in i xs a m)
+drop_in : {A : Type 0} (i : ℕ) (xs : List A) (a : A) → Memᴰ a (drop i xs) → Memᴰ a xs
+drop_in zero xs a m = m
+drop_in (suc i) [] a m = m
+drop_in (suc i) (x ∷ xs) a m = Memᴰ.tail (drop_in i xs a m)
 
-drop-rise : {A : Type 0} (begin stop : A → ℕ) (g b i : ℕ) (xs : List A) → Rising begin stop g b xs → Rising begin stop g b (drop i xs)
-drop-rise begin stop g b zero xs r = r
-drop-rise begin stop g b (suc i) [] r = r
-drop-rise begin stop g b (suc i) (x ∷ xs) r = drop-rise begin stop g b i xs (rising-mono begin stop g b (g + stop x) xs (omega (arith, r.0, r.1)) r.2)
+drop_rise : {A : Type 0} (begin stop : A → ℕ) (g b i : ℕ) (xs : List A) → Rising begin stop g b xs → Rising begin stop g b (drop i xs)
+drop_rise begin stop g b zero xs r = r
+drop_rise begin stop g b (suc i) [] r = r
+drop_rise begin stop g b (suc i) (x ∷ xs) r = drop_rise begin stop g b i xs (rising_mono begin stop g b (g + stop x) xs (omega (arith, r.0, r.1)) r.2)
 
 -- ---- the chunk where the walk stands
 
-module _ (chunks : List ℕ) (k i : ℕ) (c : Chunk) (h : i < k) (is : c ≡ row chunkRow i chunks) (rise : numbersRise 1 (rows chunkRow k chunks) ≡ true) (small : Small (rows chunkRow k chunks)) where
+module _ (chunks : List ℕ) (k i : ℕ) (c : Chunk) (h : i < k) (is : c ≡ row chunk_row i chunks) (rise : numbers_rise 1 (rows chunk_row k chunks) ≡ true) (small : Small (rows chunk_row k chunks)) where
   abbrev cs : List Chunk
-  cs = rows chunkRow k chunks
+  cs = rows chunk_row k chunks
 
-  chunks-from : drop i cs ≡ c ∷ drop (suc i) cs
-  chunks-from =
-      drop-cons cs i c (omega (arith, length-rows chunkRow k chunks)) ∙ ap (λ (d : Chunk). d ∷ drop (suc i) cs) (get_d_rows chunkRow k i chunks c h ∙ sym is)
+  chunks_from_lem : drop i cs ≡ c ∷ drop (suc i) cs
+  chunks_from_lem =
+      drop-cons cs i c (omega (arith, length_rows chunk_row k chunks)) ∙ ap (λ (d : Chunk). d ∷ drop (suc i) cs) (get_d_rows chunk_row k i chunks c h ∙ sym is)
 
   climb : ChunksRise 1 cs
-  climb = numbers-yes 1 cs rise
+  climb = numbers_yes 1 cs rise
 
-  rise-from : ChunksRise 1 (c ∷ drop (suc i) cs)
-  rise-from = subst (ChunksRise 1) chunks-from (drop-rise _ _ 0 1 i cs climb)
+  rise_from : ChunksRise 1 (c ∷ drop (suc i) cs)
+  rise_from = subst (ChunksRise 1) chunks_from_lem (drop_rise _ _ 0 1 i cs climb)
 
-  small-from : Small (c ∷ drop (suc i) cs)
-  small-from = subst Small chunks-from (λ d m. small d (drop-in i cs d m))
+  small_from : Small (c ∷ drop (suc i) cs)
+  small_from = subst Small chunks_from_lem (λ d m. small d (drop_in i cs d m))
 
   chunk_in : Memᴰ c cs
-  chunk_in = subst (λ (d : Chunk). Memᴰ d cs) (get_d_rows chunkRow k i chunks c h ∙ sym is) (at_in i cs c (omega (arith, length-rows chunkRow k chunks)))
+  chunk_in = subst (λ (d : Chunk). Memᴰ d cs) (get_d_rows chunk_row k i chunks c h ∙ sym is) (at_in i cs c (omega (arith, length_rows chunk_row k chunks)))
 
-  chunk-one : (d : Chunk) → Memᴰ d cs → d.number ≡ c.number → d.size ≡ c.size
-  chunk-one d m e = by (rising-apart _ _ 0 1 cs climb d c m chunk_in)
+  chunk_one : (d : Chunk) → Memᴰ d cs → d.number ≡ c.number → d.size ≡ c.size
+  chunk_one d m e = by (rising_apart _ _ 0 1 cs climb d c m chunk_in)
     where
       by : (d ≡ c) ⊎ ((0 + suc d.number ≤ c.number) ⊎ (0 + suc c.number ≤ d.number)) → d.size ≡ c.size
       by (inl p) = ap (λ (x : Chunk). x.size) p
@@ -77,40 +77,40 @@ module _ (chunks : List ℕ) (k i : ℕ) (c : Chunk) (h : i < k) (is : c ≡ row
 
 module _ (left r places : ℕ) (loans : List ℕ) (c : ℕ) where
   abbrev x : ℕ
-  x = (loanBy loans r).chunk
+  x = (loan_by loans r).chunk
 
-  pub test-yes : nextOk left r places loans c ≡ true → (0 < left) × (0 < r) × (r ≤ places) × (x ≡ c)
-  unfolding nextOk
-  test-yes e =
+  pub test_yes : next_ok left r places loans c ≡ true → (0 < left) × (0 < r) × (r ≤ places) × (x ≡ c)
+  unfolding next_ok
+  test_yes e =
       let a = and_left (ltb 0 left && ltb 0 r) (leb r places && eqb x c) e in
       let b = and_right (ltb 0 left && ltb 0 r) (leb r places && eqb x c) e in
       (ltb-true 0 left (and_left (ltb 0 left) (ltb 0 r) a), ltb-true 0 r (and_right (ltb 0 left) (ltb 0 r) a), leb-true r places (and_left (leb r places) (eqb x c) b), eqb-true x c (and_right (leb r places) (eqb x c) b))
 
-  test-all : 0 < left → 0 < r → r ≤ places → x ≡ c → nextOk left r places loans c ≡ true
-  unfolding nextOk
-  test-all a b d e = rw (lt-ltb 0 left a, lt-ltb 0 r b, le-leb r places d, eq-eqb x c e)
+  test_all : 0 < left → 0 < r → r ≤ places → x ≡ c → next_ok left r places loans c ≡ true
+  unfolding next_ok
+  test_all a b d e = rw (lt-ltb 0 left a, lt-ltb 0 r b, le-leb r places d, eq-eqb x c e)
 
   -- in the code's words: where the first three hold, the record is there, and is read
-  pub next-there : ((ltb 0 left && ltb 0 r) && leb r places) ≡ true → (0 < r) × (r ≤ places)
-  next-there e =
+  pub next_there : ((ltb 0 left && ltb 0 r) && leb r places) ≡ true → (0 < r) × (r ≤ places)
+  next_there e =
       let a = and_left (ltb 0 left && ltb 0 r) (leb r places) e in
       (ltb-true 0 r (and_right (ltb 0 left) (ltb 0 r) a), leb-true r places (and_right (ltb 0 left && ltb 0 r) (leb r places) e))
 
-  pub next-read : (w : ℕ) → ((ltb 0 left && ltb 0 r) && leb r places) ≡ true → w ≡ get_or loans (cell_of chunkAt loanWords (r - 1)) 0 → eqb w c ≡ nextOk left r places loans c
-  unfolding nextOk
-  next-read w e f = ap (λ (v : ℕ). eqb v c) (f ∙ cell_row loans chunkAt loanWords (r - 1)) ∙ by (ltb 0 left && ltb 0 r) (leb r places) (eqb x c) e
+  pub next_read : (w : ℕ) → ((ltb 0 left && ltb 0 r) && leb r places) ≡ true → w ≡ get_or loans (cell_of chunk_at loan_words (r - 1)) 0 → eqb w c ≡ next_ok left r places loans c
+  unfolding next_ok
+  next_read w e f = ap (λ (v : ℕ). eqb v c) (f ∙ cell_row loans chunk_at loan_words (r - 1)) ∙ by (ltb 0 left && ltb 0 r) (leb r places) (eqb x c) e
     where
       by : (a b d : Bool) → (a && b) ≡ true → d ≡ (a && (b && d))
       by true true d e = refl
-      by true false d e = absurd (true-false false e refl)
-      by false b d e = absurd (true-false false e refl)
+      by true false d e = absurd (true_false false e refl)
+      by false b d e = absurd (true_false false e refl)
 
-  pub next-none : ((ltb 0 left && ltb 0 r) && leb r places) ≡ false → false ≡ nextOk left r places loans c
-  unfolding nextOk
-  next-none e = by (ltb 0 left && ltb 0 r) (leb r places) (eqb x c) e
+  pub next_none : ((ltb 0 left && ltb 0 r) && leb r places) ≡ false → false ≡ next_ok left r places loans c
+  unfolding next_ok
+  next_none e = by (ltb 0 left && ltb 0 r) (leb r places) (eqb x c) e
     where
       by : (a b d : Bool) → (a && b) ≡ false → false ≡ (a && (b && d))
-      by true true d e = absurd (true-false true refl e)
+      by true true d e = absurd (true_false true refl e)
       by true false d e = refl
       by false b d e = refl
 
@@ -120,42 +120,42 @@ all_one p z = ⊎_elim (λ e. rw e (omega arith)) (λ e. rw e (omega arith)) (to
 -- ---- the turns
 
 module _ (most k : ℕ) (chunks loans : List ℕ) (places : ℕ) (index regions : List ℕ) (n : ℕ) (s : Reached) (c : Chunk) (r : ℕ) (h : s.chunk < k) (st : Stands k n places s)
-    (rise : numbersRise 1 (rows chunkRow k chunks) ≡ true) (small : Small (rows chunkRow k chunks)) (is : c ≡ row chunkRow s.chunk chunks) (next : r ≡ afterIn most index s.last) where
+    (rise : numbers_rise 1 (rows chunk_row k chunks) ≡ true) (small : Small (rows chunk_row k chunks)) (is : c ≡ row chunk_row s.chunk chunks) (next : r ≡ after_in most index s.last) where
   abbrev t : Ground
-  t = groundOf most k chunks loans places index regions n
+  t = ground_of most k chunks loans places index regions n
 
   abbrev gs : List Gap
-  gs = rows gapRow n regions
+  gs = rows gap_row n regions
 
   -- the chunks that remain behind the first
   abbrev ds : List Chunk
-  ds = drop (suc s.chunk) (rows chunkRow k chunks)
+  ds = drop (suc s.chunk) (rows chunk_row k chunks)
 
   abbrev l : Loan
-  l = loanBy loans r
+  l = loan_by loans r
 
   at : First t c ds
   at =
       record {
-        rise = rise-from chunks k s.chunk c h is rise small;
-        small = small-from chunks k s.chunk c h is rise small;
+        rise = rise_from chunks k s.chunk c h is rise small;
+        small = small_from chunks k s.chunk c h is rise small;
         has = chunk_in chunks k s.chunk c h is rise small;
-        one = chunk-one chunks k s.chunk c h is rise small;
+        one = chunk_one chunks k s.chunk c h is rise small;
       }
 
   here : LeftAt t s → Left t (c ∷ ds) s.byte s.last s.left (drop s.region gs) s.whole
-  here L = subst (λ (xs : List Chunk). Left t xs s.byte s.last s.left (drop s.region gs) s.whole) (chunks-from chunks k s.chunk c h is rise small) L
+  here L = subst (λ (xs : List Chunk). Left t xs s.byte s.last s.left (drop s.region gs) s.whole) (chunks_from_lem chunks k s.chunk c h is rise small) L
 
-  back-here : Left t (c ∷ ds) s.byte s.last s.left (drop s.region gs) s.whole → LeftAt t s
-  back-here L = subst (λ (xs : List Chunk). Left t xs s.byte s.last s.left (drop s.region gs) s.whole) (sym (chunks-from chunks k s.chunk c h is rise small)) L
+  back_here : Left t (c ∷ ds) s.byte s.last s.left (drop s.region gs) s.whole → LeftAt t s
+  back_here L = subst (λ (xs : List Chunk). Left t xs s.byte s.last s.left (drop s.region gs) s.whole) (sym (chunks_from_lem chunks k s.chunk c h is rise small)) L
 
   -- a loan is passed
-  module _ (yes : nextOk s.left r places loans c.number ≡ true) (p : Passed) (w : LoanPassed c.size s.byte s.last l gs s.region p) (back : ℕ) (led : back ≡ beforeIn most index r) where
+  module _ (yes : next_ok s.left r places loans c.number ≡ true) (p : Passed) (w : LoanPassed c.size s.byte s.last l gs s.region p) (back : ℕ) (led : back ≡ before_in most index r) where
     abbrev past : Reached
-    past = overLoan s r back p
+    past = over_loan s r back p
 
     said : (0 < s.left) × (0 < r) × (r ≤ places) × (l.chunk ≡ c.number)
-    said = test-yes s.left r places loans c.number yes
+    said = test_yes s.left r places loans c.number yes
 
     abbrev Went : Type 0
     Went = Over t c ds s.byte s.last s.left (drop s.region gs) s.whole r
@@ -164,13 +164,13 @@ module _ (most k : ℕ) (chunks loans : List ℕ) (places : ℕ) (index regions 
     there : (more : List Gap) → p.ok ≡ true → Between c.number s.byte l.offset s.last (drop s.region gs) more → Left t (c ∷ ds) (l.offset + l.size) r (s.left - 1) more s.whole → LeftAt t past
     there more ok b L =
         let v = w.on ok in
-        let e : more ≡ drop p.region gs = between-one c.number s.byte l.offset s.last (drop s.region gs) more (drop p.region gs) b (subst (λ (x : ℕ). Between x s.byte l.offset s.last (drop s.region gs) (drop p.region gs)) said.3 v.3) in
-        subst (λ (xs : List Chunk). Left t xs p.byte r (s.left - 1) (drop p.region gs) s.whole) (sym (chunks-from chunks k s.chunk c h is rise small))
+        let e : more ≡ drop p.region gs = between_one c.number s.byte l.offset s.last (drop s.region gs) more (drop p.region gs) b (subst (λ (x : ℕ). Between x s.byte l.offset s.last (drop s.region gs) (drop p.region gs)) said.3 v.3) in
+        subst (λ (xs : List Chunk). Left t xs p.byte r (s.left - 1) (drop p.region gs) s.whole) (sym (chunks_from_lem chunks k s.chunk c h is rise small))
         (subst (λ (x : ℕ). Left t (c ∷ ds) x r (s.left - 1) (drop p.region gs) s.whole) (sym v.2) (subst (λ (xs : List Gap). Left t (c ∷ ds) (l.offset + l.size) r (s.left - 1) xs s.whole) e L))
 
     on' : LeftAt t s → (past.ok ≡ true) × LeftAt t past
     on' L =
-        let v : Went = loan-on t c ds at s.byte s.last s.left (drop s.region gs) s.whole r said.0 next said.3 (here L) in
+        let v : Went = loan_on t c ds at s.byte s.last s.left (drop s.region gs) s.whole r said.0 next said.3 (here L) in
         let ok = w.back v.more v.some v.ends (subst (λ (x : ℕ). Between x s.byte l.offset s.last (drop s.region gs) v.more) (sym said.3) v.between) in
         (and_both p.ok (eqb back s.last) ok (eq-eqb back s.last (led ∙ v.back)), there v.more ok v.between v.left)
 
@@ -185,27 +185,27 @@ module _ (most k : ℕ) (chunks loans : List ℕ) (places : ℕ) (index regions 
           between = subst (λ (x : ℕ). Between x s.byte l.offset s.last (drop s.region gs) (drop p.region gs)) said.3 v.3;
           left =
               subst (λ (x : ℕ). Left t (c ∷ ds) x r (s.left - 1) (drop p.region gs) s.whole) v.2
-              (subst (λ (xs : List Chunk). Left t xs p.byte r (s.left - 1) (drop p.region gs) s.whole) (chunks-from chunks k s.chunk c h is rise small) L);
+              (subst (λ (xs : List Chunk). Left t xs p.byte r (s.left - 1) (drop p.region gs) s.whole) (chunks_from_lem chunks k s.chunk c h is rise small) L);
         }
         in
-        back-here (loan-back t c ds at s.byte s.last s.left (drop s.region gs) s.whole r said.0 next said.3 said.1 said.2 went)
+        back_here (loan_back t c ds at s.byte s.last s.left (drop s.region gs) s.whole r said.0 next said.3 said.1 said.2 went)
 
-    turned-loan : Turned k n t s past
-    turned-loan =
+    turned_loan : Turned k n t s past
+    turned_loan =
         record {
           on = on';
           back = back';
           less = omega (arith, said.0);
-          stands = record { chunk = st.chunk; region = omega (arith, w.most, length-rows gapRow n regions); last = said.2; whole = st.whole };
+          stands = record { chunk = st.chunk; region = omega (arith, w.most, length_rows gap_row n regions); last = said.2; whole = st.whole };
         }
 
   -- what is left of a chunk is passed
-  module _ (no : nextOk s.left r places loans c.number ≡ false) (p : Passed) (w : GapPassed c.number s.byte c.size s.last gs s.region p) where
+  module _ (no : next_ok s.left r places loans c.number ≡ false) (p : Passed) (w : GapPassed c.number s.byte c.size s.last gs s.region p) where
     abbrev over : Reached
-    over = overChunk s c.size p
+    over = over_chunk s c.size p
 
     none : None t c s.last s.left
-    none b d e f = true-false _ (test-all s.left r places loans c.number b (omega arith) (omega arith) (ap (λ (x : ℕ). (loanBy loans x).chunk) next ∙ f)) no
+    none b d e f = true_false _ (test_all s.left r places loans c.number b (omega arith) (omega arith) (ap (λ (x : ℕ). (loan_by loans x).chunk) next ∙ f)) no
 
     abbrev Gone : Type 0
     Gone = Through t c ds s.byte s.last s.left (drop s.region gs) s.whole
@@ -215,32 +215,32 @@ module _ (most k : ℕ) (chunks loans : List ℕ) (places : ℕ) (index regions 
 
     on'' : LeftAt t s → (over.ok ≡ true) × LeftAt t over
     on'' L =
-        let v : Gone = chunk-on t c ds at s.byte s.last s.left (drop s.region gs) s.whole none (here L) in
+        let v : Gone = chunk_on t c ds at s.byte s.last s.left (drop s.region gs) s.whole none (here L) in
         let ok = w.back v.more v.between in
-        let e = between-one c.number s.byte c.size s.last (drop s.region gs) v.more (drop p.region gs) v.between (w.on ok) in
+        let e = between_one c.number s.byte c.size s.last (drop s.region gs) v.more (drop p.region gs) v.between (w.on ok) in
         (ok, rw chunk_next (subst (λ (xs : List Gap). Left t ds 0 s.last s.left xs (s.whole + all_of s.byte c.size)) e v.left))
 
     back'' : over.ok ≡ true → LeftAt t over → LeftAt t s
     back'' e L =
         let gone : Gone = record { more = drop p.region gs; between = w.on e; left = rw chunk_next at L } in
-        back-here (chunk_back t c ds at s.byte s.last s.left (drop s.region gs) s.whole none gone)
+        back_here (chunk_back t c ds at s.byte s.last s.left (drop s.region gs) s.whole none gone)
 
-    turned-chunk : Turned k n t s over
-    turned-chunk =
+    turned_chunk : Turned k n t s over
+    turned_chunk =
         record {
           on = on'';
           back = back'';
           less = omega arith;
-          stands = record { chunk = omega arith; region = omega (arith, w.most, length-rows gapRow n regions); last = st.last; whole = omega (arith, st.whole, all_one s.byte c.size) };
+          stands = record { chunk = omega arith; region = omega (arith, w.most, length_rows gap_row n regions); last = st.last; whole = omega (arith, st.whole, all_one s.byte c.size) };
         }
 
   -- the same of a loan that was read, and of what is made of it
-  pub loan-turned : nextOk s.left r places loans c.number ≡ true → (d : Loan) → d ≡ loanBy loans r → (p : Passed) → LoanPassed c.size s.byte s.last d gs s.region p → (back : ℕ) → back ≡ beforeIn most index r
-      → (x : Reached) → x ≡ overLoan s r back p → Turned k n (groundOf most k chunks loans places index regions n) s x
-  loan-turned q d e p w back led x f =
+  pub loan_turned : next_ok s.left r places loans c.number ≡ true → (d : Loan) → d ≡ loan_by loans r → (p : Passed) → LoanPassed c.size s.byte s.last d gs s.region p → (back : ℕ) → back ≡ before_in most index r
+      → (x : Reached) → x ≡ over_loan s r back p → Turned k n (ground_of most k chunks loans places index regions n) s x
+  loan_turned q d e p w back led x f =
       subst (Turned k n t s) (sym f)
-      (turned-loan q p (subst (λ (y : Loan). LoanPassed c.size s.byte s.last y gs s.region p) e w) back led)
+      (turned_loan q p (subst (λ (y : Loan). LoanPassed c.size s.byte s.last y gs s.region p) e w) back led)
 
-  pub chunk-turned : nextOk s.left r places loans c.number ≡ false → (p : Passed) → GapPassed c.number s.byte c.size s.last gs s.region p
-      → (x : Reached) → x ≡ overChunk s c.size p → Turned k n (groundOf most k chunks loans places index regions n) s x
-  chunk-turned q p w x f = subst (Turned k n t s) (sym f) (turned-chunk q p w)
+  pub chunk_turned : next_ok s.left r places loans c.number ≡ false → (p : Passed) → GapPassed c.number s.byte c.size s.last gs s.region p
+      → (x : Reached) → x ≡ over_chunk s c.size p → Turned k n (ground_of most k chunks loans places index regions n) s x
+  chunk_turned q p w x f = subst (Turned k n t s) (sym f) (turned_chunk q p w)

@@ -2,14 +2,14 @@
 -- chunks, each gap names the loan in front of it, and so many of them are all of their chunk.
 use Rattle.std.specs.Prelude.{◌≡◌, true, false, cond, ◌&&◌, ◌⊎◌, List, ◌∷◌, map, ℕ, ◌+◌, ◌-◌, ◌≤◌, ◌<◌, eqb, ltb, length}
 use Rattle.lists.specs.Members.{Mem}
-use Rattle.slab.specs.Slab.{vacantAt}
-use Rattle.store_rules.specs.Loans.{loanWords, size_at}
+use Rattle.slabs.specs.Slab.{vacant_at}
+use Rattle.store_rules.specs.Loans.{loan_words, size_at}
 use Rattle.store_rules.specs.declared.Chunk.{Chunk}
 use Rattle.freelist_rules.specs.declared.Gap.{Gap}
 use Rattle.freelist_rules.specs.Records.{region}
 use Rattle.freelist_rules.specs.Pieces.{All}
 use Rattle.freelist_rules.specs.Rest.{rest}
-use Rattle.freelist_rules.specs.Threads.{afterIn, beforeIn, loanBy, Leads, gap, regionIn, freeOf, frontOf, wholes}
+use Rattle.freelist_rules.specs.Threads.{after_in, before_in, loan_by, Leads, gap, region_in, free_of, front_of, wholes}
 
 -- what the walk goes over: chunks, gaps, and the tables of loans and index; so many gaps are said to be all of their chunk
 pub record Ground : Type 0 where
@@ -36,9 +36,9 @@ all_of p z = cond (eqb p 0 && ltb 0 z) 1 0
 -- at byte p of the first of the chunks cs, behind record u: m loans and the gaps gs are still to be passed, w whole ones were met
 pub record Left (t : Ground) (cs : List Chunk) (p u m : ℕ) (gs : List Gap) (w : ℕ) : Type 0 where
   pub records : List ℕ
-  pub leads : Leads (afterIn t.most t.index) (beforeIn t.most t.index) u records
-  pub right : (r : ℕ) → Mem r records → (0 < r) × (r ≤ t.places) × (vacantAt t.loans size_at loanWords (r - 1) ≡ false)
+  pub leads : Leads (after_in t.most t.index) (before_in t.most t.index) u records
+  pub right : (r : ℕ) → Mem r records → (0 < r) × (r ≤ t.places) × (vacant_at t.loans size_at loan_words (r - 1) ≡ false)
   pub many : length records ≡ m
-  pub fills : rest cs p (map (loanBy t.loans) records) (freeOf gs) ≡ true
-  pub fronts : All (λ (g : Gap). g.front ≡ frontOf t.loans u records (regionIn g)) gs
-  pub counted : t.whole ≡ w + wholes t.chunks (freeOf gs)
+  pub fills : rest cs p (map (loan_by t.loans) records) (free_of gs) ≡ true
+  pub fronts : All (λ (g : Gap). g.front ≡ front_of t.loans u records (region_in g)) gs
+  pub counted : t.whole ≡ w + wholes t.chunks (free_of gs)

@@ -1,20 +1,20 @@
 -- A turn of the walk over chunks, loans and free regions together.
 use Rattle.std.specs.Prelude.{◌≡◌, Bool, true, ◌&&◌, List, ℕ, ◌+◌, ◌-◌, ◌*◌, ◌≤◌, ◌<◌, eqb, leb, ltb, length, drop, get_or}
 use Rattle.words.specs.Rows.{rows}
-use Rattle.counter.specs.Limits.{loansMost, chunksMost}
-use Rattle.store_rules.specs.Loans.{loanWords}
+use Rattle.counter.specs.Limits.{loans_most, chunks_most}
+use Rattle.store_rules.specs.Loans.{loan_words}
 use Rattle.store_rules.specs.declared.Loan.{Loan}
 use Rattle.freelist_rules.specs.declared.Gap.{Gap}
-use Rattle.freelist_rules.specs.Records.{chunkWords, regionWords, chunkRow, gapRow}
+use Rattle.freelist_rules.specs.Records.{chunk_words, region_words, chunk_row, gap_row}
 use Rattle.freelist_rules.specs.Tables.{whole_at}
-use Rattle.freelist_rules.specs.Threads.{threadWords, afterIn, beforeIn, loanBy}
+use Rattle.freelist_rules.specs.Threads.{thread_words, after_in, before_in, loan_by}
 use Rattle.freelist_walk.specs.Left.{Ground, ground, Between, all_of, Left}
 use Rattle.freelist_walk.specs.declared.passes.Passed.{Passed}
 use Rattle.freelist_walk.specs.declared.turns.Reached.{Reached}
 
 -- two gaps are the same
-abbrev pub sameGap : Gap → Gap → Bool
-sameGap a b =
+abbrev pub same_gap : Gap → Gap → Bool
+same_gap a b =
     eqb a.chunk b.chunk && (eqb a.start b.start && (eqb a.end b.end && eqb a.front b.front))
 
 -- a loan is not empty, and ends within z bytes
@@ -34,8 +34,8 @@ pub record LoanPassed (z p u : ℕ) (l : Loan) (gs : List Gap) (d : ℕ) (r : Pa
   pub most : r.region ≤ length gs
 
 -- past the loan of record r, which leads back to record `back`, where p tells of its bytes
-abbrev pub overLoan : Reached → ℕ → ℕ → Passed → Reached
-overLoan s r back p =
+abbrev pub over_loan : Reached → ℕ → ℕ → Passed → Reached
+over_loan s r back p =
     record {
       ok = p.ok && eqb back s.last;
       chunk = s.chunk;
@@ -47,8 +47,8 @@ overLoan s r back p =
     }
 
 -- past a chunk of z bytes, where p tells of what was left of it
-abbrev pub overChunk : Reached → ℕ → Passed → Reached
-overChunk s z p =
+abbrev pub over_chunk : Reached → ℕ → Passed → Reached
+over_chunk s z p =
     record {
       ok = p.ok;
       chunk = s.chunk + 1;
@@ -60,9 +60,9 @@ overChunk s z p =
     }
 
 -- the ground in the tables' words
-abbrev pub groundOf : ℕ → ℕ → List ℕ → List ℕ → ℕ → List ℕ → List ℕ → ℕ → Ground
-groundOf most k chunks loans places index regions n =
-    ground most (rows chunkRow k chunks) loans places index (rows gapRow n regions) (get_or regions whole_at 0)
+abbrev pub ground_of : ℕ → ℕ → List ℕ → List ℕ → ℕ → List ℕ → List ℕ → ℕ → Ground
+ground_of most k chunks loans places index regions n =
+    ground most (rows chunk_row k chunks) loans places index (rows gap_row n regions) (get_or regions whole_at 0)
 
 -- what is left to test where the walk stands
 abbrev pub LeftAt : Ground → Reached → Type 0
@@ -78,17 +78,17 @@ pub record Stands (k n places : ℕ) (s : Reached) : Type 0 where
 -- the first k chunks, the first `places` loans, an index of `most` loans and the first n regions are in their tables, and no more than
 -- the limits allow
 pub record Laid (most k n places : ℕ) (chunks loans index regions : List ℕ) : Type 0 where
-  pub chunks-most : k ≤ chunksMost
-  pub loans-most : most ≤ loansMost
+  pub chunks_most_lem : k ≤ chunks_most
+  pub loans_most_lem : most ≤ loans_most
   pub few : places ≤ most
-  pub chunks_long : chunkWords + chunkWords * k ≤ length chunks
-  pub loans-long : loanWords + loanWords * places ≤ length loans
-  pub index-long : threadWords most ≤ length index
-  pub regions-long : regionWords + regionWords * n ≤ length regions
+  pub chunks_long : chunk_words + chunk_words * k ≤ length chunks
+  pub loans_long : loan_words + loan_words * places ≤ length loans
+  pub index_long : thread_words most ≤ length index
+  pub regions_long : region_words + region_words * n ≤ length regions
 
 -- record r is that of a loan, of so many that are left in the first `places` places, and of chunk c
-unfoldable pub nextOk : ℕ → ℕ → ℕ → List ℕ → ℕ → Bool
-nextOk left r places loans c = (ltb 0 left && ltb 0 r) && (leb r places && eqb (loanBy loans r).chunk c)
+unfoldable pub next_ok : ℕ → ℕ → ℕ → List ℕ → ℕ → Bool
+next_ok left r places loans c = (ltb 0 left && ltb 0 r) && (leb r places && eqb (loan_by loans r).chunk c)
 
 -- how many turns are left at most
 abbrev pub togo : ℕ → Reached → ℕ
@@ -102,8 +102,8 @@ pub record Turned (k n : ℕ) (t : Ground) (s r : Reached) : Type 0 where
   pub stands : Stands k n t.places r
 
 -- nothing is left where no chunk is
-abbrev pub doneAt : ℕ → List ℕ → List ℕ → ℕ → Reached → Bool
-doneAt most index regions n s =
+abbrev pub done_at : ℕ → List ℕ → List ℕ → ℕ → Reached → Bool
+done_at most index regions n s =
     eqb s.left 0
-    && (eqb (afterIn most index s.last) 0
-    && (eqb (beforeIn most index 0) s.last && (eqb s.region n && eqb s.whole (get_or regions whole_at 0))))
+    && (eqb (after_in most index s.last) 0
+    && (eqb (before_in most index 0) s.last && (eqb s.region n && eqb s.whole (get_or regions whole_at 0))))

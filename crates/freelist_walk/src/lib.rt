@@ -5,15 +5,15 @@ mod records;
 mod turns;
 
 ghost use Rattle.std.specs.Prelude.{◌≡◌, true, ◌≤◌, length, get_or};
-ghost use Rattle.counter.specs.Limits.{loansMost, chunkSizeMost};
+ghost use Rattle.counter.specs.Limits.{loans_most, chunk_size_most};
 ghost use Rattle.words.specs.Rows.{rows};
-ghost use Rattle.freelist_rules.specs.Records.{chunkRow, gapRow};
+ghost use Rattle.freelist_rules.specs.Records.{chunk_row, gap_row};
 ghost use Rattle.freelist_rules.specs.Pieces.{All};
 ghost use Rattle.freelist_rules.specs.Tables.{whole_at};
-ghost use Rattle.freelist_rules.specs.Threads.{threadWords};
-ghost use Rattle.freelist_rules.specs.Walk.{numbersRise};
-ghost use Rattle.freelist_walk.specs.Turn.{Laid, doneAt};
-ghost use Rattle.freelist_walk.specs.Walked.{walkOk};
+ghost use Rattle.freelist_rules.specs.Threads.{thread_words};
+ghost use Rattle.freelist_rules.specs.Walk.{numbers_rise};
+ghost use Rattle.freelist_walk.specs.Turn.{Laid, done_at};
+ghost use Rattle.freelist_walk.specs.Walked.{walk_ok};
 
 use freelist_rules::WHOLE_AT;
 use records::{record_after, record_before};
@@ -21,8 +21,8 @@ use turns::{Reached, turn};
 
 // Nothing is left to pass.
 fn is_done(index: &[u64], most: usize, regions: &[u64], n: usize, s: Reached) -> bool
-    requires { (s.last ≤ most) × (most ≤ loansMost) × (threadWords most ≤ length index.now) }
-    ensures { result ≡ doneAt most index.now regions.now n s }
+    requires { (s.last ≤ most) × (most ≤ loans_most) × (thread_words most ≤ length index.now) }
+    ensures { result ≡ done_at most index.now regions.now n s }
 {
     let next = record_after(index, most, s.last);
     let back = record_before(index, most, 0);
@@ -44,9 +44,9 @@ pub fn walk(
     live: usize,
 ) -> bool
     requires laid { Laid most k n places chunks.now loans.now index.now regions.now × (live ≤ places) }
-    requires chunks_value { numbersRise 1 (rows chunkRow k chunks.now) ≡ true }
-    requires all { All (λ c. c.size ≤ chunkSizeMost) (rows chunkRow k chunks.now) }
-    ensures { result ≡ walkOk most (rows chunkRow k chunks.now) loans.now places index.now (rows gapRow n regions.now) live (get_or regions.now whole_at 0) }
+    requires chunks_value { numbers_rise 1 (rows chunk_row k chunks.now) ≡ true }
+    requires all { All (λ c. c.size ≤ chunk_size_most) (rows chunk_row k chunks.now) }
+    ensures { result ≡ walk_ok most (rows chunk_row k chunks.now) loans.now places index.now (rows gap_row n regions.now) live (get_or regions.now whole_at 0) }
 {
     let mut s = Reached {
         ok: true,

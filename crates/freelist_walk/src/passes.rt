@@ -1,9 +1,9 @@
 // A piece passed: the gap that lies before it is the next region, with the loan in front of it, or nothing lies there.
 ghost use Rattle.std.specs.Prelude.{◌≡◌, ◌+◌, ◌*◌, ◌≤◌, length};
 ghost use Rattle.words.specs.Rows.{rows};
-ghost use Rattle.freelist_rules.specs.Records.{regionWords, region, gapRow};
+ghost use Rattle.freelist_rules.specs.Records.{region_words, region, gap_row};
 ghost use Rattle.freelist_rules.specs.Threads.{gap};
-ghost use Rattle.freelist_walk.specs.Turn.{sameGap, within, GapPassed, LoanPassed};
+ghost use Rattle.freelist_walk.specs.Turn.{same_gap, within, GapPassed, LoanPassed};
 
 use freelist_regions::gap_at;
 use freelist_rules::Gap;
@@ -18,7 +18,7 @@ pub struct Passed {
 }
 
 fn is_gap(g: Gap, chunk: u64, start: u64, end: u64, front: u64) -> bool
-    ensures { result ≡ sameGap g (gap (region chunk start end) front) }
+    ensures { result ≡ same_gap g (gap (region chunk start end) front) }
 {
     (g.chunk == chunk) & ((g.start == start) & ((g.end == end) & (g.front == front)))
 }
@@ -33,8 +33,8 @@ pub fn pass_gap(
     to: u64,
     last: usize,
 ) -> Passed
-    requires { (d ≤ n) × (regionWords + regionWords * n ≤ length t.now) }
-    ensures { GapPassed chunk from to last (rows gapRow n t.now) d result }
+    requires { (d ≤ n) × (region_words + region_words * n ≤ length t.now) }
+    ensures { GapPassed chunk from to last (rows gap_row n t.now) d result }
 {
     if to <= from {
         return Passed {
@@ -79,8 +79,8 @@ pub fn pass_loan(
     l: Loan,
     last: usize,
 ) -> Passed
-    requires { (d ≤ n) × (regionWords + regionWords * n ≤ length t.now) }
-    ensures { LoanPassed size from last l (rows gapRow n t.now) d result }
+    requires { (d ≤ n) × (region_words + region_words * n ≤ length t.now) }
+    ensures { LoanPassed size from last l (rows gap_row n t.now) d result }
 {
     if is_within(l, size) {
         let g = pass_gap(t, n, d, l.chunk, from, l.offset, last);

@@ -1,13 +1,13 @@
 // A turn of the walk passes one loan, or what is left of one chunk.
 ghost use Rattle.std.specs.Prelude.{◌≡◌, true, ◌+◌, ◌*◌, ◌≤◌, ◌<◌, length};
-ghost use Rattle.counter.specs.Limits.{chunksMost, chunkSizeMost};
+ghost use Rattle.counter.specs.Limits.{chunks_most, chunk_size_most};
 ghost use Rattle.words.specs.Rows.{rows};
-ghost use Rattle.store_rules.specs.Loans.{loanWords};
-ghost use Rattle.freelist_rules.specs.Records.{chunkRow};
+ghost use Rattle.store_rules.specs.Loans.{loan_words};
+ghost use Rattle.freelist_rules.specs.Records.{chunk_row};
 ghost use Rattle.freelist_rules.specs.Pieces.{All};
-ghost use Rattle.freelist_rules.specs.Walk.{numbersRise};
+ghost use Rattle.freelist_rules.specs.Walk.{numbers_rise};
 ghost use Rattle.freelist_walk.specs.Left.{all_of};
-ghost use Rattle.freelist_walk.specs.Turn.{overLoan, overChunk, groundOf, Stands, Laid, nextOk, Turned};
+ghost use Rattle.freelist_walk.specs.Turn.{over_loan, over_chunk, ground_of, Stands, Laid, next_ok, Turned};
 
 use crate::passes::{Passed, pass_gap, pass_loan};
 use crate::records::{chunk_in, record_after, record_before};
@@ -36,7 +36,7 @@ fn all_of(byte: u64, size: u64) -> u64
 // Past the loan of record r, which leads back to record `back`, where p tells of its bytes.
 fn over_loan(s: Reached, r: usize, back: usize, p: Passed) -> Reached
     requires { 0 < s.left }
-    ensures { result ≡ overLoan s r back p }
+    ensures { result ≡ over_loan s r back p }
 {
     Reached {
         ok: p.ok & (back == s.last),
@@ -51,8 +51,8 @@ fn over_loan(s: Reached, r: usize, back: usize, p: Passed) -> Reached
 
 // Past a chunk of `size` bytes, where p tells of what was left of it.
 fn over_chunk(s: Reached, size: u64, p: Passed) -> Reached
-    requires { (s.chunk < chunksMost) × (s.whole ≤ s.chunk) }
-    ensures { result ≡ overChunk s size p }
+    requires { (s.chunk < chunks_most) × (s.whole ≤ s.chunk) }
+    ensures { result ≡ over_chunk s size p }
 {
     Reached {
         ok: p.ok,
@@ -67,8 +67,8 @@ fn over_chunk(s: Reached, size: u64, p: Passed) -> Reached
 
 // Whether record r is that of a loan, of so many that are left, and of the chunk with this number. Only then is a record read.
 fn is_next(loans: &[u64], places: usize, left: usize, r: usize, number: u64) -> bool
-    requires { loanWords + loanWords * places ≤ length loans.now }
-    ensures { result ≡ nextOk left r places loans.now number }
+    requires { loan_words + loan_words * places ≤ length loans.now }
+    ensures { result ≡ next_ok left r places loans.now number }
 {
     if ((0 < left) & (0 < r)) & (r <= places) {
         return loans[CHUNK_AT + LOAN_WORDS * (r - 1)] == number;
@@ -90,9 +90,9 @@ pub fn turn(
 ) -> Reached
     requires laid { Laid most k n places chunks.now loans.now index.now regions.now }
     requires chunk_lt_k { (s.chunk < k) × Stands k n places s }
-    requires chunks_value { numbersRise 1 (rows chunkRow k chunks.now) ≡ true }
-    requires all { All (λ c. c.size ≤ chunkSizeMost) (rows chunkRow k chunks.now) }
-    ensures { Turned k n (groundOf most k chunks.now loans.now places index.now regions.now n) s result }
+    requires chunks_value { numbers_rise 1 (rows chunk_row k chunks.now) ≡ true }
+    requires all { All (λ c. c.size ≤ chunk_size_most) (rows chunk_row k chunks.now) }
+    ensures { Turned k n (ground_of most k chunks.now loans.now places index.now regions.now n) s result }
 {
     let c = chunk_in(chunks, s.chunk);
     let r = record_after(index, most, s.last);

@@ -3,11 +3,11 @@ use Rattle.std.proofs.Common.{◌≡◌, ℕ, ◌+◌, ◌-◌, ◌*◌, ◌%◌
 use borrow.Author.Tests.{lt-leb}
 use Rattle.lists.proofs.Bools.{and_left, and_right, and_both, same_test}
 use Rattle.counter.specs.Account.{value}
-use Rattle.counter.specs.Limits.{heapBytesMost}
+use Rattle.counter.specs.Limits.{heap_bytes_most}
 use Rattle.counter.specs.declared.account.Heap.{Heap}
 use Rattle.counter.specs.declared.account.Total.{Total}
-use Rattle.heap.specs.Heap.{chargedOf, releasedOf, bearsOk, agreesOk}
-use Rattle.heap.proofs.Totals.{carried, not_carried, words-equal, holds_more, plus-value}
+use Rattle.heap.specs.Heap.{charged_of, released_of, bears_ok, agrees_ok}
+use Rattle.heap.proofs.Totals.{carried, not_carried, words_equal, holds_more, plus_value}
 
 -- ---- the tests as code makes them
 
@@ -16,59 +16,59 @@ abbrev pub Words : Total → Type 0
 Words t = (t.hi < 2 ^ 64) × (t.lo < 2 ^ 64)
 
 module _ (h : Heap) (w : Words h.allocated) (bytes : ℕ) (bb : bytes < 2 ^ 64) where
-  pub bears-near : bytes ≤ heapBytesMost
-      → (leb h.used (0x4000_0000_0000_0000 - bytes) && (leb bytes (0xffff_ffff_ffff_ffff - h.allocated.lo) || ltb h.allocated.hi 0xffff_ffff_ffff_ffff)) ≡ bearsOk h bytes
-  unfolding bearsOk
-  bears-near g =
-      rw (same_test (leb h.used (0x4000_0000_0000_0000 - bytes)) (leb (h.used + bytes) heapBytesMost) there back, holds_more h.allocated.hi h.allocated.lo bytes w.0 w.1 bb)
+  pub bears_near : bytes ≤ heap_bytes_most
+      → (leb h.used (0x4000_0000_0000_0000 - bytes) && (leb bytes (0xffff_ffff_ffff_ffff - h.allocated.lo) || ltb h.allocated.hi 0xffff_ffff_ffff_ffff)) ≡ bears_ok h bytes
+  unfolding bears_ok
+  bears_near g =
+      rw (same_test (leb h.used (0x4000_0000_0000_0000 - bytes)) (leb (h.used + bytes) heap_bytes_most) there back, holds_more h.allocated.hi h.allocated.lo bytes w.0 w.1 bb)
     where
-      there : leb h.used (0x4000_0000_0000_0000 - bytes) ≡ true → leb (h.used + bytes) heapBytesMost ≡ true
-      there p = le-leb (h.used + bytes) heapBytesMost (omega (arith, leb-true h.used (0x4000_0000_0000_0000 - bytes) p))
+      there : leb h.used (0x4000_0000_0000_0000 - bytes) ≡ true → leb (h.used + bytes) heap_bytes_most ≡ true
+      there p = le-leb (h.used + bytes) heap_bytes_most (omega (arith, leb-true h.used (0x4000_0000_0000_0000 - bytes) p))
 
-      back : leb (h.used + bytes) heapBytesMost ≡ true → leb h.used (0x4000_0000_0000_0000 - bytes) ≡ true
-      back p = le-leb h.used (0x4000_0000_0000_0000 - bytes) (omega (arith, leb-true (h.used + bytes) heapBytesMost p))
+      back : leb (h.used + bytes) heap_bytes_most ≡ true → leb h.used (0x4000_0000_0000_0000 - bytes) ≡ true
+      back p = le-leb h.used (0x4000_0000_0000_0000 - bytes) (omega (arith, leb-true (h.used + bytes) heap_bytes_most p))
 
-  pub bears-far : heapBytesMost < bytes → false ≡ bearsOk h bytes
-  unfolding bearsOk
-  bears-far g = let e : leb (h.used + bytes) heapBytesMost ≡ false = lt-leb (h.used + bytes) heapBytesMost (omega arith) in rw e
+  pub bears_far : heap_bytes_most < bytes → false ≡ bears_ok h bytes
+  unfolding bears_ok
+  bears_far g = let e : leb (h.used + bytes) heap_bytes_most ≡ false = lt-leb (h.used + bytes) heap_bytes_most (omega arith) in rw e
 
 module _ (h : Heap) (a : Words h.allocated) (d : Words h.deallocated) (u : h.used < 2 ^ 64) (r : ℕ) (rb : r < 2 ^ 64) (e : r ≡ (h.deallocated.lo + h.used) % 2 ^ 64) where
-  pub agrees-carried : r < h.used → (eqb r h.allocated.lo && eqb (h.deallocated.hi + 1) h.allocated.hi) ≡ agreesOk h
-  unfolding agreesOk
-  agrees-carried g =
+  pub agrees_carried : r < h.used → (eqb r h.allocated.lo && eqb (h.deallocated.hi + 1) h.allocated.hi) ≡ agrees_ok h
+  unfolding agrees_ok
+  agrees_carried g =
       let s : value h.deallocated + h.used ≡ (h.deallocated.hi + 1) * 2 ^ 64 + r = carried h.deallocated.hi h.deallocated.lo h.used r d.1 u e g in
-      words-equal (h.deallocated.hi + 1) r h.allocated.hi h.allocated.lo rb a.1
+      words_equal (h.deallocated.hi + 1) r h.allocated.hi h.allocated.lo rb a.1
       ∙ ap (λ (n : ℕ). eqb n (value h.allocated)) (sym s)
 
-  pub agrees-over : r < h.used → h.deallocated.hi ≡ 0xffff_ffff_ffff_ffff → false ≡ agreesOk h
-  agrees-over g m =
+  pub agrees_over : r < h.used → h.deallocated.hi ≡ 0xffff_ffff_ffff_ffff → false ≡ agrees_ok h
+  agrees_over g m =
       let n : eqb (h.deallocated.hi + 1) h.allocated.hi ≡ false = ne_eqb (h.deallocated.hi + 1) h.allocated.hi (λ q. omega (arith, a.0)) in
-      sym (mathlib.Core.Bool.and-false (eqb r h.allocated.lo)) ∙ ap (λ (b : Bool). eqb r h.allocated.lo && b) (sym n) ∙ agrees-carried g
+      sym (mathlib.Core.Bool.and-false (eqb r h.allocated.lo)) ∙ ap (λ (b : Bool). eqb r h.allocated.lo && b) (sym n) ∙ agrees_carried g
 
-  pub agrees-plain : h.used ≤ r → (eqb r h.allocated.lo && eqb h.deallocated.hi h.allocated.hi) ≡ agreesOk h
-  unfolding agreesOk
-  agrees-plain g =
+  pub agrees_plain : h.used ≤ r → (eqb r h.allocated.lo && eqb h.deallocated.hi h.allocated.hi) ≡ agrees_ok h
+  unfolding agrees_ok
+  agrees_plain g =
       let s : value h.deallocated + h.used ≡ h.deallocated.hi * 2 ^ 64 + r = not_carried h.deallocated.hi h.deallocated.lo h.used r d.1 u e g in
-      words-equal h.deallocated.hi r h.allocated.hi h.allocated.lo rb a.1
+      words_equal h.deallocated.hi r h.allocated.hi h.allocated.lo rb a.1
       ∙ ap (λ (n : ℕ). eqb n (value h.allocated)) (sym s)
 
 -- ---- what they mean, in plain numbers
 
-pub bears-yes : (h : Heap) (bytes : ℕ) → bearsOk h bytes ≡ true → (h.used + bytes ≤ heapBytesMost) × (value h.allocated + bytes < 2 ^ 128)
-unfolding bearsOk
-bears-yes h bytes e = (leb-true _ _ (and_left _ _ e), ltb-true _ _ (and_right (leb (h.used + bytes) heapBytesMost) _ e))
+pub bears_yes : (h : Heap) (bytes : ℕ) → bears_ok h bytes ≡ true → (h.used + bytes ≤ heap_bytes_most) × (value h.allocated + bytes < 2 ^ 128)
+unfolding bears_ok
+bears_yes h bytes e = (leb-true _ _ (and_left _ _ e), ltb-true _ _ (and_right (leb (h.used + bytes) heap_bytes_most) _ e))
 
-pub bears-all : (h : Heap) (bytes : ℕ) → h.used + bytes ≤ heapBytesMost → value h.allocated + bytes < 2 ^ 128 → bearsOk h bytes ≡ true
-unfolding bearsOk
-bears-all h bytes p q = and_both _ _ (le-leb _ _ p) (lt-ltb _ _ q)
+pub bears_all : (h : Heap) (bytes : ℕ) → h.used + bytes ≤ heap_bytes_most → value h.allocated + bytes < 2 ^ 128 → bears_ok h bytes ≡ true
+unfolding bears_ok
+bears_all h bytes p q = and_both _ _ (le-leb _ _ p) (lt-ltb _ _ q)
 
-pub agrees-yes : (h : Heap) → agreesOk h ≡ true → value h.deallocated + h.used ≡ value h.allocated
-unfolding agreesOk
-agrees-yes h e = eqb-true _ _ e
+pub agrees_yes : (h : Heap) → agrees_ok h ≡ true → value h.deallocated + h.used ≡ value h.allocated
+unfolding agrees_ok
+agrees_yes h e = eqb-true _ _ e
 
-pub agrees-all : (h : Heap) → value h.deallocated + h.used ≡ value h.allocated → agreesOk h ≡ true
-unfolding agreesOk
-agrees-all h e = eq-eqb _ _ e
+pub agrees_all : (h : Heap) → value h.deallocated + h.used ≡ value h.allocated → agrees_ok h ≡ true
+unfolding agrees_ok
+agrees_all h e = eq-eqb _ _ e
 
 -- ---- within the bounds nothing wraps
 
@@ -79,12 +79,12 @@ pub record Charged (h : Heap) (bytes : ℕ) (g : Heap) : Type 0 where
   pub allocated : value g.allocated ≡ value h.allocated + bytes
   pub deallocated : g.deallocated ≡ h.deallocated
 
-pub charged-is : (h : Heap) (bytes : ℕ) → h.used + bytes ≤ heapBytesMost → value h.allocated + bytes < 2 ^ 128 → Charged h bytes (chargedOf h bytes)
-unfolding chargedOf
-charged-is h bytes p q = record {
+pub charged_is : (h : Heap) (bytes : ℕ) → h.used + bytes ≤ heap_bytes_most → value h.allocated + bytes < 2 ^ 128 → Charged h bytes (charged_of h bytes)
+unfolding charged_of
+charged_is h bytes p q = record {
   size = refl;
   used = mod-eq_of_lt (omega arith);
-  allocated = plus-value h.allocated bytes q;
+  allocated = plus_value h.allocated bytes q;
   deallocated = refl;
 }
 
@@ -95,22 +95,22 @@ pub record Released (h : Heap) (bytes : ℕ) (g : Heap) : Type 0 where
   pub allocated : g.allocated ≡ h.allocated
   pub deallocated : value g.deallocated ≡ value h.deallocated + bytes
 
-pub released-is : (h : Heap) (bytes : ℕ) → bytes ≤ h.used → value h.deallocated + bytes < 2 ^ 128 → Released h bytes (releasedOf h bytes)
-unfolding releasedOf
-released-is h bytes p q = record {
+pub released_is : (h : Heap) (bytes : ℕ) → bytes ≤ h.used → value h.deallocated + bytes < 2 ^ 128 → Released h bytes (released_of h bytes)
+unfolding released_of
+released_is h bytes p q = record {
   size = refl;
   used = omega arith;
   allocated = refl;
-  deallocated = plus-value h.deallocated bytes q;
+  deallocated = plus_value h.deallocated bytes q;
 }
 
 -- a heap that agrees still does, charged or released within its bounds
-pub charged-agrees : (h : Heap) (bytes : ℕ) → h.used + bytes ≤ heapBytesMost → value h.allocated + bytes < 2 ^ 128 → agreesOk h ≡ true → agreesOk (chargedOf h bytes) ≡ true
-charged-agrees h bytes p q e =
-    let c = charged-is h bytes p q in
-    agrees-all (chargedOf h bytes) (rw (c.deallocated, c.used, c.allocated) (omega (arith, agrees-yes h e)))
+pub charged_agrees : (h : Heap) (bytes : ℕ) → h.used + bytes ≤ heap_bytes_most → value h.allocated + bytes < 2 ^ 128 → agrees_ok h ≡ true → agrees_ok (charged_of h bytes) ≡ true
+charged_agrees h bytes p q e =
+    let c = charged_is h bytes p q in
+    agrees_all (charged_of h bytes) (rw (c.deallocated, c.used, c.allocated) (omega (arith, agrees_yes h e)))
 
-pub released-agrees : (h : Heap) (bytes : ℕ) → bytes ≤ h.used → value h.deallocated + bytes < 2 ^ 128 → agreesOk h ≡ true → agreesOk (releasedOf h bytes) ≡ true
-released-agrees h bytes p q e =
-    let c = released-is h bytes p q in
-    agrees-all (releasedOf h bytes) (rw (c.deallocated, c.allocated) (omega (arith, agrees-yes h e, c.used)))
+pub released_agrees : (h : Heap) (bytes : ℕ) → bytes ≤ h.used → value h.deallocated + bytes < 2 ^ 128 → agrees_ok h ≡ true → agrees_ok (released_of h bytes) ≡ true
+released_agrees h bytes p q e =
+    let c = released_is h bytes p q in
+    agrees_all (released_of h bytes) (rw (c.deallocated, c.allocated) (omega (arith, agrees_yes h e, c.used)))

@@ -2,10 +2,10 @@
 use Rattle.std.proofs.Common.{◌≡◌, ℕ, ◌+◌, ◌-◌, ◌*◌, ◌/◌, ◌%◌, ◌^◌, ◌<◌, ◌≤◌, true, ◌&&◌, ◌||◌, eqb, ltb, leb, sym, refl, ap, ◌∙◌, ⊎_elim, mod-eq_of_lt, suc-mul, add-one, arith, ltb-true, lt-ltb, eq-eqb, eqb-true, le-leb, leb-true}
 use lib.Arith.{digits_lt}
 use lib.Pow.{high, low, recompose}
-use Rattle.lists.proofs.Bools.{and_left, and_right, and_both, or_cases, or_left, or_right, same_test, lt-or-le}
+use Rattle.lists.proofs.Bools.{and_left, and_right, and_both, or_cases, or_left, or_right, same_test, lt_or_le}
 use Rattle.counter.specs.Account.{value}
 use Rattle.counter.specs.declared.account.Total.{Total}
-use Rattle.heap.specs.Heap.{plusOf}
+use Rattle.heap.specs.Heap.{plus_of}
 
 -- the words of a sum whose high word x and low word r are known
 low_word : (k s x r : ℕ) → r < 2 ^ k → s ≡ x * 2 ^ k + r → r ≡ s % 2 ^ k
@@ -22,20 +22,20 @@ pub not_carried : (hi lo b r : ℕ) → lo < 2 ^ 64 → b < 2 ^ 64 → r ≡ (lo
 not_carried hi lo b r p q e h = omega arith
 
 -- the two words of a total with n more, with and without a carry
-pub plus-carried : (t : Total) (n r x : ℕ) → t.hi < 2 ^ 64 → t.lo < 2 ^ 64 → n < 2 ^ 64 → r < 2 ^ 64 → r ≡ (t.lo + n) % 2 ^ 64 → r < n → x ≡ (t.hi + 1) % 2 ^ 64
-    → record { hi = x; lo = r } ≡ plusOf t n
-unfolding plusOf
-plus-carried t n r x th tl nb rb e h f =
+pub plus_carried : (t : Total) (n r x : ℕ) → t.hi < 2 ^ 64 → t.lo < 2 ^ 64 → n < 2 ^ 64 → r < 2 ^ 64 → r ≡ (t.lo + n) % 2 ^ 64 → r < n → x ≡ (t.hi + 1) % 2 ^ 64
+    → record { hi = x; lo = r } ≡ plus_of t n
+unfolding plus_of
+plus_carried t n r x th tl nb rb e h f =
     let s : value t + n ≡ (t.hi + 1) * 2 ^ 64 + r = carried t.hi t.lo n r tl nb e h in
     let l : r ≡ (value t + n) % 2 ^ 64 = low_word 64 (value t + n) (t.hi + 1) r rb s in
     let g : t.hi + 1 ≡ (value t + n) / 2 ^ 64 = high_word 64 (value t + n) (t.hi + 1) r rb s in
     let w : x ≡ (value t + n) / 2 ^ 64 % 2 ^ 64 = f ∙ ap (λ (k : ℕ). k % 2 ^ 64) g in
     λ i. record { hi = w i; lo = l i }
 
-pub plus-plain : (t : Total) (n r : ℕ) → t.hi < 2 ^ 64 → t.lo < 2 ^ 64 → n < 2 ^ 64 → r < 2 ^ 64 → r ≡ (t.lo + n) % 2 ^ 64 → n ≤ r
-    → record { hi = t.hi; lo = r } ≡ plusOf t n
-unfolding plusOf
-plus-plain t n r th tl nb rb e h =
+pub plus_plain : (t : Total) (n r : ℕ) → t.hi < 2 ^ 64 → t.lo < 2 ^ 64 → n < 2 ^ 64 → r < 2 ^ 64 → r ≡ (t.lo + n) % 2 ^ 64 → n ≤ r
+    → record { hi = t.hi; lo = r } ≡ plus_of t n
+unfolding plus_of
+plus_plain t n r th tl nb rb e h =
     let s : value t + n ≡ t.hi * 2 ^ 64 + r = not_carried t.hi t.lo n r tl nb e h in
     let l : r ≡ (value t + n) % 2 ^ 64 = low_word 64 (value t + n) t.hi r rb s in
     let g : t.hi ≡ (value t + n) / 2 ^ 64 = high_word 64 (value t + n) t.hi r rb s in
@@ -43,13 +43,13 @@ plus-plain t n r th tl nb rb e h =
     λ i. record { hi = w i; lo = l i }
 
 -- as one number, where it fits 128 bits
-pub plus-value : (t : Total) (n : ℕ) → value t + n < 2 ^ 128 → value (plusOf t n) ≡ value t + n
-unfolding plusOf
-plus-value t n h = recompose 64 64 h
+pub plus_value : (t : Total) (n : ℕ) → value t + n < 2 ^ 128 → value (plus_of t n) ≡ value t + n
+unfolding plus_of
+plus_value t n h = recompose 64 64 h
 
 -- two words are another two exactly when the numbers are equal
-pub words-equal : (x r a b : ℕ) → r < 2 ^ 64 → b < 2 ^ 64 → (eqb r b && eqb x a) ≡ eqb (x * 2 ^ 64 + r) (a * 2 ^ 64 + b)
-words-equal x r a b rb bb = same_test _ _ there back
+pub words_equal : (x r a b : ℕ) → r < 2 ^ 64 → b < 2 ^ 64 → (eqb r b && eqb x a) ≡ eqb (x * 2 ^ 64 + r) (a * 2 ^ 64 + b)
+words_equal x r a b rb bb = same_test _ _ there back
   where
     there : (eqb r b && eqb x a) ≡ true → eqb (x * 2 ^ 64 + r) (a * 2 ^ 64 + b) ≡ true
     there e =
@@ -75,13 +75,13 @@ ends n hi lo b h g =
 within : (n hi lo b : ℕ) → hi < n → lo + b < n → hi * n + lo + b < n * n
 within n hi lo b h g = let e : hi * n + (lo + b) < n * n = digits_lt h g in omega arith
 
-within-carried : (n hi lo b : ℕ) → hi + 1 < n → lo < n → b < n → hi * n + lo + b < n * n
-within-carried n hi lo b h g k =
+within_carried : (n hi lo b : ℕ) → hi + 1 < n → lo < n → b < n → hi * n + lo + b < n * n
+within_carried n hi lo b h g k =
     let e : (hi + 1) * n ≡ hi * n + n = rw add-one (suc-mul hi n) in
     ⊎_elim
     (λ (s : lo + b < n). within n hi lo b (omega arith) s)
     (λ (s : n ≤ lo + b). let d : (hi + 1) * n + (lo + b - n) < n * n = digits_lt h (omega arith) in omega arith)
-    (lt-or-le (lo + b) n)
+    (lt_or_le (lo + b) n)
 
 -- a total holds b more exactly when the low word does, or the high word has room for a carry
 pub holds_more : (hi lo b : ℕ) → hi < 2 ^ 64 → lo < 2 ^ 64 → b < 2 ^ 64
@@ -92,7 +92,7 @@ holds_more hi lo b hb lb bb = same_test _ _ there back
     low_fits h = within (2 ^ 64) hi lo b hb (omega arith)
 
     high_fits : hi < 0xffff_ffff_ffff_ffff → hi * 2 ^ 64 + lo + b < 2 ^ 128
-    high_fits h = within-carried (2 ^ 64) hi lo b (omega arith) lb bb
+    high_fits h = within_carried (2 ^ 64) hi lo b (omega arith) lb bb
 
     there : (leb b (0xffff_ffff_ffff_ffff - lo) || ltb hi 0xffff_ffff_ffff_ffff) ≡ true → ltb (hi * 2 ^ 64 + lo + b) (2 ^ 128) ≡ true
     there e =
@@ -111,6 +111,6 @@ holds_more hi lo b hb lb bb = same_test _ _ there back
         ⊎_elim
         (λ (q : hi < 0xffff_ffff_ffff_ffff). or_right (leb b (0xffff_ffff_ffff_ffff - lo)) _ (lt-ltb _ _ q))
         (λ (q : 0xffff_ffff_ffff_ffff ≤ hi). absurd (full (ltb-true _ _ e) p q))
-        (lt-or-le hi 0xffff_ffff_ffff_ffff))
+        (lt_or_le hi 0xffff_ffff_ffff_ffff))
         (λ (p : b ≤ 0xffff_ffff_ffff_ffff - lo). or_left _ _ (le-leb _ _ p))
-        (lt-or-le (0xffff_ffff_ffff_ffff - lo) b)
+        (lt_or_le (0xffff_ffff_ffff_ffff - lo) b)

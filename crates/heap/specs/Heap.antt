@@ -3,7 +3,7 @@
 -- so none does in use (proofs/Bounds).
 use Rattle.std.specs.Prelude.{ℕ, ◌+◌, ◌-◌, ◌/◌, ◌%◌, ◌^◌, ◌<◌, Bool, ◌&&◌, ◌==◌, nat_le, nat_lt}
 use Rattle.counter.specs.Account.{value}
-use Rattle.counter.specs.Limits.{heapBytesMost}
+use Rattle.counter.specs.Limits.{heap_bytes_most}
 use Rattle.counter.specs.declared.account.Heap.{Heap}
 use Rattle.counter.specs.declared.account.Total.{Total}
 
@@ -12,36 +12,36 @@ abbrev pub total_of : ℕ → Total
 total_of n = record { hi = n / 2 ^ 64 % 2 ^ 64; lo = n % 2 ^ 64 }
 
 -- a total with n more
-unfoldable pub plusOf : Total → ℕ → Total
-plusOf t n = total_of (value t + n)
+unfoldable pub plus_of : Total → ℕ → Total
+plus_of t n = total_of (value t + n)
 
 -- a heap charged with some bytes
-unfoldable pub chargedOf : Heap → ℕ → Heap
-chargedOf h bytes =
+unfoldable pub charged_of : Heap → ℕ → Heap
+charged_of h bytes =
     record {
       size = h.size;
       used = (h.used + bytes) % 2 ^ 64;
-      allocated = plusOf h.allocated bytes;
+      allocated = plus_of h.allocated bytes;
       deallocated = h.deallocated;
     }
 
 -- and with some released
-unfoldable pub releasedOf : Heap → ℕ → Heap
-releasedOf h bytes =
+unfoldable pub released_of : Heap → ℕ → Heap
+released_of h bytes =
     record {
       size = h.size;
       used = h.used - bytes;
       allocated = h.allocated;
-      deallocated = plusOf h.deallocated bytes;
+      deallocated = plus_of h.deallocated bytes;
     }
 
 -- 01, number 10: heap used would not pass 2^62, nor the 128-bit allocated total overflow
-unfoldable pub bearsOk : Heap → ℕ → Bool
-bearsOk h bytes = nat_le (h.used + bytes) heapBytesMost && nat_lt (value h.allocated + bytes) (2 ^ 128)
+unfoldable pub bears_ok : Heap → ℕ → Bool
+bears_ok h bytes = nat_le (h.used + bytes) heap_bytes_most && nat_lt (value h.allocated + bytes) (2 ^ 128)
 
 -- 01, number 4: heap used is allocated less deallocated
-unfoldable pub agreesOk : Heap → Bool
-agreesOk h = value h.deallocated + h.used == value h.allocated
+unfoldable pub agrees_ok : Heap → Bool
+agrees_ok h = value h.deallocated + h.used == value h.allocated
 
 -- a total's two words of 64 bits are below 2^128: every heap that code can lend has this
 abbrev pub Within : Heap → Type 0

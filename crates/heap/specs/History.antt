@@ -1,22 +1,22 @@
 -- A heap's history. 01, "heap.rs": "From used and totals 0, used always equals the charges less the releases and give-backs
 -- in the history, and allocated less deallocated; a give-back is a release."
 use Rattle.std.specs.Prelude.{ℕ, ◌+◌, ◌^◌, ◌<◌, ◌≤◌, List, [], ◌∷◌}
-use Rattle.counter.specs.Account.{value, noTotal}
-use Rattle.counter.specs.Limits.{heapBytesMost}
+use Rattle.counter.specs.Account.{value, no_total}
+use Rattle.counter.specs.Limits.{heap_bytes_most}
 use Rattle.counter.specs.declared.account.Heap.{Heap}
-use Rattle.heap.specs.Heap.{chargedOf, releasedOf}
+use Rattle.heap.specs.Heap.{charged_of, released_of}
 
 pub data Entry : Type 0 where
   charge : ℕ → Entry
   release : ℕ → Entry
 
 -- a heap of this size, from used and totals 0
-abbrev pub newHeap : ℕ → Heap
-newHeap size = record { size = size; used = 0; allocated = noTotal; deallocated = noTotal }
+abbrev pub new_heap : ℕ → Heap
+new_heap size = record { size = size; used = 0; allocated = no_total; deallocated = no_total }
 
 abbrev pub entered : Heap → Entry → Heap
-entered h (charge bytes) = chargedOf h bytes
-entered h (release bytes) = releasedOf h bytes
+entered h (charge bytes) = charged_of h bytes
+entered h (release bytes) = released_of h bytes
 
 -- the heap after a history, the oldest entry first
 abbrev pub after : Heap → List Entry → Heap
@@ -25,7 +25,7 @@ after h (e ∷ es) = after (entered h e) es
 
 -- an entry that passes no bound: a charge within 2^62 and 128 bits, a release of no more than is used
 abbrev pub Fitting : Heap → Entry → Type 0
-Fitting h (charge bytes) = (h.used + bytes ≤ heapBytesMost) × (value h.allocated + bytes < 2 ^ 128)
+Fitting h (charge bytes) = (h.used + bytes ≤ heap_bytes_most) × (value h.allocated + bytes < 2 ^ 128)
 Fitting h (release bytes) = (bytes ≤ h.used) × (value h.deallocated + bytes < 2 ^ 128)
 
 abbrev pub AllFitting : Heap → List Entry → Type 0

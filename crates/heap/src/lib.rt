@@ -1,13 +1,13 @@
 // One heap: what is used of it, and the two running totals of 128 bits, each in two words with carry.
 // Any numbers may be handed in; what passes a bound wraps, and the tests here say beforehand whether it would.
 ghost use Rattle.std.specs.Prelude.{◌≡◌};
-ghost use Rattle.heap.specs.Heap.{plusOf, chargedOf, releasedOf, bearsOk, agreesOk};
+ghost use Rattle.heap.specs.Heap.{plus_of, charged_of, released_of, bears_ok, agrees_ok};
 
 use counter::{HEAP_BYTES_MOST, Heap, Total};
 
 // A total with n more.
 pub fn plus(t: Total, n: u64) -> Total
-    ensures { result ≡ plusOf t n }
+    ensures { result ≡ plus_of t n }
 {
     let lo = std::num::wrapping_add_u64(t.lo, n);
     if lo < n {
@@ -18,7 +18,7 @@ pub fn plus(t: Total, n: u64) -> Total
 }
 
 pub fn charge(h: Heap, bytes: u64) -> Heap
-    ensures { result ≡ chargedOf h bytes }
+    ensures { result ≡ charged_of h bytes }
 {
     let allocated = plus(h.allocated, bytes);
     let deallocated = h.deallocated;
@@ -33,7 +33,7 @@ pub fn charge(h: Heap, bytes: u64) -> Heap
 
 // A give-back is a release too.
 pub fn release(h: Heap, bytes: u64) -> Heap
-    ensures { result ≡ releasedOf h bytes }
+    ensures { result ≡ released_of h bytes }
 {
     let allocated = h.allocated;
     let deallocated = plus(h.deallocated, bytes);
@@ -48,7 +48,7 @@ pub fn release(h: Heap, bytes: u64) -> Heap
 
 // Whether a charge passes no bound: 2^62 for what is used, 128 bits for the allocated total.
 pub fn bears(h: Heap, bytes: u64) -> bool
-    ensures { result ≡ bearsOk h bytes }
+    ensures { result ≡ bears_ok h bytes }
 {
     let t = h.allocated;
     let room = (bytes <= u64::MAX - t.lo) | (t.hi < u64::MAX);
@@ -61,7 +61,7 @@ pub fn bears(h: Heap, bytes: u64) -> bool
 
 // Whether what is used is what was allocated less what was deallocated.
 pub fn agrees(h: Heap) -> bool
-    ensures { result ≡ agreesOk h }
+    ensures { result ≡ agrees_ok h }
 {
     let a = h.allocated;
     let d = h.deallocated;

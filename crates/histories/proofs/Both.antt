@@ -4,14 +4,14 @@ use native.Mathlib.Omega.{arith}
 use Rattle.engines.specs.Engines.{Engine}
 use Rattle.engines.specs.Histories.{Visit}
 use Rattle.freelist_rules.specs.Tables as FreeList
-use Rattle.freelist_engine.proofs.Engine.{freeList}
+use Rattle.freelist_engine.proofs.Engine.{free_list}
 use Rattle.buddy_rules.specs.Tables as Buddy
 use Rattle.buddy_engine.proofs.Engine.{buddy}
-use Rattle.histories.specs.Which.{Which, aList, aBuddy}
+use Rattle.histories.specs.Which.{Which, a_list, a_buddy}
 
 abbrev pub both : Which → Engine
-both aList = freeList
-both aBuddy = buddy
+both a_list = free_list
+both a_buddy = buddy
 
 -- a call of either engine at one of the stores
 abbrev pub Call : Type 0
@@ -19,7 +19,7 @@ Call = Visit Which both
 
 -- their marks differ, so no call of one takes the other's tables for its own
 pub differ : (i j : Which) → (both i).shape.mark ≡ (both j).shape.mark → i ≡ j
-differ aList aList e = refl
-differ aBuddy aBuddy e = refl
-differ aList aBuddy e = let z : (FreeList.marks).head ≡ (Buddy.marks).head = e in absurd (omega arith)
-differ aBuddy aList e = let z : (Buddy.marks).head ≡ (FreeList.marks).head = e in absurd (omega arith)
+differ a_list a_list e = refl
+differ a_buddy a_buddy e = refl
+differ a_list a_buddy e = let z : (FreeList.marks).head ≡ (Buddy.marks).head = e in absurd (omega arith)
+differ a_buddy a_list e = let z : (Buddy.marks).head ≡ (FreeList.marks).head = e in absurd (omega arith)

@@ -4,24 +4,24 @@ use mathlib.Core.Path.{◌≡◌}
 use mathlib.Core.List.{List}
 use Prim.Native.Nat.{ℕ, ◌+◌}
 use Rattle.counter.specs.Account.{Typed, heap_at}
-use Rattle.heap.specs.History.{newHeap}
+use Rattle.heap.specs.History.{new_heap}
 use Rattle.heap.proofs.History.{Adds, FromNothing}
-use Rattle.engines.specs.Histories.{State, run, booksAt, acceptedIn, freedIn}
+use Rattle.engines.specs.Histories.{State, run, books_at, accepted_in, freed_in}
 use Rattle.engines.proofs.HeapAndObjects as Of
 use Rattle.histories.specs.Which.{Which}
 use Rattle.histories.proofs.Both.{both, Call}
 
 -- from used and totals 0, heap j's used is the charges less the releases and give-backs that the history books on it, and
 -- allocated less deallocated
-pub heap-history : (w : State) (vs : List Call) (j size : ℕ) → Typed w.account → heap_at w.account j ≡ newHeap size
-    → FromNothing (booksAt Which both j w vs) (heap_at (run Which both w vs).account j)
-heap-history w vs j size typed new = Of.heap-history Which both w vs j size typed new
+pub heap_history : (w : State) (vs : List Call) (j size : ℕ) → Typed w.account → heap_at w.account j ≡ new_heap size
+    → FromNothing (books_at Which both j w vs) (heap_at (run Which both w vs).account j)
+heap_history w vs j size typed new = Of.heap_history Which both w vs j size typed new
 
 -- from any account that code can lend: what the history adds
-pub heap-adds : (w : State) (vs : List Call) (j : ℕ) → Typed w.account → Adds (heap_at w.account j) (booksAt Which both j w vs) (heap_at (run Which both w vs).account j)
-heap-adds w vs j typed = Of.heap-adds Which both w vs j typed
+pub heap_adds : (w : State) (vs : List Call) (j : ℕ) → Typed w.account → Adds (heap_at w.account j) (books_at Which both j w vs) (heap_at (run Which both w vs).account j)
+heap_adds w vs j typed = Of.heap_adds Which both w vs j typed
 
 -- device objects: memory numbers accepted, and those released or given back
-pub objects-history : (w : State) (vs : List Call)
-    → (run Which both w vs).account.objects + acceptedIn Which both w vs ≡ w.account.objects + freedIn Which both w vs
-objects-history w vs = Of.objects-history Which both w vs
+pub objects_history : (w : State) (vs : List Call)
+    → (run Which both w vs).account.objects + accepted_in Which both w vs ≡ w.account.objects + freed_in Which both w vs
+objects_history w vs = Of.objects_history Which both w vs

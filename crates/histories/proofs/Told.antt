@@ -10,13 +10,13 @@ use Rattle.counter.specs.declared.account.Account.{Account}
 use Rattle.counter.specs.declared.answers.Memory.{Memory}
 use Rattle.counter.specs.declared.answers.Outcome.TheVariants as O
 use Rattle.store_rules.specs.declared.Chunk.{Chunk}
-use Rattle.engines.specs.Histories.{State, storeAt, done, step, run, NoSetUp}
-use Rattle.engines.specs.Ledger.{ledger, Exactly, NoSerialTwice, NoByteTwice, notesAt}
+use Rattle.engines.specs.Histories.{State, store_at, done, step, run, NoSetUp}
+use Rattle.engines.specs.Ledger.{ledger, Exactly, NoSerialTwice, NoByteTwice, notes_at}
 use Rattle.engines.specs.Shapes.{Tables}
 use Rattle.engines.specs.Tells.{Blocked}
 use Rattle.engines.proofs.CountUp.{setting}
 use Rattle.engines.proofs.Delivering as Delivering
-use Rattle.engines.proofs.Delivering.{asOrdered}
+use Rattle.engines.proofs.Delivering.{as_ordered}
 use Rattle.engines.proofs.Told as Of
 use Rattle.histories.specs.Which.{Which}
 use Rattle.histories.proofs.Both.{both, Call, differ}
@@ -24,18 +24,18 @@ use Rattle.histories.proofs.Both.{both, Call, differ}
 -- store i was set up by engine e, and no set-up of it was accepted since
 module _ (w : State) (i : ℕ) (e : Which) (s : (both e).shape.Settings) (here : i < length w.stores) (ready : (done Which both w (setting Which both i e s)).said ≡ Paper.ready) (vs : List Call)
     (f : NoSetUp Which both i (step Which both w (setting Which both i e s)) vs) where
-  pub told : Exactly ((both e).shape.loans (storeAt (run Which both (step Which both w (setting Which both i e s)) vs) i))
-      (ledger [] (notesAt Which both i (step Which both w (setting Which both i e s)) vs))
+  pub told : Exactly ((both e).shape.loans (store_at (run Which both (step Which both w (setting Which both i e s)) vs) i))
+      (ledger [] (notes_at Which both i (step Which both w (setting Which both i e s)) vs))
   told = Of.told Which both differ i e w s here ready vs f
 
-  pub told-once : NoSerialTwice (ledger [] (notesAt Which both i (step Which both w (setting Which both i e s)) vs))
-  told-once = Of.told-once Which both differ i e w s here ready vs f
+  pub told_once : NoSerialTwice (ledger [] (notes_at Which both i (step Which both w (setting Which both i e s)) vs))
+  told_once = Of.told_once Which both differ i e w s here ready vs f
 
-  pub never-lent-twice : NoByteTwice (ledger [] (notesAt Which both i (step Which both w (setting Which both i e s)) vs))
-  never-lent-twice = Of.never-lent-twice Which both differ i e w s here ready vs f
+  pub never_lent_twice : NoByteTwice (ledger [] (notes_at Which both i (step Which both w (setting Which both i e s)) vs))
+  never_lent_twice = Of.never_lent_twice Which both differ i e w s here ready vs f
 
 -- an ask gave an order: memory made and mapped as ordered, under a number that the store does not hold, gives a block
-pub order-lends : (e : Which) (s : (both e).shape.Settings) (a : Account) (size mask : ℕ) (t : Tables) (store z memtype : ℕ) (wanted : Bool) → ((both e).shape.ask s a size mask t).said ≡ Paper.order store z memtype wanted
-    → (m : Memory) → m.mapping ≡ asOrdered wanted → (Memᴰ m.number (map (λ (c : Chunk). c.memory) ((both e).shape.view s t).chunks) → ⊥)
+pub order_lends : (e : Which) (s : (both e).shape.Settings) (a : Account) (size mask : ℕ) (t : Tables) (store z memtype : ℕ) (wanted : Bool) → ((both e).shape.ask s a size mask t).said ≡ Paper.order store z memtype wanted
+    → (m : Memory) → m.mapping ≡ as_ordered wanted → (Memᴰ m.number (map (λ (c : Chunk). c.memory) ((both e).shape.view s t).chunks) → ⊥)
     → Blocked ((both e).shape.deliver s ((both e).shape.ask s a size mask t).account (O.Made m) ((both e).shape.ask s a size mask t).tables).said
-order-lends e s a size mask t store z memtype wanted told m fit new = Delivering.order-lends (both e) s a size mask t store z memtype wanted told m fit new
+order_lends e s a size mask t store z memtype wanted told m fit new = Delivering.order_lends (both e) s a size mask t store z memtype wanted told m fit new

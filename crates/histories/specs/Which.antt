@@ -2,5 +2,5 @@
 -- free list)".
 
 pub data Which : Type 0 where
-  aList : Which
-  aBuddy : Which
+  a_list : Which
+  a_buddy : Which

@@ -2,8 +2,8 @@
 // The heaps are walked before the settings are read, so that those are not kept over the walk.
 ghost use Rattle.std.specs.Prelude.{◌≡◌};
 ghost use Rattle.buddy_rules.specs.Tables.{tables};
-ghost use Rattle.wire_rules.specs.Wire.{saidOut};
-ghost use Rattle.linked_buddy.specs.Calls.{listing, linkedSetUp, linkedAsk, linkedDeliver, linkedReturn};
+ghost use Rattle.wire_rules.specs.Wire.{said_out};
+ghost use Rattle.linked_buddy.specs.Calls.{listing, linked_set_up, linked_ask, linked_deliver, linked_return};
 
 use counter::Block;
 use wire::BUDDY_WORDS;
@@ -18,8 +18,8 @@ pub extern "C" fn tibrezkam_buddy_set_up(
     tree: &mut [u64],
     answer: &mut [u64],
 )
-    ensures tree_after { tables head.new loans.new chunks.new index.new tree.new ≡ (linkedSetUp settings.now (tables head.old loans.old chunks.old index.old tree.old)).tables }
-    ensures answer_after { answer.new ≡ saidOut (linkedSetUp settings.now (tables head.old loans.old chunks.old index.old tree.old)).said answer.old }
+    ensures tree_after { tables head.new loans.new chunks.new index.new tree.new ≡ (linked_set_up settings.now (tables head.old loans.old chunks.old index.old tree.old)).tables }
+    ensures answer_after { answer.new ≡ said_out (linked_set_up settings.now (tables head.old loans.old chunks.old index.old tree.old)).said answer.old }
 {
     if wire::is_settings(settings, BUDDY_WORDS) {
         let s = wire::read_buddy(settings);
@@ -43,9 +43,9 @@ pub extern "C" fn tibrezkam_buddy_ask(
     tree: &mut [u64],
     answer: &mut [u64],
 )
-    ensures account_after { account.new ≡ (linkedAsk settings.now account.old size mask (tables head.old loans.old chunks.now index.old tree.old)).account }
-    ensures tree_after { tables head.new loans.new chunks.now index.new tree.new ≡ (linkedAsk settings.now account.old size mask (tables head.old loans.old chunks.now index.old tree.old)).tables }
-    ensures answer_after { answer.new ≡ saidOut (linkedAsk settings.now account.old size mask (tables head.old loans.old chunks.now index.old tree.old)).said answer.old }
+    ensures account_after { account.new ≡ (linked_ask settings.now account.old size mask (tables head.old loans.old chunks.now index.old tree.old)).account }
+    ensures tree_after { tables head.new loans.new chunks.now index.new tree.new ≡ (linked_ask settings.now account.old size mask (tables head.old loans.old chunks.now index.old tree.old)).tables }
+    ensures answer_after { answer.new ≡ said_out (linked_ask settings.now account.old size mask (tables head.old loans.old chunks.now index.old tree.old)).said answer.old }
 {
     if wire::is_settings(settings, BUDDY_WORDS) & wire_account::is_account(account) {
         let table = wire_account::heaps_in_table(account);
@@ -74,9 +74,9 @@ pub extern "C" fn tibrezkam_buddy_deliver(
     tree: &mut [u64],
     answer: &mut [u64],
 )
-    ensures account_after { account.new ≡ (linkedDeliver settings.now account.old what memory mapping (tables head.old loans.old chunks.old index.old tree.old)).account }
-    ensures tree_after { tables head.new loans.new chunks.new index.new tree.new ≡ (linkedDeliver settings.now account.old what memory mapping (tables head.old loans.old chunks.old index.old tree.old)).tables }
-    ensures answer_after { answer.new ≡ saidOut (linkedDeliver settings.now account.old what memory mapping (tables head.old loans.old chunks.old index.old tree.old)).said answer.old }
+    ensures account_after { account.new ≡ (linked_deliver settings.now account.old what memory mapping (tables head.old loans.old chunks.old index.old tree.old)).account }
+    ensures tree_after { tables head.new loans.new chunks.new index.new tree.new ≡ (linked_deliver settings.now account.old what memory mapping (tables head.old loans.old chunks.old index.old tree.old)).tables }
+    ensures answer_after { answer.new ≡ said_out (linked_deliver settings.now account.old what memory mapping (tables head.old loans.old chunks.old index.old tree.old)).said answer.old }
 {
     if wire::is_settings(settings, BUDDY_WORDS)
         & wire_account::is_account(account)
@@ -116,9 +116,9 @@ pub extern "C" fn tibrezkam_buddy_return(
     list: &mut [u64],
     answer: &mut [u64],
 )
-    ensures account_after { account.new ≡ (linkedReturn settings.now account.old (record { serial = serial; chunk = chunk; offset = offset; size = size }) (tables head.now loans.old chunks.old index.old tree.old) list.old).account }
-    ensures list_after { listing (tables head.now loans.new chunks.new index.new tree.new) list.new ≡ (linkedReturn settings.now account.old (record { serial = serial; chunk = chunk; offset = offset; size = size }) (tables head.now loans.old chunks.old index.old tree.old) list.old).tables }
-    ensures answer_after { answer.new ≡ saidOut (linkedReturn settings.now account.old (record { serial = serial; chunk = chunk; offset = offset; size = size }) (tables head.now loans.old chunks.old index.old tree.old) list.old).said answer.old }
+    ensures account_after { account.new ≡ (linked_return settings.now account.old (record { serial = serial; chunk = chunk; offset = offset; size = size }) (tables head.now loans.old chunks.old index.old tree.old) list.old).account }
+    ensures list_after { listing (tables head.now loans.new chunks.new index.new tree.new) list.new ≡ (linked_return settings.now account.old (record { serial = serial; chunk = chunk; offset = offset; size = size }) (tables head.now loans.old chunks.old index.old tree.old) list.old).tables }
+    ensures answer_after { answer.new ≡ said_out (linked_return settings.now account.old (record { serial = serial; chunk = chunk; offset = offset; size = size }) (tables head.now loans.old chunks.old index.old tree.old) list.old).said answer.old }
 {
     if wire::is_settings(settings, BUDDY_WORDS) & wire_account::is_account(account) {
         let table = wire_account::heaps_in_table(account);

@@ -2,8 +2,8 @@
 // The heaps are walked before the settings are read, so that those are not kept over the walk.
 ghost use Rattle.std.specs.Prelude.{◌≡◌};
 ghost use Rattle.freelist_rules.specs.Tables.{tables};
-ghost use Rattle.wire_rules.specs.Wire.{saidOut};
-ghost use Rattle.linked_list.specs.Calls.{listing, linkedSetUp, linkedAsk, linkedDeliver, linkedReturn, linkedCleanUp};
+ghost use Rattle.wire_rules.specs.Wire.{said_out};
+ghost use Rattle.linked_list.specs.Calls.{listing, linked_set_up, linked_ask, linked_deliver, linked_return, linked_clean_up};
 
 use counter::Block;
 use wire::LIST_WORDS;
@@ -18,8 +18,8 @@ pub extern "C" fn tibrezkam_list_set_up(
     regions: &mut [u64],
     answer: &mut [u64],
 )
-    ensures regions_after { tables head.new loans.new chunks.new index.new regions.new ≡ (linkedSetUp settings.now (tables head.old loans.old chunks.old index.old regions.old)).tables }
-    ensures answer_after { answer.new ≡ saidOut (linkedSetUp settings.now (tables head.old loans.old chunks.old index.old regions.old)).said answer.old }
+    ensures regions_after { tables head.new loans.new chunks.new index.new regions.new ≡ (linked_set_up settings.now (tables head.old loans.old chunks.old index.old regions.old)).tables }
+    ensures answer_after { answer.new ≡ said_out (linked_set_up settings.now (tables head.old loans.old chunks.old index.old regions.old)).said answer.old }
 {
     if wire::is_settings(settings, LIST_WORDS) {
         let s = wire::read_free_list(settings);
@@ -43,9 +43,9 @@ pub extern "C" fn tibrezkam_list_ask(
     regions: &mut [u64],
     answer: &mut [u64],
 )
-    ensures account_after { account.new ≡ (linkedAsk settings.now account.old size mask (tables head.old loans.old chunks.now index.old regions.old)).account }
-    ensures regions_after { tables head.new loans.new chunks.now index.new regions.new ≡ (linkedAsk settings.now account.old size mask (tables head.old loans.old chunks.now index.old regions.old)).tables }
-    ensures answer_after { answer.new ≡ saidOut (linkedAsk settings.now account.old size mask (tables head.old loans.old chunks.now index.old regions.old)).said answer.old }
+    ensures account_after { account.new ≡ (linked_ask settings.now account.old size mask (tables head.old loans.old chunks.now index.old regions.old)).account }
+    ensures regions_after { tables head.new loans.new chunks.now index.new regions.new ≡ (linked_ask settings.now account.old size mask (tables head.old loans.old chunks.now index.old regions.old)).tables }
+    ensures answer_after { answer.new ≡ said_out (linked_ask settings.now account.old size mask (tables head.old loans.old chunks.now index.old regions.old)).said answer.old }
 {
     if wire::is_settings(settings, LIST_WORDS) & wire_account::is_account(account) {
         let table = wire_account::heaps_in_table(account);
@@ -74,9 +74,9 @@ pub extern "C" fn tibrezkam_list_deliver(
     regions: &mut [u64],
     answer: &mut [u64],
 )
-    ensures account_after { account.new ≡ (linkedDeliver settings.now account.old what memory mapping (tables head.old loans.old chunks.old index.old regions.old)).account }
-    ensures regions_after { tables head.new loans.new chunks.new index.new regions.new ≡ (linkedDeliver settings.now account.old what memory mapping (tables head.old loans.old chunks.old index.old regions.old)).tables }
-    ensures answer_after { answer.new ≡ saidOut (linkedDeliver settings.now account.old what memory mapping (tables head.old loans.old chunks.old index.old regions.old)).said answer.old }
+    ensures account_after { account.new ≡ (linked_deliver settings.now account.old what memory mapping (tables head.old loans.old chunks.old index.old regions.old)).account }
+    ensures regions_after { tables head.new loans.new chunks.new index.new regions.new ≡ (linked_deliver settings.now account.old what memory mapping (tables head.old loans.old chunks.old index.old regions.old)).tables }
+    ensures answer_after { answer.new ≡ said_out (linked_deliver settings.now account.old what memory mapping (tables head.old loans.old chunks.old index.old regions.old)).said answer.old }
 {
     if wire::is_settings(settings, LIST_WORDS)
         & wire_account::is_account(account)
@@ -116,9 +116,9 @@ pub extern "C" fn tibrezkam_list_return(
     list: &mut [u64],
     answer: &mut [u64],
 )
-    ensures account_after { account.new ≡ (linkedReturn settings.now account.old (record { serial = serial; chunk = chunk; offset = offset; size = size }) (tables head.old loans.old chunks.old index.old regions.old) list.old).account }
-    ensures list_after { listing (tables head.new loans.new chunks.new index.new regions.new) list.new ≡ (linkedReturn settings.now account.old (record { serial = serial; chunk = chunk; offset = offset; size = size }) (tables head.old loans.old chunks.old index.old regions.old) list.old).tables }
-    ensures answer_after { answer.new ≡ saidOut (linkedReturn settings.now account.old (record { serial = serial; chunk = chunk; offset = offset; size = size }) (tables head.old loans.old chunks.old index.old regions.old) list.old).said answer.old }
+    ensures account_after { account.new ≡ (linked_return settings.now account.old (record { serial = serial; chunk = chunk; offset = offset; size = size }) (tables head.old loans.old chunks.old index.old regions.old) list.old).account }
+    ensures list_after { listing (tables head.new loans.new chunks.new index.new regions.new) list.new ≡ (linked_return settings.now account.old (record { serial = serial; chunk = chunk; offset = offset; size = size }) (tables head.old loans.old chunks.old index.old regions.old) list.old).tables }
+    ensures answer_after { answer.new ≡ said_out (linked_return settings.now account.old (record { serial = serial; chunk = chunk; offset = offset; size = size }) (tables head.old loans.old chunks.old index.old regions.old) list.old).said answer.old }
 {
     if wire::is_settings(settings, LIST_WORDS) & wire_account::is_account(account) {
         let table = wire_account::heaps_in_table(account);
@@ -155,9 +155,9 @@ pub extern "C" fn tibrezkam_list_clean_up(
     list: &mut [u64],
     answer: &mut [u64],
 )
-    ensures account_after { account.new ≡ (linkedCleanUp settings.now account.old (tables head.old loans.now chunks.old index.now regions.old) list.old).account }
-    ensures list_after { listing (tables head.new loans.now chunks.new index.now regions.new) list.new ≡ (linkedCleanUp settings.now account.old (tables head.old loans.now chunks.old index.now regions.old) list.old).tables }
-    ensures answer_after { answer.new ≡ saidOut (linkedCleanUp settings.now account.old (tables head.old loans.now chunks.old index.now regions.old) list.old).said answer.old }
+    ensures account_after { account.new ≡ (linked_clean_up settings.now account.old (tables head.old loans.now chunks.old index.now regions.old) list.old).account }
+    ensures list_after { listing (tables head.new loans.now chunks.new index.now regions.new) list.new ≡ (linked_clean_up settings.now account.old (tables head.old loans.now chunks.old index.now regions.old) list.old).tables }
+    ensures answer_after { answer.new ≡ said_out (linked_clean_up settings.now account.old (tables head.old loans.now chunks.old index.now regions.old) list.old).said answer.old }
 {
     if wire::is_settings(settings, LIST_WORDS) & wire_account::is_account(account) {
         let table = wire_account::heaps_in_table(account);

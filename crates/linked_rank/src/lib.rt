@@ -1,9 +1,9 @@
 // The ranking for programs in other languages: slices of numbers alone. specs/Rows says which word is what.
 ghost use Rattle.std.specs.Prelude.{◌≡◌, ◌<◌};
-ghost use Rattle.counter.specs.Limits.{typesMost, usages};
+ghost use Rattle.counter.specs.Limits.{types_most, usages};
 ghost use Rattle.usage_rules.specs.Ranking.{rank_of};
-ghost use Rattle.wire_rules.specs.Wire.{saidOut};
-ghost use Rattle.linked_rank.specs.Rows.{typesOut, rowOut, rowsOut};
+ghost use Rattle.wire_rules.specs.Wire.{said_out};
+ghost use Rattle.linked_rank.specs.Rows.{types_out, row_out, rows_out};
 
 use counter::{TYPES_MOST, USAGES};
 use usage_rules::Row;
@@ -17,7 +17,7 @@ const ROW_WORDS: usize = 34;
 
 fn put_types(w: &mut [u64], u: usize, types: [u32; TYPES_MOST])
     requires { u < usages }
-    ensures { w.new ≡ typesOut types u typesMost w.old }
+    ensures { w.new ≡ types_out types u types_most w.old }
 {
     let at = ROW_WORDS * u;
     let mut j = 0;
@@ -29,7 +29,7 @@ fn put_types(w: &mut [u64], u: usize, types: [u32; TYPES_MOST])
 
 fn put_row(w: &mut [u64], u: usize, row: Row)
     requires { u < usages }
-    ensures { w.new ≡ rowOut row u w.old }
+    ensures { w.new ≡ row_out row u w.old }
 {
     let types = row.types;
     put_types(w, u, types);
@@ -39,7 +39,7 @@ fn put_row(w: &mut [u64], u: usize, row: Row)
 }
 
 fn put_rows(w: &mut [u64], rows: [Row; USAGES])
-    ensures { w.new ≡ rowsOut rows usages w.old }
+    ensures { w.new ≡ rows_out rows usages w.old }
 {
     let mut u = 0;
     while u < USAGES {
@@ -51,8 +51,8 @@ fn put_rows(w: &mut [u64], rows: [Row; USAGES])
 
 #[unsafe(no_mangle)]
 pub extern "C" fn tibrezkam_rank(types: &[u32], rows: &mut [u64], answer: &mut [u64])
-    ensures rows_after { rows.new ≡ rowsOut (rank_of types.now).rows usages rows.old }
-    ensures answer_after { answer.new ≡ saidOut (rank_of types.now).said answer.old }
+    ensures rows_after { rows.new ≡ rows_out (rank_of types.now).rows usages rows.old }
+    ensures answer_after { answer.new ≡ said_out (rank_of types.now).said answer.old }
 {
     let r = usage::rank(types);
     let made = r.rows;

@@ -4,6 +4,6 @@ use Rattle.book_rules.specs.Returns.{Plan, deny, back}
 use Rattle.returning.specs.declared.Back.{Back}
 use Rattle.returning.specs.declared.Back.TheVariants.{Refuse, From}
 
-abbrev pub backOf : Back → Plan
-backOf (Refuse r) = deny (number_of r)
-backOf (From w) = back w
+abbrev pub back_of : Back → Plan
+back_of (Refuse r) = deny (number_of r)
+back_of (From w) = back w

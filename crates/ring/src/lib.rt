@@ -2,12 +2,12 @@
 // stand `next_at` and `prev_at` words into the table, and `step` words on for each place before it.
 ghost use Rattle.std.specs.Prelude.{◌≡◌, ◌≤◌, ◌<◌, length, get_or, set};
 ghost use Rattle.words.specs.Words.{widest, at_most, cell_of};
-ghost use Rattle.slab.specs.Slab.{place_of, recordOf, link_at};
+ghost use Rattle.slabs.specs.Slab.{place_of, record_of, link_at};
 ghost use Rattle.ring_rules.specs.Ring.{unlinked, linked};
-ghost use Rattle.ring_rules.specs.Test.{ringLength};
+ghost use Rattle.ring_rules.specs.Test.{ring_length};
 ghost use Rattle.ring.specs.Stands.{Leaves, Joins};
 
-use slab::NOWHERE;
+use slabs::NOWHERE;
 
 // The place p is taken out; the head is p's next from now on, whichever place it was.
 pub fn unlink(t: &mut [u64], head: u64, next_at: u64, prev_at: u64, step: u64, p: u64)
@@ -21,7 +21,7 @@ pub fn unlink(t: &mut [u64], head: u64, next_at: u64, prev_at: u64, step: u64, p
     } else {
         put_link_in(t, next_at, step, q, n);
         put_link_in(t, prev_at, step, n, q);
-        move_head(t, head, slab::record_of(n));
+        move_head(t, head, slabs::record_of(n));
     }
 }
 
@@ -31,16 +31,16 @@ fn link_in(t: &[u64], at: u64, step: u64, p: u64) -> u64
     ensures { result ≡ link_at t.now at step p }
 {
     let i = at as usize + step as usize * p as usize;
-    slab::place_of(t[i])
+    slabs::place_of(t[i])
 }
 
 // It leads to q from now on.
 fn put_link_in(t: &mut [u64], at: u64, step: u64, p: u64, q: u64)
     requires { cell_of at step p < length t.old }
-    ensures { t.new ≡ set t.old (cell_of at step p) (recordOf q) }
+    ensures { t.new ≡ set t.old (cell_of at step p) (record_of q) }
 {
     let i = at as usize + step as usize * p as usize;
-    t[i] = slab::record_of(q);
+    t[i] = slabs::record_of(q);
 }
 
 // The head is where w leads from now on, whichever place it was.
@@ -66,7 +66,7 @@ fn head_in(t: &[u64], head: u64) -> u64
     ensures { result ≡ place_of (get_or t.now head 0) }
 {
     let i = head as usize;
-    slab::place_of(t[i])
+    slabs::place_of(t[i])
 }
 
 // The place p joins before the head, or as the head of a ring that was empty.
@@ -77,7 +77,7 @@ pub fn link(t: &mut [u64], head: u64, next_at: u64, prev_at: u64, step: u64, p: 
     let h = head_in(t, head);
     if h == NOWHERE {
         put_links(t, next_at, prev_at, step, p, p, p);
-        put_head(t, head, slab::record_of(p));
+        put_head(t, head, slabs::record_of(p));
     } else {
         let q = link_in(t, prev_at, step, h);
         put_link_in(t, prev_at, step, h, p);
@@ -89,7 +89,7 @@ pub fn link(t: &mut [u64], head: u64, next_at: u64, prev_at: u64, step: u64, p: 
 // The links of p: the place after it and the one before it.
 fn put_links(t: &mut [u64], next_at: u64, prev_at: u64, step: u64, p: u64, next: u64, prev: u64)
     requires { (cell_of next_at step p < length t.old) × (cell_of prev_at step p < length t.old) }
-    ensures { t.new ≡ set (set t.old (cell_of next_at step p) (recordOf next)) (cell_of prev_at step p) (recordOf prev) }
+    ensures { t.new ≡ set (set t.old (cell_of next_at step p) (record_of next)) (cell_of prev_at step p) (record_of prev) }
 {
     put_link_in(t, next_at, step, p, next);
     put_link_in(t, prev_at, step, p, prev);
@@ -98,9 +98,9 @@ fn put_links(t: &mut [u64], next_at: u64, prev_at: u64, step: u64, p: u64, next:
 // How many places stand in the ring, all of them below `places`: NOWHERE where it is torn. Linear in the places.
 pub fn ring_length(t: &[u64], head: u64, next_at: u64, prev_at: u64, step: u64, places: u64) -> u64
     requires { (0 < step) × (step ≤ widest) × (next_at ≤ at_most) × (prev_at ≤ at_most) }
-    ensures { result ≡ ringLength head next_at prev_at step places t.now }
+    ensures { result ≡ ring_length head next_at prev_at step places t.now }
 {
-    let h = slab::led_to(t, head as usize);
+    let h = slabs::led_to(t, head as usize);
     if h == NOWHERE {
         return 0;
     }
@@ -110,11 +110,11 @@ pub fn ring_length(t: &[u64], head: u64, next_at: u64, prev_at: u64, step: u64, 
     let mut p = h;
     let mut left = places;
     while 0 < left {
-        let n = slab::link(t, next_at as usize, step as usize, p);
+        let n = slabs::link(t, next_at as usize, step as usize, p);
         if places <= n {
             return NOWHERE;
         }
-        if slab::link(t, prev_at as usize, step as usize, n) != p {
+        if slabs::link(t, prev_at as usize, step as usize, n) != p {
             return NOWHERE;
         }
         left -= 1;

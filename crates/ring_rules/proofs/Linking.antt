@@ -9,55 +9,55 @@ use lib.ListN.{length, get_or, set}
 use lib.Seq.{get_or-set_same, get_or-set_other, lt-length-set}
 use borrow.Author.Tests.{eq-eqb, ne_eqb}
 use Rattle.lists.specs.Members.{Mem, NotIn, Below}
-use Rattle.lists.proofs.Members.{not-mem, mem-swap, mem_below, below-mem, split}
+use Rattle.lists.proofs.Members.{not_mem, mem_swap, mem_below, below_mem, split}
 use Rattle.words.specs.Words.{cell_of}
-use Rattle.slab.specs.Slab.{nowhere, place_of, recordOf}
-use Rattle.slab.proofs.Links.{place-record}
-use Rattle.slab.proofs.Places.{link_here, link-other}
-use Rattle.ring_rules.specs.Ring.{Ring, next, prev, headIn, joined, unlinked, alone, between, linked, RingOf, Apart}
-use Rattle.ring_rules.proofs.Rings.{last_of, last_mem, rotate, first-prev, ring_out, ring_in}
+use Rattle.slabs.specs.Slab.{nowhere, place_of, record_of}
+use Rattle.slabs.proofs.Links.{place_record}
+use Rattle.slabs.proofs.Places.{link_here, link_other}
+use Rattle.ring_rules.specs.Ring.{Ring, next, prev, head_in_ring, joined, unlinked, alone, between, linked, RingOf, Apart}
+use Rattle.ring_rules.proofs.Rings.{last_of, last_mem, rotate, first_prev, ring_out, ring_in}
 
 -- n places whose words lie apart, in a table as long as t
-module _ (head next_at prevAt step n : ℕ) (t : List ℕ) (A : Apart head next_at prevAt step n (length t)) where
+module _ (head next_at prev_at step n : ℕ) (t : List ℕ) (A : Apart head next_at prev_at step n (length t)) where
   -- a store to one of these words leaves the others
-  next-by-prev : (u : List ℕ) (a v z : ℕ) → a < n → z < n → next head next_at prevAt step (set u (cell_of prevAt step a) v) z ≡ next head next_at prevAt step u z
-  next-by-prev u a v z h k = ap place_of (get_or-set_other u (cell_of prevAt step a) (cell_of next_at step z) v 0 (A.links z a k h))
+  next_by_prev : (u : List ℕ) (a v z : ℕ) → a < n → z < n → next head next_at prev_at step (set u (cell_of prev_at step a) v) z ≡ next head next_at prev_at step u z
+  next_by_prev u a v z h k = ap place_of (get_or-set_other u (cell_of prev_at step a) (cell_of next_at step z) v 0 (A.links z a k h))
 
-  prev-by-next : (u : List ℕ) (a v z : ℕ) → a < n → z < n → prev head next_at prevAt step (set u (cell_of next_at step a) v) z ≡ prev head next_at prevAt step u z
-  prev-by-next u a v z h k = ap place_of (get_or-set_other u (cell_of next_at step a) (cell_of prevAt step z) v 0 (λ e. A.links a z h k (sym e)))
+  prev_by_next : (u : List ℕ) (a v z : ℕ) → a < n → z < n → prev head next_at prev_at step (set u (cell_of next_at step a) v) z ≡ prev head next_at prev_at step u z
+  prev_by_next u a v z h k = ap place_of (get_or-set_other u (cell_of next_at step a) (cell_of prev_at step z) v 0 (λ e. A.links a z h k (sym e)))
 
-  next-by-head : (u : List ℕ) (v z : ℕ) → z < n → next head next_at prevAt step (set u head v) z ≡ next head next_at prevAt step u z
-  next-by-head u v z k = ap place_of (get_or-set_other u head (cell_of next_at step z) v 0 (λ e. A.head-next z k (sym e)))
+  next_by_head : (u : List ℕ) (v z : ℕ) → z < n → next head next_at prev_at step (set u head v) z ≡ next head next_at prev_at step u z
+  next_by_head u v z k = ap place_of (get_or-set_other u head (cell_of next_at step z) v 0 (λ e. A.head_next z k (sym e)))
 
-  prev-by-head : (u : List ℕ) (v z : ℕ) → z < n → prev head next_at prevAt step (set u head v) z ≡ prev head next_at prevAt step u z
-  prev-by-head u v z k = ap place_of (get_or-set_other u head (cell_of prevAt step z) v 0 (λ e. A.head-prev z k (sym e)))
+  prev_by_head : (u : List ℕ) (v z : ℕ) → z < n → prev head next_at prev_at step (set u head v) z ≡ prev head next_at prev_at step u z
+  prev_by_head u v z k = ap place_of (get_or-set_other u head (cell_of prev_at step z) v 0 (λ e. A.head_prev z k (sym e)))
 
-  unlink-empties : (p : ℕ) → Ring (next head next_at prevAt step t) (prev head next_at prevAt step t) (p ∷ []) → unlinked head next_at prevAt step p t ≡ set t head (recordOf nowhere)
+  unlink_empties : (p : ℕ) → Ring (next head next_at prev_at step t) (prev head next_at prev_at step t) (p ∷ []) → unlinked head next_at prev_at step p t ≡ set t head (record_of nowhere)
   unfolding unlinked
-  unlink-empties p r = rw (eq-eqb (prev head next_at prevAt step t p) p (first-prev _ _ p [] r))
+  unlink_empties p r = rw (eq-eqb (prev head next_at prev_at step t p) p (first_prev _ _ p [] r))
 
-  unlink-joins : (p y : ℕ) (l : List ℕ) → Ring (next head next_at prevAt step t) (prev head next_at prevAt step t) (p ∷ y ∷ l) → unlinked head next_at prevAt step p t ≡ joined head next_at prevAt step (last_of y l) y t
+  unlink_joins : (p y : ℕ) (l : List ℕ) → Ring (next head next_at prev_at step t) (prev head next_at prev_at step t) (p ∷ y ∷ l) → unlinked head next_at prev_at step p t ≡ joined head next_at prev_at step (last_of y l) y t
   unfolding unlinked
-  unlink-joins p y l r =
-      let e : prev head next_at prevAt step t p ≡ last_of y l = first-prev _ _ p (y ∷ l) r in
-      let f : next head next_at prevAt step t p ≡ y = r.closed.0.0 in
-      let o : (last_of y l ≡ p → ⊥) = λ s. not-mem p (y ∷ l) r.distinct.0 (rw s at (last_mem y l)) in
+  unlink_joins p y l r =
+      let e : prev head next_at prev_at step t p ≡ last_of y l = first_prev _ _ p (y ∷ l) r in
+      let f : next head next_at prev_at step t p ≡ y = r.closed.0.0 in
+      let o : (last_of y l ≡ p → ⊥) = λ s. not_mem p (y ∷ l) r.distinct.0 (rw s at (last_mem y l)) in
       rw (e, f, ne_eqb (last_of y l) p o)
 
   -- the first of a ring goes out
-  pub unlinked-first : (p : ℕ) (l : List ℕ) → Below n (p ∷ l) → Ring (next head next_at prevAt step t) (prev head next_at prevAt step t) (p ∷ l) → RingOf head next_at prevAt step (unlinked head next_at prevAt step p t) l
-  unlinked-first p [] b r = rw (unlink-empties p r) (record {
+  pub unlinked_first : (p : ℕ) (l : List ℕ) → Below n (p ∷ l) → Ring (next head next_at prev_at step t) (prev head next_at prev_at step t) (p ∷ l) → RingOf head next_at prev_at step (unlinked head next_at prev_at step p t) l
+  unlinked_first p [] b r = rw (unlink_empties p r) (record {
     ring = record { closed = tt; distinct = tt };
-    first = ap place_of (get_or-set_same t head (recordOf nowhere) 0 A.head_in) ∙ place-record nowhere;
+    first = ap place_of (get_or-set_same t head (record_of nowhere) 0 A.head_in) ∙ place_record nowhere;
   })
-  unlinked-first p (y ∷ l) b r = rw (unlink-joins p y l r) (record {
+  unlinked_first p (y ∷ l) b r = rw (unlink_joins p y l r) (record {
     ring =
         ring_out _ _ _ _ p y l
-        (λ z m o. next-by-head v (recordOf y) z (under z m) ∙ next-by-prev u y (recordOf q) z yn (under z m) ∙ link-other t next_at step q (recordOf y) z A.stepped o)
-        (λ z m. prev-by-head v (recordOf y) z (under z (inr m)) ∙ link-other u prevAt step y (recordOf q) z A.stepped (λ e. not-mem y l r.distinct.1.0 (rw e at m)) ∙ prev-by-next t q (recordOf y) z qn (under z (inr m)))
-        (next-by-head v (recordOf y) q qn ∙ next-by-prev u y (recordOf q) q yn qn ∙ link_here t next_at step q y (A.next-in q qn), prev-by-head v (recordOf y) y yn ∙ link_here u prevAt step y q (lt-length-set t (cell_of next_at step q) (recordOf y) (A.prev-in y yn)))
+        (λ z m o. next_by_head v (record_of y) z (under z m) ∙ next_by_prev u y (record_of q) z yn (under z m) ∙ link_other t next_at step q (record_of y) z A.stepped o)
+        (λ z m. prev_by_head v (record_of y) z (under z (inr m)) ∙ link_other u prev_at step y (record_of q) z A.stepped (λ e. not_mem y l r.distinct.1.0 (rw e at m)) ∙ prev_by_next t q (record_of y) z qn (under z (inr m)))
+        (next_by_head v (record_of y) q qn ∙ next_by_prev u y (record_of q) q yn qn ∙ link_here t next_at step q y (A.next_in_lem q qn), prev_by_head v (record_of y) y yn ∙ link_here u prev_at step y q (lt-length-set t (cell_of next_at step q) (record_of y) (A.prev_in y yn)))
         r;
-    first = ap place_of (get_or-set_same v head (recordOf y) 0 (lt-length-set u (cell_of prevAt step y) (recordOf q) (lt-length-set t (cell_of next_at step q) (recordOf y) A.head_in))) ∙ place-record y;
+    first = ap place_of (get_or-set_same v head (record_of y) 0 (lt-length-set u (cell_of prev_at step y) (record_of q) (lt-length-set t (cell_of next_at step q) (record_of y) A.head_in))) ∙ place_record y;
   })
     where
       q : ℕ
@@ -65,10 +65,10 @@ module _ (head next_at prevAt step n : ℕ) (t : List ℕ) (A : Apart head next_
 
       -- the table after the first store, and after the second
       u : List ℕ
-      u = set t (cell_of next_at step q) (recordOf y)
+      u = set t (cell_of next_at step q) (record_of y)
 
       v : List ℕ
-      v = set u (cell_of prevAt step y) (recordOf q)
+      v = set u (cell_of prev_at step y) (record_of q)
 
       under : (z : ℕ) → Mem z (y ∷ l) → z < n
       under z m = mem_below n z (y ∷ l) b.1 m
@@ -80,65 +80,65 @@ module _ (head next_at prevAt step n : ℕ) (t : List ℕ) (A : Apart head next_
       qn = under q (last_mem y l)
 
   -- a place goes out from wherever it stands: the ring is the rest, from the place after it on, and that one is the head
-  pub unlinked-ring : (p : ℕ) (a b : List ℕ) → Below n (a ++ (p ∷ b)) → Ring (next head next_at prevAt step t) (prev head next_at prevAt step t) (a ++ (p ∷ b)) → RingOf head next_at prevAt step (unlinked head next_at prevAt step p t) (b ++ a)
-  unlinked-ring p a b h r =
-      unlinked-first p (b ++ a) (below-mem n (p ∷ b ++ a) (λ x m. mem_below n x (a ++ (p ∷ b)) h (mem-swap x (p ∷ b) a m))) (rotate _ _ a (p ∷ b) r)
+  pub unlinked_ring : (p : ℕ) (a b : List ℕ) → Below n (a ++ (p ∷ b)) → Ring (next head next_at prev_at step t) (prev head next_at prev_at step t) (a ++ (p ∷ b)) → RingOf head next_at prev_at step (unlinked head next_at prev_at step p t) (b ++ a)
+  unlinked_ring p a b h r =
+      unlinked_first p (b ++ a) (below_mem n (p ∷ b ++ a) (λ x m. mem_below n x (a ++ (p ∷ b)) h (mem_swap x (p ∷ b) a m))) (rotate _ _ a (p ∷ b) r)
 
-  pub unlinked-member : (p : ℕ) (R : List ℕ) (m : Mem p R) → Below n R → Ring (next head next_at prevAt step t) (prev head next_at prevAt step t) R → RingOf head next_at prevAt step (unlinked head next_at prevAt step p t) ((split p R m).b ++ (split p R m).a)
-  unlinked-member p R m h r = let s = split p R m in unlinked-ring p s.a s.b (rw s.is at h) (rw s.is at r)
+  pub unlinked_member : (p : ℕ) (R : List ℕ) (m : Mem p R) → Below n R → Ring (next head next_at prev_at step t) (prev head next_at prev_at step t) R → RingOf head next_at prev_at step (unlinked head next_at prev_at step p t) ((split p R m).b ++ (split p R m).a)
+  unlinked_member p R m h r = let s = split p R m in unlinked_ring p s.a s.b (rw s.is at h) (rw s.is at r)
 
-  link-founds : (p : ℕ) → headIn head next_at prevAt step t ≡ nowhere → linked head next_at prevAt step p t ≡ alone head next_at prevAt step p t
+  link_founds : (p : ℕ) → head_in_ring head next_at prev_at step t ≡ nowhere → linked head next_at prev_at step p t ≡ alone head next_at prev_at step p t
   unfolding linked
-  link-founds p e = rw (eq-eqb (headIn head next_at prevAt step t) nowhere e)
+  link_founds p e = rw (eq-eqb (head_in_ring head next_at prev_at step t) nowhere e)
 
-  link-adds : (p h : ℕ) (l : List ℕ) → h < n → RingOf head next_at prevAt step t (h ∷ l) → linked head next_at prevAt step p t ≡ between head next_at prevAt step (last_of h l) p h t
+  link_adds : (p h : ℕ) (l : List ℕ) → h < n → RingOf head next_at prev_at step t (h ∷ l) → linked head next_at prev_at step p t ≡ between head next_at prev_at step (last_of h l) p h t
   unfolding linked
-  link-adds p h l k r =
-      let e : headIn head next_at prevAt step t ≡ h = r.first in
-      let f : prev head next_at prevAt step t h ≡ last_of h l = first-prev _ _ h l r.ring in
+  link_adds p h l k r =
+      let e : head_in_ring head next_at prev_at step t ≡ h = r.first in
+      let f : prev head next_at prev_at step t h ≡ last_of h l = first_prev _ _ h l r.ring in
       let few : n ≤ nowhere = A.few in
       rw (e, f, ne_eqb h nowhere (λ s. omega arith))
 
   -- a place comes in before the head, or as the head of a ring that was empty
-  pub linked-ring : (p : ℕ) (R : List ℕ) → p < n → NotIn p R → Below n R → RingOf head next_at prevAt step t R → RingOf head next_at prevAt step (linked head next_at prevAt step p t) (R ++ (p ∷ []))
-  linked-ring p [] k o b r = rw (link-founds p r.first) (record {
+  pub linked_ring : (p : ℕ) (R : List ℕ) → p < n → NotIn p R → Below n R → RingOf head next_at prev_at step t R → RingOf head next_at prev_at step (linked head next_at prev_at step p t) (R ++ (p ∷ []))
+  linked_ring p [] k o b r = rw (link_founds p r.first) (record {
     ring = record {
       closed = (
         (
-          next-by-head v (recordOf p) p k ∙ next-by-prev u p (recordOf p) p k k ∙ link_here t next_at step p p (A.next-in p k),
-          prev-by-head v (recordOf p) p k ∙ link_here u prevAt step p p (lt-length-set t (cell_of next_at step p) (recordOf p) (A.prev-in p k)),
+          next_by_head v (record_of p) p k ∙ next_by_prev u p (record_of p) p k k ∙ link_here t next_at step p p (A.next_in_lem p k),
+          prev_by_head v (record_of p) p k ∙ link_here u prev_at step p p (lt-length-set t (cell_of next_at step p) (record_of p) (A.prev_in p k)),
         ),
         tt,
       );
       distinct = (tt, tt);
     };
-    first = ap place_of (get_or-set_same v head (recordOf p) 0 (lt-length-set u (cell_of prevAt step p) (recordOf p) (lt-length-set t (cell_of next_at step p) (recordOf p) A.head_in))) ∙ place-record p;
+    first = ap place_of (get_or-set_same v head (record_of p) 0 (lt-length-set u (cell_of prev_at step p) (record_of p) (lt-length-set t (cell_of next_at step p) (record_of p) A.head_in))) ∙ place_record p;
   })
     where
       -- the table after the first store, and after the second
       u : List ℕ
-      u = set t (cell_of next_at step p) (recordOf p)
+      u = set t (cell_of next_at step p) (record_of p)
 
       v : List ℕ
-      v = set u (cell_of prevAt step p) (recordOf p)
-  linked-ring p (h ∷ l) k o b r = rw (link-adds p h l b.0 r) (record {
+      v = set u (cell_of prev_at step p) (record_of p)
+  linked_ring p (h ∷ l) k o b r = rw (link_adds p h l b.0 r) (record {
     ring =
         ring_in _ _ _ _ p h l o
-        (λ z m s. next-by-prev w p (recordOf q) z k (under z m) ∙ link-other v next_at step p (recordOf h) z A.stepped (other z m) ∙ link-other u next_at step q (recordOf p) z A.stepped s ∙ next-by-prev t h (recordOf p) z hn (under z m))
-        (λ z m. link-other w prevAt step p (recordOf q) z A.stepped (other z (inr m)) ∙ prev-by-next v p (recordOf h) z k (under z (inr m)) ∙ prev-by-next u q (recordOf p) z qn (under z (inr m)) ∙ link-other t prevAt step h (recordOf p) z A.stepped (λ e. not-mem h l r.ring.distinct.0 (rw e at m))) (
-          next-by-prev w p (recordOf q) q k qn ∙ link-other v next_at step p (recordOf h) q A.stepped (other q (last_mem h l)) ∙ link_here u next_at step q p (in-u (A.next-in q qn)),
-          link_here w prevAt step p q (in-w (A.prev-in p k)),
+        (λ z m s. next_by_prev w p (record_of q) z k (under z m) ∙ link_other v next_at step p (record_of h) z A.stepped (other z m) ∙ link_other u next_at step q (record_of p) z A.stepped s ∙ next_by_prev t h (record_of p) z hn (under z m))
+        (λ z m. link_other w prev_at step p (record_of q) z A.stepped (other z (inr m)) ∙ prev_by_next v p (record_of h) z k (under z (inr m)) ∙ prev_by_next u q (record_of p) z qn (under z (inr m)) ∙ link_other t prev_at step h (record_of p) z A.stepped (λ e. not_mem h l r.ring.distinct.0 (rw e at m))) (
+          next_by_prev w p (record_of q) q k qn ∙ link_other v next_at step p (record_of h) q A.stepped (other q (last_mem h l)) ∙ link_here u next_at step q p (in_u (A.next_in_lem q qn)),
+          link_here w prev_at step p q (in_w (A.prev_in p k)),
         ) (
-          next-by-prev w p (recordOf q) p k k ∙ link_here v next_at step p h (in-v (A.next-in p k)),
-          link-other w prevAt step p (recordOf q) h A.stepped (other h (inl refl)) ∙ prev-by-next v p (recordOf h) h k hn ∙ prev-by-next u q (recordOf p) h qn hn ∙ link_here t prevAt step h p (A.prev-in h hn),
+          next_by_prev w p (record_of q) p k k ∙ link_here v next_at step p h (in_v (A.next_in_lem p k)),
+          link_other w prev_at step p (record_of q) h A.stepped (other h (inl refl)) ∙ prev_by_next v p (record_of h) h k hn ∙ prev_by_next u q (record_of p) h qn hn ∙ link_here t prev_at step h p (A.prev_in h hn),
         )
         r.ring;
     first =
         ap place_of
-        (get_or-set_other w (cell_of prevAt step p) head (recordOf q) 0 (A.head-prev p k)
-        ∙ get_or-set_other v (cell_of next_at step p) head (recordOf h) 0 (A.head-next p k)
-        ∙ get_or-set_other u (cell_of next_at step q) head (recordOf p) 0 (A.head-next q qn)
-        ∙ get_or-set_other t (cell_of prevAt step h) head (recordOf p) 0 (A.head-prev h hn))
+        (get_or-set_other w (cell_of prev_at step p) head (record_of q) 0 (A.head_prev p k)
+        ∙ get_or-set_other v (cell_of next_at step p) head (record_of h) 0 (A.head_next p k)
+        ∙ get_or-set_other u (cell_of next_at step q) head (record_of p) 0 (A.head_next q qn)
+        ∙ get_or-set_other t (cell_of prev_at step h) head (record_of p) 0 (A.head_prev h hn))
         ∙ r.first;
   })
     where
@@ -147,28 +147,28 @@ module _ (head next_at prevAt step n : ℕ) (t : List ℕ) (A : Apart head next_
 
       -- the table after the first store, the second and the third
       u : List ℕ
-      u = set t (cell_of prevAt step h) (recordOf p)
+      u = set t (cell_of prev_at step h) (record_of p)
 
       v : List ℕ
-      v = set u (cell_of next_at step q) (recordOf p)
+      v = set u (cell_of next_at step q) (record_of p)
 
       w : List ℕ
-      w = set v (cell_of next_at step p) (recordOf h)
+      w = set v (cell_of next_at step p) (record_of h)
 
-      in-u : {i : ℕ} → i < length t → i < length u
-      in-u s = lt-length-set t (cell_of prevAt step h) (recordOf p) s
+      in_u : {i : ℕ} → i < length t → i < length u
+      in_u s = lt-length-set t (cell_of prev_at step h) (record_of p) s
 
-      in-v : {i : ℕ} → i < length t → i < length v
-      in-v s = lt-length-set u (cell_of next_at step q) (recordOf p) (in-u s)
+      in_v : {i : ℕ} → i < length t → i < length v
+      in_v s = lt-length-set u (cell_of next_at step q) (record_of p) (in_u s)
 
-      in-w : {i : ℕ} → i < length t → i < length w
-      in-w s = lt-length-set v (cell_of next_at step p) (recordOf h) (in-v s)
+      in_w : {i : ℕ} → i < length t → i < length w
+      in_w s = lt-length-set v (cell_of next_at step p) (record_of h) (in_v s)
 
       under : (z : ℕ) → Mem z (h ∷ l) → z < n
       under z m = mem_below n z (h ∷ l) b m
 
       other : (z : ℕ) → Mem z (h ∷ l) → z ≡ p → ⊥
-      other z m e = not-mem p (h ∷ l) o (rw e at m)
+      other z m e = not_mem p (h ∷ l) o (rw e at m)
 
       hn : h < n
       hn = b.0

@@ -1,12 +1,12 @@
 // What the calls of both engines answer, with the share of the account that they leave.
 ghost use Rattle.std.specs.Prelude.{◌≡◌, [], ◌+◌, ◌≤◌};
-ghost use Rattle.counter.specs.Limits.{objectsMost};
+ghost use Rattle.counter.specs.Limits.{objects_most};
 ghost use Rattle.counter.specs.Paper as Paper;
-ghost use Rattle.counter.specs.Paper.{number_of, freeOf, askSaid, deliverSaid, releaseSaid};
+ghost use Rattle.counter.specs.Paper.{number_of, free_of, ask_said, deliver_said, release_said};
 ghost use Rattle.counter.specs.declared.account.OpenOrder.TheVariants.{Nothing};
-ghost use Rattle.store_rules.specs.Orders.{orderFrom};
-ghost use Rattle.store_rules.specs.Outcomes.{blockSaid};
-ghost use Rattle.store_rules.specs.Shares.{lostShare, releasedShare};
+ghost use Rattle.store_rules.specs.Orders.{order_from};
+ghost use Rattle.store_rules.specs.Outcomes.{block_said};
+ghost use Rattle.store_rules.specs.Shares.{lost_share, released_share};
 
 use crate::fates::Loss;
 use counter::{
@@ -16,7 +16,7 @@ use counter::{
 use store_rules::{DeliveredShare, Loan, ReleasedShare, Share};
 
 fn block_of(l: Loan) -> Lent
-    ensures { Paper.block result.block.serial result.block.chunk result.block.offset result.block.size ≡ blockSaid l }
+    ensures { Paper.block result.block.serial result.block.chunk result.block.offset result.block.size ≡ block_said l }
 {
     Lent {
         block: Block {
@@ -29,7 +29,7 @@ fn block_of(l: Loan) -> Lent
 }
 
 pub fn refuse_ask(refusal: Refusal) -> AskAnswer
-    ensures { askSaid result ≡ Paper.refusal (number_of refusal) [] }
+    ensures { ask_said result ≡ Paper.refusal (number_of refusal) [] }
 {
     AskAnswer::Refused(Refused {
         refusal: refusal,
@@ -38,20 +38,20 @@ pub fn refuse_ask(refusal: Refusal) -> AskAnswer
 }
 
 pub fn answer_block(l: Loan) -> AskAnswer
-    ensures { askSaid result ≡ blockSaid l }
+    ensures { ask_said result ≡ block_said l }
 {
     AskAnswer::Block(block_of(l))
 }
 
 // The order is told; whoever has the account keeps it with the ask.
 pub fn answer_order(s: StoreSettings, z: u64) -> AskAnswer
-    ensures { askSaid result ≡ Paper.order_of (orderFrom s z) }
+    ensures { ask_said result ≡ Paper.order_of (order_from s z) }
 {
     AskAnswer::Order(store_accounts::order_from(s, z))
 }
 
 pub fn refuse_delivery(share: Share, order: OpenOrder, refusal: Refusal) -> DeliveredShare
-    ensures { (result.share ≡ share) × (result.order ≡ order) × (deliverSaid result.answer ≡ Paper.refusal (number_of refusal) []) }
+    ensures { (result.share ≡ share) × (result.order ≡ order) × (deliver_said result.answer ≡ Paper.refusal (number_of refusal) []) }
 {
     DeliveredShare {
         share: share,
@@ -65,7 +65,7 @@ pub fn refuse_delivery(share: Share, order: OpenOrder, refusal: Refusal) -> Deli
 
 // A block is lent from the new chunk.
 pub fn deliver_block(share: Share, l: Loan) -> DeliveredShare
-    ensures { (result.share ≡ share) × (result.order ≡ Nothing) × (deliverSaid result.answer ≡ blockSaid l) }
+    ensures { (result.share ≡ share) × (result.order ≡ Nothing) × (deliver_said result.answer ≡ block_said l) }
 {
     DeliveredShare {
         share: share,
@@ -76,7 +76,7 @@ pub fn deliver_block(share: Share, l: Loan) -> DeliveredShare
 
 // The order is closed by a failure.
 pub fn lose_order(share: Share, k: KeptOrder, l: Loss) -> DeliveredShare
-    ensures { (result.share ≡ lostShare share k.order.size l.charged (freeOf l.free)) × (result.order ≡ Nothing) × (deliverSaid result.answer ≡ Paper.refusal (number_of l.refusal) (freeOf l.free)) }
+    ensures { (result.share ≡ lost_share share k.order.size l.charged (free_of l.free)) × (result.order ≡ Nothing) × (deliver_said result.answer ≡ Paper.refusal (number_of l.refusal) (free_of l.free)) }
 {
     let order = k.order;
     let free = l.free;
@@ -92,7 +92,7 @@ pub fn lose_order(share: Share, k: KeptOrder, l: Loss) -> DeliveredShare
 }
 
 pub fn refuse_return(share: Share, refusal: Refusal) -> ReleasedShare
-    ensures { (result.share ≡ share) × (releaseSaid result.answer ≡ Paper.refusal (number_of refusal) []) }
+    ensures { (result.share ≡ share) × (release_said result.answer ≡ Paper.refusal (number_of refusal) []) }
 {
     ReleasedShare {
         share: share,
@@ -105,8 +105,8 @@ pub fn refuse_return(share: Share, refusal: Refusal) -> ReleasedShare
 
 // So many chunks, of so many bytes in all, are gone: its share allows one object more for each.
 pub fn settle(share: Share, count: u64, bytes: u64) -> ReleasedShare
-    requires { share.objects + count ≤ objectsMost }
-    ensures { (result.share ≡ releasedShare share count bytes) × (releaseSaid result.answer ≡ Paper.released count) }
+    requires { share.objects + count ≤ objects_most }
+    ensures { (result.share ≡ released_share share count bytes) × (release_said result.answer ≡ Paper.released count) }
 {
     ReleasedShare {
         share: store_accounts::released(share, count as u32, bytes),

@@ -1,9 +1,9 @@
 // What a delivery comes to, once its gate is passed.
 ghost use Rattle.std.specs.Prelude.{◌≡◌, cond};
 ghost use Rattle.store_rules.specs.Arrivals.{deny, go};
-ghost use Rattle.store_rules.specs.Delivery.{fateOf};
-ghost use Rattle.store.specs.Comings.{comingOf, comes};
-ghost use Rattle.store.specs.Fates.{engineOf, deliverable};
+ghost use Rattle.store_rules.specs.Delivery.{fate_of};
+ghost use Rattle.store.specs.Comings.{coming_of, comes};
+ghost use Rattle.store.specs.Fates.{engine_of, deliverable};
 
 use crate::fates::{Engine, Fate, Loss};
 use counter::{KeptOrder, OpenOrder, Outcome, Refusal};
@@ -30,7 +30,7 @@ pub enum Coming {
 
 // Test 13, and what the outcome leads to.
 fn arrive(e: Engine, k: KeptOrder, o: Outcome, held: bool) -> Coming
-    ensures { comingOf result ≡ cond (deliverable k.order.map held o) (go k (fateOf (engineOf e) o)) (deny 13) }
+    ensures { coming_of result ≡ cond (deliverable k.order.map held o) (go k (fate_of (engine_of e) o)) (deny 13) }
 {
     let order = k.order;
     if !crate::fates::is_deliverable(order.map, held, o) {
@@ -45,7 +45,7 @@ fn arrive(e: Engine, k: KeptOrder, o: Outcome, held: bool) -> Coming
 
 // `held` says whether the outcome's memory is held already.
 pub fn come(e: Engine, order: OpenOrder, o: Outcome, held: bool) -> Coming
-    ensures { comingOf result ≡ comes (engineOf e) o held order }
+    ensures { coming_of result ≡ comes (engine_of e) o held order }
 {
     match order {
         OpenOrder::Nothing => Coming::Refuse(Refusal::Order),

@@ -1,9 +1,9 @@
 // What a delivered outcome leads to.
 ghost use Rattle.std.specs.Prelude.{◌≡◌, true, false, []};
-ghost use Rattle.counter.specs.Paper.{number_of, freeOf};
+ghost use Rattle.counter.specs.Paper.{number_of, free_of};
 ghost use Rattle.store_rules.specs.Delivery as Delivery;
-ghost use Rattle.store_rules.specs.Delivery.{givesBack, backOf, mapped, fateOf};
-ghost use Rattle.store.specs.Fates.{engineOf, fateFrom, deliverable};
+ghost use Rattle.store_rules.specs.Delivery.{gives_back, back_of, mapped, fate_of};
+ghost use Rattle.store.specs.Fates.{engine_of, fate_from, deliverable};
 
 use counter::{Mapping, Memory, Outcome, Refusal, ToFree};
 
@@ -56,7 +56,7 @@ pub fn is_deliverable(map: bool, held: bool, o: Outcome) -> bool
 
 // Whether an engine gives the memory of a failed map back: only a free list's "map failed".
 fn gives_back(e: Engine, m: Mapping) -> bool
-    ensures { result ≡ givesBack (engineOf e) m }
+    ensures { result ≡ gives_back (engine_of e) m }
 {
     match e {
         Engine::Buddy => false,
@@ -71,7 +71,7 @@ fn gives_back(e: Engine, m: Mapping) -> bool
 }
 
 fn to_free(e: Engine, m: Mapping, memory: u64) -> ToFree
-    ensures { freeOf result ≡ backOf (engineOf e) m memory }
+    ensures { free_of result ≡ back_of (engine_of e) m memory }
 {
     if gives_back(e, m) {
         ToFree::Memory(memory)
@@ -81,7 +81,7 @@ fn to_free(e: Engine, m: Mapping, memory: u64) -> ToFree
 }
 
 fn failed(e: Engine, memory: u64, m: Mapping, refusal: Refusal) -> Fate
-    ensures { fateFrom result ≡ Delivery.lost (number_of refusal) true (backOf (engineOf e) m memory) }
+    ensures { fate_from result ≡ Delivery.lost (number_of refusal) true (back_of (engine_of e) m memory) }
 {
     Fate::Lost(Loss {
         refusal: refusal,
@@ -91,7 +91,7 @@ fn failed(e: Engine, memory: u64, m: Mapping, refusal: Refusal) -> Fate
 }
 
 fn fate_of_map(e: Engine, made: Memory) -> Fate
-    ensures { fateFrom result ≡ mapped (engineOf e) made.number made.mapping }
+    ensures { fate_from result ≡ mapped (engine_of e) made.number made.mapping }
 {
     let m = made.mapping;
     match m {
@@ -105,7 +105,7 @@ fn fate_of_map(e: Engine, made: Memory) -> Fate
 
 // The allocation itself was refused: nothing was charged.
 fn refuse(refusal: Refusal) -> Fate
-    ensures { fateFrom result ≡ Delivery.lost (number_of refusal) false [] }
+    ensures { fate_from result ≡ Delivery.lost (number_of refusal) false [] }
 {
     Fate::Lost(Loss {
         refusal: refusal,
@@ -115,7 +115,7 @@ fn refuse(refusal: Refusal) -> Fate
 }
 
 pub fn lead(e: Engine, o: Outcome) -> Fate
-    ensures { fateFrom result ≡ fateOf (engineOf e) o }
+    ensures { fate_from result ≡ fate_of (engine_of e) o }
 {
     match o {
         Outcome::Made(m) => fate_of_map(e, m),

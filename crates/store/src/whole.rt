@@ -1,7 +1,7 @@
 // The same with the whole account that a share is of.
 ghost use Rattle.std.specs.Prelude.{◌≡◌};
-ghost use Rattle.counter.specs.Paper.{askSaid};
-ghost use Rattle.store_rules.specs.Shares.{withShare, askLeft};
+ghost use Rattle.counter.specs.Paper.{ask_said};
+ghost use Rattle.store_rules.specs.Shares.{with_share, ask_left};
 
 use counter::{
     Account, Ask, AskAnswer, Asked, Delivered, KeptOrder, OpenOrder, Released, StoreSettings,
@@ -10,7 +10,7 @@ use store_rules::{DeliveredShare, ReleasedShare};
 
 // The account that an ask leaves: where it told an order, that is kept with the ask.
 fn left_by(a: Account, size: u64, mask: u64, answer: AskAnswer) -> Account
-    ensures { result ≡ askLeft a size mask (askSaid answer) }
+    ensures { result ≡ ask_left a size mask (ask_said answer) }
 {
     match answer {
         AskAnswer::Block(_) => a,
@@ -27,7 +27,7 @@ fn left_by(a: Account, size: u64, mask: u64, answer: AskAnswer) -> Account
 }
 
 pub fn asked(a: Account, size: u64, mask: u64, answer: AskAnswer) -> Asked
-    ensures { (result.account ≡ askLeft a size mask (askSaid answer)) × (result.answer ≡ answer) }
+    ensures { (result.account ≡ ask_left a size mask (ask_said answer)) × (result.answer ≡ answer) }
 {
     Asked {
         account: left_by(a, size, mask, answer),
@@ -36,7 +36,7 @@ pub fn asked(a: Account, size: u64, mask: u64, answer: AskAnswer) -> Asked
 }
 
 pub fn delivered(s: StoreSettings, a: Account, r: DeliveredShare) -> Delivered
-    ensures { (result.account ≡ withShare s a r.share r.order) × (result.answer ≡ r.answer) }
+    ensures { (result.account ≡ with_share s a r.share r.order) × (result.answer ≡ r.answer) }
 {
     let share = r.share;
     let order = r.order;
@@ -48,7 +48,7 @@ pub fn delivered(s: StoreSettings, a: Account, r: DeliveredShare) -> Delivered
 }
 
 pub fn released(s: StoreSettings, a: Account, r: ReleasedShare) -> Released
-    ensures { (result.account ≡ withShare s a r.share a.order) × (result.answer ≡ r.answer) }
+    ensures { (result.account ≡ with_share s a r.share a.order) × (result.answer ≡ r.answer) }
 {
     let share = r.share;
     let order = a.order;

@@ -6,36 +6,36 @@ use native.Mathlib.Omega.{arith}
 use lib.Dec.{leb}
 use borrow.Author.Tests.{leb-true, le-leb}
 use Rattle.lists.proofs.Bools.{same_test}
-use Rattle.counter.specs.Limits.{objectsMost}
-use Rattle.counter.specs.Paper.{freeOf}
+use Rattle.counter.specs.Limits.{objects_most}
+use Rattle.counter.specs.Paper.{free_of}
 use Rattle.counter.specs.declared.account.Heap.{Heap}
 use Rattle.counter.specs.declared.answers.ToFree.{ToFree}
 use Rattle.counter.specs.declared.answers.ToFree.TheVariants as F
-use Rattle.heap.specs.Heap.{agreesOk}
-use Rattle.store_rules.specs.Shares.{closedShare, chargedShare, backShare, lostShare}
-use Rattle.store_rules.specs.Tests.{coversOk}
+use Rattle.heap.specs.Heap.{agrees_ok}
+use Rattle.store_rules.specs.Shares.{closed_share, charged_share, back_share, lost_share}
+use Rattle.store_rules.specs.Tests.{covers_ok}
 use Rattle.store_rules.specs.declared.Share.{Share}
 
 -- the code compares with what is left of the most, so that no sum passes a word
-left_is : (objects chunks : ℕ) → objects ≤ objectsMost → leb chunks (objectsMost - objects) ≡ leb (objects + chunks) objectsMost
+left_is : (objects chunks : ℕ) → objects ≤ objects_most → leb chunks (objects_most - objects) ≡ leb (objects + chunks) objects_most
 left_is objects chunks h =
-    same_test (leb chunks (objectsMost - objects)) (leb (objects + chunks) objectsMost)
-    (λ e. le-leb (objects + chunks) objectsMost (omega (arith, leb-true chunks (objectsMost - objects) e)))
-    (λ e. le-leb chunks (objectsMost - objects) (omega (arith, leb-true (objects + chunks) objectsMost e)))
+    same_test (leb chunks (objects_most - objects)) (leb (objects + chunks) objects_most)
+    (λ e. le-leb (objects + chunks) objects_most (omega (arith, leb-true chunks (objects_most - objects) e)))
+    (λ e. le-leb chunks (objects_most - objects) (omega (arith, leb-true (objects + chunks) objects_most e)))
 
-pub covers-is : (h : Heap) (objects chunks bytes : ℕ) (ok : Bool) → objects ≤ objectsMost → ok ≡ agreesOk h → (leb bytes h.used && (ok && leb chunks (objectsMost - objects))) ≡ coversOk h objects chunks bytes
-unfolding coversOk
-covers-is h objects chunks bytes ok most e =
-    ap (λ (b : Bool). leb bytes h.used && (b && leb chunks (objectsMost - objects))) e
-    ∙ ap (λ (b : Bool). leb bytes h.used && (agreesOk h && b)) (left_is objects chunks most)
+pub covers_is : (h : Heap) (objects chunks bytes : ℕ) (ok : Bool) → objects ≤ objects_most → ok ≡ agrees_ok h → (leb bytes h.used && (ok && leb chunks (objects_most - objects))) ≡ covers_ok h objects chunks bytes
+unfolding covers_ok
+covers_is h objects chunks bytes ok most e =
+    ap (λ (b : Bool). leb bytes h.used && (b && leb chunks (objects_most - objects))) e
+    ∙ ap (λ (b : Bool). leb bytes h.used && (agrees_ok h && b)) (left_is objects chunks most)
 
 -- ---- an order closed by a failure
 
-pub lost-kept : (h r : Share) (z : ℕ) (charge : Bool) (free : ToFree) → charge ≡ true → free ≡ F.Nothing → r ≡ chargedShare h z → r ≡ lostShare h z charge (freeOf free)
-lost-kept h r z charge free ec ef er = rw (ec, ef) er
+pub lost_kept : (h r : Share) (z : ℕ) (charge : Bool) (free : ToFree) → charge ≡ true → free ≡ F.Nothing → r ≡ charged_share h z → r ≡ lost_share h z charge (free_of free)
+lost_kept h r z charge free ec ef er = rw (ec, ef) er
 
-pub lost-back : (h r : Share) (z : ℕ) (charge : Bool) (free : ToFree) (m : ℕ) → charge ≡ true → free ≡ F.Memory m → r ≡ backShare h z → r ≡ lostShare h z charge (freeOf free)
-lost-back h r z charge free m ec ef er = rw (ec, ef) er
+pub lost_back : (h r : Share) (z : ℕ) (charge : Bool) (free : ToFree) (m : ℕ) → charge ≡ true → free ≡ F.Memory m → r ≡ back_share h z → r ≡ lost_share h z charge (free_of free)
+lost_back h r z charge free m ec ef er = rw (ec, ef) er
 
-pub lost-refused : (h r : Share) (z : ℕ) (charge : Bool) (free : ToFree) → charge ≡ false → r ≡ closedShare h → r ≡ lostShare h z charge (freeOf free)
-lost-refused h r z charge free ec er = rw ec er
+pub lost_refused : (h r : Share) (z : ℕ) (charge : Bool) (free : ToFree) → charge ≡ false → r ≡ closed_share h → r ≡ lost_share h z charge (free_of free)
+lost_refused h r z charge free ec er = rw ec er

@@ -1,17 +1,17 @@
 // A store's share of the account as a call finds and leaves it: its heap, the objects still allowed, and the order.
 ghost use Rattle.std.specs.Prelude.{◌≡◌, ◌+◌, ◌-◌, ◌≤◌};
-ghost use Rattle.counter.specs.Limits.{objectsMost};
-ghost use Rattle.counter.specs.Paper.{freeOf};
-ghost use Rattle.store_rules.specs.Outcomes.{withOrder};
-ghost use Rattle.store_rules.specs.Shares.{share_of, withShare, chargedShare, backShare, closedShare, lostShare, releasedShare};
-ghost use Rattle.store_rules.specs.Tests.{coversOk};
+ghost use Rattle.counter.specs.Limits.{objects_most};
+ghost use Rattle.counter.specs.Paper.{free_of};
+ghost use Rattle.store_rules.specs.Outcomes.{with_order};
+ghost use Rattle.store_rules.specs.Shares.{share_of, with_share, charged_share, back_share, closed_share, lost_share, released_share};
+ghost use Rattle.store_rules.specs.Tests.{covers_ok};
 
 use counter::{Account, Heap, OBJECTS_MOST, OpenOrder, StoreSettings, ToFree};
 use store_rules::Share;
 
 // Whether the heap and the object count cover a store's chunks.
 pub fn covers(h: Heap, objects: u32, chunks: u64, bytes: u64) -> bool
-    ensures { result ≡ coversOk h objects chunks bytes }
+    ensures { result ≡ covers_ok h objects chunks bytes }
 {
     let most = (OBJECTS_MOST - objects) as u64;
     (bytes <= h.used) & (heap::agrees(h) & (chunks <= most))
@@ -33,14 +33,14 @@ pub fn share_of(s: StoreSettings, a: Account) -> Share
 
 // The account with this share and this order in it, and the rest as it was.
 pub fn with_share(s: StoreSettings, a: Account, share: Share, order: OpenOrder) -> Account
-    ensures { result ≡ withShare s a share order }
+    ensures { result ≡ with_share s a share order }
 {
     let heap = share.heap;
     a.settled(s.heap, heap, share.objects, order)
 }
 
 pub fn with_order(a: Account, order: OpenOrder) -> Account
-    ensures { result ≡ withOrder a order }
+    ensures { result ≡ with_order a order }
 {
     let heaps = a.heaps;
     Account {
@@ -62,7 +62,7 @@ fn one_fewer(objects: u32) -> u32
 
 // A chunk of so many bytes was allocated, and the order is closed.
 pub fn charged(share: Share, size: u64) -> Share
-    ensures { result ≡ chargedShare share size }
+    ensures { result ≡ charged_share share size }
 {
     Share {
         bounded: share.bounded,
@@ -74,7 +74,7 @@ pub fn charged(share: Share, size: u64) -> Share
 
 // It was, and is given back.
 fn given_back(share: Share, size: u64) -> Share
-    ensures { result ≡ backShare share size }
+    ensures { result ≡ back_share share size }
 {
     Share {
         bounded: share.bounded,
@@ -86,7 +86,7 @@ fn given_back(share: Share, size: u64) -> Share
 
 // The order is closed, and nothing else has changed.
 fn closed(share: Share) -> Share
-    ensures { result ≡ closedShare share }
+    ensures { result ≡ closed_share share }
 {
     let heap = share.heap;
     Share {
@@ -99,7 +99,7 @@ fn closed(share: Share) -> Share
 
 // The order is closed by a failure.
 pub fn lost(share: Share, size: u64, charge: bool, free: ToFree) -> Share
-    ensures { result ≡ lostShare share size charge (freeOf free) }
+    ensures { result ≡ lost_share share size charge (free_of free) }
 {
     if charge {
         match free {
@@ -113,8 +113,8 @@ pub fn lost(share: Share, size: u64, charge: bool, free: ToFree) -> Share
 
 // So many chunks, of so many bytes in all, are released.
 pub fn released(share: Share, count: u32, bytes: u64) -> Share
-    requires { share.objects + count ≤ objectsMost }
-    ensures { result ≡ releasedShare share count bytes }
+    requires { share.objects + count ≤ objects_most }
+    ensures { result ≡ released_share share count bytes }
 {
     Share {
         bounded: share.bounded,

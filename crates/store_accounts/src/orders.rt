@@ -1,7 +1,7 @@
 // The order that an ask opens.
 ghost use Rattle.std.specs.Prelude.{◌≡◌};
-ghost use Rattle.store_rules.specs.Orders.{orderFrom, sameBool, sameOrder};
-ghost use Rattle.store_rules.specs.Tests.{no_order, openFor};
+ghost use Rattle.store_rules.specs.Orders.{order_from, same_bool, same_order};
+ghost use Rattle.store_rules.specs.Tests.{no_order, open_for};
 
 use counter::{HOST_VISIBLE, OpenOrder, Order, StoreSettings};
 
@@ -16,7 +16,7 @@ pub fn no_order(o: OpenOrder) -> bool
 
 // Whether an order is open for the store with this number.
 pub fn is_open_for(number: u32, o: OpenOrder) -> bool
-    ensures { result ≡ openFor number o }
+    ensures { result ≡ open_for number o }
 {
     match o {
         OpenOrder::Nothing => false,
@@ -29,7 +29,7 @@ pub fn is_open_for(number: u32, o: OpenOrder) -> bool
 
 // The order for a chunk of so many bytes.
 pub fn order_from(s: StoreSettings, size: u64) -> Order
-    ensures { result ≡ orderFrom s size }
+    ensures { result ≡ order_from s size }
 {
     Order {
         store: s.number,
@@ -40,13 +40,13 @@ pub fn order_from(s: StoreSettings, size: u64) -> Order
 }
 
 fn same_bool(a: bool, b: bool) -> bool
-    ensures { result ≡ sameBool a b }
+    ensures { result ≡ same_bool a b }
 {
     if a { b } else { !b }
 }
 
 pub fn same_order(o: Order, p: Order) -> bool
-    ensures { result ≡ sameOrder o p }
+    ensures { result ≡ same_order o p }
 {
     let maps = same_bool(o.map, p.map);
     (o.store == p.store) & ((o.size == p.size) & ((o.memtype == p.memtype) & maps))

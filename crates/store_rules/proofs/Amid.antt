@@ -23,7 +23,7 @@ between a (x ∷ xs) ys d =
     )
 
 -- its members are those before and a
-pub amid-member : {A : Type 0} (a : A) (before after : List A) → Amid a before after → (d : A) → Memᴰ d after ↔ (Memᴰ d before ⊎ (d ≡ a))
-amid-member {A} a before after w d =
+pub amid_member : {A : Type 0} (a : A) (before after : List A) → Amid a before after → (d : A) → Memᴰ d after ↔ (Memᴰ d before ⊎ (d ≡ a))
+amid_member {A} a before after w d =
     subst (λ (ys : List A). Memᴰ d ys ↔ (Memᴰ d before ⊎ (d ≡ a))) (sym w.are)
     (subst (λ (xs : List A). Memᴰ d (w.earlier ++ (a ∷ w.later)) ↔ (Memᴰ d xs ⊎ (d ≡ a))) (sym w.were) (between a w.earlier w.later d))

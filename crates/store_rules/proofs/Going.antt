@@ -7,14 +7,14 @@ use Prim.Native.Nat.{ℕ, ◌+◌}
 use native.Mathlib.Omega.{arith}
 use lib.ListN.{length, length-append, length-map}
 use Rattle.lists.specs.Members.{Mem, Distinct}
-use Rattle.lists.proofs.Members.{not-mem, mem-not, no_more, distinct-if}
+use Rattle.lists.proofs.Members.{not_mem, mem_not, no_more, distinct_if}
 use Rattle.store_rules.specs.Views.{Go}
 use Rattle.store_rules.specs.declared.Chunk.{Chunk}
-use Rattle.store_rules.proofs.Keyed.{stands, mem-key}
+use Rattle.store_rules.proofs.Keyed.{stands, mem_key}
 
 -- where none goes
-pub none-go : (cs : List Chunk) → Go cs cs []
-none-go cs =
+pub none_go : (cs : List Chunk) → Go cs cs []
+none_go cs =
     record {
       among = λ c m. m;
       either = λ c m. inl m;
@@ -51,12 +51,12 @@ record Parted (cs ds : List Chunk) (ms : List ℕ) (xs : List Chunk) : Type 0 wh
   gone : List ℕ
   stay : List ℕ
   count : length gone + length stay ≡ length xs
-  gone-told : (x : ℕ) → Mem x gone → Mem x ms
-  stay-held : (x : ℕ) → Mem x stay → Mem x (map (λ (c : Chunk). c.memory) ds)
+  gone_told : (x : ℕ) → Mem x gone → Mem x ms
+  stay_held : (x : ℕ) → Mem x stay → Mem x (map (λ (c : Chunk). c.memory) ds)
   gone_of : (x : ℕ) → Mem x gone → Mem x (map (λ (c : Chunk). c.memory) xs)
   stay_of : (x : ℕ) → Mem x stay → Mem x (map (λ (c : Chunk). c.memory) xs)
-  gone-once : Distinct gone
-  stay-once : Distinct stay
+  gone_once : Distinct gone
+  stay_once : Distinct stay
 
 module _ (cs ds : List Chunk) (ms : List ℕ) (go : Go cs ds ms) where
   abbrev memory : Chunk → ℕ
@@ -68,12 +68,12 @@ module _ (cs ds : List Chunk) (ms : List ℕ) (go : Go cs ds ms) where
         gone = [];
         stay = [];
         count = refl;
-        gone-told = λ x m. absurd m;
-        stay-held = λ x m. absurd m;
+        gone_told = λ x m. absurd m;
+        stay_held = λ x m. absurd m;
         gone_of = λ x m. m;
         stay_of = λ x m. m;
-        gone-once = tt;
-        stay-once = tt;
+        gone_once = tt;
+        stay_once = tt;
       }
   part (c ∷ xs) f d =
       let p = part xs (λ e m. f e (Memᴰ.tail m)) d.1 in
@@ -86,12 +86,12 @@ module _ (cs ds : List Chunk) (ms : List ℕ) (go : Go cs ds ms) where
             gone = p.gone;
             stay = c.memory ∷ p.stay;
             count = omega (arith, p.count);
-            gone-told = p.gone-told;
-            stay-held = λ x. ⊎_elim (λ e. subst (λ (y : ℕ). Mem y (map memory ds)) (sym e) (mem-key memory c ds k)) (p.stay-held x);
+            gone_told = p.gone_told;
+            stay_held = λ x. ⊎_elim (λ e. subst (λ (y : ℕ). Mem y (map memory ds)) (sym e) (mem_key memory c ds k)) (p.stay_held x);
             gone_of = λ x m. inr (p.gone_of x m);
             stay_of = λ x. ⊎_elim (λ e. inl e) (λ m. inr (p.stay_of x m));
-            gone-once = p.gone-once;
-            stay-once = (mem-not c.memory p.stay (λ m. not-mem c.memory (map memory xs) d.0 (p.stay_of c.memory m)), p.stay-once);
+            gone_once = p.gone_once;
+            stay_once = (mem_not c.memory p.stay (λ m. not_mem c.memory (map memory xs) d.0 (p.stay_of c.memory m)), p.stay_once);
           }
 
       goes : Memᴰ c cs → Parted cs ds ms xs → (Memᴰ c ds → ⊥) → Parted cs ds ms (c ∷ xs)
@@ -100,17 +100,17 @@ module _ (cs ds : List Chunk) (ms : List ℕ) (go : Go cs ds ms) where
             gone = c.memory ∷ p.gone;
             stay = p.stay;
             count = omega (arith, p.count);
-            gone-told = λ x. ⊎_elim (λ e. subst (λ (y : ℕ). Mem y ms) (sym e) (stands c.memory ms ((go.tells c.memory).1 (c, here, refl, k)))) (p.gone-told x);
-            stay-held = p.stay-held;
+            gone_told = λ x. ⊎_elim (λ e. subst (λ (y : ℕ). Mem y ms) (sym e) (stands c.memory ms ((go.tells c.memory).1 (c, here, refl, k)))) (p.gone_told x);
+            stay_held = p.stay_held;
             gone_of = λ x. ⊎_elim (λ e. inl e) (λ m. inr (p.gone_of x m));
             stay_of = λ x m. inr (p.stay_of x m);
-            gone-once = (mem-not c.memory p.gone (λ m. not-mem c.memory (map memory xs) d.0 (p.gone_of c.memory m)), p.gone-once);
-            stay-once = p.stay-once;
+            gone_once = (mem_not c.memory p.gone (λ m. not_mem c.memory (map memory xs) d.0 (p.gone_of c.memory m)), p.gone_once);
+            stay_once = p.stay_once;
           }
 
   -- where held memory numbers differ, each that is told is told once
-  pub told-once : Distinct (map memory cs) → Distinct ms
-  told-once d =
+  pub told_once : Distinct (map memory cs) → Distinct ms
+  told_once d =
       let p = part cs (λ c m. m) d in
-      let few = no_more p.stay (map memory ds) p.stay-once p.stay-held in
-      distinct-if p.gone ms p.gone-once p.gone-told (omega (arith, p.count, go.count, few, length-map ds memory))
+      let few = no_more p.stay (map memory ds) p.stay_once p.stay_held in
+      distinct_if p.gone ms p.gone_once p.gone_told (omega (arith, p.count, go.count, few, length-map ds memory))

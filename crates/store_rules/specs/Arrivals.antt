@@ -5,7 +5,7 @@ use Rattle.counter.specs.declared.account.KeptOrder.{KeptOrder}
 use Rattle.counter.specs.declared.account.OpenOrder.{OpenOrder}
 use Rattle.counter.specs.declared.account.OpenOrder.TheVariants.{Nothing, Kept}
 use Rattle.counter.specs.declared.answers.Outcome.{Outcome}
-use Rattle.store_rules.specs.Delivery.{Fate, Engine, fateOf, deliveryOk}
+use Rattle.store_rules.specs.Delivery.{Fate, Engine, fate_of, delivery_ok}
 
 -- a refusal, or for the order that was kept what the outcome leads to
 pub data Arrival : Type 0 where
@@ -13,6 +13,6 @@ pub data Arrival : Type 0 where
   go : KeptOrder → Fate → Arrival
 
 -- 13
-abbrev pub arrivalOf : Engine → Outcome → List ℕ → OpenOrder → Arrival
-arrivalOf e o held Nothing = deny 2
-arrivalOf e o held (Kept k) = cond (deliveryOk k.order.map held o) (go k (fateOf e o)) (deny 13)
+abbrev pub arrival_of : Engine → Outcome → List ℕ → OpenOrder → Arrival
+arrival_of e o held Nothing = deny 2
+arrival_of e o held (Kept k) = cond (delivery_ok k.order.map held o) (go k (fate_of e o)) (deny 13)

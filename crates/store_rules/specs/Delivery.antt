@@ -24,10 +24,10 @@ holds m [] = false
 holds m (x ∷ l) = eqb x m || holds m l
 
 -- 13: "the memory number is already held by this store, or the map outcome doesn't suit the order"
-unfoldable pub deliveryOk : Bool → List ℕ → Outcome → Bool
-deliveryOk map held (O.Made m) = not (holds m.number held) && suits map m.mapping
-deliveryOk map held O.OutOfDevice = true
-deliveryOk map held O.OutOfHost = true
+unfoldable pub delivery_ok : Bool → List ℕ → Outcome → Bool
+delivery_ok map held (O.Made m) = not (holds m.number held) && suits map m.mapping
+delivery_ok map held O.OutOfDevice = true
+delivery_ok map held O.OutOfHost = true
 
 -- what becomes of the order: the memory is kept, or it is lost with this number, the heap charged and the object counted
 -- or not, and the memory given back or not
@@ -38,28 +38,28 @@ pub data Fate : Type 0 where
 -- which engine gives the memory of a failed map back: "only a free list's map failed"
 pub data Engine : Type 0 where
   buddy : Engine
-  freeList : Engine
+  free_list : Engine
 
-abbrev pub givesBack : Engine → Mapping → Bool
-givesBack buddy m = false
-givesBack freeList M.Failed = true
-givesBack freeList M.Mapped = false
-givesBack freeList M.NotWanted = false
-givesBack freeList M.OutOfDevice = false
-givesBack freeList M.OutOfHost = false
+abbrev pub gives_back : Engine → Mapping → Bool
+gives_back buddy m = false
+gives_back free_list M.Failed = true
+gives_back free_list M.Mapped = false
+gives_back free_list M.NotWanted = false
+gives_back free_list M.OutOfDevice = false
+gives_back free_list M.OutOfHost = false
 
-abbrev pub backOf : Engine → Mapping → ℕ → List ℕ
-backOf e m memory = cond (givesBack e m) (memory ∷ []) []
+abbrev pub back_of : Engine → Mapping → ℕ → List ℕ
+back_of e m memory = cond (gives_back e m) (memory ∷ []) []
 
 -- "11 DEVICE: out of device memory, by allocation or map"; "12 HOST: out of host memory, or map failed"
 abbrev pub mapped : Engine → ℕ → Mapping → Fate
 mapped e memory M.Mapped = kept memory
 mapped e memory M.NotWanted = kept memory
-mapped e memory M.Failed = lost 12 true (backOf e M.Failed memory)
-mapped e memory M.OutOfDevice = lost 11 true (backOf e M.OutOfDevice memory)
-mapped e memory M.OutOfHost = lost 12 true (backOf e M.OutOfHost memory)
+mapped e memory M.Failed = lost 12 true (back_of e M.Failed memory)
+mapped e memory M.OutOfDevice = lost 11 true (back_of e M.OutOfDevice memory)
+mapped e memory M.OutOfHost = lost 12 true (back_of e M.OutOfHost memory)
 
-abbrev pub fateOf : Engine → Outcome → Fate
-fateOf e (O.Made m) = mapped e m.number m.mapping
-fateOf e O.OutOfDevice = lost 11 false []
-fateOf e O.OutOfHost = lost 12 false []
+abbrev pub fate_of : Engine → Outcome → Fate
+fate_of e (O.Made m) = mapped e m.number m.mapping
+fate_of e O.OutOfDevice = lost 11 false []
+fate_of e O.OutOfHost = lost 12 false []

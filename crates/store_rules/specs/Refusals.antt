@@ -2,8 +2,8 @@
 -- exactly these.
 use Rattle.std.specs.Prelude.{◌≡◌, Bool, true, false, cond, ◌⊎◌, ℕ, ◌+◌, ◌-◌, ◌^◌, ◌≤◌, ◌<◌, get_or}
 use mathlib.Core.List.{List, Memᴰ}
-use Rattle.counter.specs.Account.{value, noHeap}
-use Rattle.counter.specs.Limits.{alignBits, heapsMost, heapBytesMost, objectsMost}
+use Rattle.counter.specs.Account.{value, no_heap}
+use Rattle.counter.specs.Limits.{align_bits, heaps_most, heap_bytes_most, objects_most}
 use Rattle.counter.specs.declared.account.Account.{Account}
 use Rattle.counter.specs.declared.account.Heap.{Heap}
 use Rattle.counter.specs.declared.account.KeptOrder.{KeptOrder}
@@ -14,12 +14,12 @@ use Rattle.counter.specs.declared.answers.Memory.{Memory}
 use Rattle.counter.specs.declared.answers.Outcome.{Outcome}
 use Rattle.counter.specs.declared.answers.Outcome.TheVariants as O
 use Rattle.counter.specs.declared.settings.StoreSettings.{StoreSettings}
-use Rattle.store_rules.specs.Delivery.{Engine, givesBack}
-use Rattle.store_rules.specs.Outcomes.{withOrder, chargedAccount, backAccount}
+use Rattle.store_rules.specs.Delivery.{Engine, gives_back}
+use Rattle.store_rules.specs.Outcomes.{with_order, charged_account, back_account}
 
 -- 1: every heap's size and used are in the table
 abbrev pub HeapsIn : Account → Type 0
-HeapsIn a = (i : ℕ) → i < heapsMost → ((get_or a.heaps i noHeap).size ≤ heapBytesMost) × ((get_or a.heaps i noHeap).used ≤ heapBytesMost)
+HeapsIn a = (i : ℕ) → i < heaps_most → ((get_or a.heaps i no_heap).size ≤ heap_bytes_most) × ((get_or a.heaps i no_heap).used ≤ heap_bytes_most)
 
 -- 2: "an order is open, on an ask, return or clean-up"
 abbrev pub OrderOpen : Account → Type 0
@@ -35,11 +35,11 @@ abbrev pub Uncovered : Heap → ℕ → ℕ → ℕ → Type 0
 Uncovered h objects chunks bytes =
     (h.used < bytes)
     ⊎ ((value h.deallocated + h.used ≡ value h.allocated → ⊥)
-    ⊎ (objectsMost < objects + chunks))
+    ⊎ (objects_most < objects + chunks))
 
 -- 5: "the alignment mask isn't of the allowed form": 2^k - 1, k 0 to 40
 abbrev pub MaskOff : ℕ → Type 0
-MaskOff mask = (k : ℕ) → k ≤ alignBits → mask ≡ 2 ^ k - 1 → ⊥
+MaskOff mask = (k : ℕ) → k ≤ align_bits → mask ≡ 2 ^ k - 1 → ⊥
 
 -- 13: "the memory number is already held by this store, or the map outcome doesn't suit the order"
 abbrev pub Unsuited : Bool → Mapping → Type 0
@@ -62,7 +62,7 @@ HostOut o = (o ≡ O.OutOfHost) ⊎ ((m : Memory) × (o ≡ O.Made m) × ((m.map
 
 -- what 11 and 12 leave of the account: the order is closed; where memory was made the heap is charged and the object counted,
 -- and what the engine gives back is given back
-abbrev pub lostFor : Engine → StoreSettings → Account → KeptOrder → Outcome → Account
-lostFor e s a k (O.Made m) = cond (givesBack e m.mapping) (backAccount s a k.order.size) (chargedAccount s a k.order.size)
-lostFor e s a k O.OutOfDevice = withOrder a Nothing
-lostFor e s a k O.OutOfHost = withOrder a Nothing
+abbrev pub lost_for : Engine → StoreSettings → Account → KeptOrder → Outcome → Account
+lost_for e s a k (O.Made m) = cond (gives_back e m.mapping) (back_account s a k.order.size) (charged_account s a k.order.size)
+lost_for e s a k O.OutOfDevice = with_order a Nothing
+lost_for e s a k O.OutOfHost = with_order a Nothing

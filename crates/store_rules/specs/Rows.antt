@@ -2,7 +2,7 @@
 -- store and of the words that the engine gives, in the order of the tests.
 use Rattle.std.specs.Prelude.{◌≡◌, ◌⊎◌, List, map, ℕ, ◌+◌, ◌^◌, ◌≤◌, ◌<◌, length}
 use Rattle.counter.specs.Account.{value, heap_at}
-use Rattle.counter.specs.Limits.{heapBytesMost, spent}
+use Rattle.counter.specs.Limits.{heap_bytes_most, spent}
 use Rattle.counter.specs.Reasons.{Reasons, none, reason, thereafter, Clear}
 use Rattle.counter.specs.declared.account.Account.{Account}
 use Rattle.counter.specs.declared.account.Heap.{Heap}
@@ -11,7 +11,7 @@ use Rattle.counter.specs.declared.account.OpenOrder.TheVariants.{Kept}
 use Rattle.counter.specs.declared.answers.Block.{Block}
 use Rattle.counter.specs.declared.answers.Outcome.{Outcome}
 use Rattle.counter.specs.declared.settings.StoreSettings.{StoreSettings}
-use Rattle.store_rules.specs.Orders.{orderFrom}
+use Rattle.store_rules.specs.Orders.{order_from}
 use Rattle.store_rules.specs.Refusals.{HeapsIn, OrderOpen, NoneFor, Uncovered, MaskOff, UnwelcomeTo, DeviceOut, HostOut}
 use Rattle.store_rules.specs.Views.{OnLoan, sizes}
 use Rattle.store_rules.specs.declared.Chunk.{Chunk}
@@ -23,7 +23,7 @@ pub record LeadsTo (own : StoreSettings) (a : Account) (tests : KeptOrder → Re
   pub its : a.order ≡ Kept kept
   pub clear : Clear (tests kept)
   pub needed : Lacks kept
-  pub same : kept.order ≡ orderFrom own (size kept)
+  pub same : kept.order ≡ order_from own (size kept)
 
 module _ (E : Words) where
   -- 1: "a value outside the table", "a lent table of the wrong length": what set-up is lent, and the account's heaps
@@ -56,8 +56,8 @@ module _ (E : Words) where
   Spent s h size mask t =
       (spent ≤ E.given t)
       ⊎ (E.Needed s size mask t
-      × ((heapBytesMost < h.used + E.orderSize s size mask t)
-      ⊎ ((2 ^ 128 ≤ value h.allocated + E.orderSize s size mask t) ⊎ E.Numberless s t)))
+      × ((heap_bytes_most < h.used + E.order_size s size mask t)
+      ⊎ ((2 ^ 128 ≤ value h.allocated + E.order_size s size mask t) ⊎ E.Numberless s t)))
 
   -- 9: "a chunk is needed and no device object remains"
   abbrev pub NoObject : E.Settings → ℕ → ℕ → ℕ → E.Tables → Type 0
@@ -66,46 +66,46 @@ module _ (E : Words) where
   -- ---- the tests of each call, in their order
 
   -- 1 to 4 of a call that is lent no list, and of one that is
-  abbrev pub gateRows : E.Settings → Account → E.Tables → Reasons
-  gateRows s a t =
+  abbrev pub gate_rows : E.Settings → Account → E.Tables → Reasons
+  gate_rows s a t =
       reason (InTable s a t → ⊥) 1 (reason (OrderOpen a) 2 (reason (E.Sound s t → ⊥) 3 (reason (Short s a t) 4 none)))
 
-  abbrev pub listRows : E.Settings → Account → E.Tables → List ℕ → Reasons
-  listRows s a t list =
+  abbrev pub list_rows : E.Settings → Account → E.Tables → List ℕ → Reasons
+  list_rows s a t list =
       reason (WithList s a t list → ⊥) 1 (reason (OrderOpen a) 2 (reason (E.Sound s t → ⊥) 3 (reason (Short s a t) 4 none)))
 
   -- "5, 6, 8, 10, 9 for an ask"
-  abbrev pub askTests : E.Settings → Heap → ℕ → ℕ → ℕ → E.Tables → Reasons
-  askTests s h objects size mask t =
+  abbrev pub ask_tests : E.Settings → Heap → ℕ → ℕ → ℕ → E.Tables → Reasons
+  ask_tests s h objects size mask t =
       reason (MaskOff mask ⊎ E.MaskHigh s mask) 5
       (reason (E.SizeOff s size mask) 6
       (reason (Full s size mask t) 8 (reason (Spent s h size mask t) 10 (reason (NoObject s objects size mask t) 9 none))))
 
-  abbrev pub askRows : E.Settings → Account → ℕ → ℕ → E.Tables → Reasons
-  askRows s a size mask t = thereafter (gateRows s a t) (askTests s (heap_at a (E.store s).heap) a.objects size mask t)
+  abbrev pub ask_rows : E.Settings → Account → ℕ → ℕ → E.Tables → Reasons
+  ask_rows s a size mask t = thereafter (gate_rows s a t) (ask_tests s (heap_at a (E.store s).heap) a.objects size mask t)
 
   -- 3 on a delivery: "tests 5 to 10 on the kept ask" lead "to that order": none of them speaks, a chunk is needed, and this
   -- is the order for it
   abbrev pub Leads : E.Settings → Account → E.Tables → Type 0
   Leads s a t =
-      LeadsTo (E.store s) a (λ k. askTests s (heap_at a (E.store s).heap) a.objects k.ask.size k.ask.mask t) (λ k. E.Needed s k.ask.size k.ask.mask t) (λ k. E.orderSize s k.ask.size k.ask.mask t)
+      LeadsTo (E.store s) a (λ k. ask_tests s (heap_at a (E.store s).heap) a.objects k.ask.size k.ask.mask t) (λ k. E.Needed s k.ask.size k.ask.mask t) (λ k. E.order_size s k.ask.size k.ask.mask t)
 
   -- 1 to 4 of a delivery
-  abbrev pub keptRows : E.Settings → Account → E.Tables → Reasons
-  keptRows s a t =
+  abbrev pub kept_rows : E.Settings → Account → E.Tables → Reasons
+  kept_rows s a t =
       reason (InTable s a t → ⊥) 1
       (reason (NoneFor (E.store s).number a) 2 (reason (E.Sound s t × Leads s a t → ⊥) 3 (reason (Short s a t) 4 none)))
 
   -- "13, 11, 12 for a delivery"
-  abbrev pub deliverRows : E.Settings → Account → Outcome → E.Tables → Reasons
-  deliverRows s a o t =
-      thereafter (keptRows s a t)
+  abbrev pub deliver_rows : E.Settings → Account → Outcome → E.Tables → Reasons
+  deliver_rows s a o t =
+      thereafter (kept_rows s a t)
       (reason (UnwelcomeTo a (map (λ (c : Chunk). c.memory) (E.view s t).chunks) o) 13 (reason (DeviceOut o) 11 (reason (HostOut o) 12 none)))
 
   -- "7 for a return"
-  abbrev pub returnRows : E.Settings → Account → Block → E.Tables → List ℕ → Reasons
-  returnRows s a b t list = thereafter (listRows s a t list) (reason (Stale s b t) 7 none)
+  abbrev pub return_rows : E.Settings → Account → Block → E.Tables → List ℕ → Reasons
+  return_rows s a b t list = thereafter (list_rows s a t list) (reason (Stale s b t) 7 none)
 
   -- "Set-up and ranking test only 1"
-  abbrev pub setUpRows : E.Settings → E.Tables → Reasons
-  setUpRows s t = reason (E.Fits s t → ⊥) 1 none
+  abbrev pub set_up_rows : E.Settings → E.Tables → Reasons
+  set_up_rows s t = reason (E.Fits s t → ⊥) 1 none

@@ -1,11 +1,11 @@
 -- The tests that both engines share: the gate, and 01's numbers 2 and 4.
 use Rattle.std.specs.Prelude.{Bool, true, false, ◌&&◌, [], ◌∷◌, ℕ, ◌+◌, eqb, leb}
 use Rattle.counter.specs.Gate.{Row}
-use Rattle.counter.specs.Limits.{objectsMost}
+use Rattle.counter.specs.Limits.{objects_most}
 use Rattle.counter.specs.declared.account.Heap.{Heap}
 use Rattle.counter.specs.declared.account.OpenOrder.{OpenOrder}
 use Rattle.counter.specs.declared.account.OpenOrder.TheVariants.{Nothing, Kept}
-use Rattle.heap.specs.Heap.{agreesOk}
+use Rattle.heap.specs.Heap.{agrees_ok}
 
 -- 2, on an ask, return or clean-up: no order is open
 abbrev pub no_order : OpenOrder → Bool
@@ -13,15 +13,15 @@ no_order Nothing = true
 no_order (Kept k) = false
 
 -- 2, on a delivery: an order is open for the store with this number
-abbrev pub openFor : ℕ → OpenOrder → Bool
-openFor store Nothing = false
-openFor store (Kept k) = eqb k.order.store store
+abbrev pub open_for : ℕ → OpenOrder → Bool
+open_for store Nothing = false
+open_for store (Kept k) = eqb k.order.store store
 
 -- 4: heap used covers the sum of the store's chunks and is allocated less deallocated, and objects with its chunks are
 -- at most 2^32 - 1
-unfoldable pub coversOk : Heap → ℕ → ℕ → ℕ → Bool
-coversOk h objects chunks bytes = leb bytes h.used && (agreesOk h && leb (objects + chunks) objectsMost)
+unfoldable pub covers_ok : Heap → ℕ → ℕ → ℕ → Bool
+covers_ok h objects chunks bytes = leb bytes h.used && (agrees_ok h && leb (objects + chunks) objects_most)
 
 -- the gate that a call passes before it is decided: 1, every value and length; 2, the order; 3, the store; 4, the account
-abbrev pub gateRow : Bool → Bool → Bool → Bool → Row
-gateRow lent order sound covered = (lent, 1) ∷ (order, 2) ∷ (sound, 3) ∷ (covered, 4) ∷ []
+abbrev pub gate_row : Bool → Bool → Bool → Bool → Row
+gate_row lent order sound covered = (lent, 1) ∷ (order, 2) ∷ (sound, 3) ∷ (covered, 4) ∷ []

@@ -34,18 +34,18 @@ abbrev pub OnLoan : Block → List Loan → Type 0
 OnLoan b ls = (l : Loan) × Memᴰ l ls × Matches b l
 
 -- 7, tested: the loan is the block's
-abbrev pub sameLoan : Block → Loan → Bool
-sameLoan b l = eqb l.serial b.serial && (eqb l.chunk b.chunk && (eqb l.offset b.offset && eqb l.size b.size))
+abbrev pub same_loan : Block → Loan → Bool
+same_loan b l = eqb l.serial b.serial && (eqb l.chunk b.chunk && (eqb l.offset b.offset && eqb l.size b.size))
 
 -- a loan is one of the blocks
 abbrev pub among : List Block → Loan → Bool
 among [] l = false
-among (b ∷ bs) l = sameLoan b l || among bs l
+among (b ∷ bs) l = same_loan b l || among bs l
 
 -- the loans that are none of them
-abbrev pub loansLess : List Block → List Loan → List Loan
-loansLess bs [] = []
-loansLess bs (l ∷ ls) = cond (among bs l) (loansLess bs ls) (l ∷ loansLess bs ls)
+abbrev pub loans_less : List Block → List Loan → List Loan
+loans_less bs [] = []
+loans_less bs (l ∷ ls) = cond (among bs l) (loans_less bs ls) (l ∷ loans_less bs ls)
 
 module _ {A : Type 0} where
   -- P holds of each

@@ -13,7 +13,7 @@ pub record Words : Type 1 where
   -- when they are sound, and when no held chunk has a fitting free place; how long the chunk is that is ordered then
   pub Sound : Settings → Tables → Type 0
   pub Needed : Settings → ℕ → ℕ → Tables → Type 0
-  pub orderSize : Settings → ℕ → ℕ → Tables → ℕ
+  pub order_size : Settings → ℕ → ℕ → Tables → ℕ
   -- 1: settings and tables; 5: a mask of the allowed form that it does not take; 6: the size; 8 and 10: what it may run out of besides
   pub Fits : Settings → Tables → Type 0
   pub MaskHigh : Settings → ℕ → Type 0

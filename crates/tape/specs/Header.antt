@@ -5,7 +5,7 @@
 -- allows the settings is set-up's own test.
 use Rattle.std.specs.Prelude.{Bool, cond, ◌&&◌, List, [], ◌∷◌, ℕ, ◌*◌, ◌^◌, ◌-◌, eqb, leb, length}
 use Rattle.lists.specs.Tests.{all}
-use Rattle.counter.specs.Limits.{heapBytesMost, objectsMost}
+use Rattle.counter.specs.Limits.{heap_bytes_most, objects_most}
 use Rattle.counter.specs.declared.settings.StoreSettings.{StoreSettings}
 use Rattle.tape.specs.Numbers.{word_bytes, word_at}
 use Rattle.tape.specs.declared.header.Header.{Header}
@@ -13,23 +13,23 @@ use Rattle.tape.specs.declared.header.Header.TheVariants.{FreeList, Buddy, Refus
 use Rattle.tape.specs.declared.header.FreeListStart.{FreeListStart}
 use Rattle.tape.specs.declared.header.BuddyStart.{BuddyStart}
 
-abbrev pub headerWords : ℕ
-headerWords = 13
+abbrev pub header_words : ℕ
+header_words = 13
 
-abbrev pub headerBytes : ℕ
-headerBytes = word_bytes * headerWords
+abbrev pub header_bytes : ℕ
+header_bytes = word_bytes * header_words
 
 -- the greatest number of a field of 32 bits
-abbrev pub narrowMost : ℕ
-narrowMost = 2 ^ 32 - 1
+abbrev pub narrow_most : ℕ
+narrow_most = 2 ^ 32 - 1
 
 -- ---- engines
 
-abbrev pub buddyEngine : ℕ
-buddyEngine = 1
+abbrev pub buddy_engine : ℕ
+buddy_engine = 1
 
-abbrev pub freeListEngine : ℕ
-freeListEngine = 2
+abbrev pub free_list_engine : ℕ
+free_list_engine = 2
 
 -- ---- what each word holds
 
@@ -68,8 +68,8 @@ chunks = 9
 abbrev pub pairs : ℕ
 pairs = 10
 
-abbrev pub heapSize : ℕ
-heapSize = 11
+abbrev pub size_of_heap : ℕ
+size_of_heap = 11
 
 abbrev pub objects : ℕ
 objects = 12
@@ -80,35 +80,35 @@ field i bs = word_at bs (word_bytes * i)
 
 -- ---- what it says
 
-abbrev pub fitsRow : List ℕ → List Bool
-fitsRow bs =
-    leb headerBytes (length bs)
-    ∷ leb (field number bs) narrowMost
-    ∷ leb (field memtype bs) narrowMost
-    ∷ leb (field properties bs) narrowMost
-    ∷ leb (field heapSize bs) heapBytesMost
-    ∷ leb (field objects bs) objectsMost
+abbrev pub fits_row : List ℕ → List Bool
+fits_row bs =
+    leb header_bytes (length bs)
+    ∷ leb (field number bs) narrow_most
+    ∷ leb (field memtype bs) narrow_most
+    ∷ leb (field properties bs) narrow_most
+    ∷ leb (field size_of_heap bs) heap_bytes_most
+    ∷ leb (field objects bs) objects_most
     ∷ []
 
-unfoldable pub fitsOk : List ℕ → Bool
-fitsOk bs = all (fitsRow bs)
+unfoldable pub fits_ok : List ℕ → Bool
+fits_ok bs = all (fits_row bs)
 
-abbrev pub storeIn : List ℕ → StoreSettings
-storeIn bs =
+abbrev pub store_in : List ℕ → StoreSettings
+store_in bs =
     record { number = field number bs; memtype = field memtype bs; properties = field properties bs; heap = field heap bs; atom = field atom bs; loans = field loans bs; chunks = field chunks bs }
 
-abbrev pub freeListIn : List ℕ → FreeListStart
-freeListIn bs =
-    record { settings = record { store = storeIn bs; start = field least bs; last = field greatest bs }; heap_size = field heapSize bs; objects = field objects bs }
+abbrev pub free_list_in : List ℕ → FreeListStart
+free_list_in bs =
+    record { settings = record { store = store_in bs; start = field least bs; last = field greatest bs }; heap_size = field size_of_heap bs; objects = field objects bs }
 
-abbrev pub buddyIn : List ℕ → BuddyStart
-buddyIn bs =
-    record { settings = record { store = storeIn bs; minimal = field least bs; initial = field greatest bs; pairs = field pairs bs }; heap_size = field heapSize bs; objects = field objects bs }
+abbrev pub buddy_in : List ℕ → BuddyStart
+buddy_in bs =
+    record { settings = record { store = store_in bs; minimal = field least bs; initial = field greatest bs; pairs = field pairs bs }; heap_size = field size_of_heap bs; objects = field objects bs }
 
-unfoldable pub headerOf : List ℕ → Header
-headerOf bs =
-    cond (fitsOk bs)
-    (cond (eqb (field engine bs) freeListEngine && eqb (field pairs bs) 0)
-    (FreeList (freeListIn bs))
-    (cond (eqb (field engine bs) buddyEngine) (Buddy (buddyIn bs)) Refused))
+unfoldable pub header_of : List ℕ → Header
+header_of bs =
+    cond (fits_ok bs)
+    (cond (eqb (field engine bs) free_list_engine && eqb (field pairs bs) 0)
+    (FreeList (free_list_in bs))
+    (cond (eqb (field engine bs) buddy_engine) (Buddy (buddy_in bs)) Refused))
     Refused

@@ -20,8 +20,8 @@ deliver = 2
 abbrev pub return : ℕ
 return = 3
 
-abbrev pub cleanUp : ℕ
-cleanUp = 4
+abbrev pub clean_up : ℕ
+clean_up = 4
 
 -- ---- outcome bytes: "in turn: mapped, not wanted, map failed, map out of device memory, map out of host memory, device
 -- refusal, host refusal"
@@ -29,94 +29,94 @@ cleanUp = 4
 abbrev pub mapped : ℕ
 mapped = 0
 
-abbrev pub notWanted : ℕ
-notWanted = 1
+abbrev pub not_wanted : ℕ
+not_wanted = 1
 
 abbrev pub failed : ℕ
 failed = 2
 
-abbrev pub outOfDevice : ℕ
-outOfDevice = 3
+abbrev pub out_of_device : ℕ
+out_of_device = 3
 
-abbrev pub outOfHost : ℕ
-outOfHost = 4
+abbrev pub out_of_host : ℕ
+out_of_host = 4
 
-abbrev pub deviceRefusal : ℕ
-deviceRefusal = 5
+abbrev pub device_refusal : ℕ
+device_refusal = 5
 
-abbrev pub hostRefusal : ℕ
-hostRefusal = 6
+abbrev pub host_refusal : ℕ
+host_refusal = 6
 
 -- ---- how many bytes a record of each kind has, the kind's own among them
 
 -- two words
-abbrev pub askBytes : ℕ
-askBytes = 17
+abbrev pub ask_bytes : ℕ
+ask_bytes = 17
 
 -- a byte and a word
-abbrev pub deliverBytes : ℕ
-deliverBytes = 10
+abbrev pub deliver_bytes : ℕ
+deliver_bytes = 10
 
 -- four words
-abbrev pub returnBytes : ℕ
-returnBytes = 33
+abbrev pub return_bytes : ℕ
+return_bytes = 33
 
-abbrev pub cleanUpBytes : ℕ
-cleanUpBytes = 1
+abbrev pub clean_up_bytes : ℕ
+clean_up_bytes = 1
 
 -- of an unknown kind only the kind's own byte is read
 unfoldable pub length_of : ℕ → ℕ
-length_of k = cond (eqb k ask) askBytes (cond (eqb k deliver) deliverBytes (cond (eqb k return) returnBytes cleanUpBytes))
+length_of k = cond (eqb k ask) ask_bytes (cond (eqb k deliver) deliver_bytes (cond (eqb k return) return_bytes clean_up_bytes))
 
 -- ---- where the words of a body begin, and the two parts of a delivery's
 
 abbrev pub first_at : ℕ
 first_at = 1
 
-abbrev pub secondAt : ℕ
-secondAt = first_at + word_bytes
+abbrev pub second_at : ℕ
+second_at = first_at + word_bytes
 
-abbrev pub thirdAt : ℕ
-thirdAt = secondAt + word_bytes
+abbrev pub third_at : ℕ
+third_at = second_at + word_bytes
 
-abbrev pub fourthAt : ℕ
-fourthAt = thirdAt + word_bytes
+abbrev pub fourth_at : ℕ
+fourth_at = third_at + word_bytes
 
-abbrev pub outcomeAt : ℕ
-outcomeAt = 1
+abbrev pub outcome_at : ℕ
+outcome_at = 1
 
-abbrev pub memoryAt : ℕ
-memoryAt = 2
+abbrev pub memory_at : ℕ
+memory_at = 2
 
 -- ---- what a record says
 
 -- what became of mapping, of an outcome up to map out of host memory
-unfoldable pub mappingOf : ℕ → Mapping
-mappingOf code =
+unfoldable pub mapping_of : ℕ → Mapping
+mapping_of code =
     cond (eqb code mapped) M.Mapped
-    (cond (eqb code notWanted) M.NotWanted (cond (eqb code failed) M.Failed (cond (eqb code outOfDevice) M.OutOfDevice M.OutOfHost)))
+    (cond (eqb code not_wanted) M.NotWanted (cond (eqb code failed) M.Failed (cond (eqb code out_of_device) M.OutOfDevice M.OutOfHost)))
 
 -- "the memory is 0 for the last two, else whatever the caller gave"
-unfoldable pub deliveryIn : ℕ → ℕ → Record
-deliveryIn code memory =
-    cond (leb code outOfHost) (R.Deliver (O.Made (record { number = memory; mapping = mappingOf code })))
-    (cond (eqb code deviceRefusal && eqb memory 0) (R.Deliver O.OutOfDevice)
-    (cond (eqb code hostRefusal && eqb memory 0) (R.Deliver O.OutOfHost) R.Torn))
+unfoldable pub delivery_in : ℕ → ℕ → Record
+delivery_in code memory =
+    cond (leb code out_of_host) (R.Deliver (O.Made (record { number = memory; mapping = mapping_of code })))
+    (cond (eqb code device_refusal && eqb memory 0) (R.Deliver O.OutOfDevice)
+    (cond (eqb code host_refusal && eqb memory 0) (R.Deliver O.OutOfHost) R.Torn))
 
-abbrev pub askIn : List ℕ → Ask
-askIn bs = record { size = word_at bs first_at; mask = word_at bs secondAt }
+abbrev pub ask_in : List ℕ → Ask
+ask_in bs = record { size = word_at bs first_at; mask = word_at bs second_at }
 
-abbrev pub blockIn : List ℕ → Block
-blockIn bs = record { serial = word_at bs first_at; chunk = word_at bs secondAt; offset = word_at bs thirdAt; size = word_at bs fourthAt }
+abbrev pub block_in : List ℕ → Block
+block_in bs = record { serial = word_at bs first_at; chunk = word_at bs second_at; offset = word_at bs third_at; size = word_at bs fourth_at }
 
 -- by its kind, where the body isn't short
 unfoldable pub body_of : ℕ → List ℕ → Bool → Record
 body_of k bs buddy =
-    cond (eqb k ask) (R.Ask (askIn bs))
-    (cond (eqb k deliver) (deliveryIn (get_or bs outcomeAt 0) (word_at bs memoryAt))
-    (cond (eqb k return) (R.Return (blockIn bs)) (cond (eqb k cleanUp && not buddy) R.CleanUp R.Torn)))
+    cond (eqb k ask) (R.Ask (ask_in bs))
+    (cond (eqb k deliver) (delivery_in (get_or bs outcome_at 0) (word_at bs memory_at))
+    (cond (eqb k return) (R.Return (block_in bs)) (cond (eqb k clean_up && not buddy) R.CleanUp R.Torn)))
 
 -- "An unknown kind or outcome, a nonzero memory with outcome 5 or 6, a clean-up for a buddy store, or a short body" is torn;
 -- so are no bytes at all
-unfoldable pub recordOf : List ℕ → Bool → Record
-recordOf bs buddy = cond (ltb (length bs) (length_of (get_or bs 0 0))) R.Torn (body_of (get_or bs 0 0) bs buddy)
+unfoldable pub record_of : List ℕ → Bool → Record
+record_of bs buddy = cond (ltb (length bs) (length_of (get_or bs 0 0))) R.Torn (body_of (get_or bs 0 0) bs buddy)

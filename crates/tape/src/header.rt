@@ -1,6 +1,6 @@
 // A tape's header: 13 words that name a store's settings and the account it begins with.
 ghost use Rattle.std.specs.Prelude.{◌≡◌, true, ◌<◌, ◌≤◌};
-ghost use Rattle.tape.specs.Header.{headerWords, narrowMost, field, fitsOk, storeIn, freeListIn, buddyIn, headerOf};
+ghost use Rattle.tape.specs.Header.{header_words, narrow_most, field, fits_ok, store_in, free_list_in, buddy_in, header_of};
 
 use crate::numbers::{WORD_BYTES, word_at};
 use counter::{BuddySettings, FreeListSettings, HEAP_BYTES_MOST, OBJECTS_MOST, StoreSettings};
@@ -66,7 +66,7 @@ pub enum Header {
 }
 
 fn word(bytes: &[u8], i: usize) -> u64
-    requires { i < headerWords }
+    requires { i < header_words }
     ensures { result ≡ field i bytes.now }
 {
     word_at(bytes, WORD_BYTES * i)
@@ -74,7 +74,7 @@ fn word(bytes: &[u8], i: usize) -> u64
 
 // Whether the header is whole, and each word fits its field.
 fn fits(bytes: &[u8]) -> bool
-    ensures { result ≡ fitsOk bytes.now }
+    ensures { result ≡ fits_ok bytes.now }
 {
     (HEADER_BYTES <= bytes.len())
         & (word(bytes, NUMBER) <= NARROW_MOST)
@@ -86,15 +86,15 @@ fn fits(bytes: &[u8]) -> bool
 
 // A number of at most 32 bits.
 fn narrow(n: u64) -> u32
-    requires { n ≤ narrowMost }
+    requires { n ≤ narrow_most }
     ensures { result ≡ n }
 {
     n as u32
 }
 
 fn store(bytes: &[u8]) -> StoreSettings
-    requires { fitsOk bytes.now ≡ true }
-    ensures { result ≡ storeIn bytes.now }
+    requires { fits_ok bytes.now ≡ true }
+    ensures { result ≡ store_in bytes.now }
 {
     let number = narrow(word(bytes, NUMBER));
     let memtype = narrow(word(bytes, MEMTYPE));
@@ -115,8 +115,8 @@ fn store(bytes: &[u8]) -> StoreSettings
 }
 
 fn free_list(bytes: &[u8]) -> FreeListStart
-    requires { fitsOk bytes.now ≡ true }
-    ensures { result ≡ freeListIn bytes.now }
+    requires { fits_ok bytes.now ≡ true }
+    ensures { result ≡ free_list_in bytes.now }
 {
     let store = store(bytes);
     let start = word(bytes, LEAST);
@@ -136,8 +136,8 @@ fn free_list(bytes: &[u8]) -> FreeListStart
 }
 
 fn buddy(bytes: &[u8]) -> BuddyStart
-    requires { fitsOk bytes.now ≡ true }
-    ensures { result ≡ buddyIn bytes.now }
+    requires { fits_ok bytes.now ≡ true }
+    ensures { result ≡ buddy_in bytes.now }
 {
     let store = store(bytes);
     let minimal = word(bytes, LEAST);
@@ -160,7 +160,7 @@ fn buddy(bytes: &[u8]) -> BuddyStart
 
 // What the header at the front of these bytes says.
 pub fn read_header(bytes: &[u8]) -> Header
-    ensures { result ≡ headerOf bytes.now }
+    ensures { result ≡ header_of bytes.now }
 {
     if fits(bytes) {
         let engine = word(bytes, ENGINE);

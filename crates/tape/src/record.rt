@@ -1,6 +1,6 @@
 // A record of a call: one byte of kind, then a body whose length the kind fixes.
 ghost use Rattle.std.specs.Prelude.{◌≡◌};
-ghost use Rattle.tape.specs.Record.{length_of, mappingOf, deliveryIn, blockIn, recordOf};
+ghost use Rattle.tape.specs.Record.{length_of, mapping_of, delivery_in, block_in, record_of};
 
 use crate::numbers::{WORD_BYTES, byte, word_at};
 use counter::{Ask, Block, Mapping, Memory, Outcome};
@@ -78,7 +78,7 @@ pub fn record_length(kind: u8) -> usize
 
 // Of an outcome with memory.
 fn mapping(code: u8) -> Mapping
-    ensures { result ≡ mappingOf code }
+    ensures { result ≡ mapping_of code }
 {
     if code == MAPPED {
         return Mapping::Mapped;
@@ -96,7 +96,7 @@ fn mapping(code: u8) -> Mapping
 }
 
 fn delivery(code: u8, memory: u64) -> Record
-    ensures { result ≡ deliveryIn code memory }
+    ensures { result ≡ delivery_in code memory }
 {
     if code <= OUT_OF_HOST {
         let mapping = mapping(code);
@@ -116,7 +116,7 @@ fn delivery(code: u8, memory: u64) -> Record
 }
 
 fn block(bytes: &[u8]) -> Block
-    ensures { result ≡ blockIn bytes.now }
+    ensures { result ≡ block_in bytes.now }
 {
     let serial = word_at(bytes, FIRST_AT);
     let chunk = word_at(bytes, SECOND_AT);
@@ -132,7 +132,7 @@ fn block(bytes: &[u8]) -> Block
 
 // The record at the front of these bytes, of a buddy store's tape or a free list's.
 pub fn read_record(bytes: &[u8], buddy: bool) -> Record
-    ensures { result ≡ recordOf bytes.now buddy }
+    ensures { result ≡ record_of bytes.now buddy }
 {
     let kind = byte(bytes, 0, 0);
     if bytes.len() < record_length(kind) {

@@ -1,7 +1,7 @@
 // Answers, written in six words.
 ghost use Rattle.std.specs.Prelude.{◌≡◌, []};
-ghost use Rattle.counter.specs.Paper.{refusal, refusalOf, block_of, setUpSaid, askSaid, deliverSaid, releaseSaid, rankSaid};
-ghost use Rattle.wire_rules.specs.Wire.{answerOut, saidOut};
+ghost use Rattle.counter.specs.Paper.{refusal, refusal_of, block_of, set_up_said, ask_said, deliver_said, release_said, rank_said};
+ghost use Rattle.wire_rules.specs.Wire.{answer_out, said_out};
 
 use counter::{
     AskAnswer, DeliverAnswer, Lent, RankAnswer, Refused, ReleaseAnswer, SetUpAnswer, ToFree,
@@ -22,7 +22,7 @@ const RANKED: u64 = 5;
 
 // Six words, each where there is room for it.
 fn tell_by_words(w: &mut [u64], what: u64, a: u64, b: u64, c: u64, d: u64)
-    ensures { w.new ≡ answerOut what a b c d w.old }
+    ensures { w.new ≡ answer_out what a b c d w.old }
 {
     words::put(w, 0, what);
     words::put(w, 1, a);
@@ -34,7 +34,7 @@ fn tell_by_words(w: &mut [u64], what: u64, a: u64, b: u64, c: u64, d: u64)
 
 // The same, under one test where there is room for all six.
 fn tell(w: &mut [u64], what: u64, a: u64, b: u64, c: u64, d: u64)
-    ensures { w.new ≡ answerOut what a b c d w.old }
+    ensures { w.new ≡ answer_out what a b c d w.old }
 {
     if 5 < w.len() {
         w[0] = what;
@@ -49,7 +49,7 @@ fn tell(w: &mut [u64], what: u64, a: u64, b: u64, c: u64, d: u64)
 }
 
 fn tell_refused(w: &mut [u64], r: Refused)
-    ensures { w.new ≡ saidOut (refusalOf r) w.old }
+    ensures { w.new ≡ said_out (refusal_of r) w.old }
 {
     let refusal = r.refusal;
     let n = refusal.number() as u64;
@@ -61,7 +61,7 @@ fn tell_refused(w: &mut [u64], r: Refused)
 }
 
 fn tell_block(w: &mut [u64], lent: Lent)
-    ensures { w.new ≡ saidOut (block_of lent) w.old }
+    ensures { w.new ≡ said_out (block_of lent) w.old }
 {
     let b = lent.block;
     tell(w, BLOCK, b.serial, b.chunk, b.offset, b.size)
@@ -69,13 +69,13 @@ fn tell_block(w: &mut [u64], lent: Lent)
 
 // Words that are no settings, account or outcome: 1, and nothing to free.
 pub fn tell_bad(w: &mut [u64])
-    ensures { w.new ≡ saidOut (refusal 1 []) w.old }
+    ensures { w.new ≡ said_out (refusal 1 []) w.old }
 {
     tell(w, REFUSED, 1, 0, 0, 0)
 }
 
 pub fn tell_set_up(w: &mut [u64], answer: SetUpAnswer)
-    ensures { w.new ≡ saidOut (setUpSaid answer) w.old }
+    ensures { w.new ≡ said_out (set_up_said answer) w.old }
 {
     match answer {
         SetUpAnswer::Ready => tell(w, READY, 0, 0, 0, 0),
@@ -84,7 +84,7 @@ pub fn tell_set_up(w: &mut [u64], answer: SetUpAnswer)
 }
 
 pub fn tell_asked(w: &mut [u64], answer: AskAnswer)
-    ensures { w.new ≡ saidOut (askSaid answer) w.old }
+    ensures { w.new ≡ said_out (ask_said answer) w.old }
 {
     match answer {
         AskAnswer::Block(lent) => tell_block(w, lent),
@@ -101,7 +101,7 @@ pub fn tell_asked(w: &mut [u64], answer: AskAnswer)
 }
 
 pub fn tell_delivered(w: &mut [u64], answer: DeliverAnswer)
-    ensures { w.new ≡ saidOut (deliverSaid answer) w.old }
+    ensures { w.new ≡ said_out (deliver_said answer) w.old }
 {
     match answer {
         DeliverAnswer::Block(lent) => tell_block(w, lent),
@@ -110,7 +110,7 @@ pub fn tell_delivered(w: &mut [u64], answer: DeliverAnswer)
 }
 
 pub fn tell_released(w: &mut [u64], answer: ReleaseAnswer)
-    ensures { w.new ≡ saidOut (releaseSaid answer) w.old }
+    ensures { w.new ≡ said_out (release_said answer) w.old }
 {
     match answer {
         ReleaseAnswer::Released(n) => tell(w, RELEASED, n, 0, 0, 0),
@@ -119,7 +119,7 @@ pub fn tell_released(w: &mut [u64], answer: ReleaseAnswer)
 }
 
 pub fn tell_ranked(w: &mut [u64], answer: RankAnswer)
-    ensures { w.new ≡ saidOut (rankSaid answer) w.old }
+    ensures { w.new ≡ said_out (rank_said answer) w.old }
 {
     match answer {
         RankAnswer::Ranked => tell(w, RANKED, 0, 0, 0, 0),

@@ -1,6 +1,6 @@
 // A store's settings, read from words.
 ghost use Rattle.std.specs.Prelude.{◌≡◌, true, ◌≤◌};
-ghost use Rattle.wire_rules.specs.Wire.{narrowMost, narrowOk, listWords, buddyWords, storeIn, listIn, buddyIn, settingsOk};
+ghost use Rattle.wire_rules.specs.Wire.{narrow_most, narrow_ok, list_words, buddy_words, store_in, list_in, buddy_in, settings_ok};
 
 use counter::{BuddySettings, FreeListSettings, StoreSettings};
 
@@ -14,13 +14,13 @@ const NARROW_MOST: u64 = 4_294_967_295;
 
 // Whether word i is a number of 32 bits.
 pub fn is_narrow(w: &[u64], i: usize) -> bool
-    ensures { result ≡ narrowOk w.now i }
+    ensures { result ≡ narrow_ok w.now i }
 {
     words::word(w, i) <= NARROW_MOST
 }
 
 pub fn narrow(n: u64) -> u32
-    requires { n ≤ narrowMost }
+    requires { n ≤ narrow_most }
     ensures { result ≡ n }
 {
     n as u32
@@ -28,7 +28,7 @@ pub fn narrow(n: u64) -> u32
 
 // Whether there are n words, and number, memory type and properties are of 32 bits.
 pub fn is_settings(w: &[u64], n: usize) -> bool
-    ensures { result ≡ settingsOk n w.now }
+    ensures { result ≡ settings_ok n w.now }
 {
     if w.len() != n {
         return false;
@@ -38,8 +38,8 @@ pub fn is_settings(w: &[u64], n: usize) -> bool
 
 // The seven words that every store's settings begin with. That there are so many is known, so no word needs a test of its own.
 fn read_store(w: &[u64], n: usize) -> StoreSettings
-    requires { (settingsOk n w.now ≡ true) × (7 ≤ n) }
-    ensures { result ≡ storeIn w.now }
+    requires { (settings_ok n w.now ≡ true) × (7 ≤ n) }
+    ensures { result ≡ store_in w.now }
 {
     StoreSettings {
         number: narrow(w[0]),
@@ -53,8 +53,8 @@ fn read_store(w: &[u64], n: usize) -> StoreSettings
 }
 
 pub fn read_free_list(w: &[u64]) -> FreeListSettings
-    requires { settingsOk listWords w.now ≡ true }
-    ensures { result ≡ listIn w.now }
+    requires { settings_ok list_words w.now ≡ true }
+    ensures { result ≡ list_in w.now }
 {
     FreeListSettings {
         store: read_store(w, LIST_WORDS),
@@ -64,8 +64,8 @@ pub fn read_free_list(w: &[u64]) -> FreeListSettings
 }
 
 pub fn read_buddy(w: &[u64]) -> BuddySettings
-    requires { settingsOk buddyWords w.now ≡ true }
-    ensures { result ≡ buddyIn w.now }
+    requires { settings_ok buddy_words w.now ≡ true }
+    ensures { result ≡ buddy_in w.now }
 {
     BuddySettings {
         store: read_store(w, BUDDY_WORDS),

@@ -1,12 +1,12 @@
 // A store's share of the account, read from words and written again; wire_rules' specs/Wire says which word is what.
 ghost use Rattle.std.specs.Prelude.{◌≡◌, true, ◌<◌};
 ghost use Rattle.counter.specs.Account.{heap_at};
-ghost use Rattle.counter.specs.Limits.{heapsMost};
-ghost use Rattle.counter.specs.Paper.{askSaid};
-ghost use Rattle.counter.specs.Table.{heapsOk};
+ghost use Rattle.counter.specs.Limits.{heaps_most};
+ghost use Rattle.counter.specs.Paper.{ask_said};
+ghost use Rattle.counter.specs.Table.{heaps_ok};
 ghost use Rattle.counter.specs.declared.account.OpenOrder.TheVariants.{Kept};
 ghost use Rattle.store_rules.specs.Shares.{share_of};
-ghost use Rattle.wire_rules.specs.Wire.{heapsIn, order_in, accountIn, accountOk, heapOut, orderOut, shareOut, askedOut};
+ghost use Rattle.wire_rules.specs.Wire.{heaps_in, order_in, account_in, account_ok, heap_out, order_out, share_out, asked_out};
 
 use counter::{
     Ask, AskAnswer, HEAP_BYTES_MOST, HEAPS, Heap, KeptOrder, OpenOrder, Order, StoreSettings, Total,
@@ -37,7 +37,7 @@ const ACCOUNT_WORDS: usize = 104;
 
 // Whether the words are an account's.
 pub fn is_account(w: &[u64]) -> bool
-    ensures { result ≡ accountOk w.now }
+    ensures { result ≡ account_ok w.now }
 {
     if w.len() != ACCOUNT_WORDS {
         return false;
@@ -51,8 +51,8 @@ pub fn is_account(w: &[u64]) -> bool
 
 // Whether every heap is in 01's table.
 pub fn heaps_in_table(w: &[u64]) -> bool
-    requires { accountOk w.now ≡ true }
-    ensures { result ≡ heapsOk (heapsIn w.now heapsMost) }
+    requires { account_ok w.now ≡ true }
+    ensures { result ≡ heaps_ok (heaps_in w.now heaps_most) }
 {
     let mut ok = true;
     let mut i = 0;
@@ -67,8 +67,8 @@ pub fn heaps_in_table(w: &[u64]) -> bool
 
 // The heap with this number, an empty one past the last.
 fn read_heap(w: &[u64], i: usize) -> Heap
-    requires { accountOk w.now ≡ true }
-    ensures { result ≡ heap_at (accountIn w.now) i }
+    requires { account_ok w.now ≡ true }
+    ensures { result ≡ heap_at (account_in w.now) i }
 {
     if i < HEAPS {
         let at = HEAP_WORDS * i;
@@ -96,7 +96,7 @@ fn read_heap(w: &[u64], i: usize) -> Heap
 
 // The order that is open, if one is.
 pub fn read_order(w: &[u64]) -> OpenOrder
-    requires { accountOk w.now ≡ true }
+    requires { account_ok w.now ≡ true }
     ensures { result ≡ order_in w.now }
 {
     if words::word(w, OPEN_AT) == 0 {
@@ -119,8 +119,8 @@ pub fn read_order(w: &[u64]) -> OpenOrder
 // A store's share of the account that the words are; `table` says whether every heap is in 01's table. That walk over the heaps is
 // its caller's, so that this is small enough to be made there and the share is not copied.
 pub fn read_share(w: &[u64], s: StoreSettings, table: bool) -> Share
-    requires { (accountOk w.now ≡ true) × (table ≡ heapsOk (heapsIn w.now heapsMost)) }
-    ensures { result ≡ share_of s (accountIn w.now) }
+    requires { (account_ok w.now ≡ true) × (table ≡ heaps_ok (heaps_in w.now heaps_most)) }
+    ensures { result ≡ share_of s (account_in w.now) }
 {
     let heap = read_heap(w, s.heap);
     Share {
@@ -132,8 +132,8 @@ pub fn read_share(w: &[u64], s: StoreSettings, table: bool) -> Share
 }
 
 fn put_heap(w: &mut [u64], i: usize, h: Heap)
-    requires { (i < heapsMost) × (accountOk w.old ≡ true) }
-    ensures { w.new ≡ heapOut h i w.old }
+    requires { (i < heaps_most) × (account_ok w.old ≡ true) }
+    ensures { w.new ≡ heap_out h i w.old }
 {
     let at = HEAP_WORDS * i;
     let allocated = h.allocated;
@@ -148,8 +148,8 @@ fn put_heap(w: &mut [u64], i: usize, h: Heap)
 
 // The store's heap and the objects are written again.
 pub fn put_share(w: &mut [u64], s: StoreSettings, share: Share)
-    requires { accountOk w.old ≡ true }
-    ensures { w.new ≡ shareOut s.heap share w.old }
+    requires { account_ok w.old ≡ true }
+    ensures { w.new ≡ share_out s.heap share w.old }
 {
     let i = s.heap;
     if i < HEAPS {
@@ -161,7 +161,7 @@ pub fn put_share(w: &mut [u64], s: StoreSettings, share: Share)
 
 // An order is open.
 fn put_kept(w: &mut [u64], k: KeptOrder)
-    ensures { w.new ≡ orderOut (Kept k) w.old }
+    ensures { w.new ≡ order_out (Kept k) w.old }
 {
     let o = k.order;
     let a = k.ask;
@@ -175,7 +175,7 @@ fn put_kept(w: &mut [u64], k: KeptOrder)
 }
 
 pub fn put_order(w: &mut [u64], order: OpenOrder)
-    ensures { w.new ≡ orderOut order w.old }
+    ensures { w.new ≡ order_out order w.old }
 {
     match order {
         OpenOrder::Nothing => words::put(w, OPEN_AT, 0),
@@ -185,7 +185,7 @@ pub fn put_order(w: &mut [u64], order: OpenOrder)
 
 // What an ask leaves: where it told an order, that is kept with the ask.
 pub fn put_asked(w: &mut [u64], size: u64, mask: u64, answer: AskAnswer)
-    ensures { w.new ≡ askedOut size mask (askSaid answer) w.old }
+    ensures { w.new ≡ asked_out size mask (ask_said answer) w.old }
 {
     match answer {
         AskAnswer::Block(_) => {}

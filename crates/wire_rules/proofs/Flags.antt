@@ -5,6 +5,6 @@ use mir.Val.{bool_byte}
 use Rattle.wire_rules.specs.Wire.{flag}
 
 -- a cast test is the test's flag
-pub cast-flag : (b : Bool) → bool_byte b ≡ flag b
-cast-flag true = refl
-cast-flag false = refl
+pub cast_flag : (b : Bool) → bool_byte b ≡ flag b
+cast_flag true = refl
+cast_flag false = refl

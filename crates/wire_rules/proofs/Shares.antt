@@ -10,177 +10,177 @@ use lib.Dec.{ltb, leb, eqb}
 use lib.ListN.{length, get_or, set, length-set}
 use lib.Seq.{set-get_or, get_or-set_same, get_or-set_other}
 use borrow.Author.Tests.{ltb-true, lt-ltb, le-ltb}
-use Rattle.counter.specs.Account.{noHeap, heap_at}
-use Rattle.counter.specs.Limits.{heapsMost, heapBytesMost}
+use Rattle.counter.specs.Account.{no_heap, heap_at}
+use Rattle.counter.specs.Limits.{heaps_most, heap_bytes_most}
 use Rattle.counter.specs.Paper.{Said}
 use Rattle.counter.specs.Paper as Paper
-use Rattle.counter.specs.Table.{heapOk, heapsUpto, heapsOk}
+use Rattle.counter.specs.Table.{heap_ok, heaps_upto, heaps_ok}
 use Rattle.counter.specs.declared.account.Heap.{Heap}
 use Rattle.counter.specs.declared.account.KeptOrder.{KeptOrder}
 use Rattle.counter.specs.declared.account.OpenOrder.{OpenOrder}
 use Rattle.counter.specs.declared.account.OpenOrder.TheVariants.{Nothing, Kept}
 use Rattle.counter.specs.declared.settings.StoreSettings.{StoreSettings}
-use Rattle.counter.proofs.Tables.{heaps-more}
-use Rattle.store_rules.specs.Outcomes.{withOrder}
-use Rattle.store_rules.specs.Shares.{share_of, withShare, askLeft}
+use Rattle.counter.proofs.Tables.{heaps_more}
+use Rattle.store_rules.specs.Outcomes.{with_order}
+use Rattle.store_rules.specs.Shares.{share_of, with_share, ask_left}
 use Rattle.store_rules.specs.Alike.{Alike}
 use Rattle.store_rules.proofs.Holders.{holding, holder}
 use Rattle.store_rules.specs.Tests.{no_order}
 use Rattle.store_rules.specs.declared.Share.{Share}
-use Rattle.store_rules.proofs.Shares.{held-alike, holder-alike}
-use Rattle.wire_rules.specs.Wire.{objectsAt, open_at, orderStoreAt, orderSizeAt, orderMemtypeAt, orderMapAt, askSizeAt, askMaskAt, heapIn, heapsIn, order_in, accountIn, accountOk, heapOut, heapsOut, orderOut, accountOut, shareOut, askedOut}
-use Rattle.wire_rules.proofs.Heaps.{read-six, heap-length, heap-other, heaps-many, heaps-at, heaps-stay, heaps-one}
-use Rattle.wire_rules.proofs.Orders.{right-yes, order-stays}
+use Rattle.store_rules.proofs.Shares.{held_alike, holder_alike}
+use Rattle.wire_rules.specs.Wire.{objects_at, open_at, order_store_at, order_size_at, order_memtype_at, order_map_at, ask_size_at, ask_mask_at, heap_in, heaps_in, order_in, account_in, account_ok, heap_out, heaps_out, order_out, account_out, share_out, asked_out}
+use Rattle.wire_rules.proofs.Heaps.{read_six, heap_length, heap_other, heaps_many, heaps_at, heaps_stay, heaps_one}
+use Rattle.wire_rules.proofs.Orders.{right_yes, order_stays}
 
 -- ---- as the code reads a share
 
 module _ (w : List ℕ) where
   abbrev heaps : List Heap
-  heaps = heapsIn w heapsMost
+  heaps = heaps_in w heaps_most
 
-  fits_read : (i : ℕ) → (leb (get_or w (6 * i) 0) heapBytesMost && leb (get_or w (6 * i + 1) 0) heapBytesMost) ≡ heapOk (heapIn w i)
-  unfolding heapIn
+  fits_read : (i : ℕ) → (leb (get_or w (6 * i) 0) heap_bytes_most && leb (get_or w (6 * i + 1) 0) heap_bytes_most) ≡ heap_ok (heap_in w i)
+  unfolding heap_in
   fits_read i = rw (zero-add (6 * i), add_comm 1 (6 * i))
 
   -- with the heap at i tested too, one heap more is
-  pub table_more : (i : ℕ) (ok : Bool) → i < heapsMost → ok ≡ heapsUpto heaps i
-      → (ok && (leb (get_or w (6 * i) 0) heapBytesMost && leb (get_or w (6 * i + 1) 0) heapBytesMost)) ≡ heapsUpto heaps (i + 1)
-  table_more i ok l e = ap (λ (b : Bool). ok && b) (fits_read i ∙ ap heapOk (sym (heaps-at w heapsMost i l))) ∙ heaps-more heaps i ok e
+  pub table_more : (i : ℕ) (ok : Bool) → i < heaps_most → ok ≡ heaps_upto heaps i
+      → (ok && (leb (get_or w (6 * i) 0) heap_bytes_most && leb (get_or w (6 * i + 1) 0) heap_bytes_most)) ≡ heaps_upto heaps (i + 1)
+  table_more i ok l e = ap (λ (b : Bool). ok && b) (fits_read i ∙ ap heap_ok (sym (heaps_at w heaps_most i l))) ∙ heaps_more heaps i ok e
 
   -- a heap with a number, by its six words
-  pub read-own : (i : ℕ) → i < heapsMost
-      → record { size = get_or w (6 * i) 0; used = get_or w (6 * i + 1) 0; allocated = record { hi = get_or w (6 * i + 2) 0; lo = get_or w (6 * i + 3) 0 }; deallocated = record { hi = get_or w (6 * i + 4) 0; lo = get_or w (6 * i + 5) 0 } } ≡ heap_at (accountIn w) i
-  read-own i l = rw (lt-ltb i heapsMost l) (read-six w i ∙ sym (heaps-at w heapsMost i l))
+  pub read_own : (i : ℕ) → i < heaps_most
+      → record { size = get_or w (6 * i) 0; used = get_or w (6 * i + 1) 0; allocated = record { hi = get_or w (6 * i + 2) 0; lo = get_or w (6 * i + 3) 0 }; deallocated = record { hi = get_or w (6 * i + 4) 0; lo = get_or w (6 * i + 5) 0 } } ≡ heap_at (account_in w) i
+  read_own i l = rw (lt-ltb i heaps_most l) (read_six w i ∙ sym (heaps_at w heaps_most i l))
 
   -- there is none past the last
-  pub read_none : (i : ℕ) → heapsMost ≤ i → noHeap ≡ heap_at (accountIn w) i
-  read_none i l = rw (le-ltb i heapsMost l)
+  pub read_none : (i : ℕ) → heaps_most ≤ i → no_heap ≡ heap_at (account_in w) i
+  read_none i l = rw (le-ltb i heaps_most l)
 
-  free-read : eqb (get_or w open_at 0) 0 ≡ no_order (order_in w)
+  free_read : eqb (get_or w open_at 0) 0 ≡ no_order (order_in w)
   unfolding order_in
-  free-read =
+  free_read =
       by (eqb (get_or w open_at 0) 0)
       (record {
-        ask = record { size = get_or w askSizeAt 0; mask = get_or w askMaskAt 0 };
-        order = record { store = get_or w orderStoreAt 0; size = get_or w orderSizeAt 0; memtype = get_or w orderMemtypeAt 0; map = eqb (get_or w orderMapAt 0) 1 };
+        ask = record { size = get_or w ask_size_at 0; mask = get_or w ask_mask_at 0 };
+        order = record { store = get_or w order_store_at 0; size = get_or w order_size_at 0; memtype = get_or w order_memtype_at 0; map = eqb (get_or w order_map_at 0) 1 };
       })
     where
       by : (b : Bool) (k : KeptOrder) → b ≡ no_order (cond b Nothing (Kept k))
       by true k = refl
       by false k = refl
 
-  pub read-share : (s : StoreSettings) (table : Bool) (g : Heap) (n : ℕ) → g ≡ heap_at (accountIn w) s.heap → table ≡ heapsOk heaps → n ≡ get_or w objectsAt 0
-      → record { bounded = table; idle = eqb (get_or w open_at 0) 0; heap = g; objects = n } ≡ share_of s (accountIn w)
-  read-share s table g n e f k = rw (e, f, k, free-read)
+  pub read_share : (s : StoreSettings) (table : Bool) (g : Heap) (n : ℕ) → g ≡ heap_at (account_in w) s.heap → table ≡ heaps_ok heaps → n ≡ get_or w objects_at 0
+      → record { bounded = table; idle = eqb (get_or w open_at 0) 0; heap = g; objects = n } ≡ share_of s (account_in w)
+  read_share s table g n e f k = rw (e, f, k, free_read)
 
 -- what was read of an account, held by an account that has nothing else
-module _ (s : StoreSettings) (w : List ℕ) (share : Share) (e : share ≡ share_of s (accountIn w)) where
-  pub holds : Alike s (accountIn w) (holder s share)
-  holds = subst (λ (x : Share). Alike s (accountIn w) (holder s x)) (sym e) (holder-alike s (accountIn w))
+module _ (s : StoreSettings) (w : List ℕ) (share : Share) (e : share ≡ share_of s (account_in w)) where
+  pub holds : Alike s (account_in w) (holder s share)
+  holds = subst (λ (x : Share). Alike s (account_in w) (holder s x)) (sym e) (holder_alike s (account_in w))
 
   -- with the order too
   module _ (o : OpenOrder) (f : o ≡ order_in w) where
-    pub holds-order : Alike s (accountIn w) (holding s share o)
-    holds-order = subst (λ (x : Share). Alike s (accountIn w) (holding s x o)) (sym e) (held-alike s (accountIn w) o (ap no_order (sym f)))
+    pub holds_order : Alike s (account_in w) (holding s share o)
+    holds_order = subst (λ (x : Share). Alike s (account_in w) (holding s x o)) (sym e) (held_alike s (account_in w) o (ap no_order (sym f)))
 
-    pub order-held : (accountIn w).order ≡ (holding s share o).order
+    pub order_held : (account_in w).order ≡ (holding s share o).order
     unfolding holding
-    order-held = sym f
+    order_held = sym f
 
 -- ---- as the code writes one
 
 module _ (i : ℕ) (share : Share) (w v : List ℕ) where
   -- the heap's part
-  abbrev pub ownOut : List ℕ
-  ownOut = cond (ltb i heapsMost) (heapOut share.heap i w) w
+  abbrev pub own_out : List ℕ
+  own_out = cond (ltb i heaps_most) (heap_out share.heap i w) w
 
-  pub put-own : i < heapsMost → v ≡ heapOut share.heap i w → v ≡ ownOut
-  put-own l e = rw (lt-ltb i heapsMost l) e
+  pub put_own : i < heaps_most → v ≡ heap_out share.heap i w → v ≡ own_out
+  put_own l e = rw (lt-ltb i heaps_most l) e
 
-  pub put-past : heapsMost ≤ i → v ≡ w → v ≡ ownOut
-  put-past l e = rw (le-ltb i heapsMost l) e
+  pub put_past : heaps_most ≤ i → v ≡ w → v ≡ own_out
+  put_past l e = rw (le-ltb i heaps_most l) e
 
   -- and the objects
-  pub put-share : (u : List ℕ) → v ≡ ownOut → u ≡ set v objectsAt share.objects → u ≡ shareOut i share w
-  unfolding shareOut
-  put-share u e f = f ∙ ap (λ (x : List ℕ). set x objectsAt share.objects) e
+  pub put_share : (u : List ℕ) → v ≡ own_out → u ≡ set v objects_at share.objects → u ≡ share_out i share w
+  unfolding share_out
+  put_share u e f = f ∙ ap (λ (x : List ℕ). set x objects_at share.objects) e
 
-pub share-length : (i : ℕ) (share : Share) (w : List ℕ) → length (shareOut i share w) ≡ length w
-unfolding shareOut
-share-length i share w =
-    length-set (cond (ltb i heapsMost) (heapOut share.heap i w) w) objectsAt share.objects ∙ by (ltb i heapsMost)
+pub share_length : (i : ℕ) (share : Share) (w : List ℕ) → length (share_out i share w) ≡ length w
+unfolding share_out
+share_length i share w =
+    length-set (cond (ltb i heaps_most) (heap_out share.heap i w) w) objects_at share.objects ∙ by (ltb i heaps_most)
   where
-    by : (b : Bool) → length (cond b (heapOut share.heap i w) w) ≡ length w
-    by true = heap-length share.heap i w
+    by : (b : Bool) → length (cond b (heap_out share.heap i w) w) ≡ length w
+    by true = heap_length share.heap i w
     by false = refl
 
 -- ---- what is left of the whole account
 
 module _ (w : List ℕ) where
-  heaps-kept : heapsOut (heapsIn w heapsMost) heapsMost w ≡ w
-  heaps-kept = heaps-stay (heapsIn w heapsMost) heapsMost w (heaps-at w heapsMost)
+  heaps_kept : heaps_out (heaps_in w heaps_most) heaps_most w ≡ w
+  heaps_kept = heaps_stay (heaps_in w heaps_most) heaps_most w (heaps_at w heaps_most)
 
   -- with its own heaps and objects, only the order is written
-  order-alone : (o : OpenOrder) → accountOut (withOrder (accountIn w) o) w ≡ orderOut o w
-  unfolding accountOut
-  order-alone o = ap (orderOut o) (ap (λ (v : List ℕ). set v objectsAt (get_or w objectsAt 0)) heaps-kept ∙ set-get_or w objectsAt 0)
+  order_alone : (o : OpenOrder) → account_out (with_order (account_in w) o) w ≡ order_out o w
+  unfolding account_out
+  order_alone o = ap (order_out o) (ap (λ (v : List ℕ). set v objects_at (get_or w objects_at 0)) heaps_kept ∙ set-get_or w objects_at 0)
 
   -- an account that was read, written again, leaves the words
-  pub account-kept : accountOk w ≡ true → accountOut (accountIn w) w ≡ w
-  account-kept ok = let r = right-yes w ok in order-alone (order_in w) ∙ order-stays w r.opened-most r.map-most
+  pub account_kept : account_ok w ≡ true → account_out (account_in w) w ≡ w
+  account_kept ok = let r = right_yes w ok in order_alone (order_in w) ∙ order_stays w r.opened_most r.map_most
 
   -- what an ask leaves
-  pub asked-out : accountOk w ≡ true → (size mask : ℕ) (said : Said) → accountOut (askLeft (accountIn w) size mask said) w ≡ askedOut size mask said w
-  asked-out ok size mask Paper.ready = account-kept ok
-  asked-out ok size mask (Paper.block serial chunk offset z) = account-kept ok
-  asked-out ok size mask (Paper.order store z memtype map) = order-alone _
-  asked-out ok size mask (Paper.released n) = account-kept ok
-  asked-out ok size mask Paper.ranked = account-kept ok
-  asked-out ok size mask (Paper.refusal n back) = account-kept ok
+  pub asked_out_lem : account_ok w ≡ true → (size mask : ℕ) (said : Said) → account_out (ask_left (account_in w) size mask said) w ≡ asked_out size mask said w
+  asked_out_lem ok size mask Paper.ready = account_kept ok
+  asked_out_lem ok size mask (Paper.block serial chunk offset z) = account_kept ok
+  asked_out_lem ok size mask (Paper.order store z memtype map) = order_alone _
+  asked_out_lem ok size mask (Paper.released n) = account_kept ok
+  asked_out_lem ok size mask Paper.ranked = account_kept ok
+  asked_out_lem ok size mask (Paper.refusal n back) = account_kept ok
 
   -- ---- one heap written anew
 
   abbrev anew : Bool → ℕ → Heap → List Heap
-  anew b i g = cond b (set (heapsIn w heapsMost) i g) (heapsIn w heapsMost)
+  anew b i g = cond b (set (heaps_in w heaps_most) i g) (heaps_in w heaps_most)
 
-  one-heap : (i : ℕ) (g : Heap) (b : Bool) → ltb i heapsMost ≡ b → heapsOut (anew b i g) heapsMost w ≡ cond b (heapOut g i w) w
-  one-heap i g false e = heaps-kept
-  one-heap i g true e =
-      let l : i < heapsMost = ltb-true i heapsMost e in
-      heaps-one (set (heapsIn w heapsMost) i g) heapsMost w i l
-      (λ j m ne. get_or-set_other (heapsIn w heapsMost) i j g noHeap ne ∙ heaps-at w heapsMost j m)
-      ∙ ap (λ (x : Heap). heapOut x i w) (get_or-set_same (heapsIn w heapsMost) i g noHeap (omega (arith, heaps-many w heapsMost)))
+  one_heap : (i : ℕ) (g : Heap) (b : Bool) → ltb i heaps_most ≡ b → heaps_out (anew b i g) heaps_most w ≡ cond b (heap_out g i w) w
+  one_heap i g false e = heaps_kept
+  one_heap i g true e =
+      let l : i < heaps_most = ltb-true i heaps_most e in
+      heaps_one (set (heaps_in w heaps_most) i g) heaps_most w i l
+      (λ j m ne. get_or-set_other (heaps_in w heaps_most) i j g no_heap ne ∙ heaps_at w heaps_most j m)
+      ∙ ap (λ (x : Heap). heap_out x i w) (get_or-set_same (heaps_in w heaps_most) i g no_heap (omega (arith, heaps_many w heaps_most)))
 
   -- the account with a share and an order in it
-  pub share-out : (s : StoreSettings) (share : Share) (o : OpenOrder) → accountOut (withShare s (accountIn w) share o) w ≡ orderOut o (shareOut s.heap share w)
-  unfolding accountOut shareOut
-  share-out s share o =
-      ap (λ (v : List ℕ). orderOut o (set v objectsAt share.objects)) (one-heap s.heap share.heap (ltb s.heap heapsMost) refl)
+  pub share_out_lem : (s : StoreSettings) (share : Share) (o : OpenOrder) → account_out (with_share s (account_in w) share o) w ≡ order_out o (share_out s.heap share w)
+  unfolding account_out share_out
+  share_out_lem s share o =
+      ap (λ (v : List ℕ). order_out o (set v objects_at share.objects)) (one_heap s.heap share.heap (ltb s.heap heaps_most) refl)
 
   -- ---- the order stays where a share is written
 
   module _ (i : ℕ) (share : Share) where
-    share-past : (k : ℕ) → objectsAt < k → get_or (shareOut i share w) k 0 ≡ get_or w k 0
-    unfolding shareOut
-    share-past k l =
-        get_or-set_other (cond (ltb i heapsMost) (heapOut share.heap i w) w) objectsAt k share.objects 0 (λ e. omega arith)
-        ∙ by (ltb i heapsMost) refl
+    share_past : (k : ℕ) → objects_at < k → get_or (share_out i share w) k 0 ≡ get_or w k 0
+    unfolding share_out
+    share_past k l =
+        get_or-set_other (cond (ltb i heaps_most) (heap_out share.heap i w) w) objects_at k share.objects 0 (λ e. omega arith)
+        ∙ by (ltb i heaps_most) refl
       where
-        by : (b : Bool) → ltb i heapsMost ≡ b → get_or (cond b (heapOut share.heap i w) w) k 0 ≡ get_or w k 0
+        by : (b : Bool) → ltb i heaps_most ≡ b → get_or (cond b (heap_out share.heap i w) w) k 0 ≡ get_or w k 0
         by false e = refl
-        by true e = let below : i < heapsMost = ltb-true i heapsMost e in heap-other share.heap i w k (λ f lf q. omega arith)
+        by true e = let below : i < heaps_most = ltb-true i heaps_most e in heap_other share.heap i w k (λ f lf q. omega arith)
 
-    order-past : order_in (shareOut i share w) ≡ order_in w
+    order_past : order_in (share_out i share w) ≡ order_in w
     unfolding order_in
-    order-past =
-        rw (share-past open_at (omega arith), share-past orderStoreAt (omega arith), share-past orderSizeAt (omega arith), share-past orderMemtypeAt (omega arith), share-past orderMapAt (omega arith), share-past askSizeAt (omega arith), share-past askMaskAt (omega arith))
+    order_past =
+        rw (share_past open_at (omega arith), share_past order_store_at (omega arith), share_past order_size_at (omega arith), share_past order_memtype_at (omega arith), share_past order_map_at (omega arith), share_past ask_size_at (omega arith), share_past ask_mask_at (omega arith))
 
-    pub order-kept-out : accountOk w ≡ true → orderOut (order_in w) (shareOut i share w) ≡ shareOut i share w
-    order-kept-out ok =
-        let r = right-yes w ok in
-        ap (λ (o : OpenOrder). orderOut o (shareOut i share w)) (sym order-past)
-        ∙ order-stays (shareOut i share w) (omega (arith, share-past open_at (omega arith), r.opened-most)) (omega (arith, share-past orderMapAt (omega arith), r.map-most))
+    pub order_kept_out : account_ok w ≡ true → order_out (order_in w) (share_out i share w) ≡ share_out i share w
+    order_kept_out ok =
+        let r = right_yes w ok in
+        ap (λ (o : OpenOrder). order_out o (share_out i share w)) (sym order_past)
+        ∙ order_stays (share_out i share w) (omega (arith, share_past open_at (omega arith), r.opened_most)) (omega (arith, share_past order_map_at (omega arith), r.map_most))
 
   -- so what a return or a clean-up leaves of the account is the share
-  pub released-out : accountOk w ≡ true → (s : StoreSettings) (share : Share) → accountOut (withShare s (accountIn w) share (order_in w)) w ≡ shareOut s.heap share w
-  released-out ok s share = share-out s share (order_in w) ∙ order-kept-out s.heap share ok
+  pub released_out : account_ok w ≡ true → (s : StoreSettings) (share : Share) → account_out (with_share s (account_in w) share (order_in w)) w ≡ share_out s.heap share w
+  released_out ok s share = share_out_lem s share (order_in w) ∙ order_kept_out s.heap share ok

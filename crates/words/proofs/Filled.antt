@@ -6,7 +6,7 @@ use native.Mathlib.Omega.{arith}
 use native.Mathlib.Numerals.{add-one}
 use lib.ListN.{length, take, get_or, set, replicate, length-set, length-replicate, get_or-replicate}
 use lib.Seq.{take-suc-set, take_all, get_or-set_same, get_or-set_other}
-use Rattle.words.specs.Words.{markAt, blank}
+use Rattle.words.specs.Words.{mark_at, blank}
 
 -- the next word of what is to stand there, put after those that do
 pub put_next : (whole t : List ℕ) (k v : ℕ) (rest : List ℕ) → k < length t → whole ≡ take k t ++ (v ∷ rest) → whole ≡ take (k + 1) (set t k v) ++ rest
@@ -18,8 +18,8 @@ module _ (n v : ℕ) where
   pub fill_none : replicate n v ≡ replicate (n - 0) v
   fill_none = let e : n - 0 ≡ n = omega arith in rw e
 
-  pub fill-next : (t : List ℕ) (i : ℕ) → i < n → n ≡ length t → replicate n v ≡ take i t ++ replicate (n - i) v → replicate n v ≡ take (i + 1) (set t i v) ++ replicate (n - (i + 1)) v
-  fill-next t i h l e =
+  pub fill_next : (t : List ℕ) (i : ℕ) → i < n → n ≡ length t → replicate n v ≡ take i t ++ replicate (n - i) v → replicate n v ≡ take (i + 1) (set t i v) ++ replicate (n - (i + 1)) v
+  fill_next t i h l e =
       let z : n - i ≡ suc (n - (i + 1)) = omega arith in
       put_next (replicate n v) t i v (replicate (n - (i + 1)) v) (omega arith) (rw z at e)
 
@@ -30,19 +30,19 @@ module _ (n v : ℕ) where
 
 -- ---- a table with its mark, and every other word the same
 
-pub blank-put : (n m v : ℕ) (x y : List ℕ) → x ≡ replicate n v → y ≡ set x markAt m → y ≡ blank n m v
+pub blank_put : (n m v : ℕ) (x y : List ℕ) → x ≡ replicate n v → y ≡ set x mark_at m → y ≡ blank n m v
 unfolding blank
-blank-put n m v x y e f = f ∙ ap (λ (t : List ℕ). set t markAt m) e
+blank_put n m v x y e f = f ∙ ap (λ (t : List ℕ). set t mark_at m) e
 
 module _ (n m v : ℕ) where
-  pub blank-long : length (blank n m v) ≡ n
+  pub blank_long : length (blank n m v) ≡ n
   unfolding blank
-  blank-long = length-set (replicate n v) markAt m ∙ length-replicate n v
+  blank_long = length-set (replicate n v) mark_at m ∙ length-replicate n v
 
-  pub blank-mark : 0 < n → get_or (blank n m v) markAt 0 ≡ m
+  pub blank_mark : 0 < n → get_or (blank n m v) mark_at 0 ≡ m
   unfolding blank
-  blank-mark h = get_or-set_same (replicate n v) markAt m 0 (omega (arith, length-replicate n v))
+  blank_mark h = get_or-set_same (replicate n v) mark_at m 0 (omega (arith, length-replicate n v))
 
-  pub blank-other : (i : ℕ) → 0 < i → i < n → get_or (blank n m v) i 0 ≡ v
+  pub blank_other : (i : ℕ) → 0 < i → i < n → get_or (blank n m v) i 0 ≡ v
   unfolding blank
-  blank-other i h k = get_or-set_other (replicate n v) markAt i m 0 (λ e. omega arith) ∙ get_or-replicate n i v 0 k
+  blank_other i h k = get_or-set_other (replicate n v) mark_at i m 0 (λ e. omega arith) ∙ get_or-replicate n i v 0 k

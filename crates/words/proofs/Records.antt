@@ -7,8 +7,8 @@ use native.Mathlib.Omega.{arith}
 use lib.ListN.{length, take, drop, get_or, set, replicate, length-append, length-take, length-drop, length-set, length-replicate, take-append-drop}
 use lib.Seq.{sets, get_or-take, get_or-set_other, sets-eq, length-sets, drop_at, take_at, take-add, drop-drop, length-take-le, get_or-drop, drop-set-add, take-set-le, drop-set-lt}
 use Rattle.words.specs.Words.{cell_of, closed, opened}
-use Rattle.words.specs.Rows.{Layout, row, rows, flat, laid, written, removeAt, insertAt}
-use Rattle.words.proofs.Moved.{run, length_run, moved_in, record-and-next, before-and-from, to-and-past}
+use Rattle.words.specs.Rows.{Layout, row, rows, flat, laid, written, remove_at, insert_at}
+use Rattle.words.proofs.Moved.{run, length_run, moved_in, record_and_next, before_and_from, to_and_past}
 use Rattle.words.proofs.Packed as Packed
 
 -- words stored from i on leave those before
@@ -17,14 +17,14 @@ get_d_sets_before [] t i j d h = refl
 get_d_sets_before (v ∷ vs) t i j d h = get_d_sets_before vs (set t i v) (suc i) j d (omega arith) ∙ get_or-set_other t i j v d (λ e. omega arith)
 
 module _ {R : Type 0} (L : Layout R) where
-  pub length-rows : (n : ℕ) (t : List ℕ) → length (rows L n t) ≡ n
-  length-rows zero t = refl
-  length-rows (suc n) t = ap suc (length-rows n (drop L.width t))
+  pub length_rows : (n : ℕ) (t : List ℕ) → length (rows L n t) ≡ n
+  length_rows zero t = refl
+  length_rows (suc n) t = ap suc (length_rows n (drop L.width t))
 
-  pub take-rows : (i n : ℕ) (t : List ℕ) → i ≤ n → take i (rows L n t) ≡ rows L i t
-  take-rows zero n t h = refl
-  take-rows (suc i) zero t h = absurd (not-suc-le-zero h)
-  take-rows (suc i) (suc n) t h = ap (λ (l : List R). L.dec t ∷ l) (take-rows i n (drop L.width t) (le_of_suc-le-suc h))
+  pub take_rows : (i n : ℕ) (t : List ℕ) → i ≤ n → take i (rows L n t) ≡ rows L i t
+  take_rows zero n t h = refl
+  take_rows (suc i) zero t h = absurd (not-suc-le-zero h)
+  take_rows (suc i) (suc n) t h = ap (λ (l : List R). L.dec t ∷ l) (take_rows i n (drop L.width t) (le_of_suc-le-suc h))
 
   -- the record at i, by its words
   pub get_d_rows : (n i : ℕ) (t : List ℕ) (d : R) → i < n → get_or (rows L n t) i d ≡ row L i t
@@ -61,84 +61,84 @@ module _ {R : Type 0} (L : Layout R) where
         width = L.width;
         enc = L.enc;
         dec = λ (t : List ℕ). L.dec (replicate L.width 0 ++ t);
-        enc-length = L.enc-length;
-        dec-enc = λ r rest. L.dec-enc front r rest front_length;
-        enc-dec = λ t h. L.enc-dec (front ++ t) (omega (arith, length-append front t, front_length)) ∙ ap (take L.width) (behind t);
+        enc_length = L.enc_length;
+        dec_enc = λ r rest. L.dec_enc front r rest front_length;
+        enc_dec = λ t h. L.enc_dec (front ++ t) (omega (arith, length-append front t, front_length)) ∙ ap (take L.width) (behind t);
       }
 
   -- a record is read the same whatever stands before it
-  dec-behind : (t : List ℕ) → L.width + L.width ≤ length t → L.dec t ≡ L.dec (replicate L.width 0 ++ drop L.width t)
-  dec-behind t h =
+  dec_behind : (t : List ℕ) → L.width + L.width ≤ length t → L.dec t ≡ L.dec (replicate L.width 0 ++ drop L.width t)
+  dec_behind t h =
       let w : ℕ = L.width in
       let r : R = L.dec t in
-      let e : drop w t ≡ L.enc r ++ drop w (drop w t) = sym (ap (λ (x : List ℕ). x ++ drop w (drop w t)) (L.enc-dec t h) ∙ take-append-drop w (drop w t)) in
-      sym (ap (λ (x : List ℕ). L.dec (front ++ x)) e ∙ L.dec-enc front r (drop w (drop w t)) front_length)
+      let e : drop w t ≡ L.enc r ++ drop w (drop w t) = sym (ap (λ (x : List ℕ). x ++ drop w (drop w t)) (L.enc_dec t h) ∙ take-append-drop w (drop w t)) in
+      sym (ap (λ (x : List ℕ). L.dec (front ++ x)) e ∙ L.dec_enc front r (drop w (drop w t)) front_length)
 
-  flat-packed : (rs : List R) → flat L rs ≡ Packed.flat packed rs
-  flat-packed [] = refl
-  flat-packed (r ∷ rs) = ap (λ (x : List ℕ). L.enc r ++ x) (flat-packed rs)
+  flat_packed : (rs : List R) → flat L rs ≡ Packed.flat packed rs
+  flat_packed [] = refl
+  flat_packed (r ∷ rs) = ap (λ (x : List ℕ). L.enc r ++ x) (flat_packed rs)
 
-  rows-packed : (n : ℕ) (t : List ℕ) → L.width + L.width * n ≤ length t → rows L n t ≡ Packed.rows packed n (drop L.width t)
-  rows-packed zero t h = refl
-  rows-packed (suc n) t h =
+  rows_packed : (n : ℕ) (t : List ℕ) → L.width + L.width * n ≤ length t → rows L n t ≡ Packed.rows packed n (drop L.width t)
+  rows_packed zero t h = refl
+  rows_packed (suc n) t h =
       let w : ℕ = L.width in
       let e : w * suc n ≡ w + w * n = omega (arith, mul-suc w n) in
-      let f : rows L n (drop w t) ≡ Packed.rows packed n (drop w (drop w t)) = rows-packed n (drop w t) (simp length-drop (omega arith)) in
-      ap (λ (r : R). r ∷ rows L n (drop w t)) (dec-behind t (omega arith)) ∙ ap (λ (rs : List R). L.dec (front ++ drop w t) ∷ rs) f
+      let f : rows L n (drop w t) ≡ Packed.rows packed n (drop w (drop w t)) = rows_packed n (drop w t) (simp length-drop (omega arith)) in
+      ap (λ (r : R). r ∷ rows L n (drop w t)) (dec_behind t (omega arith)) ∙ ap (λ (rs : List R). L.dec (front ++ drop w t) ∷ rs) f
 
   -- a word of the table's own leaves them
-  pub rows-own : (n j v : ℕ) (t : List ℕ) → j < L.width → L.width + L.width * n ≤ length t → rows L n (set t j v) ≡ rows L n t
-  rows-own n j v t h k =
-      rows-packed n (set t j v) (omega (arith, length-set t j v))
+  pub rows_own : (n j v : ℕ) (t : List ℕ) → j < L.width → L.width + L.width * n ≤ length t → rows L n (set t j v) ≡ rows L n t
+  rows_own n j v t h k =
+      rows_packed n (set t j v) (omega (arith, length-set t j v))
       ∙ ap (Packed.rows packed n) (drop-set-lt L.width t j v h)
-      ∙ sym (rows-packed n t k)
+      ∙ sym (rows_packed n t k)
 
-  laid-packed : (rs : List R) (t : List ℕ) → laid L rs t ≡ take L.width t ++ Packed.laid packed rs (drop L.width t)
-  laid-packed rs t =
+  laid_packed : (rs : List R) (t : List ℕ) → laid L rs t ≡ take L.width t ++ Packed.laid packed rs (drop L.width t)
+  laid_packed rs t =
       let w : ℕ = L.width in
-      rw (flat-packed rs, drop-drop (w * length rs) w t)
+      rw (flat_packed rs, drop-drop (w * length rs) w t)
 
-  pub length-flat : (rs : List R) → length (flat L rs) ≡ L.width * length rs
-  length-flat rs = ap length (flat-packed rs) ∙ Packed.length-flat packed rs
+  pub length_flat : (rs : List R) → length (flat L rs) ≡ L.width * length rs
+  length_flat rs = ap length (flat_packed rs) ∙ Packed.length_flat packed rs
 
   -- ---- a table, read again after its records were laid
 
-  own-length : (t x : List ℕ) → L.width ≤ length t → drop L.width (take L.width t ++ x) ≡ x
-  own-length t x h = drop_at (take L.width t) x L.width (length-take-le L.width t h)
+  own_length : (t x : List ℕ) → L.width ≤ length t → drop L.width (take L.width t ++ x) ≡ x
+  own_length t x h = drop_at (take L.width t) x L.width (length-take-le L.width t h)
 
-  own-stays : (t x : List ℕ) → L.width ≤ length t → take L.width (take L.width t ++ x) ≡ take L.width t
-  own-stays t x h = take_at (take L.width t) x L.width (length-take-le L.width t h)
+  own_stays : (t x : List ℕ) → L.width ≤ length t → take L.width (take L.width t ++ x) ≡ take L.width t
+  own_stays t x h = take_at (take L.width t) x L.width (length-take-le L.width t h)
 
-  pub length-laid : (rs : List R) (t : List ℕ) → L.width + L.width * length rs ≤ length t → length (laid L rs t) ≡ length t
-  length-laid rs t h = simp (length-append, length-take, length-flat, length-drop) (omega arith)
+  pub length_laid : (rs : List R) (t : List ℕ) → L.width + L.width * length rs ≤ length t → length (laid L rs t) ≡ length t
+  length_laid rs t h = simp (length-append, length-take, length_flat, length-drop) (omega arith)
 
-  pub take-laid : (rs : List R) (t : List ℕ) → L.width ≤ length t → take L.width (laid L rs t) ≡ take L.width t
-  take-laid rs t h = own-stays t (flat L rs ++ drop (L.width + L.width * length rs) t) h
+  pub take_laid : (rs : List R) (t : List ℕ) → L.width ≤ length t → take L.width (laid L rs t) ≡ take L.width t
+  take_laid rs t h = own_stays t (flat L rs ++ drop (L.width + L.width * length rs) t) h
 
   -- a word of the table's own stays
-  pub own-laid : (rs : List R) (t : List ℕ) (j d : ℕ) → L.width ≤ length t → j < L.width → get_or (laid L rs t) j d ≡ get_or t j d
-  own-laid rs t j d h k =
-      sym (get_or-take L.width (laid L rs t) j d k) ∙ ap (λ (x : List ℕ). get_or x j d) (take-laid rs t h) ∙ get_or-take L.width t j d k
+  pub own_laid : (rs : List R) (t : List ℕ) (j d : ℕ) → L.width ≤ length t → j < L.width → get_or (laid L rs t) j d ≡ get_or t j d
+  own_laid rs t j d h k =
+      sym (get_or-take L.width (laid L rs t) j d k) ∙ ap (λ (x : List ℕ). get_or x j d) (take_laid rs t h) ∙ get_or-take L.width t j d k
 
   -- behind the table's own words the records are those that were laid
-  pub rows-laid : (rs : List R) (t : List ℕ) → L.width + L.width * length rs ≤ length t → rows L (length rs) (laid L rs t) ≡ rs
-  rows-laid rs t h =
+  pub rows_laid : (rs : List R) (t : List ℕ) → L.width + L.width * length rs ≤ length t → rows L (length rs) (laid L rs t) ≡ rs
+  rows_laid rs t h =
       let w : ℕ = L.width in
       let d : List ℕ = drop w t in
-      rows-packed (length rs) (laid L rs t) (omega (arith, length-laid rs t h))
-      ∙ ap (λ (x : List ℕ). Packed.rows packed (length rs) (drop w x)) (laid-packed rs t)
-      ∙ ap (Packed.rows packed (length rs)) (own-length t (Packed.laid packed rs d) (omega arith))
-      ∙ Packed.rows-laid packed rs d
+      rows_packed (length rs) (laid L rs t) (omega (arith, length_laid rs t h))
+      ∙ ap (λ (x : List ℕ). Packed.rows packed (length rs) (drop w x)) (laid_packed rs t)
+      ∙ ap (Packed.rows packed (length rs)) (own_length t (Packed.laid packed rs d) (omega arith))
+      ∙ Packed.rows_laid packed rs d
 
-  pub drop-laid : (rs : List R) (t : List ℕ) → L.width ≤ length t
+  pub drop_laid : (rs : List R) (t : List ℕ) → L.width ≤ length t
       → drop (L.width + L.width * length rs) (laid L rs t) ≡ drop (L.width + L.width * length rs) t
-  drop-laid rs t h =
+  drop_laid rs t h =
       let w : ℕ = L.width in
       let d : List ℕ = drop w t in
       sym (drop-drop (w * length rs) w (laid L rs t))
-      ∙ ap (λ (x : List ℕ). drop (w * length rs) (drop w x)) (laid-packed rs t)
-      ∙ ap (drop (w * length rs)) (own-length t (Packed.laid packed rs d) h)
-      ∙ Packed.drop-laid packed rs d
+      ∙ ap (λ (x : List ℕ). drop (w * length rs) (drop w x)) (laid_packed rs t)
+      ∙ ap (drop (w * length rs)) (own_length t (Packed.laid packed rs d) h)
+      ∙ Packed.drop_laid packed rs d
       ∙ drop-drop (w * length rs) w t
 
   -- the words from the record at i on, at or past the end of those laid, are as they were
@@ -151,26 +151,26 @@ module _ {R : Type 0} (L : Layout R) where
       let f : i ≡ n + d = omega arith in
       let g : w + w * (n + d) ≡ w + w * n + w * d = omega (arith, mul-add w n d) in
       let e : w + w * i ≡ w + w * n + w * d = ap (λ (k : ℕ). w + w * k) f ∙ g in
-      rw e (sym (drop-drop (w * d) (w + w * n) (laid L rs t)) ∙ ap (drop (w * d)) (drop-laid rs t h) ∙ drop-drop (w * d) (w + w * n) t)
+      rw e (sym (drop-drop (w * d) (w + w * n) (laid L rs t)) ∙ ap (drop (w * d)) (drop_laid rs t h) ∙ drop-drop (w * d) (w + w * n) t)
 
   -- the record at i is told by its own words
-  pub row-behind : (i : ℕ) (t u : List ℕ) → L.width + L.width * i + L.width ≤ length t → L.width + L.width * i + L.width ≤ length u
+  pub row_behind : (i : ℕ) (t u : List ℕ) → L.width + L.width * i + L.width ≤ length t → L.width + L.width * i + L.width ≤ length u
       → drop (L.width + L.width * i) t ≡ drop (L.width + L.width * i) u → row L i t ≡ row L i u
-  row-behind i t u h k e =
+  row_behind i t u h k e =
       let w : ℕ = L.width in
       let c : w * i + w ≡ w + w * i = omega arith in
       let p : (v : List ℕ) → drop w (drop (w * i) v) ≡ drop (w + w * i) v = λ v. drop-drop w (w * i) v ∙ ap (λ (j : ℕ). drop j v) c in
-      dec-behind (drop (w * i) t) (simp length-drop (omega arith))
+      dec_behind (drop (w * i) t) (simp length-drop (omega arith))
       ∙ ap (λ (x : List ℕ). L.dec (front ++ x)) (p t ∙ e ∙ sym (p u))
-      ∙ sym (dec-behind (drop (w * i) u) (simp length-drop (omega arith)))
+      ∙ sym (dec_behind (drop (w * i) u) (simp length-drop (omega arith)))
 
   -- a table is its own records, laid
-  pub laid-rows : (n : ℕ) (t : List ℕ) → L.width + L.width * n ≤ length t → laid L (rows L n t) t ≡ t
-  laid-rows n t h =
+  pub laid_rows : (n : ℕ) (t : List ℕ) → L.width + L.width * n ≤ length t → laid L (rows L n t) t ≡ t
+  laid_rows n t h =
       let w : ℕ = L.width in
-      laid-packed (rows L n t) t
-      ∙ ap (λ (rs : List R). take w t ++ Packed.laid packed rs (drop w t)) (rows-packed n t h)
-      ∙ ap (λ (x : List ℕ). take w t ++ x) (Packed.laid-rows packed n (drop w t) (simp length-drop (omega arith)))
+      laid_packed (rows L n t) t
+      ∙ ap (λ (rs : List R). take w t ++ Packed.laid packed rs (drop w t)) (rows_packed n t h)
+      ∙ ap (λ (x : List ℕ). take w t ++ x) (Packed.laid_rows packed n (drop w t) (simp length-drop (omega arith)))
       ∙ take-append-drop w t
 
   -- what is laid behind the own words, of packed records and of the table's
@@ -178,27 +178,27 @@ module _ {R : Type 0} (L : Layout R) where
       → take L.width t ++ Packed.laid packed (f (Packed.rows packed n (drop L.width t))) (drop L.width t) ≡ laid L (f (rows L n t)) t
   relaid n f t h =
       let w : ℕ = L.width in
-      ap (λ (rs : List R). take w t ++ Packed.laid packed (f rs) (drop w t)) (sym (rows-packed n t h)) ∙ sym (laid-packed (f (rows L n t)) t)
+      ap (λ (rs : List R). take w t ++ Packed.laid packed (f rs) (drop w t)) (sym (rows_packed n t h)) ∙ sym (laid_packed (f (rows L n t)) t)
 
   -- ---- what each operation leaves, in words and in records
 
-  pub length-written : (i : ℕ) (r : R) (t : List ℕ) → length (written L i r t) ≡ length t
-  length-written i r t = length-sets t (L.width + L.width * i) (L.enc r)
+  pub length_written : (i : ℕ) (r : R) (t : List ℕ) → length (written L i r t) ≡ length t
+  length_written i r t = length-sets t (L.width + L.width * i) (L.enc r)
 
-  pub own-written : (i : ℕ) (r : R) (t : List ℕ) (j d : ℕ) → j < L.width → get_or (written L i r t) j d ≡ get_or t j d
-  own-written i r t j d h = get_d_sets_before (L.enc r) t (L.width + L.width * i) j d (omega arith)
+  pub own_written : (i : ℕ) (r : R) (t : List ℕ) (j d : ℕ) → j < L.width → get_or (written L i r t) j d ≡ get_or t j d
+  own_written i r t j d h = get_d_sets_before (L.enc r) t (L.width + L.width * i) j d (omega arith)
 
   -- a record written where its words lie in the table
   pub written_in : (i : ℕ) (r : R) (t : List ℕ) → L.width + L.width * i + L.width ≤ length t
       → written L i r t ≡ take (L.width + L.width * i) t ++ L.enc r ++ drop (L.width + L.width * i + L.width) t
   written_in i r t h =
-      let e : length (L.enc r) ≡ L.width = L.enc-length r in
+      let e : length (L.enc r) ≡ L.width = L.enc_length r in
       sets-eq (L.enc r) t (L.width + L.width * i) (omega arith) ∙ rw e
 
   -- behind the table's own words
-  written-packed : (i : ℕ) (r : R) (t : List ℕ) → L.width + L.width * i + L.width ≤ length t
+  written_packed : (i : ℕ) (r : R) (t : List ℕ) → L.width + L.width * i + L.width ≤ length t
       → written L i r t ≡ take L.width t ++ Packed.written packed i r (drop L.width t)
-  written-packed i r t h =
+  written_packed i r t h =
       let w : ℕ = L.width in
       let d : List ℕ = drop w t in
       let a : take (w + w * i) t ≡ take w t ++ take (w * i) d = take-add w (w * i) t in
@@ -212,13 +212,13 @@ module _ {R : Type 0} (L : Layout R) where
       → written L n r t ≡ laid L (rows L n t ++ (r ∷ [])) t
   appended n r t h =
       let w : ℕ = L.width in
-      written-packed n r t h
+      written_packed n r t h
       ∙ ap (λ (x : List ℕ). take w t ++ x) (Packed.appended packed n r (drop w t) (simp length-drop (omega arith)))
       ∙ relaid n (λ (rs : List R). rs ++ (r ∷ [])) t (omega arith)
 
   -- words moved behind the table's own
-  run-behind : (src dst m : ℕ) (t : List ℕ) → run (L.width + src) (L.width + dst) m t ≡ take L.width t ++ run src dst m (drop L.width t)
-  run-behind src dst m t =
+  run_behind : (src dst m : ℕ) (t : List ℕ) → run (L.width + src) (L.width + dst) m t ≡ take L.width t ++ run src dst m (drop L.width t)
+  run_behind src dst m t =
       let w : ℕ = L.width in
       let d : List ℕ = drop w t in
       let a : take (w + dst) t ≡ take w t ++ take dst d = take-add w dst t in
@@ -227,68 +227,68 @@ module _ {R : Type 0} (L : Layout R) where
       let c : drop (w + dst + m) t ≡ drop (dst + m) d = ap (λ (k : ℕ). drop k t) z ∙ sym (drop-drop (dst + m) w t) in
       rw (a, b, c) (simp append_assoc)
 
-  pub removed-at : (n i : ℕ) (t : List ℕ) → i < n → L.width + L.width * n ≤ length t → closed L.width n i t ≡ laid L (removeAt i (rows L n t)) t
-  removed-at n i t h k =
+  pub removed_at : (n i : ℕ) (t : List ℕ) → i < n → L.width + L.width * n ≤ length t → closed L.width n i t ≡ laid L (remove_at i (rows L n t)) t
+  removed_at n i t h k =
       let w : ℕ = L.width in
-      let a : w * (i + 1) + w * (n - i - 1) ≡ w * n = to-and-past w n i h in
-      let b : w * (i + 1) ≡ w * i + w = record-and-next w i in
+      let a : w * (i + 1) + w * (n - i - 1) ≡ w * n = to_and_past w n i h in
+      let b : w * (i + 1) ≡ w * i + w = record_and_next w i in
       let z : w + w * i + w ≡ w + w * (i + 1) = omega arith in
       moved_in t (w + w * i + w) (w + w * i) (w * (n - i - 1)) (omega arith) (omega arith)
       ∙ ap (λ (j : ℕ). run j (w + w * i) (w * (n - i - 1)) t) z
-      ∙ run-behind (w * (i + 1)) (w * i) (w * (n - i - 1)) t
-      ∙ ap (λ (x : List ℕ). take w t ++ x) (Packed.removed-at packed n i (drop w t) h (simp length-drop (omega arith)))
-      ∙ relaid n (removeAt i) t k
+      ∙ run_behind (w * (i + 1)) (w * i) (w * (n - i - 1)) t
+      ∙ ap (λ (x : List ℕ). take w t ++ x) (Packed.removed_at packed n i (drop w t) h (simp length-drop (omega arith)))
+      ∙ relaid n (remove_at i) t k
 
-  pub updated-at : (n i : ℕ) (r : R) (t : List ℕ) → i < n → L.width + L.width * n ≤ length t → written L i r t ≡ laid L (set (rows L n t) i r) t
-  updated-at n i r t h k =
+  pub updated_at : (n i : ℕ) (r : R) (t : List ℕ) → i < n → L.width + L.width * n ≤ length t → written L i r t ≡ laid L (set (rows L n t) i r) t
+  updated_at n i r t h k =
       let w : ℕ = L.width in
-      let a : w * (i + 1) + w * (n - i - 1) ≡ w * n = to-and-past w n i h in
-      let b : w * (i + 1) ≡ w * i + w = record-and-next w i in
-      written-packed i r t (omega arith)
-      ∙ ap (λ (x : List ℕ). take w t ++ x) (Packed.updated-at packed n i r (drop w t) h (simp length-drop (omega arith)))
+      let a : w * (i + 1) + w * (n - i - 1) ≡ w * n = to_and_past w n i h in
+      let b : w * (i + 1) ≡ w * i + w = record_and_next w i in
+      written_packed i r t (omega arith)
+      ∙ ap (λ (x : List ℕ). take w t ++ x) (Packed.updated_at packed n i r (drop w t) h (simp length-drop (omega arith)))
       ∙ relaid n (λ (rs : List R). set rs i r) t k
 
-  pub inserted-at : (n i : ℕ) (r : R) (t : List ℕ) → i ≤ n → L.width + L.width * n + L.width ≤ length t
-      → written L i r (opened L.width n i t) ≡ laid L (insertAt i r (rows L n t)) t
-  inserted-at n i r t h k =
+  pub inserted_at : (n i : ℕ) (r : R) (t : List ℕ) → i ≤ n → L.width + L.width * n + L.width ≤ length t
+      → written L i r (opened L.width n i t) ≡ laid L (insert_at i r (rows L n t)) t
+  inserted_at n i r t h k =
       let w : ℕ = L.width in
       let d : List ℕ = drop w t in
       let x : List ℕ = run (w * i) (w * i + w) (w * (n - i)) d in
-      let a : w * i + w * (n - i) ≡ w * n = before-and-from w n i h in
+      let a : w * i + w * (n - i) ≡ w * n = before_and_from w n i h in
       let z : w + w * i + w ≡ w + (w * i + w) = omega arith in
       let e : opened w n i t ≡ take w t ++ x =
       moved_in t (w + w * i) (w + w * i + w) (w * (n - i)) (omega arith) (omega arith)
       ∙ ap (λ (j : ℕ). run (w + w * i) j (w * (n - i)) t) z
-      ∙ run-behind (w * i) (w * i + w) (w * (n - i)) t in
+      ∙ run_behind (w * i) (w * i + w) (w * (n - i)) t in
       let l : length d + w ≡ length t = simp length-drop (omega arith) in
       let y : length x ≡ length d = length_run d (w * i) (w * i + w) (w * (n - i)) (omega arith) (omega arith) in
       ap (written L i r) e
-      ∙ written-packed i r (take w t ++ x) (omega (arith, length-append (take w t) x, length-take-le w t (omega arith)))
-      ∙ rw (own-stays t x (omega arith), own-length t x (omega arith))
-      (ap (λ (u : List ℕ). take w t ++ u) (Packed.inserted-at packed n i r d h (omega arith)))
-      ∙ relaid n (insertAt i r) t (omega arith)
+      ∙ written_packed i r (take w t ++ x) (omega (arith, length-append (take w t) x, length-take-le w t (omega arith)))
+      ∙ rw (own_stays t x (omega arith), own_length t x (omega arith))
+      (ap (λ (u : List ℕ). take w t ++ u) (Packed.inserted_at packed n i r d h (omega arith)))
+      ∙ relaid n (insert_at i r) t (omega arith)
 
   -- ---- one operation after another
 
   -- what was laid last, over no fewer records than before
-  pub laid-laid : (qs rs : List R) (t : List ℕ) → L.width ≤ length t → length rs ≤ length qs → laid L qs (laid L rs t) ≡ laid L qs t
-  laid-laid qs rs t g h =
+  pub laid_laid : (qs rs : List R) (t : List ℕ) → L.width ≤ length t → length rs ≤ length qs → laid L qs (laid L rs t) ≡ laid L qs t
+  laid_laid qs rs t g h =
       let w : ℕ = L.width in
       let d : List ℕ = drop w t in
-      laid-packed qs (laid L rs t)
-      ∙ ap (λ (x : List ℕ). take w x ++ Packed.laid packed qs (drop w x)) (laid-packed rs t)
-      ∙ rw (own-stays t (Packed.laid packed rs d) g, own-length t (Packed.laid packed rs d) g)
-      (ap (λ (x : List ℕ). take w t ++ x) (Packed.laid-laid packed qs rs d h))
-      ∙ sym (laid-packed qs t)
+      laid_packed qs (laid L rs t)
+      ∙ ap (λ (x : List ℕ). take w x ++ Packed.laid packed qs (drop w x)) (laid_packed rs t)
+      ∙ rw (own_stays t (Packed.laid packed rs d) g, own_length t (Packed.laid packed rs d) g)
+      (ap (λ (x : List ℕ). take w t ++ x) (Packed.laid_laid packed qs rs d h))
+      ∙ sym (laid_packed qs t)
 
   -- the records of a table that others were laid in
-  pub rows-after : (n : ℕ) (rs : List R) (t : List ℕ) → L.width + L.width * n ≤ length t → length rs ≡ n → rows L n (laid L rs t) ≡ rs
-  rows-after n rs t h e = subst (λ (k : ℕ). rows L k (laid L rs t) ≡ rs) e (rows-laid rs t (rw e h))
+  pub rows_after : (n : ℕ) (rs : List R) (t : List ℕ) → L.width + L.width * n ≤ length t → length rs ≡ n → rows L n (laid L rs t) ≡ rs
+  rows_after n rs t h e = subst (λ (k : ℕ). rows L k (laid L rs t) ≡ rs) e (rows_laid rs t (rw e h))
 
   -- a record changed before the j-th leaves the words from the j-th record on
-  pub laid-set-drop : (i j : ℕ) (r : R) (rs : List R) (t : List ℕ) → L.width ≤ length t → i < j → j ≤ length rs
+  pub laid_set_drop : (i j : ℕ) (r : R) (rs : List R) (t : List ℕ) → L.width ≤ length t → i < j → j ≤ length rs
       → drop (L.width + L.width * j) (laid L (set rs i r) t) ≡ drop (L.width + L.width * j) (laid L rs t)
-  laid-set-drop i j r rs t o h g = past (set rs i r) ∙ Packed.laid-set-drop packed i j r rs d h g ∙ sym (past rs)
+  laid_set_drop i j r rs t o h g = past (set rs i r) ∙ Packed.laid_set_drop packed i j r rs d h g ∙ sym (past rs)
     where
       w : ℕ
       w = L.width
@@ -299,15 +299,15 @@ module _ {R : Type 0} (L : Layout R) where
       past : (qs : List R) → drop (L.width + L.width * j) (laid L qs t) ≡ drop (w * j) (Packed.laid packed qs d)
       past qs =
           sym (drop-drop (w * j) w (laid L qs t))
-          ∙ ap (λ (x : List ℕ). drop (w * j) (drop w x)) (laid-packed qs t)
-          ∙ ap (drop (w * j)) (own-length t (Packed.laid packed qs d) o)
+          ∙ ap (λ (x : List ℕ). drop (w * j) (drop w x)) (laid_packed qs t)
+          ∙ ap (drop (w * j)) (own_length t (Packed.laid packed qs d) o)
 
 module _ {R : Type 0} where
-  pub length-removeAt : (i : ℕ) (rs : List R) → i < length rs → length (removeAt i rs) ≡ length rs - 1
-  length-removeAt i rs h = simp (length-append, length-take, length-drop) (omega arith)
+  pub length_remove_at : (i : ℕ) (rs : List R) → i < length rs → length (remove_at i rs) ≡ length rs - 1
+  length_remove_at i rs h = simp (length-append, length-take, length-drop) (omega arith)
 
-  pub length-insertAt : (i : ℕ) (r : R) (rs : List R) → i ≤ length rs → length (insertAt i r rs) ≡ length rs + 1
-  length-insertAt i r rs h = simp (length-append, length-take, length-drop) (omega arith)
+  pub length_insert_at : (i : ℕ) (r : R) (rs : List R) → i ≤ length rs → length (insert_at i r rs) ≡ length rs + 1
+  length_insert_at i r rs h = simp (length-append, length-take, length-drop) (omega arith)
 
 -- ---- one word of one record
 
@@ -322,8 +322,8 @@ module _ {R : Type 0} (L : Layout R) where
       let w : ℕ = L.width in
       let d : List ℕ = drop w t in
       let j : ℕ = k - w in
-      let f : w * (i + 1) + w * (n - i - 1) ≡ w * n = to-and-past w n i h in
-      let g : w * (i + 1) ≡ w * i + w = record-and-next w i in
+      let f : w * (i + 1) + w * (n - i - 1) ≡ w * n = to_and_past w n i h in
+      let g : w * (i + 1) ≡ w * i + w = record_and_next w i in
       let z : cell_of k w i ≡ w + cell_of j w i = omega arith in
       let u : List ℕ = set (drop (w * i) t) k v in
       let e1 : take w (set t (w + cell_of j w i) v) ≡ take w t = take-set-le w t (w + cell_of j w i) v (omega arith) in
@@ -335,7 +335,7 @@ module _ {R : Type 0} (L : Layout R) where
       ∙ drop-set-add w (drop (w * i) t) j v
       ∙ ap (λ (s : List ℕ). set s j v) (drop-drop w (w * i) t ∙ ap (λ (m : ℕ). drop m t) x ∙ sym (drop-drop (w * i) w t)) in
       let q : L.dec u ≡ (packed L).dec (set (drop (w * i) d) j v) =
-      dec-behind L u (simp (length-set, length-drop) (omega arith)) ∙ ap (λ (s : List ℕ). (packed L).dec s) p in
+      dec_behind L u (simp (length-set, length-drop) (omega arith)) ∙ ap (λ (s : List ℕ). (packed L).dec s) p in
       ap (λ (m : ℕ). set t m v) z
       ∙ sym (take-append-drop w (set t (w + cell_of j w i) v))
       ∙ rw (e1, e2) (ap (λ (s : List ℕ). take w t ++ s) (Packed.stored_at (packed L) n i j v d h (simp length-drop (omega arith)) (omega arith)))

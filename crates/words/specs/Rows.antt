@@ -8,9 +8,9 @@ pub record Layout (R : Type 0) : Type 0 where
   pub width : ℕ
   pub enc : R → List ℕ
   pub dec : List ℕ → R
-  pub enc-length : (r : R) → length (enc r) ≡ width
-  pub dec-enc : (own : List ℕ) (r : R) (rest : List ℕ) → length own ≡ width → dec (own ++ (enc r ++ rest)) ≡ r
-  pub enc-dec : (t : List ℕ) → width + width ≤ length t → enc (dec t) ≡ take width (drop width t)
+  pub enc_length : (r : R) → length (enc r) ≡ width
+  pub dec_enc : (own : List ℕ) (r : R) (rest : List ℕ) → length own ≡ width → dec (own ++ (enc r ++ rest)) ≡ r
+  pub enc_dec : (t : List ℕ) → width + width ≤ length t → enc (dec t) ≡ take width (drop width t)
 
 module _ {R : Type 0} (L : Layout R) where
   -- the record at place i
@@ -37,9 +37,9 @@ module _ {R : Type 0} (L : Layout R) where
 
 module _ {R : Type 0} where
   -- rs without the one at i
-  abbrev pub removeAt : ℕ → List R → List R
-  removeAt i rs = take i rs ++ drop (suc i) rs
+  abbrev pub remove_at : ℕ → List R → List R
+  remove_at i rs = take i rs ++ drop (suc i) rs
 
   -- rs with r before the one at i
-  abbrev pub insertAt : ℕ → R → List R → List R
-  insertAt i r rs = take i rs ++ (r ∷ drop i rs)
+  abbrev pub insert_at : ℕ → R → List R → List R
+  insert_at i r rs = take i rs ++ (r ∷ drop i rs)

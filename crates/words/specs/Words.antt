@@ -15,12 +15,12 @@ abbrev pub cell_of : ℕ → ℕ → ℕ → ℕ
 cell_of at w i = at + w * i
 
 -- the first word of a table's own record is its mark
-abbrev pub markAt : ℕ
-markAt = 0
+abbrev pub mark_at : ℕ
+mark_at = 0
 
 -- n words, the mark m and then v in each
 unfoldable pub blank : ℕ → ℕ → ℕ → List ℕ
-blank n m v = set (replicate n v) markAt m
+blank n m v = set (replicate n v) mark_at m
 
 -- t, with the m words from dst on replaced by the m from src on, as they were;
 -- t itself where either run of words leaves it

@@ -1,4 +1,4 @@
-use Rattle.book_rules.proofs.Whole.{loan-read}
+use Rattle.book_rules.proofs.Whole.{loan_read}
 use Rattle.std.proofs.Common.{rules}
 use Rattle.book.proofs.loan_by_words.Statement.{statement}
 use Rattle.book.proofs.loan_by_words.Tie as tie
@@ -19,7 +19,7 @@ returns : tie.Need-returns
 returns c =
     let b = c.before.before.before in
     let a = b.before.before.args in
-    loan-read a.loans.now a.p _ _ _ _ b.cell.ensures c.before.before.cell2.ensures c.before.cell3.ensures c.cell4.ensures
+    loan_read a.loans.now a.p _ _ _ _ b.cell.ensures c.before.before.cell2.ensures c.before.cell3.ensures c.cell4.ensures
 
 pub loan-by-words-spec : {M : Type 1} → statement M
 loan-by-words-spec =

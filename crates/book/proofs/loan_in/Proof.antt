@@ -1,4 +1,4 @@
-use Rattle.book_rules.proofs.Whole.{loan-along}
+use Rattle.book_rules.proofs.Whole.{loan_along}
 use Rattle.std.proofs.Common.{rules}
 use Rattle.book.proofs.loan_in.Statement.{statement}
 use Rattle.book.proofs.loan_in.Tie as tie
@@ -43,7 +43,7 @@ shared-slice-read-t19 : tie.Need-shared-slice-read-t19
 shared-slice-read-t19 c = search rules
 
 returns : tie.Need-returns
-returns c = let a = c.before.before.before.before.args in loan-along a.loans.now a.p
+returns c = let a = c.before.before.before.before.args in loan_along a.loans.now a.p
 
 pub loan-in-spec : {M : Type 1} → statement M
 loan-in-spec =

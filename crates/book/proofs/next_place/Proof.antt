@@ -1,4 +1,4 @@
-use Rattle.book.proofs.Entering.{slab-read}
+use Rattle.book.proofs.Entering.{slab_read}
 use Rattle.std.proofs.Common.{rules}
 use Rattle.book.proofs.next_place.Statement.{statement}
 use Rattle.book.proofs.next_place.Tie as tie
@@ -10,7 +10,7 @@ insert-requires : tie.Need-insert-requires
 insert-requires c κs = search rules
 
 returns : tie.Need-returns
-returns c = slab-read _ _ _ _ c.before.led-to.ensures c.insert.ensures
+returns c = slab_read _ _ _ _ c.before.led-to.ensures c.insert.ensures
 
 pub next-place-spec : {M : Type 1} → statement M
 next-place-spec = tie.close (tie.spec led-to-requires insert-requires returns)

@@ -1,4 +1,4 @@
-use Rattle.book.proofs.Taking.{taken-last, taken-new}
+use Rattle.book.proofs.Taking.{taken_last, taken_new}
 use Rattle.std.proofs.Common.{rules}
 use Rattle.book.proofs.next_place_in.Statement.{statement}
 use Rattle.book.proofs.next_place_in.Tie as tie
@@ -27,7 +27,7 @@ place-of-requires-2 c κs = search rules
 returns : tie.Need-returns
 returns c =
     let a = c.before.before.before.before.before.before.args in
-    taken-last a.places a.index.now _ c.before.before.before.place-of.ensures c.before.before.if1.true _ c.place-of2.ensures
+    taken_last a.places a.index.now _ c.before.before.before.place-of.ensures c.before.before.if1.true _ c.place-of2.ensures
 
 wrapping-add-u64-requires : tie.Need-wrapping-add-u64-requires
 wrapping-add-u64-requires c κs = search rules
@@ -35,7 +35,7 @@ wrapping-add-u64-requires c κs = search rules
 returns-2 : tie.Need-returns-2
 returns-2 c =
     let a = c.before.before.before.before.before.args in
-    taken-new a.places a.index.now _ c.before.before.place-of.ensures c.before.if1.false _ c.wrapping-add-u64.ensures
+    taken_new a.places a.index.now _ c.before.before.place-of.ensures c.before.if1.false _ c.wrapping-add-u64.ensures
 
 pub next-place-in-spec : {M : Type 1} → statement M
 next-place-in-spec =

@@ -1,5 +1,5 @@
 use Rattle.std.proofs.Common.{set, rules}
-use Rattle.book_rules.specs.Book.{vacatedAt, first_of, next_of}
+use Rattle.book_rules.specs.Book.{vacated_at, first_of, next_of}
 use Rattle.book.proofs.put_first.Statement.{statement}
 use Rattle.book.proofs.put_first.Tie as tie
 
@@ -43,7 +43,7 @@ returns : tie.Need-returns
 returns c =
     let r = c.before in
     let a = r.before.before.args in
-    (λ j. set (set (set a.index.now vacatedAt (r.record_of.ensures j)) (next_of a.p) a.first) (first_of a.i) (c.record-of2.ensures j))
+    (λ j. set (set (set a.index.now vacated_at (r.record_of.ensures j)) (next_of a.p) a.first) (first_of a.i) (c.record-of2.ensures j))
 
 pub put-first-spec : {M : Type 1} → statement M
 put-first-spec =

@@ -1,4 +1,4 @@
-use Rattle.book.proofs.Striking.{struck-loans, struck-index}
+use Rattle.book.proofs.Striking.{struck_loans, struck_index_lem}
 use Rattle.std.proofs.Common.{refl, rules}
 use Rattle.book.proofs.strike.Statement.{statement}
 use Rattle.book.proofs.strike.Tie as tie
@@ -36,7 +36,7 @@ returns c =
     let v = d.before.before.before.before in
     let o = v.before.before.before.before.before.before in
     let leads = o.requires.leads in
-    (struck-loans _ _ _ _ _ leads v.vacate.ensures, struck-index _ _ _ _ _ _ leads refl refl d.pass-over.ensures)
+    (struck_loans _ _ _ _ _ leads v.vacate.ensures, struck_index_lem _ _ _ _ _ _ leads refl refl d.pass-over.ensures)
 
 pub strike-spec : {M : Type 1} → statement M
 strike-spec =

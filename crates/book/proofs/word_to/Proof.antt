@@ -1,11 +1,11 @@
 use Rattle.std.proofs.Common.{◌≡◌, ℕ, ◌<◌, ◌≤◌, sym, ap, ◌∙◌, mod-lt, arith, rules}
-use Rattle.book_rules.specs.Book.{indexWords, first_of, seekIn, wordTo}
-use Rattle.book_rules.proofs.Seeking.{seek-past, seek-here, seek-on, seek-none, word-is}
+use Rattle.book_rules.specs.Book.{index_words, first_of, seek_in, word_to}
+use Rattle.book_rules.proofs.Seeking.{seek_past, seek_here, seek_on, seek_none, word_is}
 use Rattle.book.proofs.word_to.Statement.{statement}
 use Rattle.book.proofs.word_to.Tie as tie
 
 abbrev invariant-loop : tie.invariant-loop
-invariant-loop loans index n places serial i at₀ left₀ at left = (at < indexWords n) × (wordTo loans index n places serial ≡ seekIn loans index places serial at left)
+invariant-loop loans index n places serial i at₀ left₀ at left = (at < index_words n) × (word_to loans index n places serial ≡ seek_in loans index places serial at left)
 
 abbrev decreases-loop : tie.decreases-loop
 decreases-loop loans index n places serial i at₀ left₀ at left = left
@@ -25,14 +25,14 @@ loop-holds c =
     let a = o.args in
     let is = c.remainder.ensures in (
       omega (arith, is, mod-lt a.serial o.requires.some),
-      word-is a.loans.now a.index.now a.n a.places a.serial ∙ ap (λ (i : ℕ). seekIn a.loans.now a.index.now a.places a.serial (first_of i) a.places) (sym is),
+      word_is a.loans.now a.index.now a.n a.places a.serial ∙ ap (λ (i : ℕ). seek_in a.loans.now a.index.now a.places a.serial (first_of i) a.places) (sym is),
     )
 
 mul-place-of : tie.Need-overflow-mul-place-of invariant-loop decreases-loop
 mul-place-of c = search rules
 
 shared-slice-read-place-of : tie.Need-shared-slice-read-place-of invariant-loop decreases-loop
-shared-slice-read-place-of c = omega (arith, c.before.before.loop.invariant.0, c.before.before.before.before.before.before.requires.index-long)
+shared-slice-read-place-of c = omega (arith, c.before.before.loop.invariant.0, c.before.before.before.before.before.before.requires.index_long)
 
 place-of-requires : tie.Need-place-of-requires invariant-loop decreases-loop
 place-of-requires c κs = search rules
@@ -41,7 +41,7 @@ returns : tie.Need-returns invariant-loop decreases-loop
 returns c =
     let b = c.before.before.before.before.loop in
     let o : 0 < b.left = omega arith in
-    sym (b.invariant.1 ∙ seek-past _ _ _ _ _ _ _ c.before.place-of.ensures o c.if1.true)
+    sym (b.invariant.1 ∙ seek_past _ _ _ _ _ _ _ c.before.place-of.ensures o c.if1.true)
 
 mul-if2 : tie.Need-overflow-mul-if2 invariant-loop decreases-loop
 mul-if2 c = search rules
@@ -53,13 +53,13 @@ mul-if2-2 : tie.Need-overflow-mul-if2-2 invariant-loop decreases-loop
 mul-if2-2 c = search rules
 
 shared-slice-read-if2 : tie.Need-shared-slice-read-if2 invariant-loop decreases-loop
-shared-slice-read-if2 c = omega (arith, c.before.if1.false, c.before.before.before.before.before.before.before.before.before.requires.loans-long, c.before.before.before.before.before.before.before.before.before.requires.few)
+shared-slice-read-if2 c = omega (arith, c.before.if1.false, c.before.before.before.before.before.before.before.before.before.requires.loans_long, c.before.before.before.before.before.before.before.before.before.requires.few)
 
 returns-2 : tie.Need-returns-2 invariant-loop decreases-loop
 returns-2 c =
     let b = c.before.before.before.before.before.before.loop in
     let o : 0 < b.left = omega arith in
-    sym (b.invariant.1 ∙ seek-here _ _ _ _ _ _ _ c.before.before.before.place-of.ensures o c.before.before.if1.false c.if2.true)
+    sym (b.invariant.1 ∙ seek_here _ _ _ _ _ _ _ c.before.before.before.place-of.ensures o c.before.before.if1.false c.if2.true)
 
 mul-at-2 : tie.Need-overflow-mul-at-2 invariant-loop decreases-loop
 mul-at-2 c = search rules
@@ -78,14 +78,14 @@ loop-again c =
     let b = c.before.before.before.before.before.before.loop in
     let o : 0 < b.left = omega arith in (
       omega (arith, c.before.before.if1.false, c.before.before.before.before.before.before.before.before.before.before.requires.few),
-      b.invariant.1 ∙ seek-on _ _ _ _ _ _ _ c.before.before.before.place-of.ensures o c.before.before.if1.false c.if2.false,
+      b.invariant.1 ∙ seek_on _ _ _ _ _ _ _ c.before.before.before.place-of.ensures o c.before.before.if1.false c.if2.false,
     )
 
 returns-3 : tie.Need-returns-3 invariant-loop decreases-loop
 returns-3 c =
     let b = c.before.loop in
     let o : b.left ≤ 0 = omega arith in
-    sym (b.invariant.1 ∙ seek-none _ _ _ _ _ _ o)
+    sym (b.invariant.1 ∙ seek_none _ _ _ _ _ _ o)
 
 pub word-to-spec : {M : Type 1} → statement M
 word-to-spec =

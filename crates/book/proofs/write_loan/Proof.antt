@@ -1,5 +1,5 @@
 use Rattle.std.proofs.Common.{arith, length-set, rules}
-use Rattle.book_rules.proofs.Whole.{written-along}
+use Rattle.book_rules.proofs.Whole.{written_along}
 use Rattle.book.proofs.write_loan.Statement.{statement}
 use Rattle.book.proofs.write_loan.Tie as tie
 
@@ -46,7 +46,7 @@ same_length : tie.Need-same-length
 same_length c = search rules
 
 returns : tie.Need-returns
-returns c = let a = c.args in written-along a.loans.now a.p a.l.serial a.l.chunk a.l.offset a.l.size
+returns c = let a = c.args in written_along a.loans.now a.p a.l.serial a.l.chunk a.l.offset a.l.size
 
 pub write-loan-spec : {M : Type 1} → statement M
 write-loan-spec =

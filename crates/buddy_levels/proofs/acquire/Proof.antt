@@ -1,4 +1,4 @@
-use Rattle.buddy_levels.proofs.Steps.{left-acquired, right-acquired}
+use Rattle.buddy_levels.proofs.Steps.{left_acquired, right_acquired}
 use Rattle.std.proofs.Common.{rules}
 use Rattle.buddy_levels.proofs.acquire.Statement.{statement}
 use Rattle.buddy_levels.proofs.acquire.Tie as tie
@@ -22,7 +22,7 @@ returns : tie.Need-returns
 returns c =
     let s = c.before.before.before.before.before.before.before.before.before.before.before.before.before.before in
     let a = s.args in
-    left-acquired a.base a.tree.now a.w a.h _ _ _ _ s.requires.1.0 s.requires.1.1 c.before.before.before.before.before.before.before.before.before.before.before.leave.ensures c.before.before.before.before.before.before.before.put-field-in.ensures c.before.before.before.before.if1.true c.before.before.put-field-in2.ensures
+    left_acquired a.base a.tree.now a.w a.h _ _ _ _ s.requires.1.0 s.requires.1.1 c.before.before.before.before.before.before.before.before.before.before.before.leave.ensures c.before.before.before.before.before.before.before.put-field-in.ensures c.before.before.before.before.if1.true c.before.before.put-field-in2.ensures
 
 same-length-2 : tie.Need-same-length-2
 same-length-2 c = search rules
@@ -31,7 +31,7 @@ returns-2 : tie.Need-returns-2
 returns-2 c =
     let s = c.before.before.before.before.before.before.before.before.before.before.before.before.before.before in
     let a = s.args in
-    right-acquired a.base a.tree.now a.w a.h _ _ _ _ s.requires.1.0 s.requires.1.1 c.before.before.before.before.before.before.before.before.before.before.before.leave.ensures c.before.before.before.before.before.before.before.put-field-in.ensures c.before.before.before.before.if1.false c.before.before.put-field-in3.ensures
+    right_acquired a.base a.tree.now a.w a.h _ _ _ _ s.requires.1.0 s.requires.1.1 c.before.before.before.before.before.before.before.before.before.before.before.leave.ensures c.before.before.before.before.before.before.before.put-field-in.ensures c.before.before.before.before.if1.false c.before.before.put-field-in3.ensures
 
 pub acquire_spec : {M : Type 1} → statement M
 acquire_spec =

@@ -1,5 +1,5 @@
 use Rattle.std.proofs.Common.{refl, arith, length-set, rules}
-use Rattle.buddy_levels.proofs.Steps.{pair-dropped}
+use Rattle.buddy_levels.proofs.Steps.{pair_dropped}
 use Rattle.buddy_levels.proofs.drop_pair.Statement.{statement}
 use Rattle.buddy_levels.proofs.drop_pair.Tie as tie
 
@@ -39,7 +39,7 @@ same_length c = simp length-set (omega arith)
 returns : tie.Need-returns
 returns c =
     let a = c.before.before.before.before.before.before.before.before.before.before.before.before.before.before.before.args in
-    pair-dropped a.base a.tree.now a.p _ _ _ _ _ _ refl c.before.before.before.before.before.before.before.before.before.before.before.leave.ensures c.before.before.before.before.before.before.before.put-field-in.ensures c.before.before.before.put-field-in2.ensures c.record_of.ensures refl
+    pair_dropped a.base a.tree.now a.p _ _ _ _ _ _ refl c.before.before.before.before.before.before.before.before.before.before.before.leave.ensures c.before.before.before.before.before.before.before.put-field-in.ensures c.before.before.before.put-field-in2.ensures c.record_of.ensures refl
 
 pub drop-pair-spec : {M : Type 1} → statement M
 drop-pair-spec =

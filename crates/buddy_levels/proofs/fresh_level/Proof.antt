@@ -1,4 +1,4 @@
-use Rattle.buddy_levels.proofs.Steps.{level-fresh}
+use Rattle.buddy_levels.proofs.Steps.{level_fresh}
 use Rattle.std.proofs.Common.{rules}
 use Rattle.buddy_levels.proofs.fresh_level.Statement.{statement}
 use Rattle.buddy_levels.proofs.fresh_level.Tie as tie
@@ -30,7 +30,7 @@ returns c =
     let e = d.before.before.before.before in
     let f = e.before.before.before.before in
     let a = f.before.before.before.args in
-    level-fresh a.base a.tree.now _ _ _ f.put.ensures e.put2.ensures d.put3.ensures
+    level_fresh a.base a.tree.now _ _ _ f.put.ensures e.put2.ensures d.put3.ensures
 
 pub fresh-level-spec : {M : Type 1} → statement M
 fresh-level-spec =

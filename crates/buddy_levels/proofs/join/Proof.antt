@@ -20,7 +20,7 @@ add-link c = search rules
 link-requires : tie.Need-link-requires
 link-requires c κs =
     let r = c.before.before.requires in
-    record { head_in = omega (arith, r.own); next-in = omega (arith, r.own); prev-in = omega (arith, r.own); first = λ o. omega (arith, r.first o); last = λ o. omega (arith, r.last o) }
+    record { head_in = omega (arith, r.own); next_in_lem = omega (arith, r.own); prev_in = omega (arith, r.own); first = λ o. omega (arith, r.first o); last = λ o. omega (arith, r.last o) }
 
 same_length : tie.Need-same-length
 same_length c = search rules

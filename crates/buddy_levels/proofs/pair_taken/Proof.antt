@@ -1,7 +1,7 @@
 use Rattle.std.proofs.Common.{ℕ, ◌+◌, ◌<◌, get_or, sym, refl, subst, rules}
-use Rattle.buddy_rules.specs.Level.{usedAt}
+use Rattle.buddy_rules.specs.Level.{used_at}
 use Rattle.buddy_levels.specs.Stands.{Stands}
-use Rattle.buddy_levels.proofs.Steps.{taken-last, taken_next}
+use Rattle.buddy_levels.proofs.Steps.{taken_last, taken_next}
 use Rattle.buddy_levels.proofs.pair_taken.Statement.{statement}
 use Rattle.buddy_levels.proofs.pair_taken.Tie as tie
 
@@ -32,7 +32,7 @@ field-in-requires c κs =
     let s = p.before.before.before.before in
     let a = s.args in
     let e = p.place-of.ensures in
-    (search rules, subst (λ (x : ℕ). Stands a.base x a.tree.now) (sym e) (s.requires.link (subst (λ (x : ℕ). x < get_or a.tree.now (a.base + usedAt) 0) e c.if1.true)))
+    (search rules, subst (λ (x : ℕ). Stands a.base x a.tree.now) (sym e) (s.requires.link (subst (λ (x : ℕ). x < get_or a.tree.now (a.base + used_at) 0) e c.if1.true)))
 
 place-of-requires-2 : tie.Need-place-of-requires-2
 place-of-requires-2 c κs = search rules
@@ -43,7 +43,7 @@ returns c =
     let i = f.before in
     let p = i.before in
     let a = p.before.before.before.before.args in
-    taken-last a.base a.tree.now _ _ refl p.place-of.ensures i.if1.true _ _ f.field_in.ensures c.place-of2.ensures
+    taken_last a.base a.tree.now _ _ refl p.place-of.ensures i.if1.true _ _ f.field_in.ensures c.place-of2.ensures
 
 wrapping-add-u64-requires : tie.Need-wrapping-add-u64-requires
 wrapping-add-u64-requires c κs = search rules

@@ -1,4 +1,4 @@
-use Rattle.buddy_levels.proofs.Steps.{left-backed, right-backed}
+use Rattle.buddy_levels.proofs.Steps.{left_backed, right_backed}
 use Rattle.std.proofs.Common.{rules}
 use Rattle.buddy_levels.proofs.ready_pair.Statement.{statement}
 use Rattle.buddy_levels.proofs.ready_pair.Tie as tie
@@ -24,7 +24,7 @@ same_length c = search rules
 returns : tie.Need-returns
 returns c =
     let a = c.before.before.before.before.before.before.before.before.before.before.before.before.before.before.args in
-    left-backed a.base a.tree.now a.p _ _ _ _ c.before.before.before.before.before.before.before.before.before.before.before.join.ensures c.before.before.before.before.before.before.before.before.if1.true c.before.before.before.before.before.before.put-field-in.ensures c.before.before.put-field-in2.ensures
+    left_backed a.base a.tree.now a.p _ _ _ _ c.before.before.before.before.before.before.before.before.before.before.before.join.ensures c.before.before.before.before.before.before.before.before.if1.true c.before.before.before.before.before.before.put-field-in.ensures c.before.before.put-field-in2.ensures
 
 same-length-2 : tie.Need-same-length-2
 same-length-2 c = search rules
@@ -32,7 +32,7 @@ same-length-2 c = search rules
 returns-2 : tie.Need-returns-2
 returns-2 c =
     let a = c.before.before.before.before.before.before.before.before.before.before.before.before.before.before.args in
-    right-backed a.base a.tree.now a.p _ _ _ _ c.before.before.before.before.before.before.before.before.before.before.before.join.ensures c.before.before.before.before.before.before.before.before.if1.false c.before.before.before.before.before.before.put-field-in3.ensures c.before.before.put-field-in4.ensures
+    right_backed a.base a.tree.now a.p _ _ _ _ c.before.before.before.before.before.before.before.before.before.before.before.join.ensures c.before.before.before.before.before.before.before.before.if1.false c.before.before.before.before.before.before.put-field-in3.ensures c.before.before.put-field-in4.ensures
 
 pub ready-pair-spec : {M : Type 1} → statement M
 ready-pair-spec =

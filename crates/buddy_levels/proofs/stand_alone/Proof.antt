@@ -1,5 +1,5 @@
 use Rattle.std.proofs.Common.{refl, arith, length-set, rules}
-use Rattle.buddy_levels.proofs.Steps.{alone-stood}
+use Rattle.buddy_levels.proofs.Steps.{alone_stood}
 use Rattle.buddy_levels.proofs.stand_alone.Statement.{statement}
 use Rattle.buddy_levels.proofs.stand_alone.Tie as tie
 
@@ -29,7 +29,7 @@ returns c =
     let e = c.before.before in
     let f = e.before.before.before.before in
     let a = f.before.before.before.before.args in
-    alone-stood a.base a.tree.now a.p _ _ _ _ f.before.before.record_of.ensures f.put-field-in.ensures e.put-field-in2.ensures refl
+    alone_stood a.base a.tree.now a.p _ _ _ _ f.before.before.record_of.ensures f.put-field-in.ensures e.put-field-in2.ensures refl
 
 pub stand-alone-spec : {M : Type 1} → statement M
 stand-alone-spec =

@@ -1,4 +1,4 @@
-use Rattle.buddy_levels.proofs.Steps.{pair-written}
+use Rattle.buddy_levels.proofs.Steps.{pair_written}
 use Rattle.std.proofs.Common.{rules}
 use Rattle.buddy_levels.proofs.write_pair.Statement.{statement}
 use Rattle.buddy_levels.proofs.write_pair.Tie as tie
@@ -33,7 +33,7 @@ returns c =
     let h = g.before.before.before.before in
     let k = h.before.before.before.before in
     let a = k.before.before.before.args in
-    pair-written a.base a.tree.now a.p a.chunk a.offset a.node a.left _ _ _ _ _ _
+    pair_written a.base a.tree.now a.p a.chunk a.offset a.node a.left _ _ _ _ _ _
     k.put-field-in.ensures h.put-field-in2.ensures g.put-field-in3.ensures f.put-field-in4.ensures e.put-field-in5.ensures d.put-field-in6.ensures
 
 pub write-pair-spec : {M : Type 1} → statement M

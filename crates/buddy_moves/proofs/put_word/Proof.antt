@@ -1,7 +1,7 @@
 use mathlib.Core.Path.{sym, subst}
 use Prim.Native.Nat.{ℕ}
 use Rattle.buddy_levels.specs.Stands.{Stands}
-use Rattle.buddy_moves.proofs.Moved.{left-put, right-put}
+use Rattle.buddy_moves.proofs.Moved.{left_put, right_put}
 use borrow.Author.Rules.{rules}
 use Rattle.buddy_moves.proofs.put_word.Statement.{statement}
 use Rattle.buddy_moves.proofs.put_word.Tie as tie
@@ -32,7 +32,7 @@ returns c =
     let l = i.before in
     let p = l.before in
     let a = p.before.before.args in
-    left-put a.base a.n _ _ a.tree.now p.pair_of.ensures l.is-left.ensures a.w _ i.if1.true f.put-field-in.ensures
+    left_put a.base a.n _ _ a.tree.now p.pair_of.ensures l.is-left.ensures a.w _ i.if1.true f.put-field-in.ensures
 
 same-length-2 : tie.Need-same-length-2
 same-length-2 c = search rules
@@ -44,7 +44,7 @@ returns-2 c =
     let l = i.before in
     let p = l.before in
     let a = p.before.before.args in
-    right-put a.base a.n _ _ a.tree.now p.pair_of.ensures l.is-left.ensures a.w _ i.if1.false f.put-field-in2.ensures
+    right_put a.base a.n _ _ a.tree.now p.pair_of.ensures l.is-left.ensures a.w _ i.if1.false f.put-field-in2.ensures
 
 pub put-word-spec : {M : Type 1} → statement M
 put-word-spec =

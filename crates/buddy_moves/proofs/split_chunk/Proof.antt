@@ -1,6 +1,6 @@
 use native.Mathlib.Omega.{arith}
 use borrow.Author.Rules.{rules}
-use Rattle.buddy_moves.proofs.Moved.{half_in, top-stands, top-place, top-roomy, top-node, top-tree}
+use Rattle.buddy_moves.proofs.Moved.{half_in, top_stands, top_place, top_roomy, top_node, top_tree}
 use Rattle.buddy_moves.proofs.split_chunk.Statement.{statement}
 use Rattle.buddy_moves.proofs.split_chunk.Tie as tie
 
@@ -15,7 +15,7 @@ add-pair-requires c κs =
     let f = c.before in
     let s = f.before.before in
     let a = s.args in
-    top-stands a.pairs a.level a.above _ a.tree.now f.level-from.ensures.0 s.requires.0.1 s.requires.0.3 s.requires.0.4
+    top_stands a.pairs a.level a.above _ a.tree.now f.level-from.ensures.0 s.requires.0.1 s.requires.0.3 s.requires.0.4
 
 left-node-requires : tie.Need-left-node-requires
 left-node-requires c κs =
@@ -23,7 +23,7 @@ left-node-requires c κs =
     let f = q.before.before in
     let s = f.before.before in
     let a = s.args in
-    omega (arith, s.requires.0.0, top-place a.pairs a.level a.above a.chunk a.loan _ _ a.tree.now _ f.level-from.ensures.0 q.add-pair.ensures.0 q.add-pair.ensures.1 s.requires.0.3)
+    omega (arith, s.requires.0.0, top_place a.pairs a.level a.above a.chunk a.loan _ _ a.tree.now _ f.level-from.ensures.0 q.add-pair.ensures.0 q.add-pair.ensures.1 s.requires.0.3)
 
 split-down-requires : tie.Need-split-down-requires
 split-down-requires c κs =
@@ -33,8 +33,8 @@ split-down-requires c κs =
     let a = s.args in (
       (s.requires.0.0, s.requires.0.1, s.requires.0.2),
       (
-        top-roomy a.pairs a.level a.above a.chunk a.loan _ _ a.tree.now _ f.level-from.ensures.0 q.add-pair.ensures.0 q.add-pair.ensures.1 _ c.left-node.ensures s.requires.1,
-        (half_in a.pairs _ _ c.left-node.ensures (top-place a.pairs a.level a.above a.chunk a.loan _ _ a.tree.now _ f.level-from.ensures.0 q.add-pair.ensures.0 q.add-pair.ensures.1 s.requires.0.3), omega (arith, s.requires.0.4)),
+        top_roomy a.pairs a.level a.above a.chunk a.loan _ _ a.tree.now _ f.level-from.ensures.0 q.add-pair.ensures.0 q.add-pair.ensures.1 _ c.left-node.ensures s.requires.1,
+        (half_in a.pairs _ _ c.left-node.ensures (top_place a.pairs a.level a.above a.chunk a.loan _ _ a.tree.now _ f.level-from.ensures.0 q.add-pair.ensures.0 q.add-pair.ensures.1 s.requires.0.3), omega (arith, s.requires.0.4)),
       ),
     )
 
@@ -49,8 +49,8 @@ returns c =
     let f = q.before.before in
     let s = f.before.before in
     let a = s.args in (
-      top-node a.pairs a.level a.above a.chunk a.loan _ _ a.tree.now _ f.level-from.ensures.0 q.add-pair.ensures.0 q.add-pair.ensures.1 _ n.left-node.ensures _ d.split-down.ensures.0,
-      top-tree a.pairs a.level a.above a.chunk a.loan _ _ a.tree.now _ f.level-from.ensures.0 q.add-pair.ensures.0 q.add-pair.ensures.1 _ n.left-node.ensures _ d.split-down.ensures.1,
+      top_node a.pairs a.level a.above a.chunk a.loan _ _ a.tree.now _ f.level-from.ensures.0 q.add-pair.ensures.0 q.add-pair.ensures.1 _ n.left-node.ensures _ d.split-down.ensures.0,
+      top_tree a.pairs a.level a.above a.chunk a.loan _ _ a.tree.now _ f.level-from.ensures.0 q.add-pair.ensures.0 q.add-pair.ensures.1 _ n.left-node.ensures _ d.split-down.ensures.1,
     )
 
 pub split-chunk-spec : {M : Type 1} → statement M

@@ -2,17 +2,17 @@ use mathlib.Core.Path.{◌≡◌, refl, sym, ap, ◌∙◌}
 use Prim.Native.Nat.{◌+◌, ◌-◌, ◌<◌}
 use native.Mathlib.Omega.{arith}
 use lib.ListN.{length}
-use Rattle.counter.specs.Limits.{levelsMost}
+use Rattle.counter.specs.Limits.{levels_most}
 use Rattle.buddy_rules.specs.Nodes.{pair_of}
-use Rattle.buddy_rules.specs.Moves.{Cut, splitDown}
+use Rattle.buddy_rules.specs.Moves.{Cut, split_down}
 use Rattle.buddy_moves.specs.Roomy.{Roomy}
-use Rattle.buddy_moves.proofs.Moved.{in-level, half_in, roomy-place, split-roomy, split-on, split_done}
+use Rattle.buddy_moves.proofs.Moved.{in_level, half_in, roomy_place, split_roomy, split_on, split_done}
 use borrow.Author.Rules.{rules}
 use Rattle.buddy_moves.proofs.split_down.Statement.{statement}
 use Rattle.buddy_moves.proofs.split_down.Tie as tie
 
 abbrev invariant-loop : tie.invariant-loop
-invariant-loop tree₀ pairs level above chunk offset loan node d₀ n₀ tree d n = (level + d < levelsMost) × (length tree ≡ length tree₀) × Roomy pairs level chunk offset n d tree × (splitDown pairs level chunk offset loan node above tree₀ ≡ splitDown pairs level chunk offset loan n d tree) × (pair_of n < pairs)
+invariant-loop tree₀ pairs level above chunk offset loan node d₀ n₀ tree d n = (level + d < levels_most) × (length tree ≡ length tree₀) × Roomy pairs level chunk offset n d tree × (split_down pairs level chunk offset loan node above tree₀ ≡ split_down pairs level chunk offset loan n d tree) × (pair_of n < pairs)
 
 abbrev decreases-loop : tie.decreases-loop
 decreases-loop tree₀ pairs level above chunk offset loan node d₀ n₀ tree d n = d
@@ -35,8 +35,8 @@ add-pair-requires c κs =
     let s = f.before.before.before.before in
     let b = f.before.before.loop in
     let a = s.args in
-    let r = roomy-place a.pairs a.level a.chunk a.offset a.loan b.n b.tree _ _ refl b.d (search rules) f.level-from.ensures.0 b.invariant.2 in
-    omega (arith, in-level a.pairs (a.level + (b.d - 1)) _ (omega (arith, b.invariant.0)) r, f.level-from.ensures.0, b.invariant.1, s.requires.1.1.1)
+    let r = roomy_place a.pairs a.level a.chunk a.offset a.loan b.n b.tree _ _ refl b.d (search rules) f.level-from.ensures.0 b.invariant.2 in
+    omega (arith, in_level a.pairs (a.level + (b.d - 1)) _ (omega (arith, b.invariant.0)) r, f.level-from.ensures.0, b.invariant.1, s.requires.1.1.1)
 
 add-level-from-2 : tie.Need-overflow-add-level-from-2 invariant-loop decreases-loop
 add-level-from-2 c = search rules
@@ -53,7 +53,7 @@ split-word-requires c κs =
     let f = q.before.before in
     let b = f.before.before.loop in
     let a = f.before.before.before.before.args in
-    omega (arith, f.before.before.before.before.requires.0.0, roomy-place a.pairs a.level a.chunk a.offset a.loan b.n b.tree _ _ q.add-pair.ensures.0 b.d (search rules) f.level-from.ensures.0 b.invariant.2)
+    omega (arith, f.before.before.before.before.requires.0.0, roomy_place a.pairs a.level a.chunk a.offset a.loan b.n b.tree _ _ q.add-pair.ensures.0 b.d (search rules) f.level-from.ensures.0 b.invariant.2)
 
 put-word-requires : tie.Need-put-word-requires invariant-loop decreases-loop
 put-word-requires c κs =
@@ -63,8 +63,8 @@ put-word-requires c κs =
     let s = f.before.before.before.before in
     let b = f.before.before.loop in
     let a = s.args in
-    let low : a.level + (b.d - 1) + 1 < levelsMost = search rules in
-    omega (arith, in-level a.pairs (a.level + (b.d - 1) + 1) (pair_of b.n) low b.invariant.4, g.level-from2.ensures.0, b.invariant.1, s.requires.1.1.1)
+    let low : a.level + (b.d - 1) + 1 < levels_most = search rules in
+    omega (arith, in_level a.pairs (a.level + (b.d - 1) + 1) (pair_of b.n) low b.invariant.4, g.level-from2.ensures.0, b.invariant.1, s.requires.1.1.1)
 
 left-node-requires : tie.Need-left-node-requires invariant-loop decreases-loop
 left-node-requires c κs =
@@ -72,7 +72,7 @@ left-node-requires c κs =
     let f = q.before.before in
     let b = f.before.before.loop in
     let a = f.before.before.before.before.args in
-    omega (arith, f.before.before.before.before.requires.0.0, roomy-place a.pairs a.level a.chunk a.offset a.loan b.n b.tree _ _ q.add-pair.ensures.0 b.d (search rules) f.level-from.ensures.0 b.invariant.2)
+    omega (arith, f.before.before.before.before.requires.0.0, roomy_place a.pairs a.level a.chunk a.offset a.loan b.n b.tree _ _ q.add-pair.ensures.0 b.d (search rules) f.level-from.ensures.0 b.invariant.2)
 
 loop-less : tie.Need-loop-smaller invariant-loop decreases-loop
 loop-less c = search rules
@@ -89,10 +89,10 @@ loop-again c =
     let a = l.before.before.args in (
       omega (arith, b.invariant.0),
       search rules,
-      split-roomy a.pairs a.level a.chunk a.offset a.loan b.n b.tree _ _ q.add-pair.ensures.0 _ _ _ _ _ q.add-pair.ensures.1 s.split-word.ensures w.put_word.ensures c.left-node.ensures b.d (search rules) f.level-from.ensures.0 g.level-from2.ensures.0 b.invariant.2,
+      split_roomy a.pairs a.level a.chunk a.offset a.loan b.n b.tree _ _ q.add-pair.ensures.0 _ _ _ _ _ q.add-pair.ensures.1 s.split-word.ensures w.put_word.ensures c.left-node.ensures b.d (search rules) f.level-from.ensures.0 g.level-from2.ensures.0 b.invariant.2,
       b.invariant.3
-          ∙ split-on a.pairs a.level a.chunk a.offset a.loan b.n b.tree _ _ q.add-pair.ensures.0 _ _ _ _ _ q.add-pair.ensures.1 s.split-word.ensures w.put_word.ensures c.left-node.ensures b.d (search rules) f.level-from.ensures.0 g.level-from2.ensures.0,
-      half_in a.pairs _ _ c.left-node.ensures (roomy-place a.pairs a.level a.chunk a.offset a.loan b.n b.tree _ _ q.add-pair.ensures.0 b.d (search rules) f.level-from.ensures.0 b.invariant.2),
+          ∙ split_on a.pairs a.level a.chunk a.offset a.loan b.n b.tree _ _ q.add-pair.ensures.0 _ _ _ _ _ q.add-pair.ensures.1 s.split-word.ensures w.put_word.ensures c.left-node.ensures b.d (search rules) f.level-from.ensures.0 g.level-from2.ensures.0,
+      half_in a.pairs _ _ c.left-node.ensures (roomy_place a.pairs a.level a.chunk a.offset a.loan b.n b.tree _ _ q.add-pair.ensures.0 b.d (search rules) f.level-from.ensures.0 b.invariant.2),
     )
 
 level-from-requires-3 : tie.Need-level-from-requires-3 invariant-loop decreases-loop
@@ -108,7 +108,7 @@ put-word-requires-2 c κs =
     let b = l.before.loop in
     let s = l.before.before.before in
     let a = s.args in
-    omega (arith, in-level a.pairs a.level (pair_of b.n) (omega (arith, b.invariant.0)) b.invariant.4, g.level-from3.ensures.0, b.invariant.1, s.requires.1.1.1)
+    omega (arith, in_level a.pairs a.level (pair_of b.n) (omega (arith, b.invariant.0)) b.invariant.4, g.level-from3.ensures.0, b.invariant.1, s.requires.1.1.1)
 
 same_length : tie.Need-same-length invariant-loop decreases-loop
 same_length c = search rules

@@ -1,7 +1,7 @@
 use mathlib.Core.Path.{sym, subst}
 use Prim.Native.Nat.{ℕ}
 use Rattle.buddy_levels.specs.Stands.{Stands}
-use Rattle.buddy_moves.proofs.Moved.{left-twin, right-twin}
+use Rattle.buddy_moves.proofs.Moved.{left_twin, right_twin}
 use borrow.Author.Rules.{rules}
 use Rattle.buddy_moves.proofs.twin_word.Statement.{statement}
 use Rattle.buddy_moves.proofs.twin_word.Tie as tie
@@ -28,7 +28,7 @@ returns c =
     let l = i.before in
     let p = l.before in
     let a = p.before.before.args in
-    left-twin a.base a.n _ _ a.tree.now p.pair_of.ensures l.is-left.ensures _ i.if1.true c.field_in.ensures
+    left_twin a.base a.n _ _ a.tree.now p.pair_of.ensures l.is-left.ensures _ i.if1.true c.field_in.ensures
 
 returns-2 : tie.Need-returns-2
 returns-2 c =
@@ -36,7 +36,7 @@ returns-2 c =
     let l = i.before in
     let p = l.before in
     let a = p.before.before.args in
-    right-twin a.base a.n _ _ a.tree.now p.pair_of.ensures l.is-left.ensures _ i.if1.false c.field-in2.ensures
+    right_twin a.base a.n _ _ a.tree.now p.pair_of.ensures l.is-left.ensures _ i.if1.false c.field-in2.ensures
 
 pub twin-word-spec : {M : Type 1} → statement M
 twin-word-spec =

@@ -1,5 +1,5 @@
 use borrow.Author.Rules.{rules}
-use Rattle.buddy_test.proofs.Trees.{met-told}
+use Rattle.buddy_test.proofs.Trees.{met_told}
 use Rattle.buddy_test.proofs.are_met.Statement.{statement}
 use Rattle.buddy_test.proofs.are_met.Tie as tie
 
@@ -10,7 +10,7 @@ returns : tie.Need-returns
 returns c =
     let o = c.before.before.before.before.before in
     let a = o.args in
-    met-told a.s a.levels a.loans.now a.chunks.now a.index.now a.tree.now a.held a.count c.left-chunks.result o.requires.3 o.requires.5 c.left-chunks.ensures
+    met_told a.s a.levels a.loans.now a.chunks.now a.index.now a.tree.now a.held a.count c.left-chunks.result o.requires.3 o.requires.5 c.left-chunks.ensures
 
 pub are-met-spec : {M : Type 1} → statement M
 are-met-spec = tie.close (tie.spec left-chunks-requires returns)

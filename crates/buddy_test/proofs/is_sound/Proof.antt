@@ -1,9 +1,9 @@
 use borrow.Author.Rules.{rules}
 use mathlib.Core.Path.{sym, ◌∙◌}
 use native.Mathlib.Omega.{arith}
-use Rattle.lists.proofs.Bools.{not-no}
-use Rattle.buddy_test.proofs.Trees.{count-told, leaves-told, within-told}
-use Rattle.buddy_test.proofs.Whole.{head-fails, levels-few, kept-fails, places-own, places-few, places-fail, held-few, memories-fail, good-fail, leaves-fail, met-fails, units-left}
+use Rattle.lists.proofs.Bools.{not_no}
+use Rattle.buddy_test.proofs.Trees.{count_told, leaves_told, within_told}
+use Rattle.buddy_test.proofs.Whole.{head_fails, levels_few, kept_fails, places_own, places_few, places_fail, held_few, memories_fail, good_fail, leaves_fail, met_fails, units_left}
 use Rattle.buddy_test.proofs.is_sound.Statement.{statement}
 use Rattle.buddy_test.proofs.is_sound.Tie as tie
 
@@ -15,7 +15,7 @@ returns c =
     let h = c.before in
     let o = h.before.before.before.before.before.before in
     let a = o.args in
-    head-fails a.s a.head.now a.loans.now a.chunks.now a.index.now a.tree.now h.is-head.result h.is-head.ensures c.if1.true
+    head_fails a.s a.head.now a.loans.now a.chunks.now a.index.now a.tree.now h.is-head.result h.is-head.ensures c.if1.true
 
 word-requires : tie.Need-word-requires
 word-requires c κs = search rules
@@ -44,7 +44,7 @@ returns-2 c =
     let h = i1.before in
     let o = h.before.before.before.before.before.before in
     let a = o.args in
-    kept-fails a.s a.head.now a.loans.now a.chunks.now a.index.now a.tree.now h.is-head.result h.is-head.ensures i1.if1.false w1.word.result w2.word2.result w3.word3.result w4.word4.result w1.word.ensures w2.word2.ensures w3.word3.ensures w4.word4.ensures k.are-kept.result.ok k.are-kept.ensures.0 c.if2.true
+    kept_fails a.s a.head.now a.loans.now a.chunks.now a.index.now a.tree.now h.is-head.result h.is-head.ensures i1.if1.false w1.word.result w2.word2.result w3.word3.result w4.word4.result w1.word.ensures w2.word2.ensures w3.word3.ensures w4.word4.ensures k.are-kept.result.ok k.are-kept.ensures.0 c.if2.true
 
 are-places-requires : tie.Need-are-places-requires
 are-places-requires c κs = search rules
@@ -63,7 +63,7 @@ returns-3 c =
     let h = i1.before in
     let o = h.before.before.before.before.before.before in
     let a = o.args in
-    places-fail a.s a.head.now a.loans.now a.chunks.now a.index.now a.tree.now h.is-head.result h.is-head.ensures i1.if1.false w1.word.result w2.word2.result w3.word3.result w4.word4.result w1.word.ensures w2.word2.ensures w3.word3.ensures w4.word4.ensures k.are-kept.result.ok k.are-kept.ensures.0 i2.if2.false p.are-places.result.ok p.are-places.ensures.0 c.if3.true
+    places_fail a.s a.head.now a.loans.now a.chunks.now a.index.now a.tree.now h.is-head.result h.is-head.ensures i1.if1.false w1.word.result w2.word2.result w3.word3.result w4.word4.result w1.word.ensures w2.word2.ensures w3.word3.ensures w4.word4.ensures k.are-kept.result.ok k.are-kept.ensures.0 i2.if2.false p.are-places.result.ok p.are-places.ensures.0 c.if3.true
 
 are-memories-requires : tie.Need-are-memories-requires
 are-memories-requires c κs =
@@ -79,7 +79,7 @@ are-memories-requires c κs =
     let h = i1.before in
     let o = h.before.before.before.before.before.before in
     let a = o.args in
-    (held-few a.s a.head.now a.loans.now a.chunks.now a.index.now a.tree.now h.is-head.result h.is-head.ensures i1.if1.false w1.word.result w2.word2.result w3.word3.result w4.word4.result w1.word.ensures w2.word2.ensures w3.word3.ensures w4.word4.ensures k.are-kept.result.ok k.are-kept.ensures.0 i2.if2.false p.are-places.result.ok p.are-places.ensures.0 c.if3.false o.requires.0, w3.word3.ensures)
+    (held_few a.s a.head.now a.loans.now a.chunks.now a.index.now a.tree.now h.is-head.result h.is-head.ensures i1.if1.false w1.word.result w2.word2.result w3.word3.result w4.word4.result w1.word.ensures w2.word2.ensures w3.word3.ensures w4.word4.ensures k.are-kept.result.ok k.are-kept.ensures.0 i2.if2.false p.are-places.result.ok p.are-places.ensures.0 c.if3.false o.requires.0, w3.word3.ensures)
 
 returns-4 : tie.Need-returns-4
 returns-4 c =
@@ -97,7 +97,7 @@ returns-4 c =
     let h = i1.before in
     let o = h.before.before.before.before.before.before in
     let a = o.args in
-    memories-fail a.s a.head.now a.loans.now a.chunks.now a.index.now a.tree.now h.is-head.result h.is-head.ensures i1.if1.false w1.word.result w2.word2.result w3.word3.result w4.word4.result w1.word.ensures w2.word2.ensures w3.word3.ensures w4.word4.ensures k.are-kept.result.ok k.are-kept.ensures.0 i2.if2.false p.are-places.result.ok p.are-places.ensures.0 i3.if3.false m.are-memories.result m.are-memories.ensures c.if4.true
+    memories_fail a.s a.head.now a.loans.now a.chunks.now a.index.now a.tree.now h.is-head.result h.is-head.ensures i1.if1.false w1.word.result w2.word2.result w3.word3.result w4.word4.result w1.word.ensures w2.word2.ensures w3.word3.ensures w4.word4.ensures k.are-kept.result.ok k.are-kept.ensures.0 i2.if2.false p.are-places.result.ok p.are-places.ensures.0 i3.if3.false m.are-memories.result m.are-memories.ensures c.if4.true
 
 are-good-requires : tie.Need-are-good-requires
 are-good-requires c κs =
@@ -115,7 +115,7 @@ are-good-requires c κs =
     let h = i1.before in
     let o = h.before.before.before.before.before.before in
     let a = o.args in
-    (o.requires.0.pairs-most, levels-few a.s a.head.now a.loans.now a.chunks.now a.index.now a.tree.now h.is-head.result h.is-head.ensures i1.if1.false w1.word.result w2.word2.result w3.word3.result w4.word4.result w1.word.ensures w2.word2.ensures w3.word3.ensures w4.word4.ensures, omega (arith, o.requires.1.room))
+    (o.requires.0.pairs_most_lem, levels_few a.s a.head.now a.loans.now a.chunks.now a.index.now a.tree.now h.is-head.result h.is-head.ensures i1.if1.false w1.word.result w2.word2.result w3.word3.result w4.word4.result w1.word.ensures w2.word2.ensures w3.word3.ensures w4.word4.ensures, omega (arith, o.requires.1.room))
 
 returns-5 : tie.Need-returns-5
 returns-5 c =
@@ -135,7 +135,7 @@ returns-5 c =
     let h = i1.before in
     let o = h.before.before.before.before.before.before in
     let a = o.args in
-    good-fail a.s a.head.now a.loans.now a.chunks.now a.index.now a.tree.now h.is-head.result h.is-head.ensures i1.if1.false w1.word.result w2.word2.result w3.word3.result w4.word4.result w1.word.ensures w2.word2.ensures w3.word3.ensures w4.word4.ensures k.are-kept.result.ok k.are-kept.ensures.0 i2.if2.false p.are-places.result.ok p.are-places.ensures.0 i3.if3.false m.are-memories.result m.are-memories.ensures i4.if4.false g.are-good.result.ok g.are-good.ensures.0 c.if5.true
+    good_fail a.s a.head.now a.loans.now a.chunks.now a.index.now a.tree.now h.is-head.result h.is-head.ensures i1.if1.false w1.word.result w2.word2.result w3.word3.result w4.word4.result w1.word.ensures w2.word2.ensures w3.word3.ensures w4.word4.ensures k.are-kept.result.ok k.are-kept.ensures.0 i2.if2.false p.are-places.result.ok p.are-places.ensures.0 i3.if3.false m.are-memories.result m.are-memories.ensures i4.if4.false g.are-good.result.ok g.are-good.ensures.0 c.if5.true
 
 are-leaves-requires : tie.Need-are-leaves-requires
 are-leaves-requires c κs =
@@ -155,9 +155,9 @@ are-leaves-requires c κs =
     let h = i1.before in
     let o = h.before.before.before.before.before.before in
     let a = o.args in
-    let levels = levels-few a.s a.head.now a.loans.now a.chunks.now a.index.now a.tree.now h.is-head.result h.is-head.ensures i1.if1.false w1.word.result w2.word2.result w3.word3.result w4.word4.result w1.word.ensures w2.word2.ensures w3.word3.ensures w4.word4.ensures in
-    let few = places-few a.s a.head.now a.loans.now a.chunks.now a.index.now a.tree.now h.is-head.result h.is-head.ensures i1.if1.false w1.word.result w2.word2.result w3.word3.result w4.word4.result w1.word.ensures w2.word2.ensures w3.word3.ensures w4.word4.ensures k.are-kept.result.ok k.are-kept.ensures.0 i2.if2.false o.requires.0 in
-    let held = held-few a.s a.head.now a.loans.now a.chunks.now a.index.now a.tree.now h.is-head.result h.is-head.ensures i1.if1.false w1.word.result w2.word2.result w3.word3.result w4.word4.result w1.word.ensures w2.word2.ensures w3.word3.ensures w4.word4.ensures k.are-kept.result.ok k.are-kept.ensures.0 i2.if2.false p.are-places.result.ok p.are-places.ensures.0 i3.if3.false o.requires.0 in (
+    let levels = levels_few a.s a.head.now a.loans.now a.chunks.now a.index.now a.tree.now h.is-head.result h.is-head.ensures i1.if1.false w1.word.result w2.word2.result w3.word3.result w4.word4.result w1.word.ensures w2.word2.ensures w3.word3.ensures w4.word4.ensures in
+    let few = places_few a.s a.head.now a.loans.now a.chunks.now a.index.now a.tree.now h.is-head.result h.is-head.ensures i1.if1.false w1.word.result w2.word2.result w3.word3.result w4.word4.result w1.word.ensures w2.word2.ensures w3.word3.ensures w4.word4.ensures k.are-kept.result.ok k.are-kept.ensures.0 i2.if2.false o.requires.0 in
+    let held = held_few a.s a.head.now a.loans.now a.chunks.now a.index.now a.tree.now h.is-head.result h.is-head.ensures i1.if1.false w1.word.result w2.word2.result w3.word3.result w4.word4.result w1.word.ensures w2.word2.ensures w3.word3.ensures w4.word4.ensures k.are-kept.result.ok k.are-kept.ensures.0 i2.if2.false p.are-places.result.ok p.are-places.ensures.0 i3.if3.false o.requires.0 in (
       omega (arith, g.are-good.ensures.1.1, levels),
       omega (arith, g.are-good.ensures.1.2, levels),
       omega (arith, k.are-kept.ensures.1.1, few),
@@ -184,11 +184,11 @@ returns-6 c =
     let h = i1.before in
     let o = h.before.before.before.before.before.before in
     let a = o.args in
-    let good = g.are-good.ensures.1.0 (not-no _ i5.if5.false) in
+    let good = g.are-good.ensures.1.0 (not_no _ i5.if5.false) in
     let leaves =
-    leaves-told a.s w1.word.result a.loans.now a.chunks.now a.index.now a.tree.now w2.word2.result g.are-good.result.used k.are-kept.result.live w2.word2.ensures good.0 (k.are-kept.ensures.1.0 (not-no _ i2.if2.false))
-    g.are-good.result.ready p.are-places.result.used v.are-leaves.result good.1 (p.are-places.ensures.1.0 (not-no _ i3.if3.false)) v.are-leaves.ensures in
-    leaves-fail a.s a.head.now a.loans.now a.chunks.now a.index.now a.tree.now h.is-head.result h.is-head.ensures i1.if1.false w1.word.result w2.word2.result w3.word3.result w4.word4.result w1.word.ensures w2.word2.ensures w3.word3.ensures w4.word4.ensures k.are-kept.result.ok k.are-kept.ensures.0 i2.if2.false p.are-places.result.ok p.are-places.ensures.0 i3.if3.false m.are-memories.result m.are-memories.ensures i4.if4.false g.are-good.result.ok g.are-good.ensures.0 i5.if5.false v.are-leaves.result leaves c.if6.true
+    leaves_told a.s w1.word.result a.loans.now a.chunks.now a.index.now a.tree.now w2.word2.result g.are-good.result.used k.are-kept.result.live w2.word2.ensures good.0 (k.are-kept.ensures.1.0 (not_no _ i2.if2.false))
+    g.are-good.result.ready p.are-places.result.used v.are-leaves.result good.1 (p.are-places.ensures.1.0 (not_no _ i3.if3.false)) v.are-leaves.ensures in
+    leaves_fail a.s a.head.now a.loans.now a.chunks.now a.index.now a.tree.now h.is-head.result h.is-head.ensures i1.if1.false w1.word.result w2.word2.result w3.word3.result w4.word4.result w1.word.ensures w2.word2.ensures w3.word3.ensures w4.word4.ensures k.are-kept.result.ok k.are-kept.ensures.0 i2.if2.false p.are-places.result.ok p.are-places.ensures.0 i3.if3.false m.are-memories.result m.are-memories.ensures i4.if4.false g.are-good.result.ok g.are-good.ensures.0 i5.if5.false v.are-leaves.result leaves c.if6.true
 
 add-count : tie.Need-overflow-add-count
 add-count c =
@@ -211,8 +211,8 @@ add-count c =
     let h = i1.before in
     let o = h.before.before.before.before.before.before in
     let a = o.args in
-    let few = places-few a.s a.head.now a.loans.now a.chunks.now a.index.now a.tree.now h.is-head.result h.is-head.ensures i1.if1.false w1.word.result w2.word2.result w3.word3.result w4.word4.result w1.word.ensures w2.word2.ensures w3.word3.ensures w4.word4.ensures k.are-kept.result.ok k.are-kept.ensures.0 i2.if2.false o.requires.0 in
-    let levels = levels-few a.s a.head.now a.loans.now a.chunks.now a.index.now a.tree.now h.is-head.result h.is-head.ensures i1.if1.false w1.word.result w2.word2.result w3.word3.result w4.word4.result w1.word.ensures w2.word2.ensures w3.word3.ensures w4.word4.ensures in
+    let few = places_few a.s a.head.now a.loans.now a.chunks.now a.index.now a.tree.now h.is-head.result h.is-head.ensures i1.if1.false w1.word.result w2.word2.result w3.word3.result w4.word4.result w1.word.ensures w2.word2.ensures w3.word3.ensures w4.word4.ensures k.are-kept.result.ok k.are-kept.ensures.0 i2.if2.false o.requires.0 in
+    let levels = levels_few a.s a.head.now a.loans.now a.chunks.now a.index.now a.tree.now h.is-head.result h.is-head.ensures i1.if1.false w1.word.result w2.word2.result w3.word3.result w4.word4.result w1.word.ensures w2.word2.ensures w3.word3.ensures w4.word4.ensures in
     omega (arith, g.are-good.ensures.1.1, k.are-kept.ensures.1.1, few, levels)
 
 are-met-requires : tie.Need-are-met-requires
@@ -236,14 +236,14 @@ are-met-requires c κs =
     let h = i1.before in
     let o = h.before.before.before.before.before.before in
     let a = o.args in
-    let good = g.are-good.ensures.1.0 (not-no _ i5.if5.false) in
-    let levels = levels-few a.s a.head.now a.loans.now a.chunks.now a.index.now a.tree.now h.is-head.result h.is-head.ensures i1.if1.false w1.word.result w2.word2.result w3.word3.result w4.word4.result w1.word.ensures w2.word2.ensures w3.word3.ensures w4.word4.ensures in (
+    let good = g.are-good.ensures.1.0 (not_no _ i5.if5.false) in
+    let levels = levels_few a.s a.head.now a.loans.now a.chunks.now a.index.now a.tree.now h.is-head.result h.is-head.ensures i1.if1.false w1.word.result w2.word2.result w3.word3.result w4.word4.result w1.word.ensures w2.word2.ensures w3.word3.ensures w4.word4.ensures in (
       o.requires.0,
       levels,
-      held-few a.s a.head.now a.loans.now a.chunks.now a.index.now a.tree.now h.is-head.result h.is-head.ensures i1.if1.false w1.word.result w2.word2.result w3.word3.result w4.word4.result w1.word.ensures w2.word2.ensures w3.word3.ensures w4.word4.ensures k.are-kept.result.ok k.are-kept.ensures.0 i2.if2.false p.are-places.result.ok p.are-places.ensures.0 i3.if3.false o.requires.0,
+      held_few a.s a.head.now a.loans.now a.chunks.now a.index.now a.tree.now h.is-head.result h.is-head.ensures i1.if1.false w1.word.result w2.word2.result w3.word3.result w4.word4.result w1.word.ensures w2.word2.ensures w3.word3.ensures w4.word4.ensures k.are-kept.result.ok k.are-kept.ensures.0 i2.if2.false p.are-places.result.ok p.are-places.ensures.0 i3.if3.false o.requires.0,
       w3.word3.ensures,
-      within-told a.s w1.word.result a.loans.now a.chunks.now a.index.now a.tree.now a.head.now w2.word2.result o.requires.0 o.requires.1 levels w2.word2.ensures (places-own a.s a.head.now a.loans.now a.chunks.now a.index.now a.tree.now h.is-head.result h.is-head.ensures i1.if1.false w1.word.result w2.word2.result w3.word3.result w4.word4.result w1.word.ensures w2.word2.ensures w3.word3.ensures w4.word4.ensures k.are-kept.result.ok k.are-kept.ensures.0 i2.if2.false) (sym g.are-good.ensures.0 ∙ not-no _ i5.if5.false),
-      count-told a.s w1.word.result a.loans.now a.chunks.now a.index.now a.tree.now w2.word2.result g.are-good.result.used k.are-kept.result.live w2.word2.ensures good.0 (k.are-kept.ensures.1.0 (not-no _ i2.if2.false)),
+      within_told a.s w1.word.result a.loans.now a.chunks.now a.index.now a.tree.now a.head.now w2.word2.result o.requires.0 o.requires.1 levels w2.word2.ensures (places_own a.s a.head.now a.loans.now a.chunks.now a.index.now a.tree.now h.is-head.result h.is-head.ensures i1.if1.false w1.word.result w2.word2.result w3.word3.result w4.word4.result w1.word.ensures w2.word2.ensures w3.word3.ensures w4.word4.ensures k.are-kept.result.ok k.are-kept.ensures.0 i2.if2.false) (sym g.are-good.ensures.0 ∙ not_no _ i5.if5.false),
+      count_told a.s w1.word.result a.loans.now a.chunks.now a.index.now a.tree.now w2.word2.result g.are-good.result.used k.are-kept.result.live w2.word2.ensures good.0 (k.are-kept.ensures.1.0 (not_no _ i2.if2.false)),
     )
 
 returns-7 : tie.Need-returns-7
@@ -268,11 +268,11 @@ returns-7 c =
     let h = i1.before in
     let o = h.before.before.before.before.before.before in
     let a = o.args in
-    let good = g.are-good.ensures.1.0 (not-no _ i5.if5.false) in
+    let good = g.are-good.ensures.1.0 (not_no _ i5.if5.false) in
     let leaves =
-    leaves-told a.s w1.word.result a.loans.now a.chunks.now a.index.now a.tree.now w2.word2.result g.are-good.result.used k.are-kept.result.live w2.word2.ensures good.0 (k.are-kept.ensures.1.0 (not-no _ i2.if2.false))
-    g.are-good.result.ready p.are-places.result.used v.are-leaves.result good.1 (p.are-places.ensures.1.0 (not-no _ i3.if3.false)) v.are-leaves.ensures in
-    met-fails a.s a.head.now a.loans.now a.chunks.now a.index.now a.tree.now h.is-head.result h.is-head.ensures i1.if1.false w1.word.result w2.word2.result w3.word3.result w4.word4.result w1.word.ensures w2.word2.ensures w3.word3.ensures w4.word4.ensures k.are-kept.result.ok k.are-kept.ensures.0 i2.if2.false p.are-places.result.ok p.are-places.ensures.0 i3.if3.false m.are-memories.result m.are-memories.ensures i4.if4.false g.are-good.result.ok g.are-good.ensures.0 i5.if5.false v.are-leaves.result leaves i6.if6.false t.are-met.result t.are-met.ensures c.if7.true
+    leaves_told a.s w1.word.result a.loans.now a.chunks.now a.index.now a.tree.now w2.word2.result g.are-good.result.used k.are-kept.result.live w2.word2.ensures good.0 (k.are-kept.ensures.1.0 (not_no _ i2.if2.false))
+    g.are-good.result.ready p.are-places.result.used v.are-leaves.result good.1 (p.are-places.ensures.1.0 (not_no _ i3.if3.false)) v.are-leaves.ensures in
+    met_fails a.s a.head.now a.loans.now a.chunks.now a.index.now a.tree.now h.is-head.result h.is-head.ensures i1.if1.false w1.word.result w2.word2.result w3.word3.result w4.word4.result w1.word.ensures w2.word2.ensures w3.word3.ensures w4.word4.ensures k.are-kept.result.ok k.are-kept.ensures.0 i2.if2.false p.are-places.result.ok p.are-places.ensures.0 i3.if3.false m.are-memories.result m.are-memories.ensures i4.if4.false g.are-good.result.ok g.are-good.ensures.0 i5.if5.false v.are-leaves.result leaves i6.if6.false t.are-met.result t.are-met.ensures c.if7.true
 
 are-units-requires : tie.Need-are-units-requires
 are-units-requires c κs =
@@ -296,8 +296,8 @@ are-units-requires c κs =
     let h = i1.before in
     let o = h.before.before.before.before.before.before in
     let a = o.args in
-    let own = places-own a.s a.head.now a.loans.now a.chunks.now a.index.now a.tree.now h.is-head.result h.is-head.ensures i1.if1.false w1.word.result w2.word2.result w3.word3.result w4.word4.result w1.word.ensures w2.word2.ensures w3.word3.ensures w4.word4.ensures k.are-kept.result.ok k.are-kept.ensures.0 i2.if2.false in
-    (o.requires.0, omega (arith, own, o.requires.0.store.loans-most), w2.word2.ensures, omega (arith, own, o.requires.1.loans))
+    let own = places_own a.s a.head.now a.loans.now a.chunks.now a.index.now a.tree.now h.is-head.result h.is-head.ensures i1.if1.false w1.word.result w2.word2.result w3.word3.result w4.word4.result w1.word.ensures w2.word2.ensures w3.word3.ensures w4.word4.ensures k.are-kept.result.ok k.are-kept.ensures.0 i2.if2.false in
+    (o.requires.0, omega (arith, own, o.requires.0.store.loans_most_lem), w2.word2.ensures, omega (arith, own, o.requires.1.loans))
 
 returns-8 : tie.Need-returns-8
 returns-8 c =
@@ -322,11 +322,11 @@ returns-8 c =
     let h = i1.before in
     let o = h.before.before.before.before.before.before in
     let a = o.args in
-    let good = g.are-good.ensures.1.0 (not-no _ i5.if5.false) in
+    let good = g.are-good.ensures.1.0 (not_no _ i5.if5.false) in
     let leaves =
-    leaves-told a.s w1.word.result a.loans.now a.chunks.now a.index.now a.tree.now w2.word2.result g.are-good.result.used k.are-kept.result.live w2.word2.ensures good.0 (k.are-kept.ensures.1.0 (not-no _ i2.if2.false))
-    g.are-good.result.ready p.are-places.result.used v.are-leaves.result good.1 (p.are-places.ensures.1.0 (not-no _ i3.if3.false)) v.are-leaves.ensures in
-    units-left a.s a.head.now a.loans.now a.chunks.now a.index.now a.tree.now h.is-head.result h.is-head.ensures i1.if1.false w1.word.result w2.word2.result w3.word3.result w4.word4.result w1.word.ensures w2.word2.ensures w3.word3.ensures w4.word4.ensures k.are-kept.result.ok k.are-kept.ensures.0 i2.if2.false p.are-places.result.ok p.are-places.ensures.0 i3.if3.false m.are-memories.result m.are-memories.ensures i4.if4.false g.are-good.result.ok g.are-good.ensures.0 i5.if5.false v.are-leaves.result leaves i6.if6.false t.are-met.result t.are-met.ensures i7.if7.false c.are-units.result c.are-units.ensures
+    leaves_told a.s w1.word.result a.loans.now a.chunks.now a.index.now a.tree.now w2.word2.result g.are-good.result.used k.are-kept.result.live w2.word2.ensures good.0 (k.are-kept.ensures.1.0 (not_no _ i2.if2.false))
+    g.are-good.result.ready p.are-places.result.used v.are-leaves.result good.1 (p.are-places.ensures.1.0 (not_no _ i3.if3.false)) v.are-leaves.ensures in
+    units_left a.s a.head.now a.loans.now a.chunks.now a.index.now a.tree.now h.is-head.result h.is-head.ensures i1.if1.false w1.word.result w2.word2.result w3.word3.result w4.word4.result w1.word.ensures w2.word2.ensures w3.word3.ensures w4.word4.ensures k.are-kept.result.ok k.are-kept.ensures.0 i2.if2.false p.are-places.result.ok p.are-places.ensures.0 i3.if3.false m.are-memories.result m.are-memories.ensures i4.if4.false g.are-good.result.ok g.are-good.ensures.0 i5.if5.false v.are-leaves.result leaves i6.if6.false t.are-met.result t.are-met.ensures i7.if7.false c.are-units.result c.are-units.ensures
 
 pub is-sound-spec : {M : Type 1} → statement M
 is-sound-spec =

@@ -1,11 +1,11 @@
 use borrow.Author.Rules.{rules}
 use mathlib.Core.Path.{◌∙◌}
 use native.Mathlib.Omega.{arith}
-use Rattle.lists.proofs.Bools.{not_yes, not-no}
-use Rattle.rounding_rules.proofs.Masks.{power-top, power-positive}
-use Rattle.buddy_levels.specs.Seen.{partTables}
-use Rattle.buddy_walk.proofs.Tops.{chunk-none, chunk-high, chunk-off, chunk-walk, chunk-size, level-low}
-use Rattle.buddy_walk.proofs.Downs.{within-lower}
+use Rattle.lists.proofs.Bools.{not_yes, not_no}
+use Rattle.rounding_rules.proofs.Masks.{power_top, power_positive}
+use Rattle.buddy_levels.specs.Seen.{part_tables}
+use Rattle.buddy_walk.proofs.Tops.{chunk_none, chunk_high, chunk_off, chunk_walk, chunk_size, level_low}
+use Rattle.buddy_walk.proofs.Downs.{within_lower}
 use Rattle.buddy_walk.proofs.left_chunk.Statement.{statement}
 use Rattle.buddy_walk.proofs.left_chunk.Tie as tie
 
@@ -17,7 +17,7 @@ returns c =
     let n = c.before in
     let o = n.before.before.before.before.before in
     let a = o.args in
-    chunk-none a.s (partTables a.levels a.loans.now a.chunks.now a.index.now a.tree.now) a.c a.left n.cell.result o.requires.3 n.cell.ensures c.if1.true
+    chunk_none a.s (part_tables a.levels a.loans.now a.chunks.now a.index.now a.tree.now) a.c a.left n.cell.result o.requires.3 n.cell.ensures c.if1.true
 
 level-requires : tie.Need-level-requires
 level-requires c κs = search rules
@@ -39,7 +39,7 @@ returns-2 c =
     let n = i.before in
     let o = n.before.before.before.before.before in
     let a = o.args in
-    chunk-high a.s (partTables a.levels a.loans.now a.chunks.now a.index.now a.tree.now) a.c a.left n.cell.result o.requires.3 n.cell.ensures
+    chunk_high a.s (part_tables a.levels a.loans.now a.chunks.now a.index.now a.tree.now) a.c a.left n.cell.result o.requires.3 n.cell.ensures
     i.if1.false h.level.result f.level2.result h.level.ensures f.level2.ensures (not_yes _ c.if2.true)
 
 chunks-from-requires : tie.Need-chunks-from-requires
@@ -60,7 +60,7 @@ node-bytes-requires c κs =
     let f = g.before in
     let h = f.before in
     let p = h.before.before.before.before.before.before.before in
-    (power-top p.requires.0.minimal, omega (arith, level-low h.level.result f.level2.result p.args.levels (not-no _ g.if2.false)))
+    (power_top p.requires.0.minimal, omega (arith, level_low h.level.result f.level2.result p.args.levels (not_no _ g.if2.false)))
 
 returns-3 : tie.Need-returns-3
 returns-3 c =
@@ -73,7 +73,7 @@ returns-3 c =
     let n = i.before in
     let o = n.before.before.before.before.before in
     let a = o.args in
-    chunk-off a.s (partTables a.levels a.loans.now a.chunks.now a.index.now a.tree.now) a.c a.left n.cell.result o.requires.3 n.cell.ensures
+    chunk_off a.s (part_tables a.levels a.loans.now a.chunks.now a.index.now a.tree.now) a.c a.left n.cell.result o.requires.3 n.cell.ensures
     i.if1.false h.level.result f.level2.result h.level.ensures f.level2.ensures
     b.chunks-from.result m.before.cell2.result m.node-bytes.result b.chunks-from.ensures.0 m.before.cell2.ensures m.node-bytes.ensures.0 c.if3.true
 
@@ -87,9 +87,9 @@ left-at-node-requires c κs =
     let i = h.before in
     let p = i.before.before.before.before.before.before in
     let a = p.args in
-    let low = level-low h.level.result f.level2.result a.levels (not-no _ g.if2.false) in
-    let long = chunk-size i.before.cell.result m.node-bytes.result _ c.before.if3.false in (
-      within-lower h.level.result a.levels a.s.pairs a.s.store.loans a.loans.now a.index.now a.tree.now low p.requires.4,
+    let low = level_low h.level.result f.level2.result a.levels (not_no _ g.if2.false) in
+    let long = chunk_size i.before.cell.result m.node-bytes.result _ c.before.if3.false in (
+      within_lower h.level.result a.levels a.s.pairs a.s.store.loans a.loans.now a.index.now a.tree.now low p.requires.4,
       omega (arith, low),
       omega (arith, long),
     )
@@ -106,11 +106,11 @@ returns-4 c =
     let n = i.before in
     let o = n.before.before.before.before.before in
     let a = o.args in
-    chunk-walk a.s (partTables a.levels a.loans.now a.chunks.now a.index.now a.tree.now) a.c a.left n.cell.result o.requires.3 n.cell.ensures
+    chunk_walk a.s (part_tables a.levels a.loans.now a.chunks.now a.index.now a.tree.now) a.c a.left n.cell.result o.requires.3 n.cell.ensures
     i.if1.false h.level.result f.level2.result h.level.ensures f.level2.ensures
     b.chunks-from.result m.before.cell2.result m.node-bytes.result b.chunks-from.ensures.0 m.before.cell2.ensures m.node-bytes.ensures.0
-    c.left-at-node.result (not-no _ g.if2.false) t.if3.false
-    (c.left-at-node.ensures a.s.minimal (power-positive o.requires.0.minimal) (chunk-size n.cell.result m.node-bytes.result _ t.if3.false ∙ m.node-bytes.ensures.0))
+    c.left-at-node.result (not_no _ g.if2.false) t.if3.false
+    (c.left-at-node.ensures a.s.minimal (power_positive o.requires.0.minimal) (chunk_size n.cell.result m.node-bytes.result _ t.if3.false ∙ m.node-bytes.ensures.0))
 
 pub left-chunk-spec : {M : Type 1} → statement M
 left-chunk-spec =

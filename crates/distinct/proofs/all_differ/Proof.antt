@@ -2,7 +2,7 @@ use mathlib.Core.Path.{refl, sym, ◌∙◌}
 use lib.ListN.{length}
 use borrow.Author.Rules.{rules}
 use Rattle.distinct.specs.Column.{column}
-use Rattle.distinct.proofs.Order.{climbing-distinct, sorted-climbs, distinct-sorted}
+use Rattle.distinct.proofs.Order.{climbing_distinct, sorted_climbs, distinct_sorted}
 use Rattle.distinct.proofs.all_differ.Statement.{statement}
 use Rattle.distinct.proofs.all_differ.Tie as tie
 
@@ -21,7 +21,7 @@ returns c =
     let gathered = climbed.before.before.before.before in
     let a = gathered.before.before.before.before.before.args in
     let e = rw gathered.gather.ensures at climbed.climbs.ensures in
-    ((λ yes. climbing-distinct (column a.t.now a.at a.w (length a.found.now)) (sym e ∙ c.if1.true)), λ d. refl)
+    ((λ yes. climbing_distinct (column a.t.now a.at a.w (length a.found.now)) (sym e ∙ c.if1.true)), λ d. refl)
 
 sort-requires : tie.Need-sort-requires
 sort-requires c κs = search rules
@@ -41,7 +41,7 @@ returns-2 c =
     let gathered = sorted.before.before.before.before.before.before.before.before in
     let s = rw gathered.gather.ensures at sorted.sort.ensures in
     let e = c.climbs2.ensures in
-    ((λ yes. sorted-climbs s (sym e ∙ yes)), λ d. e ∙ distinct-sorted s d)
+    ((λ yes. sorted_climbs s (sym e ∙ yes)), λ d. e ∙ distinct_sorted s d)
 
 pub all-differ-spec : {M : Type 1} → statement M
 all-differ-spec =

@@ -4,7 +4,7 @@ use native.Mathlib.Omega.{arith}
 use borrow.Author.Rules.{rules}
 use lib.ListN.{length, drop}
 use Rattle.distinct.specs.Order.{climbing}
-use Rattle.distinct.proofs.Order.{climbing-on, climbing-stops, climbing-ends}
+use Rattle.distinct.proofs.Order.{climbing_on, climbing_stops, climbing_ends}
 use Rattle.distinct.proofs.climbs.Statement.{statement}
 use Rattle.distinct.proofs.climbs.Tie as tie
 
@@ -35,7 +35,7 @@ shared-slice-read-if1-2 c = search rules
 returns : tie.Need-returns invariant-loop decreases-loop
 returns c =
     let at-loop = c.before.before.before.before in
-    sym (at-loop.loop.invariant.1 ∙ climbing-stops at-loop.before.args.a.now at-loop.loop.i (omega arith) (omega arith) (omega arith))
+    sym (at-loop.loop.invariant.1 ∙ climbing_stops at-loop.before.args.a.now at-loop.loop.i (omega arith) (omega arith) (omega arith))
 
 add-i : tie.Need-overflow-add-i invariant-loop decreases-loop
 add-i c = search rules
@@ -46,11 +46,11 @@ loop-less c = search rules
 loop-again : tie.Need-loop-preserved invariant-loop decreases-loop
 loop-again c =
     let at-loop = c.before.before.before.before in
-    (omega arith, at-loop.loop.invariant.1 ∙ climbing-on at-loop.before.args.a.now at-loop.loop.i (omega arith) (omega arith) (omega arith))
+    (omega arith, at-loop.loop.invariant.1 ∙ climbing_on at-loop.before.args.a.now at-loop.loop.i (omega arith) (omega arith) (omega arith))
 
 returns-2 : tie.Need-returns-2 invariant-loop decreases-loop
 returns-2 c =
-    sym (c.before.loop.invariant.1 ∙ climbing-ends c.before.before.args.a.now c.before.loop.i (omega arith))
+    sym (c.before.loop.invariant.1 ∙ climbing_ends c.before.before.args.a.now c.before.loop.i (omega arith))
 
 pub climbs-spec : {M : Type 1} → statement M
 climbs-spec =

@@ -4,8 +4,8 @@ use Prim.Native.Nat.{◌-◌, ◌≤◌}
 use native.Mathlib.Omega.{arith}
 use borrow.Author.Rules.{rules}
 use lib.ListN.{length, take, length-set}
-use Rattle.distinct.specs.Column.{column, columnFrom}
-use Rattle.distinct.proofs.Filling.{column-none, column-next, column-done}
+use Rattle.distinct.specs.Column.{column, column_from}
+use Rattle.distinct.proofs.Filling.{column_none, column_next, column_done}
 use Rattle.distinct.proofs.gather.Statement.{statement}
 use Rattle.distinct.proofs.gather.Tie as tie
 
@@ -13,7 +13,7 @@ abbrev invariant-loop : tie.invariant-loop
 invariant-loop t at w found₀ i₀ found i =
     (i ≤ length found₀)
     × (length found ≡ length found₀)
-    × (column t at w (length found₀) ≡ take i found ++ columnFrom t at w i (length found₀ - i))
+    × (column t at w (length found₀) ≡ take i found ++ column_from t at w i (length found₀ - i))
 
 abbrev decreases-loop : tie.decreases-loop
 decreases-loop t at w found₀ i₀ found i = length found₀ - i
@@ -21,7 +21,7 @@ decreases-loop t at w found₀ i₀ found i = length found₀ - i
 loop-holds : tie.Need-loop-init invariant-loop decreases-loop
 loop-holds c =
     let a = c.before.before.args in
-    (omega arith, refl, column-none a.t.now a.at a.w (length a.found.now))
+    (omega arith, refl, column_none a.t.now a.at a.w (length a.found.now))
 
 cell-requires : tie.Need-cell-requires invariant-loop decreases-loop
 cell-requires c κs = search rules
@@ -46,7 +46,7 @@ loop-again c =
     let f = at-loop.loop.found in (
       omega arith,
       simp length-set (omega arith),
-      rw c.cell.ensures (column-next a.t.now f a.at a.w i (length a.found.now) (omega arith) (omega arith) at-loop.loop.invariant.2),
+      rw c.cell.ensures (column_next a.t.now f a.at a.w i (length a.found.now) (omega arith) (omega arith) at-loop.loop.invariant.2),
     )
 
 same_length : tie.Need-same-length invariant-loop decreases-loop
@@ -55,7 +55,7 @@ same_length c = search rules
 returns : tie.Need-returns invariant-loop decreases-loop
 returns c =
     let a = c.before.before.before.before.args in
-    column-done a.t.now c.before.loop.found a.at a.w c.before.loop.i (length a.found.now) (omega arith) (omega arith) c.before.loop.invariant.2
+    column_done a.t.now c.before.loop.found a.at a.w c.before.loop.i (length a.found.now) (omega arith) (omega arith) c.before.loop.invariant.2
 
 pub gather-spec : {M : Type 1} → statement M
 gather-spec =

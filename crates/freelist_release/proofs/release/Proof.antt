@@ -2,7 +2,7 @@ use borrow.Author.Rules.{rules}
 use mathlib.Core.Path.{refl}
 use lib.ListN.{length-set}
 use native.Mathlib.Omega.{arith}
-use Rattle.freelist_release.proofs.Freeing.{drop-fits, drop-ready, goes-within, none-whole, none-gone, gone-count, gone-bytes, gone-list, gone-tables, none_left}
+use Rattle.freelist_release.proofs.Freeing.{drop_fits, drop_ready, goes_within, none_whole, none_gone, gone_count, gone_bytes, gone_list, gone_tables, none_left}
 use Rattle.freelist_release.proofs.release.Statement.{statement}
 use Rattle.freelist_release.proofs.release.Tie as tie
 
@@ -13,25 +13,25 @@ slice-read-k c =
 
 slice-read-n : tie.Need-slice-read-n
 slice-read-n c =
-    let h = c.before.before.before.before.before.requires.regions-fit in
+    let h = c.before.before.before.before.before.requires.regions_fit in
     search rules
 
 slice-read-whole : tie.Need-slice-read-whole
 slice-read-whole c =
-    let h = c.before.before.before.before.before.before.requires.regions-fit in
+    let h = c.before.before.before.before.before.before.requires.regions_fit in
     search rules
 
 returns : tie.Need-returns
 returns c =
     let b = c.before.before.before.before.before.before.before in
     let a = b.args in
-    none_left a.s a.spare a.chunks.now a.regions.now a.list.now _ _ refl refl b.requires (none-whole a.s a.spare a.chunks.now a.regions.now a.list.now _ _ refl refl b.requires _ refl c.if1.true)
+    none_left a.s a.spare a.chunks.now a.regions.now a.list.now _ _ refl refl b.requires (none_whole a.s a.spare a.chunks.now a.regions.now a.list.now _ _ refl refl b.requires _ refl c.if1.true)
 
 spared-requires : tie.Need-spared-requires
 spared-requires c κs =
     let b = c.before.before.before.before.before.before.before.before.before in
     let a = b.args in
-    (drop-ready a.s a.spare a.chunks.now a.regions.now a.list.now _ _ refl refl b.requires).numbers
+    (drop_ready a.s a.spare a.chunks.now a.regions.now a.list.now _ _ refl refl b.requires).numbers
 
 same_length : tie.Need-same-length
 same_length c = search rules
@@ -44,13 +44,13 @@ returns-2 c =
     let b = c.before.before.before.before.before.before.before.before.before.before.before in
     let a = b.args in
     none_left a.s a.spare a.chunks.now a.regions.now a.list.now _ _ refl refl b.requires
-    (none-gone a.s a.spare a.chunks.now a.regions.now a.list.now _ _ refl refl b.requires _ _ refl c.before.spared.ensures (omega (arith, c.if2.true)))
+    (none_gone a.s a.spare a.chunks.now a.regions.now a.list.now _ _ refl refl b.requires _ _ refl c.before.spared.ensures (omega (arith, c.if2.true)))
 
 drop-chunks-requires : tie.Need-drop-chunks-requires
 drop-chunks-requires c κs =
     let b = c.before.before.before.before.before.before.before.before.before.before.before.before.before.before in
     let a = b.args in
-    (drop-fits a.s a.spare a.chunks.now a.regions.now a.list.now _ _ refl refl b.requires, drop-ready a.s a.spare a.chunks.now a.regions.now a.list.now _ _ refl refl b.requires)
+    (drop_fits a.s a.spare a.chunks.now a.regions.now a.list.now _ _ refl refl b.requires, drop_ready a.s a.spare a.chunks.now a.regions.now a.list.now _ _ refl refl b.requires)
 
 slice-write-chunks : tie.Need-slice-write-chunks
 slice-write-chunks c =
@@ -59,7 +59,7 @@ slice-write-chunks c =
 
 slice-write-regions : tie.Need-slice-write-regions
 slice-write-regions c =
-    let h = c.before.before.before.before.before.before.before.before.before.before.before.before.before.before.before.before.before.before.before.before.before.requires.regions-fit in
+    let h = c.before.before.before.before.before.before.before.before.before.before.before.before.before.before.before.before.before.before.before.before.before.requires.regions_fit in
     search rules
 
 sub-regions : tie.Need-overflow-sub-regions
@@ -67,11 +67,11 @@ sub-regions c =
     let g = c.before.before.before.before.before.before.before in
     let b = g.before.before.before.before.before.before.before.before.before.before.before.before.before.before.before in
     let a = b.args in
-    goes-within a.s a.spare a.chunks.now a.regions.now a.list.now _ _ refl refl b.requires _ _ refl g.drop-chunks.ensures.0
+    goes_within a.s a.spare a.chunks.now a.regions.now a.list.now _ _ refl refl b.requires _ _ refl g.drop-chunks.ensures.0
 
 slice-write-regions-2 : tie.Need-slice-write-regions-2
 slice-write-regions-2 c =
-    let h = c.before.before.before.before.before.before.before.before.before.before.before.before.before.before.before.before.before.before.before.before.before.before.requires.regions-fit in
+    let h = c.before.before.before.before.before.before.before.before.before.before.before.before.before.before.before.before.before.before.before.before.before.before.requires.regions_fit in
     simp length-set (omega arith)
 
 same-length-3 : tie.Need-same-length-3
@@ -91,12 +91,12 @@ returns-3 c =
     let e = g.drop-chunks.ensures in
     let d = e.1.1 in
     let l = d.1.1.1 in (
-      gone-count a.s a.spare a.chunks.now a.regions.now a.list.now _ _ refl refl _ e.0,
+      gone_count a.s a.spare a.chunks.now a.regions.now a.list.now _ _ refl refl _ e.0,
       (
-        gone-bytes a.s a.spare a.chunks.now a.regions.now a.list.now _ _ refl refl _ e.1.0,
+        gone_bytes a.s a.spare a.chunks.now a.regions.now a.list.now _ _ refl refl _ e.1.0,
         (
-          gone-tables a.s a.spare a.chunks.now a.regions.now a.list.now _ _ refl refl _ _ _ _ _ _ _ _ _ d.0 d.1.0 refl e.0 d.1.1.0 l.0 refl refl refl,
-          gone-list a.s a.spare a.chunks.now a.regions.now a.list.now _ _ refl refl _ l.1,
+          gone_tables a.s a.spare a.chunks.now a.regions.now a.list.now _ _ refl refl _ _ _ _ _ _ _ _ _ d.0 d.1.0 refl e.0 d.1.1.0 l.0 refl refl refl,
+          gone_list a.s a.spare a.chunks.now a.regions.now a.list.now _ _ refl refl _ l.1,
         ),
       ),
     )

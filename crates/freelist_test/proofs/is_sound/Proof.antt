@@ -1,13 +1,13 @@
 use borrow.Author.Rules.{rules}
 use mathlib.Core.Path.{sym, ◌∙◌}
 use native.Mathlib.Omega.{arith}
-use Rattle.lists.proofs.Bools.{not_yes, not-no}
+use Rattle.lists.proofs.Bools.{not_yes, not_no}
 use Rattle.words.specs.Rows.{rows}
-use Rattle.freelist_rules.specs.Records.{chunkRow}
+use Rattle.freelist_rules.specs.Records.{chunk_row}
 use Rattle.freelist_rules.specs.Tables.{tables}
-use Rattle.freelist_rules.proofs.Fits.{lengths-are}
-use Rattle.freelist_test.proofs.Groups.{head-chunks, head-regions, lent-few, chunks-rise, chunks-small}
-use Rattle.freelist_test.proofs.Whole.{head-fails, loans-fail, chunks-fail, walk-left}
+use Rattle.freelist_rules.proofs.Fits.{lengths_are}
+use Rattle.freelist_test.proofs.Groups.{head_chunks, head_regions, lent_few, chunks_rise, chunks_small}
+use Rattle.freelist_test.proofs.Whole.{head_fails, loans_fail, chunks_fail, walk_left}
 use Rattle.freelist_test.proofs.is_sound.Statement.{statement}
 use Rattle.freelist_test.proofs.is_sound.Tie as tie
 
@@ -22,12 +22,12 @@ returns c =
     let h = c.before in
     let n = h.before in
     let o = n.before.before.before.before.before.before in
-    head-fails o.args.s o.args.head.now o.args.loans.now o.args.chunks.now o.args.index.now o.args.regions.now n.region-count.result h.is-head.result n.region-count.ensures h.is-head.ensures (not_yes _ c.if1.true)
+    head_fails o.args.s o.args.head.now o.args.loans.now o.args.chunks.now o.args.index.now o.args.regions.now n.region-count.result h.is-head.result n.region-count.ensures h.is-head.ensures (not_yes _ c.if1.true)
 
 are-lent-requires : tie.Need-are-lent-requires
 are-lent-requires c κs =
     let o = c.before.before.before.before.before.before.before.before in
-    let long = lengths-are o.args.s (tables o.args.head.now o.args.loans.now o.args.chunks.now o.args.index.now o.args.regions.now) o.requires.1 in
+    let long = lengths_are o.args.s (tables o.args.head.now o.args.loans.now o.args.chunks.now o.args.index.now o.args.regions.now) o.requires.1 in
     (o.requires.0, long.loans, omega (arith, long.index))
 
 returns-2 : tie.Need-returns-2
@@ -37,7 +37,7 @@ returns-2 c =
     let h = i.before in
     let n = h.before in
     let o = n.before.before.before.before.before.before in
-    loans-fail o.args.s o.args.head.now o.args.loans.now o.args.chunks.now o.args.index.now o.args.regions.now n.region-count.result h.is-head.result n.region-count.ensures h.is-head.ensures (not-no _ i.if1.false) l.are-lent.result.ok l.are-lent.ensures.0 (not_yes _ c.if2.true)
+    loans_fail o.args.s o.args.head.now o.args.loans.now o.args.chunks.now o.args.index.now o.args.regions.now n.region-count.result h.is-head.result n.region-count.ensures h.is-head.ensures (not_no _ i.if1.false) l.are-lent.result.ok l.are-lent.ensures.0 (not_yes _ c.if2.true)
 
 word-requires : tie.Need-word-requires
 word-requires c κs = search rules
@@ -56,7 +56,7 @@ are-chunks-requires c κs =
     let h = i.before in
     let n = h.before in
     let o = n.before.before.before.before.before.before in
-    (o.requires.0, omega (arith, head-chunks o.args.s (tables o.args.head.now o.args.loans.now o.args.chunks.now o.args.index.now o.args.regions.now) n.region-count.result (sym h.is-head.ensures ∙ not-no _ i.if1.false), k.word.ensures, o.requires.0.store.chunks-most))
+    (o.requires.0, omega (arith, head_chunks o.args.s (tables o.args.head.now o.args.loans.now o.args.chunks.now o.args.index.now o.args.regions.now) n.region-count.result (sym h.is-head.ensures ∙ not_no _ i.if1.false), k.word.ensures, o.requires.0.store.chunks_most_lem))
 
 returns-3 : tie.Need-returns-3
 returns-3 c =
@@ -70,7 +70,7 @@ returns-3 c =
     let h = i.before in
     let n = h.before in
     let o = n.before.before.before.before.before.before in
-    chunks-fail o.args.s o.args.head.now o.args.loans.now o.args.chunks.now o.args.index.now o.args.regions.now n.region-count.result h.is-head.result n.region-count.ensures h.is-head.ensures (not-no _ i.if1.false) l.are-lent.result.ok l.are-lent.ensures.0 (not-no _ j.if2.false) k.word.result z.word2.result m.word3.result d.are-chunks.result k.word.ensures z.word2.ensures m.word3.ensures d.are-chunks.ensures (not_yes _ c.if3.true)
+    chunks_fail o.args.s o.args.head.now o.args.loans.now o.args.chunks.now o.args.index.now o.args.regions.now n.region-count.result h.is-head.result n.region-count.ensures h.is-head.ensures (not_no _ i.if1.false) l.are-lent.result.ok l.are-lent.ensures.0 (not_no _ j.if2.false) k.word.result z.word2.result m.word3.result d.are-chunks.result k.word.ensures z.word2.ensures m.word3.ensures d.are-chunks.ensures (not_yes _ c.if3.true)
 
 word-requires-4 : tie.Need-word-requires-4
 word-requires-4 c κs = search rules
@@ -89,27 +89,27 @@ walk-requires c κs =
     let n = h.before in
     let o = n.before.before.before.before.before.before in
     let t = (tables o.args.head.now o.args.loans.now o.args.chunks.now o.args.index.now o.args.regions.now) in
-    let long = lengths-are o.args.s t o.requires.1 in
-    let head = sym h.is-head.ensures ∙ not-no _ i.if1.false in
-    let right = sym d.are-chunks.ensures ∙ not-no _ e.if3.false in
-    let held = head-chunks o.args.s t n.region-count.result head in
-    let few = lent-few o.args.s o.args.loans.now o.args.index.now (sym l.are-lent.ensures.0 ∙ not-no _ j.if2.false) in
-    let live = l.are-lent.ensures.1 (not-no _ j.if2.false) in (
+    let long = lengths_are o.args.s t o.requires.1 in
+    let head = sym h.is-head.ensures ∙ not_no _ i.if1.false in
+    let right = sym d.are-chunks.ensures ∙ not_no _ e.if3.false in
+    let held = head_chunks o.args.s t n.region-count.result head in
+    let few = lent_few o.args.s o.args.loans.now o.args.index.now (sym l.are-lent.ensures.0 ∙ not_no _ j.if2.false) in
+    let live = l.are-lent.ensures.1 (not_no _ j.if2.false) in (
       (
         record {
-          chunks-most = omega (arith, held, k.word.ensures, o.requires.0.store.chunks-most);
-          loans-most = o.requires.0.store.loans-most;
+          chunks_most_lem = omega (arith, held, k.word.ensures, o.requires.0.store.chunks_most_lem);
+          loans_most_lem = o.requires.0.store.loans_most_lem;
           few = omega (arith, few, c.word4.ensures);
           chunks_long = omega (arith, long.chunks, held, k.word.ensures);
-          loans-long = omega (arith, long.loans, few, c.word4.ensures);
-          index-long = omega (arith, long.index);
-          regions-long = omega (arith, long.room, head-regions o.args.s t n.region-count.result head);
+          loans_long = omega (arith, long.loans, few, c.word4.ensures);
+          index_long = omega (arith, long.index);
+          regions_long = omega (arith, long.room, head_regions o.args.s t n.region-count.result head);
         },
         omega (arith, live, c.word4.ensures),
       ),
       (
-        chunks-rise o.args.s m.word3.result z.word2.result (rows chunkRow k.word.result o.args.chunks.now) right,
-        chunks-small o.args.s m.word3.result z.word2.result (rows chunkRow k.word.result o.args.chunks.now) o.requires.0 right,
+        chunks_rise o.args.s m.word3.result z.word2.result (rows chunk_row k.word.result o.args.chunks.now) right,
+        chunks_small o.args.s m.word3.result z.word2.result (rows chunk_row k.word.result o.args.chunks.now) o.requires.0 right,
       ),
     )
 
@@ -127,7 +127,7 @@ returns-4 c =
     let h = i.before in
     let n = h.before in
     let o = n.before.before.before.before.before.before in
-    walk-left o.args.s o.args.head.now o.args.loans.now o.args.chunks.now o.args.index.now o.args.regions.now n.region-count.result h.is-head.result n.region-count.ensures h.is-head.ensures (not-no _ i.if1.false) l.are-lent.result.ok l.are-lent.ensures.0 (not-no _ j.if2.false) k.word.result z.word2.result m.word3.result d.are-chunks.result k.word.ensures z.word2.ensures m.word3.ensures d.are-chunks.ensures (not-no _ e.if3.false) p.word4.result l.are-lent.result.live c.walk.result p.word4.ensures (l.are-lent.ensures.1 (not-no _ j.if2.false)) c.walk.ensures
+    walk_left o.args.s o.args.head.now o.args.loans.now o.args.chunks.now o.args.index.now o.args.regions.now n.region-count.result h.is-head.result n.region-count.ensures h.is-head.ensures (not_no _ i.if1.false) l.are-lent.result.ok l.are-lent.ensures.0 (not_no _ j.if2.false) k.word.result z.word2.result m.word3.result d.are-chunks.result k.word.ensures z.word2.ensures m.word3.ensures d.are-chunks.ensures (not_no _ e.if3.false) p.word4.result l.are-lent.result.live c.walk.result p.word4.ensures (l.are-lent.ensures.1 (not_no _ j.if2.false)) c.walk.ensures
 
 pub is-sound-spec : {M : Type 1} → statement M
 is-sound-spec =

@@ -1,5 +1,5 @@
 use borrow.Author.Rules.{rules}
-use Rattle.freelist_walk.proofs.Going.{done-is}
+use Rattle.freelist_walk.proofs.Going.{done_is}
 use Rattle.freelist_walk.proofs.is_done.Statement.{statement}
 use Rattle.freelist_walk.proofs.is_done.Tie as tie
 
@@ -17,7 +17,7 @@ returns c =
     let w = c.before.before.before.before in
     let r = w.before.before in
     let a = r.before.before.before.args in
-    done-is a.most a.index.now a.regions.now a.n a.s r.record-after.result w.before.record-before.result w.word.result r.record-after.ensures w.before.record-before.ensures w.word.ensures
+    done_is a.most a.index.now a.regions.now a.n a.s r.record-after.result w.before.record-before.result w.word.result r.record-after.ensures w.before.record-before.ensures w.word.ensures
 
 pub is-done-spec : {M : Type 1} → statement M
 is-done-spec =

@@ -1,5 +1,5 @@
 use Rattle.std.proofs.Common.{rules}
-use Rattle.heap.proofs.Bounds.{bears-near, bears-far}
+use Rattle.heap.proofs.Bounds.{bears_near, bears_far}
 use Rattle.heap.proofs.bears.Statement.{statement}
 use Rattle.heap.proofs.bears.Tie as tie
 
@@ -9,12 +9,12 @@ sub-room c = search rules
 returns : tie.Need-returns
 returns c =
     let a = c.before.before.before.before.before.args in
-    bears-near a.h (search rules, search rules) a.bytes (search rules) (search rules)
+    bears_near a.h (search rules, search rules) a.bytes (search rules) (search rules)
 
 returns-2 : tie.Need-returns-2
 returns-2 c =
     let a = c.before.before.before.before.args in
-    bears-far a.h (search rules, search rules) a.bytes (search rules) (search rules)
+    bears_far a.h (search rules, search rules) a.bytes (search rules) (search rules)
 
 pub bears-spec : {M : Type 1} → statement M
 bears-spec = tie.close (tie.spec sub-room returns returns-2)

@@ -1,5 +1,5 @@
 use Rattle.std.proofs.Common.{rules}
-use Rattle.heap.specs.Heap.{chargedOf}
+use Rattle.heap.specs.Heap.{charged_of}
 use Rattle.heap.proofs.charge.Statement.{statement}
 use Rattle.heap.proofs.charge.Tie as tie
 
@@ -10,7 +10,7 @@ wrapping-add-u64-requires : tie.Need-wrapping-add-u64-requires
 wrapping-add-u64-requires c κs = search rules
 
 returns : tie.Need-returns
-unfolding chargedOf
+unfolding charged_of
 returns c = rw (c.wrapping-add-u64.ensures, c.before.before.plus.ensures)
 
 pub charge-spec : {M : Type 1} → statement M

@@ -1,5 +1,5 @@
 use Rattle.std.proofs.Common.{◌≡◌, ◌-◌, arith, rules}
-use Rattle.heap.specs.Heap.{releasedOf}
+use Rattle.heap.specs.Heap.{released_of}
 use Rattle.heap.proofs.release.Statement.{statement}
 use Rattle.heap.proofs.release.Tie as tie
 
@@ -7,11 +7,11 @@ plus-requires : tie.Need-plus-requires
 plus-requires c κs = search rules
 
 returns : tie.Need-returns
-unfolding releasedOf
+unfolding released_of
 returns c = rw c.before.before.before.plus.ensures
 
 returns-2 : tie.Need-returns-2
-unfolding releasedOf
+unfolding released_of
 returns-2 c =
     let a = c.before.before.before.before.args in
     let z : a.h.used - a.bytes ≡ 0 = omega arith in

@@ -1,6 +1,6 @@
 use borrow.Author.Rules.{rules}
 use Rattle.buddy_rules.specs.Tables.{tables}
-use Rattle.linked_buddy.proofs.Branches.{settings-right, account-right, ask-made, ask-bad}
+use Rattle.linked_buddy.proofs.Branches.{settings_right, account_right, ask_made, ask_bad}
 use Rattle.linked_buddy.proofs.tibrezkam_buddy_ask.Statement.{statement}
 use Rattle.linked_buddy.proofs.tibrezkam_buddy_ask.Tie as tie
 
@@ -16,7 +16,7 @@ heaps-in-table-requires c κs =
     let q = j.before in
     let p = q.before.before in
     let a = p.before.before.before.before.before.before.before.before.before.args in
-    account-right a.settings.now a.account.now _ _ p.is-settings.ensures q.is-account.ensures j.if1.true
+    account_right a.settings.now a.account.now _ _ p.is-settings.ensures q.is-account.ensures j.if1.true
 
 read-buddy-requires : tie.Need-read-buddy-requires
 read-buddy-requires c κs =
@@ -24,7 +24,7 @@ read-buddy-requires c κs =
     let q = j.before in
     let p = q.before.before in
     let a = p.before.before.before.before.before.before.before.before.before.args in
-    settings-right a.settings.now a.account.now _ _ p.is-settings.ensures q.is-account.ensures j.if1.true
+    settings_right a.settings.now a.account.now _ _ p.is-settings.ensures q.is-account.ensures j.if1.true
 
 read-share-requires : tie.Need-read-share-requires
 read-share-requires c κs =
@@ -32,7 +32,7 @@ read-share-requires c κs =
     let q = j.before in
     let p = q.before.before in
     let a = p.before.before.before.before.before.before.before.before.before.args in
-    (account-right a.settings.now a.account.now _ _ p.is-settings.ensures q.is-account.ensures j.if1.true, c.before.before.before.heaps-in-table.ensures)
+    (account_right a.settings.now a.account.now _ _ p.is-settings.ensures q.is-account.ensures j.if1.true, c.before.before.before.heaps-in-table.ensures)
 
 ask-requires : tie.Need-ask-requires
 ask-requires c κs = search rules
@@ -75,7 +75,7 @@ returns c =
     let q = j.before in
     let p = q.before.before in
     let a = p.before.before.before.before.before.before.before.before.before.args in
-    ask-made a.settings.now a.account.now _ _ p.is-settings.ensures q.is-account.ensures a.size a.mask (tables a.head.now a.loans.now a.chunks.now a.index.now a.tree.now) _ a.answer.now _ (tables _ _ _ _ _) _ _ _ j.if1.true f.read-buddy.ensures h.read-share.ensures m.ask.ensures w.put-asked.ensures v.tell-asked.ensures
+    ask_made a.settings.now a.account.now _ _ p.is-settings.ensures q.is-account.ensures a.size a.mask (tables a.head.now a.loans.now a.chunks.now a.index.now a.tree.now) _ a.answer.now _ (tables _ _ _ _ _) _ _ _ j.if1.true f.read-buddy.ensures h.read-share.ensures m.ask.ensures w.put-asked.ensures v.tell-asked.ensures
 
 same-length-7 : tie.Need-same-length-7
 same-length-7 c = search rules
@@ -90,7 +90,7 @@ returns-2 c =
     let q = j.before in
     let p = q.before.before in
     let a = p.before.before.before.before.before.before.before.before.before.args in
-    ask-bad a.settings.now a.account.now _ _ p.is-settings.ensures q.is-account.ensures a.size a.mask (tables a.head.now a.loans.now a.chunks.now a.index.now a.tree.now) a.answer.now _ j.if1.false v.tell-bad.ensures
+    ask_bad a.settings.now a.account.now _ _ p.is-settings.ensures q.is-account.ensures a.size a.mask (tables a.head.now a.loans.now a.chunks.now a.index.now a.tree.now) a.answer.now _ j.if1.false v.tell-bad.ensures
 
 pub tibrezkam-buddy-ask-spec : {M : Type 1} → statement M
 tibrezkam-buddy-ask-spec =

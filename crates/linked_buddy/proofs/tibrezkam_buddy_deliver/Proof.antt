@@ -1,7 +1,7 @@
 use borrow.Author.Rules.{rules}
 use Rattle.lists.proofs.Bools.{and_left}
 use Rattle.buddy_rules.specs.Tables.{tables}
-use Rattle.linked_buddy.proofs.Branches.{settings-right, account-right, deliver-made, deliver-bad}
+use Rattle.linked_buddy.proofs.Branches.{settings_right, account_right, deliver_made, deliver_bad}
 use Rattle.linked_buddy.proofs.tibrezkam_buddy_deliver.Statement.{statement}
 use Rattle.linked_buddy.proofs.tibrezkam_buddy_deliver.Tie as tie
 
@@ -20,7 +20,7 @@ heaps-in-table-requires c κs =
     let q = j.before.before in
     let p = q.before.before in
     let a = p.before.before.before.before.before.before.before.before.before.args in
-    account-right a.settings.now a.account.now _ _ p.is-settings.ensures q.is-account.ensures (and_left _ _ j.if1.true)
+    account_right a.settings.now a.account.now _ _ p.is-settings.ensures q.is-account.ensures (and_left _ _ j.if1.true)
 
 read-buddy-requires : tie.Need-read-buddy-requires
 read-buddy-requires c κs =
@@ -28,7 +28,7 @@ read-buddy-requires c κs =
     let q = j.before.before in
     let p = q.before.before in
     let a = p.before.before.before.before.before.before.before.before.before.args in
-    settings-right a.settings.now a.account.now _ _ p.is-settings.ensures q.is-account.ensures (and_left _ _ j.if1.true)
+    settings_right a.settings.now a.account.now _ _ p.is-settings.ensures q.is-account.ensures (and_left _ _ j.if1.true)
 
 read-share-requires : tie.Need-read-share-requires
 read-share-requires c κs =
@@ -36,7 +36,7 @@ read-share-requires c κs =
     let q = j.before.before in
     let p = q.before.before in
     let a = p.before.before.before.before.before.before.before.before.before.args in
-    (account-right a.settings.now a.account.now _ _ p.is-settings.ensures q.is-account.ensures (and_left _ _ j.if1.true), c.before.before.before.heaps-in-table.ensures)
+    (account_right a.settings.now a.account.now _ _ p.is-settings.ensures q.is-account.ensures (and_left _ _ j.if1.true), c.before.before.before.heaps-in-table.ensures)
 
 read-outcome-requires : tie.Need-read-outcome-requires
 read-outcome-requires c κs = search rules
@@ -47,7 +47,7 @@ read-order-requires c κs =
     let q = j.before.before in
     let p = q.before.before in
     let a = p.before.before.before.before.before.before.before.before.before.args in
-    account-right a.settings.now a.account.now _ _ p.is-settings.ensures q.is-account.ensures (and_left _ _ j.if1.true)
+    account_right a.settings.now a.account.now _ _ p.is-settings.ensures q.is-account.ensures (and_left _ _ j.if1.true)
 
 deliver-requires : tie.Need-deliver-requires
 deliver-requires c κs = search rules
@@ -58,7 +58,7 @@ put-share-requires c κs =
     let q = j.before.before in
     let p = q.before.before in
     let a = p.before.before.before.before.before.before.before.before.before.args in
-    account-right a.settings.now a.account.now _ _ p.is-settings.ensures q.is-account.ensures (and_left _ _ j.if1.true)
+    account_right a.settings.now a.account.now _ _ p.is-settings.ensures q.is-account.ensures (and_left _ _ j.if1.true)
 
 put-order-requires : tie.Need-put-order-requires
 put-order-requires c κs = search rules
@@ -105,7 +105,7 @@ returns c =
     let q = z.before in
     let p = q.before.before in
     let a = p.before.before.before.before.before.before.before.before.before.args in
-    deliver-made a.settings.now a.account.now _ _ p.is-settings.ensures q.is-account.ensures a.what a.memory a.mapping (tables a.head.now a.loans.now a.chunks.now a.index.now a.tree.now) _ z.is-outcome.ensures _ _ a.answer.now _ (tables _ _ _ _ _) _ _ _ _ _ _ _ j.if1.true f.read-buddy.ensures h.read-share.ensures n.read-order.ensures o.read-outcome.ensures m.deliver.ensures w.put-share.ensures x.put_order.ensures v.tell-delivered.ensures
+    deliver_made a.settings.now a.account.now _ _ p.is-settings.ensures q.is-account.ensures a.what a.memory a.mapping (tables a.head.now a.loans.now a.chunks.now a.index.now a.tree.now) _ z.is-outcome.ensures _ _ a.answer.now _ (tables _ _ _ _ _) _ _ _ _ _ _ _ j.if1.true f.read-buddy.ensures h.read-share.ensures n.read-order.ensures o.read-outcome.ensures m.deliver.ensures w.put-share.ensures x.put_order.ensures v.tell-delivered.ensures
 
 same-length-8 : tie.Need-same-length-8
 same-length-8 c = search rules
@@ -121,7 +121,7 @@ returns-2 c =
     let q = z.before in
     let p = q.before.before in
     let a = p.before.before.before.before.before.before.before.before.before.args in
-    deliver-bad a.settings.now a.account.now _ _ p.is-settings.ensures q.is-account.ensures a.what a.memory a.mapping (tables a.head.now a.loans.now a.chunks.now a.index.now a.tree.now) _ z.is-outcome.ensures a.answer.now _ j.if1.false v.tell-bad.ensures
+    deliver_bad a.settings.now a.account.now _ _ p.is-settings.ensures q.is-account.ensures a.what a.memory a.mapping (tables a.head.now a.loans.now a.chunks.now a.index.now a.tree.now) _ z.is-outcome.ensures a.answer.now _ j.if1.false v.tell-bad.ensures
 
 pub tibrezkam-buddy-deliver-spec : {M : Type 1} → statement M
 tibrezkam-buddy-deliver-spec =

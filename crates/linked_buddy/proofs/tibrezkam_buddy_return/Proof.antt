@@ -1,6 +1,6 @@
 use borrow.Author.Rules.{rules}
 use Rattle.buddy_rules.specs.Tables.{tables}
-use Rattle.linked_buddy.proofs.Branches.{settings-right, account-right, return-made, return-bad}
+use Rattle.linked_buddy.proofs.Branches.{settings_right, account_right, return_made, return_bad}
 use Rattle.linked_buddy.proofs.tibrezkam_buddy_return.Statement.{statement}
 use Rattle.linked_buddy.proofs.tibrezkam_buddy_return.Tie as tie
 
@@ -16,7 +16,7 @@ heaps-in-table-requires c κs =
     let q = j.before in
     let p = q.before.before in
     let a = p.before.before.before.before.before.before.before.before.before.before.args in
-    account-right a.settings.now a.account.now _ _ p.is-settings.ensures q.is-account.ensures j.if1.true
+    account_right a.settings.now a.account.now _ _ p.is-settings.ensures q.is-account.ensures j.if1.true
 
 read-buddy-requires : tie.Need-read-buddy-requires
 read-buddy-requires c κs =
@@ -24,7 +24,7 @@ read-buddy-requires c κs =
     let q = j.before in
     let p = q.before.before in
     let a = p.before.before.before.before.before.before.before.before.before.before.args in
-    settings-right a.settings.now a.account.now _ _ p.is-settings.ensures q.is-account.ensures j.if1.true
+    settings_right a.settings.now a.account.now _ _ p.is-settings.ensures q.is-account.ensures j.if1.true
 
 read-share-requires : tie.Need-read-share-requires
 read-share-requires c κs =
@@ -32,7 +32,7 @@ read-share-requires c κs =
     let q = j.before in
     let p = q.before.before in
     let a = p.before.before.before.before.before.before.before.before.before.before.args in
-    (account-right a.settings.now a.account.now _ _ p.is-settings.ensures q.is-account.ensures j.if1.true, c.before.before.before.heaps-in-table.ensures)
+    (account_right a.settings.now a.account.now _ _ p.is-settings.ensures q.is-account.ensures j.if1.true, c.before.before.before.heaps-in-table.ensures)
 
 return-block-requires : tie.Need-return-block-requires
 return-block-requires c κs = search rules
@@ -43,7 +43,7 @@ put-share-requires c κs =
     let q = j.before in
     let p = q.before.before in
     let a = p.before.before.before.before.before.before.before.before.before.before.args in
-    account-right a.settings.now a.account.now _ _ p.is-settings.ensures q.is-account.ensures j.if1.true
+    account_right a.settings.now a.account.now _ _ p.is-settings.ensures q.is-account.ensures j.if1.true
 
 tell-released-requires : tie.Need-tell-released-requires
 tell-released-requires c κs = search rules
@@ -83,7 +83,7 @@ returns c =
     let q = j.before in
     let p = q.before.before in
     let a = p.before.before.before.before.before.before.before.before.before.before.args in
-    return-made a.settings.now a.account.now _ _ p.is-settings.ensures q.is-account.ensures (record { serial = a.serial; chunk = a.chunk; offset = a.offset; size = a.size }) (tables a.head.now a.loans.now a.chunks.now a.index.now a.tree.now) a.list.now _ a.answer.now _ (tables _ _ _ _ _) _ _ _ _ _ j.if1.true f.read-buddy.ensures h.read-share.ensures m.return-block.ensures w.put-share.ensures v.tell-released.ensures
+    return_made a.settings.now a.account.now _ _ p.is-settings.ensures q.is-account.ensures (record { serial = a.serial; chunk = a.chunk; offset = a.offset; size = a.size }) (tables a.head.now a.loans.now a.chunks.now a.index.now a.tree.now) a.list.now _ a.answer.now _ (tables _ _ _ _ _) _ _ _ _ _ j.if1.true f.read-buddy.ensures h.read-share.ensures m.return-block.ensures w.put-share.ensures v.tell-released.ensures
 
 same-length-8 : tie.Need-same-length-8
 same-length-8 c = search rules
@@ -98,7 +98,7 @@ returns-2 c =
     let q = j.before in
     let p = q.before.before in
     let a = p.before.before.before.before.before.before.before.before.before.before.args in
-    return-bad a.settings.now a.account.now _ _ p.is-settings.ensures q.is-account.ensures (record { serial = a.serial; chunk = a.chunk; offset = a.offset; size = a.size }) (tables a.head.now a.loans.now a.chunks.now a.index.now a.tree.now) a.list.now a.answer.now _ j.if1.false v.tell-bad.ensures
+    return_bad a.settings.now a.account.now _ _ p.is-settings.ensures q.is-account.ensures (record { serial = a.serial; chunk = a.chunk; offset = a.offset; size = a.size }) (tables a.head.now a.loans.now a.chunks.now a.index.now a.tree.now) a.list.now a.answer.now _ j.if1.false v.tell-bad.ensures
 
 pub tibrezkam-buddy-return-spec : {M : Type 1} → statement M
 tibrezkam-buddy-return-spec =

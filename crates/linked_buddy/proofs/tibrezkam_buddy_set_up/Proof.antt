@@ -1,7 +1,7 @@
 use borrow.Author.Rules.{rules}
 use mathlib.Core.Path.{sym, ◌∙◌}
 use Rattle.buddy_rules.specs.Tables.{tables}
-use Rattle.linked_buddy.proofs.Branches.{set-up-made, set-up-bad}
+use Rattle.linked_buddy.proofs.Branches.{set_up_made, set_up_bad}
 use Rattle.linked_buddy.proofs.tibrezkam_buddy_set_up.Statement.{statement}
 use Rattle.linked_buddy.proofs.tibrezkam_buddy_set_up.Tie as tie
 
@@ -45,7 +45,7 @@ returns c =
     let m = u.before.before.before.before.before.before in
     let i = m.before.before in
     let a = i.before.before.before.before.before.before.before.before.args in
-    set-up-made a.settings.now a.answer.now _ (tables a.head.now a.loans.now a.chunks.now a.index.now a.tree.now) (tables _ _ _ _ _) _ _ _ i.is-settings.ensures m.before.if1.true m.read-buddy.ensures u.set-up.ensures c.before.before.tell-set-up.ensures
+    set_up_made a.settings.now a.answer.now _ (tables a.head.now a.loans.now a.chunks.now a.index.now a.tree.now) (tables _ _ _ _ _) _ _ _ i.is-settings.ensures m.before.if1.true m.read-buddy.ensures u.set-up.ensures c.before.before.tell-set-up.ensures
 
 same-length-7 : tie.Need-same-length-7
 same-length-7 c = search rules
@@ -54,7 +54,7 @@ returns-2 : tie.Need-returns-2
 returns-2 c =
     let i = c.before.before.before.before.before in
     let a = i.before.before.before.before.before.before.before.before.args in
-    set-up-bad a.settings.now a.answer.now _ (tables a.head.now a.loans.now a.chunks.now a.index.now a.tree.now) _ i.is-settings.ensures c.before.before.before.before.if1.false c.before.before.tell-bad.ensures
+    set_up_bad a.settings.now a.answer.now _ (tables a.head.now a.loans.now a.chunks.now a.index.now a.tree.now) _ i.is-settings.ensures c.before.before.before.before.if1.false c.before.before.tell-bad.ensures
 
 pub tibrezkam-buddy-set-up-spec : {M : Type 1} → statement M
 tibrezkam-buddy-set-up-spec =

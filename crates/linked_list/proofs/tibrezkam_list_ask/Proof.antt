@@ -1,8 +1,8 @@
 use borrow.Author.Rules.{rules}
 use Rattle.freelist_rules.specs.Tables.{tables}
-use Rattle.wire_rules.specs.Wire.{listWords}
+use Rattle.wire_rules.specs.Wire.{list_words}
 use Rattle.wire_rules.proofs.Lent.{both_right}
-use Rattle.linked_list.proofs.Branches.{ask-made, ask-refused}
+use Rattle.linked_list.proofs.Branches.{ask_made, ask_refused}
 use Rattle.linked_list.proofs.tibrezkam_list_ask.Statement.{statement}
 use Rattle.linked_list.proofs.tibrezkam_list_ask.Tie as tie
 
@@ -18,7 +18,7 @@ heaps-in-table-requires c κs =
     let q = j.before in
     let p = q.before.before in
     let a = p.before.before.before.before.before.before.before.before.before.args in
-    (both_right listWords a.settings.now a.account.now _ _ p.is-settings.ensures q.is-account.ensures j.if1.true).1
+    (both_right list_words a.settings.now a.account.now _ _ p.is-settings.ensures q.is-account.ensures j.if1.true).1
 
 read-free-list-requires : tie.Need-read-free-list-requires
 read-free-list-requires c κs =
@@ -26,7 +26,7 @@ read-free-list-requires c κs =
     let q = j.before in
     let p = q.before.before in
     let a = p.before.before.before.before.before.before.before.before.before.args in
-    (both_right listWords a.settings.now a.account.now _ _ p.is-settings.ensures q.is-account.ensures j.if1.true).0
+    (both_right list_words a.settings.now a.account.now _ _ p.is-settings.ensures q.is-account.ensures j.if1.true).0
 
 read-share-requires : tie.Need-read-share-requires
 read-share-requires c κs =
@@ -34,7 +34,7 @@ read-share-requires c κs =
     let q = j.before in
     let p = q.before.before in
     let a = p.before.before.before.before.before.before.before.before.before.args in
-    ((both_right listWords a.settings.now a.account.now _ _ p.is-settings.ensures q.is-account.ensures j.if1.true).1, c.before.before.before.heaps-in-table.ensures)
+    ((both_right list_words a.settings.now a.account.now _ _ p.is-settings.ensures q.is-account.ensures j.if1.true).1, c.before.before.before.heaps-in-table.ensures)
 
 ask-requires : tie.Need-ask-requires
 ask-requires c κs = search rules
@@ -77,7 +77,7 @@ returns c =
     let q = j.before in
     let p = q.before.before in
     let a = p.before.before.before.before.before.before.before.before.before.args in
-    ask-made a.settings.now a.account.now _ _ a.answer.now _ p.is-settings.ensures q.is-account.ensures _ _ _ (tables a.head.now a.loans.now a.chunks.now a.index.now a.regions.now) _ _ f.read-free-list.ensures h.read-share.ensures a.size a.mask j.if1.true m.ask.ensures w.put-asked.ensures v.tell-asked.ensures
+    ask_made a.settings.now a.account.now _ _ a.answer.now _ p.is-settings.ensures q.is-account.ensures _ _ _ (tables a.head.now a.loans.now a.chunks.now a.index.now a.regions.now) _ _ f.read-free-list.ensures h.read-share.ensures a.size a.mask j.if1.true m.ask.ensures w.put-asked.ensures v.tell-asked.ensures
 
 same-length-7 : tie.Need-same-length-7
 same-length-7 c = search rules
@@ -92,7 +92,7 @@ returns-2 c =
     let q = j.before in
     let p = q.before.before in
     let a = p.before.before.before.before.before.before.before.before.before.args in
-    ask-refused a.settings.now a.account.now _ _ a.answer.now _ p.is-settings.ensures q.is-account.ensures (tables a.head.now a.loans.now a.chunks.now a.index.now a.regions.now) a.size a.mask j.if1.false v.tell-bad.ensures
+    ask_refused a.settings.now a.account.now _ _ a.answer.now _ p.is-settings.ensures q.is-account.ensures (tables a.head.now a.loans.now a.chunks.now a.index.now a.regions.now) a.size a.mask j.if1.false v.tell-bad.ensures
 
 pub tibrezkam-list-ask-spec : {M : Type 1} → statement M
 tibrezkam-list-ask-spec =

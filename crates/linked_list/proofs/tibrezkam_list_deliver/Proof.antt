@@ -1,8 +1,8 @@
 use borrow.Author.Rules.{rules}
 use Rattle.freelist_rules.specs.Tables.{tables}
-use Rattle.wire_rules.specs.Wire.{listWords}
+use Rattle.wire_rules.specs.Wire.{list_words}
 use Rattle.wire_rules.proofs.Lent.{all_right}
-use Rattle.linked_list.proofs.Branches.{deliver-made, deliver-refused}
+use Rattle.linked_list.proofs.Branches.{deliver_made, deliver_refused}
 use Rattle.linked_list.proofs.tibrezkam_list_deliver.Statement.{statement}
 use Rattle.linked_list.proofs.tibrezkam_list_deliver.Tie as tie
 
@@ -21,7 +21,7 @@ heaps-in-table-requires c κs =
     let q = j.before.before in
     let p = q.before.before in
     let a = p.before.before.before.before.before.before.before.before.before.args in
-    (all_right listWords a.settings.now a.account.now _ _ _ p.is-settings.ensures q.is-account.ensures j.if1.true).1
+    (all_right list_words a.settings.now a.account.now _ _ _ p.is-settings.ensures q.is-account.ensures j.if1.true).1
 
 read-free-list-requires : tie.Need-read-free-list-requires
 read-free-list-requires c κs =
@@ -29,7 +29,7 @@ read-free-list-requires c κs =
     let q = j.before.before in
     let p = q.before.before in
     let a = p.before.before.before.before.before.before.before.before.before.args in
-    (all_right listWords a.settings.now a.account.now _ _ _ p.is-settings.ensures q.is-account.ensures j.if1.true).0
+    (all_right list_words a.settings.now a.account.now _ _ _ p.is-settings.ensures q.is-account.ensures j.if1.true).0
 
 read-share-requires : tie.Need-read-share-requires
 read-share-requires c κs =
@@ -37,7 +37,7 @@ read-share-requires c κs =
     let q = j.before.before in
     let p = q.before.before in
     let a = p.before.before.before.before.before.before.before.before.before.args in
-    ((all_right listWords a.settings.now a.account.now _ _ _ p.is-settings.ensures q.is-account.ensures j.if1.true).1, c.before.before.before.heaps-in-table.ensures)
+    ((all_right list_words a.settings.now a.account.now _ _ _ p.is-settings.ensures q.is-account.ensures j.if1.true).1, c.before.before.before.heaps-in-table.ensures)
 
 read-outcome-requires : tie.Need-read-outcome-requires
 read-outcome-requires c κs = search rules
@@ -48,7 +48,7 @@ read-order-requires c κs =
     let q = j.before.before in
     let p = q.before.before in
     let a = p.before.before.before.before.before.before.before.before.before.args in
-    (all_right listWords a.settings.now a.account.now _ _ _ p.is-settings.ensures q.is-account.ensures j.if1.true).1
+    (all_right list_words a.settings.now a.account.now _ _ _ p.is-settings.ensures q.is-account.ensures j.if1.true).1
 
 deliver-requires : tie.Need-deliver-requires
 deliver-requires c κs = search rules
@@ -59,7 +59,7 @@ put-share-requires c κs =
     let q = j.before.before in
     let p = q.before.before in
     let a = p.before.before.before.before.before.before.before.before.before.args in
-    (all_right listWords a.settings.now a.account.now _ _ _ p.is-settings.ensures q.is-account.ensures j.if1.true).1
+    (all_right list_words a.settings.now a.account.now _ _ _ p.is-settings.ensures q.is-account.ensures j.if1.true).1
 
 put-order-requires : tie.Need-put-order-requires
 put-order-requires c κs = search rules
@@ -106,7 +106,7 @@ returns c =
     let q = z.before in
     let p = q.before.before in
     let a = p.before.before.before.before.before.before.before.before.before.args in
-    deliver-made a.settings.now a.account.now _ _ a.answer.now _ p.is-settings.ensures q.is-account.ensures _ _ _ (tables a.head.now a.loans.now a.chunks.now a.index.now a.regions.now) _ _ f.read-free-list.ensures h.read-share.ensures a.what a.memory a.mapping _ _ _ _ _ _ z.is-outcome.ensures j.if1.true o.read-outcome.ensures n.read-order.ensures m.deliver.ensures w.put-share.ensures x.put_order.ensures v.tell-delivered.ensures
+    deliver_made a.settings.now a.account.now _ _ a.answer.now _ p.is-settings.ensures q.is-account.ensures _ _ _ (tables a.head.now a.loans.now a.chunks.now a.index.now a.regions.now) _ _ f.read-free-list.ensures h.read-share.ensures a.what a.memory a.mapping _ _ _ _ _ _ z.is-outcome.ensures j.if1.true o.read-outcome.ensures n.read-order.ensures m.deliver.ensures w.put-share.ensures x.put_order.ensures v.tell-delivered.ensures
 
 same-length-8 : tie.Need-same-length-8
 same-length-8 c = search rules
@@ -122,7 +122,7 @@ returns-2 c =
     let q = z.before in
     let p = q.before.before in
     let a = p.before.before.before.before.before.before.before.before.before.args in
-    deliver-refused a.settings.now a.account.now _ _ a.answer.now _ p.is-settings.ensures q.is-account.ensures (tables a.head.now a.loans.now a.chunks.now a.index.now a.regions.now) a.what a.memory a.mapping _ z.is-outcome.ensures j.if1.false v.tell-bad.ensures
+    deliver_refused a.settings.now a.account.now _ _ a.answer.now _ p.is-settings.ensures q.is-account.ensures (tables a.head.now a.loans.now a.chunks.now a.index.now a.regions.now) a.what a.memory a.mapping _ z.is-outcome.ensures j.if1.false v.tell-bad.ensures
 
 pub tibrezkam-list-deliver-spec : {M : Type 1} → statement M
 tibrezkam-list-deliver-spec =

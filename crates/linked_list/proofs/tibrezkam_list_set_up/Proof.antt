@@ -1,7 +1,7 @@
 use borrow.Author.Rules.{rules}
 use mathlib.Core.Path.{sym, ◌∙◌}
 use Rattle.freelist_rules.specs.Tables.{tables}
-use Rattle.linked_list.proofs.Branches.{set-up-made, set-up-refused}
+use Rattle.linked_list.proofs.Branches.{set_up_made, set_up_refused}
 use Rattle.linked_list.proofs.tibrezkam_list_set_up.Statement.{statement}
 use Rattle.linked_list.proofs.tibrezkam_list_set_up.Tie as tie
 
@@ -47,7 +47,7 @@ returns c =
     let j = f.before in
     let i = j.before in
     let a = i.before.before.before.before.before.before.before.before.args in
-    set-up-made a.settings.now (tables a.head.now a.loans.now a.chunks.now a.index.now a.regions.now) _ a.answer.now _ i.is-settings.ensures _ _ _ j.if1.true f.read-free-list.ensures u.set-up.ensures k.tell-set-up.ensures
+    set_up_made a.settings.now (tables a.head.now a.loans.now a.chunks.now a.index.now a.regions.now) _ a.answer.now _ i.is-settings.ensures _ _ _ j.if1.true f.read-free-list.ensures u.set-up.ensures k.tell-set-up.ensures
 
 same-length-7 : tie.Need-same-length-7
 same-length-7 c = search rules
@@ -58,7 +58,7 @@ returns-2 c =
     let j = k.before.before in
     let i = j.before in
     let a = i.before.before.before.before.before.before.before.before.args in
-    set-up-refused a.settings.now (tables a.head.now a.loans.now a.chunks.now a.index.now a.regions.now) _ a.answer.now _ i.is-settings.ensures j.if1.false k.tell-bad.ensures
+    set_up_refused a.settings.now (tables a.head.now a.loans.now a.chunks.now a.index.now a.regions.now) _ a.answer.now _ i.is-settings.ensures j.if1.false k.tell-bad.ensures
 
 pub tibrezkam-list-set-up-spec : {M : Type 1} → statement M
 tibrezkam-list-set-up-spec =

@@ -3,19 +3,19 @@ use mathlib.Core.Path.{◌≡◌, ap, ◌∙◌}
 use Prim.Native.Nat.{◌-◌, ◌≤◌}
 use native.Mathlib.Omega.{arith}
 use lib.ListN.{length}
-use Rattle.linked_rank.specs.Rows.{rowsOut}
-use Rattle.linked_rank.proofs.Rows.{rows_more, rows-length}
+use Rattle.linked_rank.specs.Rows.{rows_out}
+use Rattle.linked_rank.proofs.Rows.{rows_more, rows_length}
 use Rattle.linked_rank.proofs.put_rows.Statement.{statement}
 use Rattle.linked_rank.proofs.put_rows.Tie as tie
 
 abbrev invariant-loop : tie.invariant-loop
-invariant-loop w₀ rows u₀ w u = (u ≤ 64) × (w ≡ rowsOut rows u w₀)
+invariant-loop w₀ rows u₀ w u = (u ≤ 64) × (w ≡ rows_out rows u w₀)
 
 abbrev decreases-loop : tie.decreases-loop
 decreases-loop w₀ rows u₀ w u = 64 - u
 
 loop-holds : tie.Need-loop-init invariant-loop decreases-loop
-unfolding rowsOut
+unfolding rows_out
 loop-holds c = search rules
 
 mul-row : tie.Need-overflow-mul-row invariant-loop decreases-loop
@@ -40,7 +40,7 @@ loop-again c =
     (omega arith, rows_more _ l.u _ _ _ l.invariant.1 p.put-row.ensures)
 
 same_length : tie.Need-same-length invariant-loop decreases-loop
-same_length c = let l = c.before.loop in ap length l.invariant.1 ∙ rows-length _ l.u _
+same_length c = let l = c.before.loop in ap length l.invariant.1 ∙ rows_length _ l.u _
 
 returns : tie.Need-returns invariant-loop decreases-loop
 returns c =

@@ -3,13 +3,13 @@ use mathlib.Core.Path.{◌≡◌, ap, ◌∙◌}
 use Prim.Native.Nat.{◌-◌, ◌≤◌}
 use native.Mathlib.Omega.{arith}
 use lib.ListN.{length}
-use Rattle.linked_rank.specs.Rows.{typesOut}
-use Rattle.linked_rank.proofs.Rows.{types_more, types-length}
+use Rattle.linked_rank.specs.Rows.{types_out}
+use Rattle.linked_rank.proofs.Rows.{types_more, types_length}
 use Rattle.linked_rank.proofs.put_types.Statement.{statement}
 use Rattle.linked_rank.proofs.put_types.Tie as tie
 
 abbrev invariant-loop : tie.invariant-loop
-invariant-loop w₀ u types at j₀ w j = (j ≤ 32) × (w ≡ typesOut types u j w₀)
+invariant-loop w₀ u types at j₀ w j = (j ≤ 32) × (w ≡ types_out types u j w₀)
 
 abbrev decreases-loop : tie.decreases-loop
 decreases-loop w₀ u types at j₀ w j = 32 - j
@@ -18,7 +18,7 @@ mul_at : tie.Need-overflow-mul-at invariant-loop decreases-loop
 mul_at c = search rules
 
 loop-holds : tie.Need-loop-init invariant-loop decreases-loop
-unfolding typesOut
+unfolding types_out
 loop-holds c = search rules
 
 add-put : tie.Need-overflow-add-put invariant-loop decreases-loop
@@ -48,7 +48,7 @@ loop-again c =
     (omega arith, types_more _ _ l.j _ _ _ l.invariant.1 c.before.before.put.ensures)
 
 same_length : tie.Need-same-length invariant-loop decreases-loop
-same_length c = let l = c.before.loop in ap length l.invariant.1 ∙ types-length _ _ l.j _
+same_length c = let l = c.before.loop in ap length l.invariant.1 ∙ types_length _ _ l.j _
 
 returns : tie.Need-returns invariant-loop decreases-loop
 returns c =

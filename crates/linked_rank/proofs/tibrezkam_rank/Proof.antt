@@ -1,6 +1,6 @@
 use borrow.Author.Rules.{rules}
 use Rattle.usage_rules.specs.Ranking.{rank_of}
-use Rattle.linked_rank.proofs.Rows.{ranked-told}
+use Rattle.linked_rank.proofs.Rows.{ranked_told}
 use Rattle.linked_rank.proofs.tibrezkam_rank.Statement.{statement}
 use Rattle.linked_rank.proofs.tibrezkam_rank.Tie as tie
 
@@ -25,7 +25,7 @@ returns c =
     let p = t.before.before.before.before in
     let r = p.before.before.before in
     let a = r.before.before.before.before.args in
-    ranked-told (rank_of a.types.now) _ _ a.rows.now _ a.answer.now _ r.rank.ensures p.put-rows.ensures t.tell-ranked.ensures
+    ranked_told (rank_of a.types.now) _ _ a.rows.now _ a.answer.now _ r.rank.ensures p.put-rows.ensures t.tell-ranked.ensures
 
 pub tibrezkam-rank-spec : {M : Type 1} → statement M
 tibrezkam-rank-spec =

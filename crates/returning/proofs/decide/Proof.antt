@@ -1,6 +1,6 @@
 use native.Mathlib.Omega.{arith}
-use Rattle.returning.proofs.Found.{word_in, loan-in}
-use Rattle.returning.proofs.Stale.{return-none, return_back, return-stale}
+use Rattle.returning.proofs.Found.{word_in, loan_in_lem}
+use Rattle.returning.proofs.Stale.{return_none, return_back, return_stale}
 use borrow.Author.Rules.{rules}
 use Rattle.returning.proofs.decide.Statement.{statement}
 use Rattle.returning.proofs.decide.Tie as tie
@@ -11,7 +11,7 @@ word-to-requires c κs = search rules
 returns : tie.Need-returns
 returns c =
     let a = c.before.before.before.before.args in
-    return-none a.loans.now a.index.now a.n a.places a.b _ c.before.word-to.ensures c.if1.true
+    return_none a.loans.now a.index.now a.n a.places a.b _ c.before.word-to.ensures c.if1.true
 
 mul-place-of : tie.Need-overflow-mul-place-of
 mul-place-of c =
@@ -32,7 +32,7 @@ loan-in-requires : tie.Need-loan-in-requires
 loan-in-requires c κs =
     let s = c.before.before.before.before.before.before in
     let a = s.args in
-    loan-in a.loans.now a.index.now a.n a.places a.b.serial s.requires _ c.before.before.before.word-to.ensures c.before.before.if1.false _ c.place-of.ensures
+    loan_in_lem a.loans.now a.index.now a.n a.places a.b.serial s.requires _ c.before.before.before.word-to.ensures c.before.before.if1.false _ c.place-of.ensures
 
 is-same-requires : tie.Need-is-same-requires
 is-same-requires c κs = search rules
@@ -45,7 +45,7 @@ returns-2 c =
 returns-3 : tie.Need-returns-3
 returns-3 c =
     let a = c.before.before.before.before.before.before.before.before.before.args in
-    return-stale a.loans.now a.index.now a.n a.places a.b _ c.before.before.before.before.before.before.word-to.ensures _ _ _ c.before.before.before.before.before.if1.false c.before.before.before.place-of.ensures c.before.before.loan-in.ensures c.before.is_same.ensures c.if2.false
+    return_stale a.loans.now a.index.now a.n a.places a.b _ c.before.before.before.before.before.before.word-to.ensures _ _ _ c.before.before.before.before.before.if1.false c.before.before.before.place-of.ensures c.before.before.loan-in.ensures c.before.is_same.ensures c.if2.false
 
 pub decide-spec : {M : Type 1} → statement M
 decide-spec =

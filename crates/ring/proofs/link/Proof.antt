@@ -3,9 +3,9 @@ use Prim.Native.Nat.{ℕ, ◌<◌}
 use native.Mathlib.Omega.{arith}
 use lib.ListN.{length}
 use Rattle.words.specs.Words.{cell_of}
-use Rattle.slab.specs.Slab.{link_at}
-use Rattle.ring_rules.specs.Ring.{prev, headIn}
-use Rattle.ring_rules.proofs.Steps.{link-first, link-last}
+use Rattle.slabs.specs.Slab.{link_at}
+use Rattle.ring_rules.specs.Ring.{prev, head_in_ring}
+use Rattle.ring_rules.proofs.Steps.{link_first, link_last}
 use borrow.Author.Rules.{rules}
 use Rattle.ring.proofs.link.Statement.{statement}
 use Rattle.ring.proofs.link.Tie as tie
@@ -38,7 +38,7 @@ put-link-in-requires-2 : tie.Need-put-link-in-requires-2
 put-link-in-requires-2 c κs =
     let a = c.before.before.before.before.before.before.before.before.before.before.before.args in
     let e = c.before.before.before.before.before.before.before.before.head_in.ensures in
-    let q : c.before.before.before.before.before.link-in.result ≡ prev a.head a.next-at a.prev-at a.step a.t.now (headIn a.head a.next-at a.prev-at a.step a.t.now) = c.before.before.before.before.before.link-in.ensures ∙ ap (link_at a.t.now a.prev-at a.step) e in
+    let q : c.before.before.before.before.before.link-in.result ≡ prev a.head a.next-at a.prev-at a.step a.t.now (head_in_ring a.head a.next-at a.prev-at a.step a.t.now) = c.before.before.before.before.before.link-in.ensures ∙ ap (link_at a.t.now a.prev-at a.step) e in
     let h : cell_of a.next-at a.step c.before.before.before.before.before.link-in.result < length a.t.now = subst (λ (x : ℕ). cell_of a.next-at a.step x < length a.t.now) (sym q) (c.before.before.before.before.before.before.before.before.before.before.before.requires.last (λ f. c.before.before.before.before.before.before.before.if1.false (e ∙ f))) in
     omega (arith, h)
 
@@ -51,7 +51,7 @@ same_length c = search rules
 returns : tie.Need-returns
 returns c =
     let a = c.before.before.before.before.before.before.before.before.before.before.before.before.before.args in
-    link-first a.head a.next-at a.prev-at a.step a.p a.t.now _ _ _ _
+    link_first a.head a.next-at a.prev-at a.step a.p a.t.now _ _ _ _
     c.before.before.before.before.before.before.before.before.before.before.head_in.ensures c.before.before.before.before.before.before.before.before.before.if1.true refl c.before.before.before.before.before.before.before.put-links.ensures (rw c.before.before.before.record_of.ensures at c.before.before.put-head.ensures)
 
 same-length-2 : tie.Need-same-length-2
@@ -60,7 +60,7 @@ same-length-2 c = search rules
 returns-2 : tie.Need-returns-2
 returns-2 c =
     let a = c.before.before.before.before.before.before.before.before.before.before.before.before.before.before.before.before.before.before.args in
-    link-last a.head a.next-at a.prev-at a.step a.p a.t.now _ _ _ _ _ _
+    link_last a.head a.next-at a.prev-at a.step a.p a.t.now _ _ _ _ _ _
     c.before.before.before.before.before.before.before.before.before.before.before.before.before.before.before.head_in.ensures c.before.before.before.before.before.before.before.before.before.before.before.before.before.before.if1.false c.before.before.before.before.before.before.before.before.before.before.before.before.link-in.ensures c.before.before.before.before.before.before.before.before.before.before.put-link-in.ensures c.before.before.before.before.before.before.put-link-in2.ensures refl c.before.before.put-links2.ensures
 
 pub link-spec : {M : Type 1} → statement M

@@ -3,15 +3,15 @@ use Prim.Native.Nat.{◌≤◌}
 use native.Mathlib.Omega.{arith}
 use borrow.Author.Rules.{rules}
 use Rattle.ring_rules.specs.Ring.{next, prev}
-use Rattle.ring_rules.specs.Test.{metAfter, ringLength}
-use Rattle.ring_rules.proofs.Steps.{met-done, met-far, met-torn, met-back, met-on, length_none, length-far, length-walk}
+use Rattle.ring_rules.specs.Test.{met_after, ring_length}
+use Rattle.ring_rules.proofs.Steps.{met_done, met_far, met_torn, met_back, met_on, length_none, length_far, length_walk}
 use Rattle.ring.proofs.ring_length.Statement.{statement}
 use Rattle.ring.proofs.ring_length.Tie as tie
 
 abbrev invariant-loop : tie.invariant-loop
 invariant-loop t head next-at prev-at step places h p₀ left₀ p left =
     (left ≤ places)
-    × (ringLength head next-at prev-at step places t ≡ metAfter (next head next-at prev-at step t) (prev head next-at prev-at step t) places h p left)
+    × (ring_length head next-at prev-at step places t ≡ met_after (next head next-at prev-at step t) (prev head next-at prev-at step t) places h p left)
 
 abbrev decreases-loop : tie.decreases-loop
 decreases-loop t head next-at prev-at step places h p₀ left₀ p left = left
@@ -23,16 +23,16 @@ returns : tie.Need-returns invariant-loop decreases-loop
 returns c = sym (length_none _ _ _ _ _ _ _ c.before.led-to.ensures c.if1.true)
 
 returns-2 : tie.Need-returns-2 invariant-loop decreases-loop
-returns-2 c = sym (length-far _ _ _ _ _ _ _ c.before.before.led-to.ensures c.before.if1.false c.if2.true)
+returns-2 c = sym (length_far _ _ _ _ _ _ _ c.before.before.led-to.ensures c.before.if1.false c.if2.true)
 
 loop-holds : tie.Need-loop-init invariant-loop decreases-loop
-loop-holds c = (omega arith, length-walk _ _ _ _ _ _ _ c.before.before.led-to.ensures c.before.if1.false c.if2.false)
+loop-holds c = (omega arith, length_walk _ _ _ _ _ _ _ c.before.before.led-to.ensures c.before.if1.false c.if2.false)
 
 link-requires : tie.Need-link-requires invariant-loop decreases-loop
 link-requires c κs = search rules
 
 returns-3 : tie.Need-returns-3 invariant-loop decreases-loop
-returns-3 c = sym (c.before.before.before.loop.invariant.1 ∙ met-far _ _ _ _ _ _ _ c.before.link.ensures c.before.before.loop-test.true c.if3.true)
+returns-3 c = sym (c.before.before.before.loop.invariant.1 ∙ met_far _ _ _ _ _ _ _ c.before.link.ensures c.before.before.loop-test.true c.if3.true)
 
 link-requires-2 : tie.Need-link-requires-2 invariant-loop decreases-loop
 link-requires-2 c κs = search rules
@@ -41,7 +41,7 @@ returns-4 : tie.Need-returns-4 invariant-loop decreases-loop
 returns-4 c =
     let d = c.before.before in
     let e = d.before.before in
-    sym (e.before.loop.invariant.1 ∙ met-torn _ _ _ _ _ _ _ d.before.link.ensures e.loop-test.true d.if3.false (λ s. c.if4.true (c.before.link2.ensures ∙ s)))
+    sym (e.before.loop.invariant.1 ∙ met_torn _ _ _ _ _ _ _ d.before.link.ensures e.loop-test.true d.if3.false (λ s. c.if4.true (c.before.link2.ensures ∙ s)))
 
 sub-left : tie.Need-overflow-sub-left invariant-loop decreases-loop
 sub-left c = search rules
@@ -54,7 +54,7 @@ returns-5 c =
     let b = c.before in
     let d = b.before.before in
     let e = d.before.before in
-    sym (e.before.loop.invariant.1 ∙ met-back _ _ _ _ _ _ _ d.before.link.ensures e.loop-test.true d.if3.false (sym b.before.link2.ensures ∙ b.if4.false) c.if5.true)
+    sym (e.before.loop.invariant.1 ∙ met_back _ _ _ _ _ _ _ d.before.link.ensures e.loop-test.true d.if3.false (sym b.before.link2.ensures ∙ b.if4.false) c.if5.true)
 
 loop-less : tie.Need-loop-smaller invariant-loop decreases-loop
 loop-less c = search rules
@@ -64,10 +64,10 @@ loop-again c =
     let b = c.before in
     let d = b.before.before in
     let e = d.before.before in
-    (omega arith, e.before.loop.invariant.1 ∙ met-on _ _ _ _ _ _ _ d.before.link.ensures e.loop-test.true d.if3.false (sym b.before.link2.ensures ∙ b.if4.false) c.if5.false)
+    (omega arith, e.before.loop.invariant.1 ∙ met_on _ _ _ _ _ _ _ d.before.link.ensures e.loop-test.true d.if3.false (sym b.before.link2.ensures ∙ b.if4.false) c.if5.false)
 
 returns-6 : tie.Need-returns-6 invariant-loop decreases-loop
-returns-6 c = sym (c.before.loop.invariant.1 ∙ met-done _ _ _ _ _ _ c.loop-test.false)
+returns-6 c = sym (c.before.loop.invariant.1 ∙ met_done _ _ _ _ _ _ c.loop-test.false)
 
 pub ring-length-spec : {M : Type 1} → statement M
 ring-length-spec =

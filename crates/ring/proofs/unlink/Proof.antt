@@ -3,7 +3,7 @@ use Prim.Native.Nat.{ℕ, ◌<◌}
 use native.Mathlib.Omega.{arith}
 use lib.ListN.{length}
 use Rattle.words.specs.Words.{cell_of}
-use Rattle.ring_rules.proofs.Steps.{unlink-alone, unlink-one}
+use Rattle.ring_rules.proofs.Steps.{unlink_alone, unlink_one}
 use borrow.Author.Rules.{rules}
 use Rattle.ring.proofs.unlink.Statement.{statement}
 use Rattle.ring.proofs.unlink.Tie as tie
@@ -42,7 +42,7 @@ same_length c = search rules
 returns : tie.Need-returns
 returns c =
     let a = c.before.before.before.before.before.before.before.before.before.before.args in
-    unlink-alone a.head a.next-at a.prev-at a.step a.p a.t.now _ _ c.before.before.before.before.before.link-in2.ensures c.before.before.before.before.if1.true c.before.before.put-head.ensures
+    unlink_alone a.head a.next-at a.prev-at a.step a.p a.t.now _ _ c.before.before.before.before.before.link-in2.ensures c.before.before.before.before.if1.true c.before.before.put-head.ensures
 
 same-length-2 : tie.Need-same-length-2
 same-length-2 c = search rules
@@ -50,7 +50,7 @@ same-length-2 c = search rules
 returns-2 : tie.Need-returns-2
 returns-2 c =
     let a = c.before.before.before.before.before.before.before.before.before.before.before.before.before.before.before.before.before.before.before.args in
-    unlink-one a.head a.next-at a.prev-at a.step a.p a.t.now _ _ _ _ _
+    unlink_one a.head a.next-at a.prev-at a.step a.p a.t.now _ _ _ _ _
     c.before.before.before.before.before.before.before.before.before.before.before.before.before.before.before.before.link-in.ensures c.before.before.before.before.before.before.before.before.before.before.before.before.before.before.link-in2.ensures c.before.before.before.before.before.before.before.before.before.before.before.before.before.if1.false c.before.before.before.before.before.before.before.before.before.before.before.put-link-in.ensures c.before.before.before.before.before.before.before.put-link-in2.ensures (rw c.before.before.before.record_of.ensures at c.before.before.move-head.ensures)
 
 pub unlink-spec : {M : Type 1} → statement M

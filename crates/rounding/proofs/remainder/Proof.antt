@@ -4,14 +4,14 @@ use Prim.Native.Nat.{ℕ, ◌+◌, ◌-◌, ◌%◌, ◌<◌, ◌^◌}
 use native.Mathlib.Omega.{arith}
 use lib.Bits.{bit_and}
 use borrow.Author.Rules.{rules}
-use Rattle.rounding_rules.proofs.Masks.{ones-tested, masked}
+use Rattle.rounding_rules.proofs.Masks.{ones_tested, masked}
 use Rattle.rounding.proofs.remainder.Statement.{statement}
 use Rattle.rounding.proofs.remainder.Tie as tie
 
 by_mask : (x n : ℕ) → 0 < n → n < 2 ^ 64 → bit_and (n - 1) n ≡ 0 → bit_and x (n - 1) ≡ x % n
 by_mask x n h k e =
     let q : n - 1 + 1 ≡ n = omega arith in
-    masked x (ones-tested 64 (n - 1) (omega arith) (ap (bit_and (n - 1)) q ∙ e)) ∙ ap (λ (m : ℕ). x % m) q
+    masked x (ones_tested 64 (n - 1) (omega arith) (ap (bit_and (n - 1)) q ∙ e)) ∙ ap (λ (m : ℕ). x % m) q
 
 sub-mask : tie.Need-overflow-sub-mask
 sub-mask c = search rules

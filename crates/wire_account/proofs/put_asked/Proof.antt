@@ -1,5 +1,5 @@
 use borrow.Author.Rules.{rules}
-use Rattle.wire_rules.proofs.Orders.{put-told}
+use Rattle.wire_rules.proofs.Orders.{put_told}
 use Rattle.wire_account.proofs.put_asked.Statement.{statement}
 use Rattle.wire_account.proofs.put_asked.Tie as tie
 use Rattle.wire_account.proofs.put_kept.Reads as put-kept-reads
@@ -29,7 +29,7 @@ returns-3 : tie.Need-returns-3
 returns-3 c =
     let o = c.before.before.before.before.before in
     let a = o.before.before.before.args in
-    put-told a.answer _ a.size a.mask a.w.now _ o.answer.given.1 c.before.before.put-kept.ensures
+    put_told a.answer _ a.size a.mask a.w.now _ o.answer.given.1 c.before.before.put-kept.ensures
 
 pub put-asked-spec : {M : Type 1} → statement M
 put-asked-spec =

@@ -1,5 +1,5 @@
 use borrow.Author.Rules.{rules}
-use Rattle.wire_rules.proofs.Orders.{put-kept}
+use Rattle.wire_rules.proofs.Orders.{put_kept}
 use Rattle.wire_account.proofs.put_kept.Statement.{statement}
 use Rattle.wire_account.proofs.put_kept.Tie as tie
 use Rattle.words.proofs.put.Reads as put_reads
@@ -47,7 +47,7 @@ returns c =
     let p2 = p3.before.before.before.before in
     let p1 = p2.before.before.before.before.before in
     let a = p1.before.before.before.before.before.args in
-    put-kept a.k a.w.now _ _ _ _ _ _ _ p1.put.ensures p2.put2.ensures p3.put3.ensures p4.put4.ensures p5.put5.ensures p6.put6.ensures p7.put7.ensures
+    put_kept a.k a.w.now _ _ _ _ _ _ _ p1.put.ensures p2.put2.ensures p3.put3.ensures p4.put4.ensures p5.put5.ensures p6.put6.ensures p7.put7.ensures
 
 pub put-kept-spec : {M : Type 1} → statement M
 put-kept-spec =

@@ -1,5 +1,5 @@
 use borrow.Author.Rules.{rules}
-use Rattle.wire_rules.proofs.Orders.{put-none, put_some}
+use Rattle.wire_rules.proofs.Orders.{put_none, put_some}
 use Rattle.wire_account.proofs.put_order.Statement.{statement}
 use Rattle.wire_account.proofs.put_order.Tie as tie
 use Rattle.wire_account.proofs.put_kept.Reads as put-kept-reads
@@ -21,7 +21,7 @@ same_length : tie.Need-same-length
 same_length c = search rules
 
 returns : tie.Need-returns
-returns c = put-none _ _ _ c.before.before.before.before.enum_told.given.1 c.before.before.put.ensures
+returns c = put_none _ _ _ c.before.before.before.before.enum_told.given.1 c.before.before.put.ensures
 
 same-length-2 : tie.Need-same-length-2
 same-length-2 c = search rules

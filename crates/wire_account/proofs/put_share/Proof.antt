@@ -2,7 +2,7 @@ use borrow.Author.Rules.{rules}
 use mathlib.Core.Path.{ap, ◌∙◌}
 use mathlib.Core.Logic.{⊎_elim}
 use lib.ListN.{length}
-use Rattle.wire_rules.proofs.Shares.{put-own, put-past, put-share, share-length}
+use Rattle.wire_rules.proofs.Shares.{put_own, put_past, put_share, share_length}
 use Rattle.wire_account.proofs.put_share.Statement.{statement}
 use Rattle.wire_account.proofs.put_share.Tie as tie
 use Rattle.wire_account.proofs.put_heap.Reads as put-heap-reads
@@ -22,13 +22,13 @@ returns c =
     let p = c.before.before in
     let j = p.before.before.before in
     let a = j.before.before.args in
-    put-share a.s.heap a.share a.w.now j.if1.w _
-    (⊎_elim (λ x. put-own a.s.heap a.share a.w.now j.if1.w x.0.taken (x.6 ∙ x.3.ensures)) (λ x. put-past a.s.heap a.share a.w.now j.if1.w x.0.left x.1) j.if1.branch)
+    put_share a.s.heap a.share a.w.now j.if1.w _
+    (⊎_elim (λ x. put_own a.s.heap a.share a.w.now j.if1.w x.0.taken (x.6 ∙ x.3.ensures)) (λ x. put_past a.s.heap a.share a.w.now j.if1.w x.0.left x.1) j.if1.branch)
     p.put.ensures
 
 -- by what is written
 same_length : tie.Need-same-length
-same_length c = let a = c.before.before.before.before.before.before.before.args in ap length (returns c) ∙ share-length a.s.heap a.share a.w.now
+same_length c = let a = c.before.before.before.before.before.before.before.args in ap length (returns c) ∙ share_length a.s.heap a.share a.w.now
 
 pub put-share-spec : {M : Type 1} → statement M
 put-share-spec = tie.close (tie.spec put-heap-requires cast-put put-requires same_length returns)

@@ -1,15 +1,15 @@
 use Rattle.std.proofs.Common.{◌≡◌, ◌-◌, ◌≤◌, sym, ap, ◌∙◌, ⊎_elim, arith, rules}
-use Rattle.slab.specs.Slab.{vacantAt}
-use Rattle.store_rules.specs.Loans.{loanWords, size_at}
-use Rattle.book_rules.specs.Book.{serialOf, firstIn, nextIn}
+use Rattle.slabs.specs.Slab.{vacant_at}
+use Rattle.store_rules.specs.Loans.{loan_words, size_at}
+use Rattle.book_rules.specs.Book.{serial_of, first_in, next_in}
 use Rattle.book_rules.specs.Chains.{left_of}
-use Rattle.book_rules.proofs.Following.{of_none, of-torn, of-on}
+use Rattle.book_rules.proofs.Following.{of_none, of_torn, of_on}
 use Rattle.book.proofs.chains.left_of.Statement.{statement}
 use Rattle.book.proofs.chains.left_of.Tie as tie
 
 abbrev invariant-loop : tie.invariant-loop
 invariant-loop loans index n places given k left₀ i₀ left i =
-    (i ≤ n) × (left ≡ left_of (vacantAt loans size_at loanWords) (firstIn index) (nextIn index) (serialOf loans) n places given k i)
+    (i ≤ n) × (left ≡ left_of (vacant_at loans size_at loan_words) (first_in index) (next_in index) (serial_of loans) n places given k i)
 
 abbrev decreases-loop : tie.decreases-loop
 decreases-loop loans index n places given k left₀ i₀ left i = n - i
@@ -32,8 +32,8 @@ loop-less c = search rules
 loop-again : tie.Need-loop-preserved invariant-loop decreases-loop
 loop-again c =
     let b = c.before.before.loop.invariant.1 in
-    ⊎_elim (λ w. (omega arith, w.3 ∙ w.2.ensures ∙ sym (of-on _ _ _ _ _ _ _ _ _ _ _ b w.0.taken w.1.ensures)))
-    (λ w. (omega arith, w.1 ∙ w.0.left ∙ sym (of-torn _ _ _ _ _ _ _ _ _ (sym b ∙ w.0.left)))) c.if1.branch
+    ⊎_elim (λ w. (omega arith, w.3 ∙ w.2.ensures ∙ sym (of_on _ _ _ _ _ _ _ _ _ _ _ b w.0.taken w.1.ensures)))
+    (λ w. (omega arith, w.1 ∙ w.0.left ∙ sym (of_torn _ _ _ _ _ _ _ _ _ (sym b ∙ w.0.left)))) c.if1.branch
 
 returns : tie.Need-returns invariant-loop decreases-loop
 returns c =

@@ -1,10 +1,10 @@
 use Rattle.std.proofs.Common.{rules}
-use Rattle.lists.proofs.Bools.{not_yes, not-no}
-use Rattle.slab.specs.Slab.{vacantAt, link_at}
-use Rattle.slab.proofs.Steps.{parted-within}
-use Rattle.store_rules.specs.Loans.{loanWords, size_at}
-use Rattle.book_rules.specs.Book.{entryWords, vacantAfterAt}
-use Rattle.book_rules.proofs.Keeping.{kept-torn, kept-told}
+use Rattle.lists.proofs.Bools.{not_yes, not_no}
+use Rattle.slabs.specs.Slab.{vacant_at, link_at}
+use Rattle.slabs.proofs.Steps.{parted_within}
+use Rattle.store_rules.specs.Loans.{loan_words, size_at}
+use Rattle.book_rules.specs.Book.{entry_words, vacant_after_at}
+use Rattle.book_rules.proofs.Keeping.{kept_torn, kept_told}
 use Rattle.book.proofs.kept.is_led.Statement.{statement}
 use Rattle.book.proofs.kept.is_led.Tie as tie
 
@@ -20,8 +20,8 @@ returns c =
     let w = p.before in
     let o = w.before.before.before in
     let a = o.args in
-    let told = parted-within (vacantAt a.loans.now size_at loanWords) (link_at a.index.now vacantAfterAt entryWords) (record { places = a.places; vacant = w.led-to.result }) a.n _ _ o.requires.0.few o.requires.1 p.chain-leads.ensures in
-    kept-torn a.loans.now a.index.now a.n a.places a.given _ _ w.led-to.ensures told (not_yes _ c.if1.true)
+    let told = parted_within (vacant_at a.loans.now size_at loan_words) (link_at a.index.now vacant_after_at entry_words) (record { places = a.places; vacant = w.led-to.result }) a.n _ _ o.requires.0.few o.requires.1 p.chain-leads.ensures in
+    kept_torn a.loans.now a.index.now a.n a.places a.given _ _ w.led-to.ensures told (not_yes _ c.if1.true)
 
 is-chained-requires : tie.Need-is-chained-requires
 is-chained-requires c κs = search rules
@@ -33,8 +33,8 @@ returns-2 c =
     let w = p.before in
     let o = w.before.before.before in
     let a = o.args in
-    let told = parted-within (vacantAt a.loans.now size_at loanWords) (link_at a.index.now vacantAfterAt entryWords) (record { places = a.places; vacant = w.led-to.result }) a.n _ _ o.requires.0.few o.requires.1 p.chain-leads.ensures in
-    kept-told a.loans.now a.index.now a.n a.places a.given _ _ w.led-to.ensures told (not-no _ i.if1.false) _ c.is-chained.ensures
+    let told = parted_within (vacant_at a.loans.now size_at loan_words) (link_at a.index.now vacant_after_at entry_words) (record { places = a.places; vacant = w.led-to.result }) a.n _ _ o.requires.0.few o.requires.1 p.chain-leads.ensures in
+    kept_told a.loans.now a.index.now a.n a.places a.given _ _ w.led-to.ensures told (not_no _ i.if1.false) _ c.is-chained.ensures
 
 pub is-led-spec : {M : Type 1} → statement M
 is-led-spec =

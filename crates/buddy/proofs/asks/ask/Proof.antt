@@ -1,8 +1,8 @@
 use borrow.Author.Rules.{rules}
 use mathlib.Core.Path.{ap}
-use Rattle.counter.specs.Paper.{askSaid}
+use Rattle.counter.specs.Paper.{ask_said}
 use Rattle.buddy_rules.specs.Tables.{tables}
-use Rattle.buddy.proofs.Wholes.{asked-whole}
+use Rattle.buddy.proofs.Wholes.{asked_whole}
 use Rattle.buddy.proofs.asks.ask.Statement.{statement}
 use Rattle.buddy.proofs.asks.ask.Tie as tie
 
@@ -32,7 +32,7 @@ returns c =
     let p = c.before.before.before.before.before.before.before.before.before in
     let h = p.before.before.before.before.before in
     let a = h.before.before.before.before.before.before.before.args in
-    asked-whole a.s a.a (tables a.head.now a.loans.now a.chunks.now a.index.now a.tree.now) _ _ h.share-of.ensures _ _ _ (ap askSaid c.asked.ensures.1) a.size a.mask p.ask.ensures c.asked.ensures.0
+    asked_whole a.s a.a (tables a.head.now a.loans.now a.chunks.now a.index.now a.tree.now) _ _ h.share-of.ensures _ _ _ (ap ask_said c.asked.ensures.1) a.size a.mask p.ask.ensures c.asked.ensures.0
 
 pub ask-spec : {M : Type 1} → statement M
 ask-spec =

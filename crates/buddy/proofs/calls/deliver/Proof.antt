@@ -2,8 +2,8 @@ use borrow.Author.Rules.{rules}
 use mathlib.Core.Path.{sym, ◌∙◌}
 use Rattle.store_rules.proofs.Holders.{holding}
 use Rattle.buddy_rules.specs.Tables.{tables}
-use Rattle.buddy.proofs.Carried.{deliver-called}
-use Rattle.buddy.proofs.Readied.{deliver-ready}
+use Rattle.buddy.proofs.Carried.{deliver_called}
+use Rattle.buddy.proofs.Readied.{deliver_ready}
 use Rattle.buddy.proofs.calls.deliver.Statement.{statement}
 use Rattle.buddy.proofs.calls.deliver.Tie as tie
 
@@ -14,7 +14,7 @@ carry-deliver-requires : tie.Need-carry-deliver-requires
 carry-deliver-requires c κs =
     let a = c.before.before.before.before.before.before.before.before.before.before.before.before.before.before.before.before.args in
     let p = c.before.before.before.before.before.plan-deliver in
-    deliver-ready a.s (holding a.s.store a.share a.order) a.o (tables a.head.now a.loans.now a.chunks.now a.index.now a.tree.now) p.result (sym p.ensures.0) p.ensures.1
+    deliver_ready a.s (holding a.s.store a.share a.order) a.o (tables a.head.now a.loans.now a.chunks.now a.index.now a.tree.now) p.result (sym p.ensures.0) p.ensures.1
 
 same_length : tie.Need-same-length
 same_length c = search rules
@@ -34,7 +34,7 @@ same-length-5 c = search rules
 returns : tie.Need-returns
 returns c =
     let a = c.before.before.before.before.before.before.before.before.before.before.before.before.before.before.before.before.before.before.before.before.before.before.before.before.before.before.before.args in
-    c.before.before.before.before.before.before.before.before.before.before.carry-deliver.ensures ∙ deliver-called a.s (holding a.s.store a.share a.order) a.o (tables a.head.now a.loans.now a.chunks.now a.index.now a.tree.now) _ c.before.before.before.before.before.before.before.before.before.before.before.before.before.before.before.before.plan-deliver.ensures.0
+    c.before.before.before.before.before.before.before.before.before.before.carry-deliver.ensures ∙ deliver_called a.s (holding a.s.store a.share a.order) a.o (tables a.head.now a.loans.now a.chunks.now a.index.now a.tree.now) _ c.before.before.before.before.before.before.before.before.before.before.before.before.before.before.before.before.plan-deliver.ensures.0
 
 pub deliver-spec : {M : Type 1} → statement M
 deliver-spec = tie.close (tie.spec plan-deliver-requires carry-deliver-requires same_length same-length-2 same-length-3 same-length-4 same-length-5 returns)

@@ -2,11 +2,11 @@ use borrow.Author.Rules.{rules}
 use mathlib.Core.Path.{sym, ap, subst, ◌∙◌}
 use mathlib.Core.List.{[]}
 use Rattle.buddy_rules.specs.Tables.{tables}
-use Rattle.buddy_outcomes.specs.Ask.{carryAsk}
+use Rattle.buddy_outcomes.specs.Ask.{carry_ask}
 use Rattle.buddy_decide.specs.Plans.{plan_of, Planned}
 use Rattle.buddy_decide.specs.declared.plans.Plan.{Plan}
 use Rattle.buddy.specs.Ready.{AskReady}
-use Rattle.buddy.proofs.Carried.{ask-refused, ask-lacks, ask-taken, ask-ordered}
+use Rattle.buddy.proofs.Carried.{ask_refused, ask_lacks, ask_taken, ask_ordered}
 use Rattle.buddy.proofs.carries.carry_ask.Statement.{statement}
 use Rattle.buddy.proofs.carries.carry_ask.Tie as tie
 
@@ -58,7 +58,7 @@ returns c =
     let e = c.before.before.plan.given.1 in
     λ account size mask chunks k.
     let h = subst (Planned a.s size mask (tables a.head.now a.loans.now chunks a.index.now a.tree.now)) e k in
-    ask-refused a.s a.head.now a.loans.now chunks a.index.now a.tree.now account size mask _ _ h (c).refuse-ask.ensures ∙ ap (λ (p : Plan). carryAsk a.s account size mask (tables a.head.now a.loans.now chunks a.index.now a.tree.now) (plan_of p)) (sym e)
+    ask_refused a.s a.head.now a.loans.now chunks a.index.now a.tree.now account size mask _ _ h (c).refuse-ask.ensures ∙ ap (λ (p : Plan). carry_ask a.s account size mask (tables a.head.now a.loans.now chunks a.index.now a.tree.now) (plan_of p)) (sym e)
 
 same_length : tie.Need-same-length
 same_length c = search rules
@@ -72,7 +72,7 @@ returns-2 c =
     let e = c.before.before.before.before.before.before.before.before.before.plan2.given.1 in
     λ account size mask chunks k.
     let h = subst (Planned a.s size mask (tables a.head.now a.loans.now chunks a.index.now a.tree.now)) e k in
-    ask-lacks a.s a.head.now a.loans.now chunks a.index.now a.tree.now account size mask _ _ _ _ h c.before.before.before.before.before.grow.ensures (c).refuse-ask2.ensures ∙ ap (λ (p : Plan). carryAsk a.s account size mask (tables a.head.now a.loans.now chunks a.index.now a.tree.now) (plan_of p)) (sym e)
+    ask_lacks a.s a.head.now a.loans.now chunks a.index.now a.tree.now account size mask _ _ _ _ h c.before.before.before.before.before.grow.ensures (c).refuse-ask2.ensures ∙ ap (λ (p : Plan). carry_ask a.s account size mask (tables a.head.now a.loans.now chunks a.index.now a.tree.now) (plan_of p)) (sym e)
 
 same-length-3 : tie.Need-same-length-3
 same-length-3 c = search rules
@@ -89,7 +89,7 @@ returns-3 c =
     let e = c.before.before.before.before.before.before.before.before.before.before.before.before.before.plan3.given.1 in
     λ account size mask chunks k.
     let h = subst (Planned a.s size mask (tables a.head.now a.loans.now chunks a.index.now a.tree.now)) e k in
-    ask-taken a.s a.head.now a.loans.now chunks a.index.now a.tree.now account size mask _ _ _ _ _ _ _ _ h.size h.level c.before.before.before.before.before.before.before.lend.ensures.0 c.before.before.before.before.before.before.before.lend.ensures.1 (c).answer-block.ensures ∙ ap (λ (p : Plan). carryAsk a.s account size mask (tables a.head.now a.loans.now chunks a.index.now a.tree.now) (plan_of p)) (sym e)
+    ask_taken a.s a.head.now a.loans.now chunks a.index.now a.tree.now account size mask _ _ _ _ _ _ _ _ h.size h.level c.before.before.before.before.before.before.before.lend.ensures.0 c.before.before.before.before.before.before.before.lend.ensures.1 (c).answer-block.ensures ∙ ap (λ (p : Plan). carry_ask a.s account size mask (tables a.head.now a.loans.now chunks a.index.now a.tree.now) (plan_of p)) (sym e)
 
 same-length-6 : tie.Need-same-length-6
 same-length-6 c = search rules
@@ -103,7 +103,7 @@ returns-4 c =
     let e = c.before.before.before.before.before.before.before.before.before.plan4.given.1 in
     λ account size mask chunks k.
     let h = subst (Planned a.s size mask (tables a.head.now a.loans.now chunks a.index.now a.tree.now)) e k in
-    ask-ordered a.s a.head.now a.loans.now chunks a.index.now a.tree.now account size mask _ _ _ _ _ h.levels c.before.before.before.before.before.grow2.ensures (c).answer-order.ensures ∙ ap (λ (p : Plan). carryAsk a.s account size mask (tables a.head.now a.loans.now chunks a.index.now a.tree.now) (plan_of p)) (sym e)
+    ask_ordered a.s a.head.now a.loans.now chunks a.index.now a.tree.now account size mask _ _ _ _ _ h.levels c.before.before.before.before.before.grow2.ensures (c).answer-order.ensures ∙ ap (λ (p : Plan). carry_ask a.s account size mask (tables a.head.now a.loans.now chunks a.index.now a.tree.now) (plan_of p)) (sym e)
 
 pub carry-ask-spec : {M : Type 1} → statement M
 carry-ask-spec = tie.close (tie.spec enum-known-plan refuse-ask-requires enum-known-plan-2 grow-requires refuse-ask-requires-2 enum-known-plan-3 lend-requires answer-block-requires enum-known-plan-4 grow-requires-2 answer-order-requires returns same_length same-length-2 returns-2 same-length-3 same-length-4 same-length-5 returns-3 same-length-6 same-length-7 returns-4)

@@ -1,12 +1,12 @@
 use borrow.Author.Rules.{rules}
 use mathlib.Core.Path.{sym, ap, subst, ◌∙◌}
 use Rattle.store_rules.proofs.Holders.{holding}
-use Rattle.store.specs.Comings.{comingOf}
+use Rattle.store.specs.Comings.{coming_of}
 use Rattle.store.specs.declared.comings.Coming.{Coming}
 use Rattle.buddy_rules.specs.Tables.{tables}
-use Rattle.buddy_outcomes.specs.Deliver.{carryDeliver}
+use Rattle.buddy_outcomes.specs.Deliver.{carry_deliver}
 use Rattle.buddy.specs.Ready.{ComingReady}
-use Rattle.buddy.proofs.Carried.{deliver-refused, deliver-kept, lost-beside}
+use Rattle.buddy.proofs.Carried.{deliver_refused, deliver_kept, lost_beside}
 use Rattle.buddy.proofs.carries.carry_coming.Statement.{statement}
 use Rattle.buddy.proofs.carries.carry_coming.Tie as tie
 
@@ -36,7 +36,7 @@ returns : tie.Need-returns
 returns c =
     let a = c.before.before.before.before.before.before.before.before.before.args in
     let e = c.before.before.coming.given.1 in
-    deliver-refused a.s a.share a.order (tables a.head.now a.loans.now a.chunks.now a.index.now a.tree.now) _ _ _ _ c.refuse-delivery.ensures.0 c.refuse-delivery.ensures.1 c.refuse-delivery.ensures.2 ∙ ap (λ (x : Coming). carryDeliver a.s (holding a.s.store a.share a.order) (tables a.head.now a.loans.now a.chunks.now a.index.now a.tree.now) (comingOf x)) (sym e)
+    deliver_refused a.s a.share a.order (tables a.head.now a.loans.now a.chunks.now a.index.now a.tree.now) _ _ _ _ c.refuse-delivery.ensures.0 c.refuse-delivery.ensures.1 c.refuse-delivery.ensures.2 ∙ ap (λ (x : Coming). carry_deliver a.s (holding a.s.store a.share a.order) (tables a.head.now a.loans.now a.chunks.now a.index.now a.tree.now) (coming_of x)) (sym e)
 
 same_length : tie.Need-same-length
 same_length c = search rules
@@ -57,7 +57,7 @@ returns-2 : tie.Need-returns-2
 returns-2 c =
     let a = c.before.before.before.before.before.before.before.before.before.before.before.before.before.before.before.before.before.before.before.before.before.before.before.before.before.args in
     let e = c.before.before.before.before.before.before.before.before.before.before.before.before.before.before.before.before.before.before.coming2.given.1 in
-    deliver-kept a.s a.share a.order (tables a.head.now a.loans.now a.chunks.now a.index.now a.tree.now) _ _ _ (c.before.before.before.before.before.before.before.before.before.before.keep-chunk.ensures a.order) ∙ ap (λ (x : Coming). carryDeliver a.s (holding a.s.store a.share a.order) (tables a.head.now a.loans.now a.chunks.now a.index.now a.tree.now) (comingOf x)) (sym e)
+    deliver_kept a.s a.share a.order (tables a.head.now a.loans.now a.chunks.now a.index.now a.tree.now) _ _ _ (c.before.before.before.before.before.before.before.before.before.before.keep-chunk.ensures a.order) ∙ ap (λ (x : Coming). carry_deliver a.s (holding a.s.store a.share a.order) (tables a.head.now a.loans.now a.chunks.now a.index.now a.tree.now) (coming_of x)) (sym e)
 
 same-length-6 : tie.Need-same-length-6
 same-length-6 c = search rules
@@ -69,7 +69,7 @@ returns-3 : tie.Need-returns-3
 returns-3 c =
     let a = c.before.before.before.before.before.before.before.before.before.before.before.before.before.before.before.before.before.args in
     let e = c.before.before.before.before.before.before.before.before.before.before.coming3.given.1 in
-    lost-beside a.s a.head.now a.loans.now a.chunks.now a.index.now a.tree.now _ a.share a.order (holding a.s.store a.share a.order) _ _ _ _ _ _ _ (c.before.before.before.before.lose.ensures a.order) ∙ ap (λ (x : Coming). carryDeliver a.s (holding a.s.store a.share a.order) (tables a.head.now a.loans.now a.chunks.now a.index.now a.tree.now) (comingOf x)) (sym e)
+    lost_beside a.s a.head.now a.loans.now a.chunks.now a.index.now a.tree.now _ a.share a.order (holding a.s.store a.share a.order) _ _ _ _ _ _ _ (c.before.before.before.before.lose.ensures a.order) ∙ ap (λ (x : Coming). carry_deliver a.s (holding a.s.store a.share a.order) (tables a.head.now a.loans.now a.chunks.now a.index.now a.tree.now) (coming_of x)) (sym e)
 
 pub carry-coming-spec : {M : Type 1} → statement M
 carry-coming-spec = tie.close (tie.spec enum-known-coming refuse-delivery-requires enum-known-coming-2 keep-chunk-requires enum-known-coming-3 lose-requires returns same_length same-length-2 same-length-3 same-length-4 same-length-5 returns-2 same-length-6 same-length-7 returns-3)

@@ -2,11 +2,11 @@ use borrow.Author.Rules.{rules}
 use mathlib.Core.Path.{sym, ap, subst, ◌∙◌}
 use Rattle.store_rules.proofs.Holders.{holding}
 use Rattle.buddy_rules.specs.Tables.{tables}
-use Rattle.buddy_outcomes.specs.Deliver.{carryDeliver}
-use Rattle.buddy.specs.Deliveries.{deliveryOf}
+use Rattle.buddy_outcomes.specs.Deliver.{carry_deliver}
+use Rattle.buddy.specs.Deliveries.{delivery_of}
 use Rattle.buddy.specs.Ready.{DeliverReady}
 use Rattle.buddy.specs.declared.plans.Delivery.{Delivery}
-use Rattle.buddy.proofs.Carried.{deliver-refused}
+use Rattle.buddy.proofs.Carried.{deliver_refused}
 use Rattle.buddy.proofs.carries.carry_deliver.Statement.{statement}
 use Rattle.buddy.proofs.carries.carry_deliver.Tie as tie
 
@@ -27,7 +27,7 @@ carry-coming-requires c κs =
 returns : tie.Need-returns
 returns c =
     let a = c.before.before.before.before.before.before.before.before.before.args in
-    deliver-refused a.s a.share a.order (tables a.head.now a.loans.now a.chunks.now a.index.now a.tree.now) _ _ _ _ c.refuse-delivery.ensures.0 c.refuse-delivery.ensures.1 c.refuse-delivery.ensures.2 ∙ ap (λ (d : Delivery). carryDeliver a.s (holding a.s.store a.share a.order) (tables a.head.now a.loans.now a.chunks.now a.index.now a.tree.now) (deliveryOf d)) (sym c.before.before.plan.given.1)
+    deliver_refused a.s a.share a.order (tables a.head.now a.loans.now a.chunks.now a.index.now a.tree.now) _ _ _ _ c.refuse-delivery.ensures.0 c.refuse-delivery.ensures.1 c.refuse-delivery.ensures.2 ∙ ap (λ (d : Delivery). carry_deliver a.s (holding a.s.store a.share a.order) (tables a.head.now a.loans.now a.chunks.now a.index.now a.tree.now) (delivery_of d)) (sym c.before.before.plan.given.1)
 
 same_length : tie.Need-same-length
 same_length c = search rules
@@ -47,7 +47,7 @@ same-length-5 c = search rules
 returns-2 : tie.Need-returns-2
 returns-2 c =
     let a = c.before.before.before.before.before.before.before.before.before.before.before.before.before.before.before.before.before.before.before.before.before.before.before.before.args in
-    c.before.before.before.before.before.before.before.before.before.before.carry-coming.ensures ∙ ap (λ (d : Delivery). carryDeliver a.s (holding a.s.store a.share a.order) (tables a.head.now a.loans.now a.chunks.now a.index.now a.tree.now) (deliveryOf d)) (sym c.before.before.before.before.before.before.before.before.before.before.before.before.before.before.before.before.before.plan2.given.1)
+    c.before.before.before.before.before.before.before.before.before.before.carry-coming.ensures ∙ ap (λ (d : Delivery). carry_deliver a.s (holding a.s.store a.share a.order) (tables a.head.now a.loans.now a.chunks.now a.index.now a.tree.now) (delivery_of d)) (sym c.before.before.before.before.before.before.before.before.before.before.before.before.before.before.before.before.before.plan2.given.1)
 
 pub carry-deliver-spec : {M : Type 1} → statement M
 carry-deliver-spec = tie.close (tie.spec enum-known-plan refuse-delivery-requires enum-known-plan-2 carry-coming-requires returns same_length same-length-2 same-length-3 same-length-4 same-length-5 returns-2)

@@ -1,11 +1,11 @@
 use borrow.Author.Rules.{rules}
 use mathlib.Core.Path.{sym, ap, subst, ◌∙◌}
-use Rattle.counter.specs.Gate.{verdictOf}
+use Rattle.counter.specs.Gate.{verdict_of}
 use Rattle.counter.specs.declared.refusal.Gate.{Gate}
 use Rattle.buddy_rules.specs.Tables.{tables}
-use Rattle.buddy_outcomes.specs.SetUp.{carrySetUp}
+use Rattle.buddy_outcomes.specs.SetUp.{carry_set_up}
 use Rattle.buddy.specs.Ready.{SetUpReady}
-use Rattle.buddy.proofs.Fresh.{set-up-refused, set-up-done}
+use Rattle.buddy.proofs.Fresh.{set_up_refused, set_up_done}
 use Rattle.buddy.proofs.carries.carry_set_up.Statement.{statement}
 use Rattle.buddy.proofs.carries.carry_set_up.Tie as tie
 
@@ -25,7 +25,7 @@ returns : tie.Need-returns
 returns c =
     let a = c.before.before.before.before.before.before.before.before.args in
     let t = tables a.head.now a.loans.now a.chunks.now a.index.now a.tree.now in
-    set-up-refused a.s t _ ∙ ap (λ (g : Gate). carrySetUp a.s t (verdictOf g)) (sym c.before.plan.given.1)
+    set_up_refused a.s t _ ∙ ap (λ (g : Gate). carry_set_up a.s t (verdict_of g)) (sym c.before.plan.given.1)
 
 same_length : tie.Need-same-length
 same_length c = search rules
@@ -48,7 +48,7 @@ returns-2 c =
     let e = f.before.before.before.before.before.before in
     let a = e.before.before.before.before.before.before.before.args in
     let t = tables a.head.now a.loans.now a.chunks.now a.index.now a.tree.now in
-    set-up-done a.s t _ f.fresh.ensures ∙ ap (λ (g : Gate). carrySetUp a.s t (verdictOf g)) (sym e.enum_told.given.1)
+    set_up_done a.s t _ f.fresh.ensures ∙ ap (λ (g : Gate). carry_set_up a.s t (verdict_of g)) (sym e.enum_told.given.1)
 
 pub carry-set-up-spec : {M : Type 1} → statement M
 carry-set-up-spec = tie.close (tie.spec enum-known-plan enum_told fresh-requires returns same_length same-length-2 same-length-3 same-length-4 same-length-5 returns-2)

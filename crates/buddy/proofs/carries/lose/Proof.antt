@@ -1,6 +1,6 @@
 use borrow.Author.Rules.{rules}
 use mathlib.Core.List.{[]}
-use Rattle.buddy.proofs.Carried.{lost-done}
+use Rattle.buddy.proofs.Carried.{lost_done}
 use Rattle.buddy.proofs.carries.lose.Statement.{statement}
 use Rattle.buddy.proofs.carries.lose.Tie as tie
 
@@ -23,7 +23,7 @@ returns : tie.Need-returns
 returns c =
     let a = c.before.before.before.before.before.before.before.before.before.before.args in
     let pre = c.before.before.before.before.before.before.before.before.before.before.requires in
-    λ order. lost-done a.s a.head.now [] [] [] a.tree.now a.k a.share order a.levels pre.0 _ _ c.before.before.before.before.before.grow.ensures _ _ _ _ _ _ (c).lose-order.ensures.0 (c).lose-order.ensures.1 (c).lose-order.ensures.2
+    λ order. lost_done a.s a.head.now [] [] [] a.tree.now a.k a.share order a.levels pre.0 _ _ c.before.before.before.before.before.grow.ensures _ _ _ _ _ _ (c).lose-order.ensures.0 (c).lose-order.ensures.1 (c).lose-order.ensures.2
 
 pub lose-spec : {M : Type 1} → statement M
 lose-spec = tie.close (tie.spec grow-requires lose-order-requires same_length same-length-2 returns)

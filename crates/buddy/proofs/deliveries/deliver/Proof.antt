@@ -1,8 +1,8 @@
 use borrow.Author.Rules.{rules}
 use mathlib.Core.Path.{ap}
-use Rattle.counter.specs.Paper.{deliverSaid}
+use Rattle.counter.specs.Paper.{deliver_said}
 use Rattle.buddy_rules.specs.Tables.{tables}
-use Rattle.buddy.proofs.Wholes.{delivered-whole}
+use Rattle.buddy.proofs.Wholes.{delivered_whole}
 use Rattle.buddy.proofs.deliveries.deliver.Statement.{statement}
 use Rattle.buddy.proofs.deliveries.deliver.Tie as tie
 
@@ -35,7 +35,7 @@ returns c =
     let p = c.before.before.before.before.before.before.before.before.before.before.before in
     let h = p.before.before.before.before.before.before in
     let a = h.before.before.before.before.before.before.before.args in
-    delivered-whole a.s a.a (tables a.head.now a.loans.now a.chunks.now a.index.now a.tree.now) _ _ h.share-of.ensures _ _ _ (ap deliverSaid c.delivered.ensures.1) a.o _ _ p.deliver.ensures c.delivered.ensures.0
+    delivered_whole a.s a.a (tables a.head.now a.loans.now a.chunks.now a.index.now a.tree.now) _ _ h.share-of.ensures _ _ _ (ap deliver_said c.delivered.ensures.1) a.o _ _ p.deliver.ensures c.delivered.ensures.0
 
 pub deliver-spec : {M : Type 1} → statement M
 deliver-spec =

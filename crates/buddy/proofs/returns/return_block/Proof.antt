@@ -1,8 +1,8 @@
 use borrow.Author.Rules.{rules}
 use mathlib.Core.Path.{ap}
-use Rattle.counter.specs.Paper.{releaseSaid}
+use Rattle.counter.specs.Paper.{release_said}
 use Rattle.buddy_rules.specs.Tables.{tables}
-use Rattle.buddy.proofs.Wholes.{released-whole}
+use Rattle.buddy.proofs.Wholes.{released_whole}
 use Rattle.buddy.proofs.returns.return_block.Statement.{statement}
 use Rattle.buddy.proofs.returns.return_block.Tie as tie
 
@@ -35,7 +35,7 @@ returns c =
     let p = c.before.before.before.before.before.before.before.before.before.before.before in
     let h = p.before.before.before.before.before.before in
     let a = h.before.before.before.before.before.before.before.before.args in
-    released-whole a.s a.a (tables a.head.now a.loans.now a.chunks.now a.index.now a.tree.now) _ _ h.share-of.ensures _ _ _ (ap releaseSaid c.released.ensures.1) a.b a.list.now _ _ p.return-block.ensures c.released.ensures.0
+    released_whole a.s a.a (tables a.head.now a.loans.now a.chunks.now a.index.now a.tree.now) _ _ h.share-of.ensures _ _ _ (ap release_said c.released.ensures.1) a.b a.list.now _ _ p.return-block.ensures c.released.ensures.0
 
 pub return-block-spec : {M : Type 1} → statement M
 return-block-spec =

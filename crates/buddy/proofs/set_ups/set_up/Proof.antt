@@ -1,7 +1,7 @@
 use borrow.Author.Rules.{rules}
 use mathlib.Core.Path.{◌∙◌}
 use Rattle.buddy_rules.specs.Tables.{tables}
-use Rattle.buddy.proofs.Fresh.{set-up-ready, set-up-called}
+use Rattle.buddy.proofs.Fresh.{set_up_ready, set_up_called}
 use Rattle.buddy.proofs.set_ups.set_up.Statement.{statement}
 use Rattle.buddy.proofs.set_ups.set_up.Tie as tie
 
@@ -12,7 +12,7 @@ carry-set-up-requires : tie.Need-carry-set-up-requires
 carry-set-up-requires c κs =
     let p = c.before.before.before.before.before in
     let a = p.before.before.before.before.before.before.before.before.before.before.before.args in
-    set-up-ready a.s (tables a.head.now a.loans.now a.chunks.now a.index.now a.tree.now) p.plan-set-up.result p.plan-set-up.ensures
+    set_up_ready a.s (tables a.head.now a.loans.now a.chunks.now a.index.now a.tree.now) p.plan-set-up.result p.plan-set-up.ensures
 
 same_length : tie.Need-same-length
 same_length c = search rules
@@ -34,7 +34,7 @@ returns c =
     let d = c.before.before.before.before.before.before.before.before.before.before in
     let p = d.before.before.before.before.before.before in
     let a = p.before.before.before.before.before.before.before.before.before.before.before.args in
-    d.carry-set-up.ensures ∙ set-up-called a.s (tables a.head.now a.loans.now a.chunks.now a.index.now a.tree.now) _ p.plan-set-up.ensures
+    d.carry-set-up.ensures ∙ set_up_called a.s (tables a.head.now a.loans.now a.chunks.now a.index.now a.tree.now) _ p.plan-set-up.ensures
 
 pub set-up-spec : {M : Type 1} → statement M
 set-up-spec = tie.close (tie.spec plan-set-up-requires carry-set-up-requires same_length same-length-2 same-length-3 same-length-4 same-length-5 returns)

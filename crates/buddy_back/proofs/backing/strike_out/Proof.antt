@@ -1,7 +1,7 @@
 use native.Mathlib.Omega.{arith}
 use mathlib.Core.Path.{refl, ap, ◌∙◌}
 use Rattle.buddy_rules.specs.Moves.{Climbed}
-use Rattle.buddy_back.proofs.Returned.{climb-is, climb-foot}
+use Rattle.buddy_back.proofs.Returned.{climb_is, climb_foot}
 use borrow.Author.Rules.{rules}
 use Rattle.buddy_back.proofs.backing.strike_out.Statement.{statement}
 use Rattle.buddy_back.proofs.backing.strike_out.Tie as tie
@@ -43,7 +43,7 @@ climb-requires : tie.Need-climb-requires
 climb-requires c κs =
     let o = c.before.before.before.before.before.before.before.before.before.before.before.before.before.before.before.before.before.before.before in
     let a = o.args in
-    ((o.requires.fit.pairs-most, omega (arith, c.before.before.before.before.before.before.before.before.before.before.before.before.level.ensures, o.requires.below, o.requires.low)), climb-foot a.s a.b a.at a.head.now a.index.now a.tree.now _ _ _ _ _ refl c.before.before.before.before.before.before.before.before.before.before.before.before.level.ensures c.before.before.before.before.before.before.before.before.before.before.place-of.ensures c.before.before.before.before.before.before.before.before.before.Node-at.ensures refl o.requires.footing)
+    ((o.requires.fit.pairs_most_lem, omega (arith, c.before.before.before.before.before.before.before.before.before.before.before.before.level.ensures, o.requires.below, o.requires.low)), climb_foot a.s a.b a.at a.head.now a.index.now a.tree.now _ _ _ _ _ refl c.before.before.before.before.before.before.before.before.before.before.before.before.level.ensures c.before.before.before.before.before.before.before.before.before.before.place-of.ensures c.before.before.before.before.before.before.before.before.before.Node-at.ensures refl o.requires.footing)
 
 same_length : tie.Need-same-length
 same_length c = search rules
@@ -57,7 +57,7 @@ same-length-3 c = search rules
 returns : tie.Need-returns
 returns c =
     let a = c.before.before.before.before.before.before.before.before.before.before.before.before.before.before.before.before.before.before.before.before.before.before.args in
-    let climb = climb-is a.s a.b a.at a.head.now a.index.now a.tree.now _ _ _ _ _ refl c.before.before.before.before.before.before.before.before.before.before.before.before.before.before.before.level.ensures c.before.before.before.before.before.before.before.before.before.before.before.before.before.place-of.ensures c.before.before.before.before.before.before.before.before.before.before.before.before.Node-at.ensures refl in
+    let climb = climb_is a.s a.b a.at a.head.now a.index.now a.tree.now _ _ _ _ _ refl c.before.before.before.before.before.before.before.before.before.before.before.before.before.before.before.level.ensures c.before.before.before.before.before.before.before.before.before.before.before.before.before.place-of.ensures c.before.before.before.before.before.before.before.before.before.before.before.before.Node-at.ensures refl in
     (c.before.before.climb.ensures.0 ∙ ap (λ (x : Climbed). x.freed) climb, (c.before.before.climb.ensures.1 ∙ ap (λ (x : Climbed). x.room) climb, (c.before.before.before.before.before.before.before.before.strike.ensures.0, c.before.before.before.before.before.before.before.before.strike.ensures.1)))
 
 pub strike-out-spec : {M : Type 1} → statement M

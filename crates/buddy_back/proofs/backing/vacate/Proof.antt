@@ -1,5 +1,5 @@
 use borrow.Author.Rules.{rules}
-use Rattle.buddy_back.proofs.Returned.{vacated-done}
+use Rattle.buddy_back.proofs.Returned.{vacated_done}
 use Rattle.buddy_back.proofs.backing.vacate.Statement.{statement}
 use Rattle.buddy_back.proofs.backing.vacate.Tie as tie
 
@@ -41,7 +41,7 @@ returns c =
     let w = p.before.before in
     let f = w.before.before in
     let a = f.before.before.before.args in
-    (p.put-cell.ensures, vacated-done a.s a.c _ _ _ a.tree.now _ _ f.chunks-from.ensures.0 w.word.ensures q.put-cell2.ensures r.before.record_of.ensures r.put.ensures)
+    (p.put-cell.ensures, vacated_done a.s a.c _ _ _ a.tree.now _ _ f.chunks-from.ensures.0 w.word.ensures q.put-cell2.ensures r.before.record_of.ensures r.put.ensures)
 
 pub vacate-spec : {M : Type 1} → statement M
 vacate-spec =

@@ -1,14 +1,14 @@
 use borrow.Author.Rules.{rules}
 use mathlib.Core.List.{[]}
 use Rattle.buddy_rules.specs.Tables.{tables}
-use Rattle.buddy_moves.proofs.Backing.{backs-rest}
-use Rattle.buddy_back.proofs.Freed.{freed-yes, freed-no}
-use Rattle.buddy_back.proofs.Returned.{given-freed, given-kept}
+use Rattle.buddy_moves.proofs.Backing.{backs_rest}
+use Rattle.buddy_back.proofs.Freed.{freed_yes, freed_no}
+use Rattle.buddy_back.proofs.Returned.{given_freed, given_kept}
 use Rattle.buddy_back.proofs.freeing.take_back.Statement.{statement}
 use Rattle.buddy_back.proofs.freeing.take_back.Tie as tie
 
 strike-out-requires : tie.Need-strike-out-requires
-strike-out-requires c κs = let o = c.before.before.before.before.before.before.before.before.before in let a = o.args in backs-rest a.s a.b a.at (tables a.head.now a.loans.now a.chunks.now a.index.now a.tree.now) [] o.requires
+strike-out-requires c κs = let o = c.before.before.before.before.before.before.before.before.before in let a = o.args in backs_rest a.s a.b a.at (tables a.head.now a.loans.now a.chunks.now a.index.now a.tree.now) [] o.requires
 
 cell-requires : tie.Need-cell-requires
 cell-requires c κs = search rules
@@ -46,8 +46,8 @@ returns c =
     let i = c.before.before.before.before.before.before.before.before.before.before.before.before.before.before.before in
     let t = c.before.before.before.before.before.before.before.before.before.before.before.before.before.before.before.before.before.before.before.before.before.before in
     let a = c.before.before.before.before.before.before.before.before.before.before.before.before.before.before.before.before.before.before.before.before.before.before.before.before.before.before.before.before.before.before.before.before.args in
-    let back = given-freed a.s a.b a.at a.head.now a.loans.now a.chunks.now a.index.now a.tree.now _ _ t.strike-out.ensures.0 t.strike-out.ensures.1.0 i.if1.true _ _ _ _ v.vacate.ensures.0 v.vacate.ensures.1 t.strike-out.ensures.1.1.0 t.strike-out.ensures.1.1.1 in
-    let told = freed-yes a.s a.b a.at (tables a.head.now a.loans.now a.chunks.now a.index.now a.tree.now) a.list.now _ t.strike-out.ensures.0 _ _ _ i.if1.true m.cell.ensures z.cell2.ensures p.put.ensures in
+    let back = given_freed a.s a.b a.at a.head.now a.loans.now a.chunks.now a.index.now a.tree.now _ _ t.strike-out.ensures.0 t.strike-out.ensures.1.0 i.if1.true _ _ _ _ v.vacate.ensures.0 v.vacate.ensures.1 t.strike-out.ensures.1.1.0 t.strike-out.ensures.1.1.1 in
+    let told = freed_yes a.s a.b a.at (tables a.head.now a.loans.now a.chunks.now a.index.now a.tree.now) a.list.now _ t.strike-out.ensures.0 _ _ _ i.if1.true m.cell.ensures z.cell2.ensures p.put.ensures in
     (told.0, (back, told.1))
 
 same-length-6 : tie.Need-same-length-6
@@ -63,8 +63,8 @@ returns-2 : tie.Need-returns-2
 returns-2 c =
     let t = c.before.before.before.before.before.before.before in
     let a = c.before.before.before.before.before.before.before.before.before.before.before.before.before.before.before.before.before.args in
-    let back = given-kept a.s a.b a.at a.head.now a.loans.now a.chunks.now a.index.now a.tree.now _ _ t.strike-out.ensures.0 t.strike-out.ensures.1.0 c.if1.false _ _ t.strike-out.ensures.1.1.0 t.strike-out.ensures.1.1.1 in
-    let told = freed-no a.s a.b a.at (tables a.head.now a.loans.now a.chunks.now a.index.now a.tree.now) a.list.now _ t.strike-out.ensures.0 c.if1.false in
+    let back = given_kept a.s a.b a.at a.head.now a.loans.now a.chunks.now a.index.now a.tree.now _ _ t.strike-out.ensures.0 t.strike-out.ensures.1.0 c.if1.false _ _ t.strike-out.ensures.1.1.0 t.strike-out.ensures.1.1.1 in
+    let told = freed_no a.s a.b a.at (tables a.head.now a.loans.now a.chunks.now a.index.now a.tree.now) a.list.now _ t.strike-out.ensures.0 c.if1.false in
     (told.0, (back, told.1))
 
 pub take-back-spec : {M : Type 1} → statement M

@@ -1,5 +1,5 @@
 use borrow.Author.Rules.{rules}
-use Rattle.buddy_decide.proofs.Asking.{all_ones, size-to, size-over}
+use Rattle.buddy_decide.proofs.Asking.{all_ones, size_to, size_over}
 use Rattle.buddy_decide.proofs.asks.size_for.Statement.{statement}
 use Rattle.buddy_decide.proofs.asks.size_for.Tie as tie
 
@@ -22,13 +22,13 @@ returns : tie.Need-returns
 returns c =
     let u = c.before.before.before.before in
     let b = u.before.before in
-    size-to b.args.s b.args.size b.args.mask _ u.before.mask-for.ensures _ u.raise-to-unit.ensures _ c.before.before.unit.given.1 _ c.raise-to-power.ensures
+    size_to b.args.s b.args.size b.args.mask _ u.before.mask-for.ensures _ u.raise-to-unit.ensures _ c.before.before.unit.given.1 _ c.raise-to-power.ensures
 
 returns-2 : tie.Need-returns-2
 returns-2 c =
     let u = c.before.before in
     let b = u.before.before in
-    size-over b.args.s b.args.size b.args.mask _ u.before.mask-for.ensures _ u.raise-to-unit.ensures c.enum_told.given.1
+    size_over b.args.s b.args.size b.args.mask _ u.before.mask-for.ensures _ u.raise-to-unit.ensures c.enum_told.given.1
 
 pub size-for-spec : {M : Type 1} → statement M
 size-for-spec =

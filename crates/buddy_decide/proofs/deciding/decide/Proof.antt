@@ -2,7 +2,7 @@ use borrow.Author.Rules.{rules}
 use mathlib.Core.Path.{subst}
 use Rattle.buddy_rules.specs.Tables.{tables}
 use Rattle.buddy_decide.specs.Plans.{TryOf}
-use Rattle.buddy_decide.proofs.Tests.{look-buys}
+use Rattle.buddy_decide.proofs.Tests.{look_buys}
 use Rattle.buddy_decide.proofs.deciding.decide.Statement.{statement}
 use Rattle.buddy_decide.proofs.deciding.decide.Tie as tie
 
@@ -45,7 +45,7 @@ returns-3 c =
     let k = c.before.before.before.before in
     let a = k.before.before.before.before.before.before.args in
     let f = subst (TryOf a.s a.size a.mask (tables a.head.now a.loans.now a.chunks.now a.index.now a.tree.now)) c.before.before.tried3.given.1 (k.try-held.ensures a.chunks.now) in
-    look-buys a.s a.size a.mask (tables a.head.now a.loans.now a.chunks.now a.index.now a.tree.now) _ a.h a.objects c.decide-buy.result f c.decide-buy.ensures.0 c.decide-buy.ensures.1
+    look_buys a.s a.size a.mask (tables a.head.now a.loans.now a.chunks.now a.index.now a.tree.now) _ a.h a.objects c.decide-buy.result f c.decide-buy.ensures.0 c.decide-buy.ensures.1
 
 pub decide-spec : {M : Type 1} → statement M
 decide-spec =

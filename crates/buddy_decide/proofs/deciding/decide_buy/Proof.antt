@@ -1,8 +1,8 @@
 use borrow.Author.Rules.{rules}
 use mathlib.Core.Path.{refl}
 use native.Mathlib.Omega.{arith}
-use Rattle.lists.proofs.Bools.{not_yes, not-no}
-use Rattle.buddy_decide.proofs.Tests.{room-is, counts-are, buy-full, buy-spent, buy-none, buy-go}
+use Rattle.lists.proofs.Bools.{not_yes, not_no}
+use Rattle.buddy_decide.proofs.Tests.{room_is, counts_are, buy_full, buy_spent, buy_none, buy_go}
 use Rattle.buddy_decide.proofs.deciding.decide_buy.Statement.{statement}
 use Rattle.buddy_decide.proofs.deciding.decide_buy.Tie as tie
 
@@ -22,8 +22,8 @@ returns c =
     let o = k.before in
     let s = o.before.before.before.before.before.before in
     let a = s.args in
-    let room = room-is a.s a.n.level a.head.now a.loans.now a.chunks.now a.index.now a.tree.now _ _ _ _ s.requires.3 o.next-loan.ensures k.chunk-taken.ensures m.has_room.ensures in
-    (buy-full a.s a.n.level a.head.now a.loans.now a.chunks.now a.index.now a.tree.now a.h a.objects _ room (not_yes _ c.if1.true), refl)
+    let room = room_is a.s a.n.level a.head.now a.loans.now a.chunks.now a.index.now a.tree.now _ _ _ _ s.requires.3 o.next-loan.ensures k.chunk-taken.ensures m.has_room.ensures in
+    (buy_full a.s a.n.level a.head.now a.loans.now a.chunks.now a.index.now a.tree.now a.h a.objects _ room (not_yes _ c.if1.true), refl)
 
 word-requires : tie.Need-word-requires
 word-requires c κs = search rules
@@ -40,8 +40,8 @@ returns-2 c =
     let o = k.before in
     let s = o.before.before.before.before.before.before in
     let a = s.args in
-    let room = room-is a.s a.n.level a.head.now a.loans.now a.chunks.now a.index.now a.tree.now _ _ _ _ s.requires.3 o.next-loan.ensures k.chunk-taken.ensures m.has_room.ensures in
-    (buy-spent a.s a.n.level a.head.now a.loans.now a.chunks.now a.index.now a.tree.now a.h a.objects _ room (not-no _ g.before.if1.false) (counts-are a.s a.n.level a.head.now a.loans.now a.chunks.now a.index.now a.tree.now a.h a.objects _ _ _ _ s.requires.2 g.word.ensures b.bears.ensures (not_yes _ c.if2.true)), refl)
+    let room = room_is a.s a.n.level a.head.now a.loans.now a.chunks.now a.index.now a.tree.now _ _ _ _ s.requires.3 o.next-loan.ensures k.chunk-taken.ensures m.has_room.ensures in
+    (buy_spent a.s a.n.level a.head.now a.loans.now a.chunks.now a.index.now a.tree.now a.h a.objects _ room (not_no _ g.before.if1.false) (counts_are a.s a.n.level a.head.now a.loans.now a.chunks.now a.index.now a.tree.now a.h a.objects _ _ _ _ s.requires.2 g.word.ensures b.bears.ensures (not_yes _ c.if2.true)), refl)
 
 returns-3 : tie.Need-returns-3
 returns-3 c =
@@ -52,8 +52,8 @@ returns-3 c =
     let o = k.before in
     let s = o.before.before.before.before.before.before in
     let a = s.args in
-    let room = room-is a.s a.n.level a.head.now a.loans.now a.chunks.now a.index.now a.tree.now _ _ _ _ s.requires.3 o.next-loan.ensures k.chunk-taken.ensures m.has_room.ensures in
-    (buy-none a.s a.n.level a.head.now a.loans.now a.chunks.now a.index.now a.tree.now a.h a.objects _ room (not-no _ g.before.if1.false) (counts-are a.s a.n.level a.head.now a.loans.now a.chunks.now a.index.now a.tree.now a.h a.objects _ _ _ _ s.requires.2 g.word.ensures b.bears.ensures (not-no _ c.before.if2.false)) c.if3.true, s.requires.3)
+    let room = room_is a.s a.n.level a.head.now a.loans.now a.chunks.now a.index.now a.tree.now _ _ _ _ s.requires.3 o.next-loan.ensures k.chunk-taken.ensures m.has_room.ensures in
+    (buy_none a.s a.n.level a.head.now a.loans.now a.chunks.now a.index.now a.tree.now a.h a.objects _ room (not_no _ g.before.if1.false) (counts_are a.s a.n.level a.head.now a.loans.now a.chunks.now a.index.now a.tree.now a.h a.objects _ _ _ _ s.requires.2 g.word.ensures b.bears.ensures (not_no _ c.before.if2.false)) c.if3.true, s.requires.3)
 
 returns-4 : tie.Need-returns-4
 returns-4 c =
@@ -64,8 +64,8 @@ returns-4 c =
     let o = k.before in
     let s = o.before.before.before.before.before.before in
     let a = s.args in
-    let room = room-is a.s a.n.level a.head.now a.loans.now a.chunks.now a.index.now a.tree.now _ _ _ _ s.requires.3 o.next-loan.ensures k.chunk-taken.ensures m.has_room.ensures in (
-      buy-go a.s a.n.level a.head.now a.loans.now a.chunks.now a.index.now a.tree.now a.h a.objects _ room _ s.requires.2 (not-no _ g.before.if1.false) (counts-are a.s a.n.level a.head.now a.loans.now a.chunks.now a.index.now a.tree.now a.h a.objects _ _ _ _ s.requires.2 g.word.ensures b.bears.ensures (not-no _ c.before.if2.false)) (search rules),
+    let room = room_is a.s a.n.level a.head.now a.loans.now a.chunks.now a.index.now a.tree.now _ _ _ _ s.requires.3 o.next-loan.ensures k.chunk-taken.ensures m.has_room.ensures in (
+      buy_go a.s a.n.level a.head.now a.loans.now a.chunks.now a.index.now a.tree.now a.h a.objects _ room _ s.requires.2 (not_no _ g.before.if1.false) (counts_are a.s a.n.level a.head.now a.loans.now a.chunks.now a.index.now a.tree.now a.h a.objects _ _ _ _ s.requires.2 g.word.ensures b.bears.ensures (not_no _ c.before.if2.false)) (search rules),
       record {
         size = refl;
         level = refl;

@@ -1,5 +1,5 @@
 use borrow.Author.Rules.{rules}
-use Rattle.buddy_decide.proofs.Known.{known-made}
+use Rattle.buddy_decide.proofs.Known.{known_made}
 use Rattle.buddy_decide.proofs.deliveries.is_known.Statement.{statement}
 use Rattle.buddy_decide.proofs.deliveries.is_known.Tie as tie
 
@@ -22,7 +22,7 @@ returns : tie.Need-returns
 returns c =
     let k = c.before.before.before in
     let a = k.before.before.before.args in
-    known-made _ a.chunks.now c.before.word.ensures _ a.o _ k.o.given.1 c.is_held_lem.ensures
+    known_made _ a.chunks.now c.before.word.ensures _ a.o _ k.o.given.1 c.is_held_lem.ensures
 
 returns-2 : tie.Need-returns-2
 returns-2 c = search rules

@@ -4,16 +4,16 @@ use mathlib.Core.List.{[]}
 use Prim.Native.Nat.{ℕ, ◌+◌, ◌-◌, ◌≤◌}
 use native.Mathlib.Numerals.{unary_clauses}
 use native.Mathlib.Omega.{arith}
-use Rattle.buddy_levels.specs.Seen.{partSettings, levelPart}
+use Rattle.buddy_levels.specs.Seen.{part_settings, level_part}
 use Rattle.buddy_levels.specs.Stands.{Takes}
-use Rattle.buddy_outcomes.specs.Ask.{pairsRoom}
-use Rattle.buddy_decide.proofs.Shows.{pairs-done, pairs-past, pairs-none, pairs-on}
+use Rattle.buddy_outcomes.specs.Ask.{pairs_room}
+use Rattle.buddy_decide.proofs.Shows.{pairs_done, pairs_past, pairs_none, pairs_on}
 use borrow.Author.Rules.{rules}
 use Rattle.buddy_decide.proofs.seeking.has_pairs.Statement.{statement}
 use Rattle.buddy_decide.proofs.seeking.has_pairs.Tie as tie
 
 abbrev invariant-loop : tie.invariant-loop
-invariant-loop pairs level n levels tree i₀ i = (i ≤ n) × (pairsRoom (partSettings 0 pairs 0) (levelPart levels [] tree) level n ≡ pairsRoom (partSettings 0 pairs 0) (levelPart levels [] tree) (level + i) (n - i))
+invariant-loop pairs level n levels tree i₀ i = (i ≤ n) × (pairs_room (part_settings 0 pairs 0) (level_part levels [] tree) level n ≡ pairs_room (part_settings 0 pairs 0) (level_part levels [] tree) (level + i) (n - i))
 
 abbrev decreases-loop : tie.decreases-loop
 decreases-loop pairs level n levels tree i₀ i = n - i
@@ -41,7 +41,7 @@ returns c =
     let i = f.before in
     let b = i.before.before in
     let a = b.before.before.args in
-    sym (b.loop.invariant.1 ∙ pairs-none a.pairs a.level a.n a.levels a.tree.now b.loop.i i.before.loop-test.true i.if1.true _ _ f.level-from.ensures.0 s.pair-taken.ensures c.if2.true)
+    sym (b.loop.invariant.1 ∙ pairs_none a.pairs a.level a.n a.levels a.tree.now b.loop.i i.before.loop-test.true i.if1.true _ _ f.level-from.ensures.0 s.pair-taken.ensures c.if2.true)
 
 add-i : tie.Need-overflow-add-i invariant-loop decreases-loop
 add-i c = search rules
@@ -56,8 +56,8 @@ loop-again c =
     let more = c.before.loop-test.true in (
       omega (arith, more),
       b.loop.invariant.1 ∙ ⊎_elim
-          (λ w. pairs-on a.pairs a.level a.n a.levels a.tree.now b.loop.i more w.0.taken _ _ w.1.ensures.0 w.2.ensures w.4.left)
-          (λ w. pairs-past a.pairs a.level a.n a.levels a.tree.now b.loop.i more w.left)
+          (λ w. pairs_on a.pairs a.level a.n a.levels a.tree.now b.loop.i more w.0.taken _ _ w.1.ensures.0 w.2.ensures w.4.left)
+          (λ w. pairs_past a.pairs a.level a.n a.levels a.tree.now b.loop.i more w.left)
           c.if1.branch,
     )
 
@@ -65,7 +65,7 @@ returns-2 : tie.Need-returns-2 invariant-loop decreases-loop
 returns-2 c =
     let b = c.before in
     let a = b.before.before.args in
-    sym (b.loop.invariant.1 ∙ pairs-done (partSettings 0 a.pairs 0) (levelPart a.levels [] a.tree.now) a.level a.n b.loop.i c.loop-test.false)
+    sym (b.loop.invariant.1 ∙ pairs_done (part_settings 0 a.pairs 0) (level_part a.levels [] a.tree.now) a.level a.n b.loop.i c.loop-test.false)
 
 pub has-pairs-spec : {M : Type 1} → statement M
 has-pairs-spec =

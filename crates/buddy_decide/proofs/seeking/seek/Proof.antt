@@ -1,10 +1,10 @@
 use mathlib.Core.Path.{◌≡◌, ◌∙◌}
 use Prim.Native.Nat.{◌-◌, ◌≤◌, ◌<◌}
 use native.Mathlib.Omega.{arith}
-use Rattle.counter.specs.Limits.{levelsMost}
-use Rattle.buddy_levels.specs.Seen.{partSettings}
-use Rattle.buddy_rules.proofs.Abstract.{levels-in}
-use Rattle.buddy_decide.proofs.Shows.{Onward, seek-on, seek-at, seek-none}
+use Rattle.counter.specs.Limits.{levels_most}
+use Rattle.buddy_levels.specs.Seen.{part_settings}
+use Rattle.buddy_rules.proofs.Abstract.{levels_in_lem}
+use Rattle.buddy_decide.proofs.Shows.{Onward, seek_on, seek_at, seek_none}
 use borrow.Author.Rules.{rules}
 use Rattle.buddy_decide.proofs.seeking.seek.Statement.{statement}
 use Rattle.buddy_decide.proofs.seeking.seek.Tie as tie
@@ -37,8 +37,8 @@ shared-slice-read-place-of : tie.Need-shared-slice-read-place-of invariant-loop 
 shared-slice-read-place-of c =
     let o = c.before.before.before.before.before in
     let a = o.args in
-    let low : c.before.before.before.loop.l < levelsMost = omega (arith, c.before.before.if1.false, o.requires.3) in
-    omega (arith, c.before.level-from.ensures.0, levels-in (partSettings 0 a.pairs 0) c.before.before.before.loop.l low, o.requires.4)
+    let low : c.before.before.before.loop.l < levels_most = omega (arith, c.before.before.if1.false, o.requires.3) in
+    omega (arith, c.before.level-from.ensures.0, levels_in_lem (part_settings 0 a.pairs 0) c.before.before.before.loop.l low, o.requires.4)
 
 place-of-requires : tie.Need-place-of-requires invariant-loop decreases-loop
 place-of-requires c κs = search rules
@@ -53,20 +53,20 @@ loop-again : tie.Need-loop-preserved invariant-loop decreases-loop
 loop-again c =
     let b = c.before.before.before.before.before in
     let a = c.before.before.before.before.before.before.before.args in
-    (omega (arith, b.loop.invariant.0), b.loop.invariant.1 ∙ seek-on a.minimal a.pairs a.level a.levels a.tree.now b.loop.l c.before.before.before.before.if1.false _ _ c.before.before.before.level-from.ensures.0 c.before.place-of.ensures c.if2.false)
+    (omega (arith, b.loop.invariant.0), b.loop.invariant.1 ∙ seek_on a.minimal a.pairs a.level a.levels a.tree.now b.loop.l c.before.before.before.before.if1.false _ _ c.before.before.before.level-from.ensures.0 c.before.place-of.ensures c.if2.false)
 
 returns : tie.Need-returns invariant-loop decreases-loop
 returns c =
     let g = c.before in
     let b = g.before.before in
     let a = b.before.before.args in
-    seek-none a.minimal a.pairs a.level a.levels a.tree.now b.loop.l b.loop.invariant.1 g.before.if1.true _ _ g.grown.ensures c.node-bytes.ensures.0
+    seek_none a.minimal a.pairs a.level a.levels a.tree.now b.loop.l b.loop.invariant.1 g.before.if1.true _ _ g.grown.ensures c.node-bytes.ensures.0
 
 returns-2 : tie.Need-returns-2 invariant-loop decreases-loop
 returns-2 c =
     let b = c.before.before.before.before.before in
     let a = c.before.before.before.before.before.before.before.args in
-    seek-at a.minimal a.pairs a.level a.levels a.tree.now b.loop.l c.before.before.before.before.if1.false _ _ c.before.before.before.level-from.ensures.0 c.before.place-of.ensures b.loop.invariant.1 c.if2.true
+    seek_at a.minimal a.pairs a.level a.levels a.tree.now b.loop.l c.before.before.before.before.if1.false _ _ c.before.before.before.level-from.ensures.0 c.before.place-of.ensures b.loop.invariant.1 c.if2.true
 
 pub seek-spec : {M : Type 1} → statement M
 seek-spec =

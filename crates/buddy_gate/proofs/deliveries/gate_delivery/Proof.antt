@@ -1,10 +1,10 @@
 use borrow.Author.Rules.{rules}
 use mathlib.Core.Path.{sym, ◌∙◌}
-use Rattle.lists.proofs.Bools.{not_yes, not-no}
+use Rattle.lists.proofs.Bools.{not_yes, not_no}
 use Rattle.store_rules.proofs.Holders.{holder}
 use Rattle.buddy_rules.specs.Tables.{tables}
-use Rattle.buddy_outcomes.proofs.Passing.{lent-in}
-use Rattle.buddy_gate.proofs.Kept.{delivery-lent, delivery-order, delivery-none, delivery-kept, open_kept}
+use Rattle.buddy_outcomes.proofs.Passing.{lent_in_lem}
+use Rattle.buddy_gate.proofs.Kept.{delivery_lent, delivery_order, delivery_none, delivery_kept, open_kept}
 use Rattle.buddy_gate.proofs.deliveries.gate_delivery.Statement.{statement}
 use Rattle.buddy_gate.proofs.deliveries.gate_delivery.Tie as tie
 
@@ -15,7 +15,7 @@ returns : tie.Need-returns
 returns c =
     let l = c.before in
     let a = l.before.before.before.before.before.before.args in
-    (delivery-lent a.s a.share a.order (tables a.head.now a.loans.now a.chunks.now a.index.now a.tree.now) (sym l.is-in-table.ensures ∙ not_yes _ c.if1.true), λ k e. tt)
+    (delivery_lent a.s a.share a.order (tables a.head.now a.loans.now a.chunks.now a.index.now a.tree.now) (sym l.is-in-table.ensures ∙ not_yes _ c.if1.true), λ k e. tt)
 
 is-open-for-requires : tie.Need-is-open-for-requires
 is-open-for-requires c κs = search rules
@@ -25,7 +25,7 @@ returns-2 c =
     let o = c.before in
     let l = o.before.before.before in
     let a = l.before.before.before.before.before.before.args in
-    (delivery-order a.s a.share a.order (tables a.head.now a.loans.now a.chunks.now a.index.now a.tree.now) (sym l.is-in-table.ensures ∙ not-no _ o.before.before.if1.false) (sym o.is-open-for.ensures ∙ not_yes _ c.if2.true), λ k e. tt)
+    (delivery_order a.s a.share a.order (tables a.head.now a.loans.now a.chunks.now a.index.now a.tree.now) (sym l.is-in-table.ensures ∙ not_no _ o.before.before.if1.false) (sym o.is-open-for.ensures ∙ not_yes _ c.if2.true), λ k e. tt)
 
 enum_told : tie.Need-enum-told
 enum_told c = search rules
@@ -37,14 +37,14 @@ gate-kept-requires : tie.Need-gate-kept-requires
 gate-kept-requires c κs =
     let i = c.before.before.before.before.before.before.before in
     let a = i.before.before.before.before.before.before.before.args in
-    let fit = lent-in a.s (holder a.s.store a.share) (tables a.head.now a.loans.now a.chunks.now a.index.now a.tree.now) (sym i.before.is-in-table.ensures ∙ not-no _ i.if1.false) in
+    let fit = lent_in_lem a.s (holder a.s.store a.share) (tables a.head.now a.loans.now a.chunks.now a.index.now a.tree.now) (sym i.before.is-in-table.ensures ∙ not_no _ i.if1.false) in
     (fit.settings, fit.lengths)
 
 returns-3 : tie.Need-returns-3
 returns-3 c =
     let i = c.before.before.before.before.before.before in
     let a = i.before.before.before.before.before.before.before.args in
-    (delivery-none a.s a.share a.order (tables a.head.now a.loans.now a.chunks.now a.index.now a.tree.now) (sym i.before.is-in-table.ensures ∙ not-no _ i.if1.false) c.enum_told.given.1, λ k e. tt)
+    (delivery_none a.s a.share a.order (tables a.head.now a.loans.now a.chunks.now a.index.now a.tree.now) (sym i.before.is-in-table.ensures ∙ not_no _ i.if1.false) c.enum_told.given.1, λ k e. tt)
 
 returns-4 : tie.Need-returns-4
 returns-4 c =
@@ -52,7 +52,7 @@ returns-4 c =
     let o = h.before.before in
     let i = o.before.before in
     let a = i.before.before.before.before.before.before.before.args in
-    (delivery-kept a.s a.share a.order (tables a.head.now a.loans.now a.chunks.now a.index.now a.tree.now) _ _ (sym i.before.is-in-table.ensures ∙ not-no _ i.if1.false) (sym o.is-open-for.ensures ∙ not-no _ h.before.if2.false) c.before.before.order.given.1 c.gate-kept.ensures.0, open_kept a.s a.order (tables a.head.now a.loans.now a.chunks.now a.index.now a.tree.now) _ c.gate-kept.result c.before.before.order.given.1 c.gate-kept.ensures.1)
+    (delivery_kept a.s a.share a.order (tables a.head.now a.loans.now a.chunks.now a.index.now a.tree.now) _ _ (sym i.before.is-in-table.ensures ∙ not_no _ i.if1.false) (sym o.is-open-for.ensures ∙ not_no _ h.before.if2.false) c.before.before.order.given.1 c.gate-kept.ensures.0, open_kept a.s a.order (tables a.head.now a.loans.now a.chunks.now a.index.now a.tree.now) _ c.gate-kept.result c.before.before.order.given.1 c.gate-kept.ensures.1)
 
 pub gate-delivery-spec : {M : Type 1} → statement M
 gate-delivery-spec =

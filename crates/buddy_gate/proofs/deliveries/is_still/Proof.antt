@@ -2,7 +2,7 @@ use borrow.Author.Rules.{rules}
 use mathlib.Core.Path.{sym, ap, subst, ◌∙◌}
 use Rattle.buddy_rules.specs.Tables.{tables}
 use Rattle.buddy_decide.specs.Plans.{plan_of, Planned}
-use Rattle.buddy_gate.proofs.Kept.{leads-not, leads-take, leads-buy}
+use Rattle.buddy_gate.proofs.Kept.{leads_not, leads_take, leads_buy}
 use Rattle.buddy_gate.proofs.deliveries.is_still.Statement.{statement}
 use Rattle.buddy_gate.proofs.deliveries.is_still.Tie as tie
 
@@ -34,26 +34,26 @@ returns c =
     let p = f.before.before in
     let d = p.before.before in
     let a = d.before.before.before.before.before.before.before.before.args in
-    let leads = leads-buy a.s a.k (plan_of d.decide.result) _ _ _ _ (ap plan_of p.plan.given.1) d.decide.ensures.0 f.order_from.ensures o.same-order.ensures in
+    let leads = leads_buy a.s a.k (plan_of d.decide.result) _ _ _ _ (ap plan_of p.plan.given.1) d.decide.ensures.0 f.order_from.ensures o.same-order.ensures in
     (sym c.if1.true ∙ leads, subst (Planned a.s a.k.ask.size a.k.ask.mask (tables a.head.now a.loans.now a.chunks.now a.index.now a.tree.now)) p.plan.given.1 d.decide.ensures.1)
 
 returns-2 : tie.Need-returns-2
 returns-2 c =
     let d = c.before.before in
     let a = d.before.before.before.before.before.before.before.before.args in
-    (leads-not a.s a.k (plan_of d.decide.result) _ _ (ap plan_of c.enum_told.given.1) d.decide.ensures.0, tt)
+    (leads_not a.s a.k (plan_of d.decide.result) _ _ (ap plan_of c.enum_told.given.1) d.decide.ensures.0, tt)
 
 returns-3 : tie.Need-returns-3
 returns-3 c =
     let d = c.before.before in
     let a = d.before.before.before.before.before.before.before.before.args in
-    (leads-not a.s a.k (plan_of d.decide.result) _ _ (ap plan_of c.enum-told2.given.1) d.decide.ensures.0, tt)
+    (leads_not a.s a.k (plan_of d.decide.result) _ _ (ap plan_of c.enum-told2.given.1) d.decide.ensures.0, tt)
 
 returns-4 : tie.Need-returns-4
 returns-4 c =
     let d = c.before.before in
     let a = d.before.before.before.before.before.before.before.before.args in
-    (leads-take a.s a.k (plan_of d.decide.result) _ _ (ap plan_of c.enum-told3.given.1) d.decide.ensures.0, tt)
+    (leads_take a.s a.k (plan_of d.decide.result) _ _ (ap plan_of c.enum-told3.given.1) d.decide.ensures.0, tt)
 
 returns-5 : tie.Need-returns-5
 returns-5 c =
@@ -62,7 +62,7 @@ returns-5 c =
     let p = f.before.before in
     let d = p.before.before in
     let a = d.before.before.before.before.before.before.before.before.args in
-    (sym c.if1.false ∙ leads-buy a.s a.k (plan_of d.decide.result) _ _ _ _ (ap plan_of p.plan.given.1) d.decide.ensures.0 f.order_from.ensures o.same-order.ensures, tt)
+    (sym c.if1.false ∙ leads_buy a.s a.k (plan_of d.decide.result) _ _ _ _ (ap plan_of p.plan.given.1) d.decide.ensures.0 f.order_from.ensures o.same-order.ensures, tt)
 
 pub is-still-spec : {M : Type 1} → statement M
 is-still-spec =

@@ -1,9 +1,9 @@
 use borrow.Author.Rules.{rules}
 use mathlib.Core.Path.{sym, ◌∙◌}
-use Rattle.lists.proofs.Bools.{not_yes, not-no}
+use Rattle.lists.proofs.Bools.{not_yes, not_no}
 use Rattle.buddy_rules.specs.Tables.{tables}
-use Rattle.buddy_rules.proofs.Decides.{tables-yes}
-use Rattle.buddy_gate.proofs.Gates.{places-few, sizes-low, store-torn, store-short, store-go}
+use Rattle.buddy_rules.proofs.Decides.{tables_yes}
+use Rattle.buddy_gate.proofs.Gates.{places_few, sizes_low, store_torn, store_short, store_go}
 use Rattle.buddy_gate.proofs.gating.gate_store.Statement.{statement}
 use Rattle.buddy_gate.proofs.gating.gate_store.Tie as tie
 
@@ -14,7 +14,7 @@ returns : tie.Need-returns
 returns c =
     let n = c.before in
     let a = n.before.before.before.before.before.before.args in
-    store-torn a.s a.h a.objects (tables a.head.now a.loans.now a.chunks.now a.index.now a.tree.now) (sym n.is-sound.ensures ∙ not_yes _ c.if1.true)
+    store_torn a.s a.h a.objects (tables a.head.now a.loans.now a.chunks.now a.index.now a.tree.now) (sym n.is-sound.ensures ∙ not_yes _ c.if1.true)
 
 is-covered-requires : tie.Need-is-covered-requires
 is-covered-requires c κs =
@@ -22,22 +22,22 @@ is-covered-requires c κs =
     let b = n.before.before.before.before.before.before in
     let a = b.args in
     let t = tables a.head.now a.loans.now a.chunks.now a.index.now a.tree.now in
-    let sound = tables-yes a.s t b.requires.0 (sym n.is-sound.ensures ∙ not-no _ c.if1.false) in
-    (places-few a.s t b.requires.0 sound, sizes-low a.s t b.requires.0 sound)
+    let sound = tables_yes a.s t b.requires.0 (sym n.is-sound.ensures ∙ not_no _ c.if1.false) in
+    (places_few a.s t b.requires.0 sound, sizes_low a.s t b.requires.0 sound)
 
 returns-2 : tie.Need-returns-2
 returns-2 c =
     let v = c.before in
     let n = v.before.before in
     let a = n.before.before.before.before.before.before.args in
-    store-short a.s a.h a.objects (tables a.head.now a.loans.now a.chunks.now a.index.now a.tree.now) (sym n.is-sound.ensures ∙ not-no _ v.before.if1.false) (sym v.is-covered.ensures ∙ not_yes _ c.if2.true)
+    store_short a.s a.h a.objects (tables a.head.now a.loans.now a.chunks.now a.index.now a.tree.now) (sym n.is-sound.ensures ∙ not_no _ v.before.if1.false) (sym v.is-covered.ensures ∙ not_yes _ c.if2.true)
 
 returns-3 : tie.Need-returns-3
 returns-3 c =
     let v = c.before in
     let n = v.before.before in
     let a = n.before.before.before.before.before.before.args in
-    store-go a.s a.h a.objects (tables a.head.now a.loans.now a.chunks.now a.index.now a.tree.now) (sym n.is-sound.ensures ∙ not-no _ v.before.if1.false) (sym v.is-covered.ensures ∙ not-no _ c.if2.false)
+    store_go a.s a.h a.objects (tables a.head.now a.loans.now a.chunks.now a.index.now a.tree.now) (sym n.is-sound.ensures ∙ not_no _ v.before.if1.false) (sym v.is-covered.ensures ∙ not_no _ c.if2.false)
 
 pub gate-store-spec : {M : Type 1} → statement M
 gate-store-spec =

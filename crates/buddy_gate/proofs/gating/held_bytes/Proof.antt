@@ -2,20 +2,20 @@ use borrow.Author.Rules.{rules}
 use mathlib.Core.Path.{◌≡◌, refl, ap, ◌∙◌}
 use Prim.Native.Nat.{◌+◌, ◌-◌, ◌≤◌}
 use native.Mathlib.Omega.{arith}
-use Rattle.buddy_outcomes.specs.Gate.{heldBytes}
+use Rattle.buddy_outcomes.specs.Gate.{held_bytes}
 use Rattle.buddy_decide.proofs.Known.{seen}
 use Rattle.buddy_gate.proofs.Held.{bytes_next, bytes_low}
 use Rattle.buddy_gate.proofs.gating.held_bytes.Statement.{statement}
 use Rattle.buddy_gate.proofs.gating.held_bytes.Tie as tie
 
 abbrev invariant-loop : tie.invariant-loop
-invariant-loop chunks n sum₀ c₀ sum c = (c ≤ n) × (sum ≡ heldBytes (seen chunks) c)
+invariant-loop chunks n sum₀ c₀ sum c = (c ≤ n) × (sum ≡ held_bytes (seen chunks) c)
 
 abbrev decreases-loop : tie.decreases-loop
 decreases-loop chunks n sum₀ c₀ sum c = n - c
 
 loop-holds : tie.Need-loop-init invariant-loop decreases-loop
-unfolding heldBytes
+unfolding held_bytes
 loop-holds c = (omega arith, refl)
 
 cell-requires : tie.Need-cell-requires invariant-loop decreases-loop
@@ -46,7 +46,7 @@ returns c =
     let l = c.before in
     let a = l.before.before.args in
     let e : l.loop.c ≡ a.n = omega (arith, l.loop.invariant.0) in
-    l.loop.invariant.1 ∙ ap (heldBytes (seen a.chunks.now)) e
+    l.loop.invariant.1 ∙ ap (held_bytes (seen a.chunks.now)) e
 
 pub held-bytes-spec : {M : Type 1} → statement M
 held-bytes-spec =

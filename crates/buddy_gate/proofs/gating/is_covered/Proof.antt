@@ -2,9 +2,9 @@ use borrow.Author.Rules.{rules}
 use mathlib.Core.Path.{ap, ◌∙◌}
 use mathlib.Core.List.{[]}
 use native.Mathlib.Omega.{arith}
-use Rattle.buddy_levels.specs.Seen.{levelPart}
-use Rattle.buddy_outcomes.specs.Gate.{heldCount, heldBytes}
-use Rattle.buddy_gate.proofs.Gates.{covered-is}
+use Rattle.buddy_levels.specs.Seen.{level_part}
+use Rattle.buddy_outcomes.specs.Gate.{held_count, held_bytes}
+use Rattle.buddy_gate.proofs.Gates.{covered_is}
 use Rattle.buddy_gate.proofs.gating.is_covered.Statement.{statement}
 use Rattle.buddy_gate.proofs.gating.is_covered.Tie as tie
 
@@ -27,9 +27,9 @@ returns : tie.Need-returns
 returns c =
     let w = c.before.before.before in
     let a = w.before.before.args in
-    let n = c.before.before.held-count.ensures ∙ ap (heldCount (levelPart 0 a.chunks.now [])) w.word.ensures in
-    let m = c.before.held_bytes.ensures ∙ ap (heldBytes (levelPart 0 a.chunks.now [])) w.word.ensures in
-    covered-is a.h a.objects _ _ _ _ _ n m c.covers.ensures
+    let n = c.before.before.held-count.ensures ∙ ap (held_count (level_part 0 a.chunks.now [])) w.word.ensures in
+    let m = c.before.held_bytes.ensures ∙ ap (held_bytes (level_part 0 a.chunks.now [])) w.word.ensures in
+    covered_is a.h a.objects _ _ _ _ _ n m c.covers.ensures
 
 pub is-covered-spec : {M : Type 1} → statement M
 is-covered-spec =

@@ -1,6 +1,6 @@
 use borrow.Author.Rules.{rules}
 use Rattle.buddy_rules.specs.Tables.{tables}
-use Rattle.buddy_gate.proofs.Gates.{lengths-is}
+use Rattle.buddy_gate.proofs.Gates.{lengths_is}
 use Rattle.buddy_gate.proofs.gating.lengths_fit.Statement.{statement}
 use Rattle.buddy_gate.proofs.gating.lengths_fit.Tie as tie
 
@@ -38,7 +38,7 @@ returns : tie.Need-returns
 returns c =
     let k = c.before.before.before.before in
     let a = k.before.before.before.before.before.before.before.args in
-    lengths-is a.s (tables a.head.now a.loans.now a.chunks.now a.index.now a.tree.now) _ k.tree-words.ensures.0
+    lengths_is a.s (tables a.head.now a.loans.now a.chunks.now a.index.now a.tree.now) _ k.tree-words.ensures.0
 
 pub lengths-fit-spec : {M : Type 1} → statement M
 lengths-fit-spec =

@@ -3,7 +3,7 @@ use mathlib.Core.Path.{ap, ◌∙◌}
 use Prim.Native.Nat.{ℕ}
 use Rattle.words.specs.Words.{blank}
 use Rattle.buddy_rules.specs.Tables.{marks}
-use Rattle.buddy_grow.proofs.Grown.{fresh-done}
+use Rattle.buddy_grow.proofs.Grown.{fresh_done}
 use Rattle.buddy_grow.proofs.blank.fresh.Statement.{statement}
 use Rattle.buddy_grow.proofs.blank.fresh.Tie as tie
 
@@ -43,7 +43,7 @@ returns c =
     let a = h.before.before.before.before.before.before.before.args in
     let p = h.before.before.before.before.before.before.before.requires in
     let w = r.fresh-rows.ensures in
-    fresh-done a.s _ _ _ _ _ h.fresh-head.ensures w.0 w.1.0 w.1.1 (k.put-blank.ensures ∙ ap (λ (n : ℕ). blank n marks.room 0) p.1.room)
+    fresh_done a.s _ _ _ _ _ h.fresh-head.ensures w.0 w.1.0 w.1.1 (k.put-blank.ensures ∙ ap (λ (n : ℕ). blank n marks.room 0) p.1.room)
 
 pub fresh-spec : {M : Type 1} → statement M
 fresh-spec =

@@ -3,8 +3,8 @@ use mathlib.Core.Path.{ap, ◌∙◌}
 use mathlib.Core.List.{List, [], ◌∷◌}
 use Prim.Native.Nat.{ℕ}
 use lib.ListN.{set}
-use Rattle.buddy_rules.specs.Tables.{levelsAt, marks}
-use Rattle.buddy_grow.proofs.Grown.{head-fresh}
+use Rattle.buddy_rules.specs.Tables.{levels_at, marks}
+use Rattle.buddy_grow.proofs.Grown.{head_fresh}
 use Rattle.buddy_grow.proofs.blank.fresh_head.Statement.{statement}
 use Rattle.buddy_grow.proofs.blank.fresh_head.Tie as tie
 
@@ -30,8 +30,8 @@ returns c =
     let l = q.before.before in
     let o = l.before.before in
     p.put2.ensures
-    ∙ ap (λ (t : List ℕ). set t levelsAt l.level.result) q.put.ensures
-    ∙ head-fresh o.args.head.now l.level.result o.requires.1
+    ∙ ap (λ (t : List ℕ). set t levels_at l.level.result) q.put.ensures
+    ∙ head_fresh o.args.head.now l.level.result o.requires.1
     ∙ ap (λ (n : ℕ). marks.head ∷ n ∷ []) l.level.ensures
 
 pub fresh-head-spec : {M : Type 1} → statement M

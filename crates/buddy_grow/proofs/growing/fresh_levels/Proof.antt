@@ -3,19 +3,19 @@ use mathlib.Core.Path.{◌≡◌, refl, sym, ◌∙◌}
 use Prim.Native.Nat.{◌+◌, ◌-◌, ◌≤◌}
 use native.Mathlib.Omega.{arith}
 use lib.ListN.{length}
-use Rattle.buddy_outcomes.specs.Ask.{freshLevels}
-use Rattle.buddy_grow.proofs.Grown.{fresh-none, fresh-next, fresh-all}
+use Rattle.buddy_outcomes.specs.Ask.{fresh_levels}
+use Rattle.buddy_grow.proofs.Grown.{fresh_none, fresh_next, fresh_all}
 use Rattle.buddy_grow.proofs.growing.fresh_levels.Statement.{statement}
 use Rattle.buddy_grow.proofs.growing.fresh_levels.Tie as tie
 
 abbrev invariant-loop : tie.invariant-loop
-invariant-loop s level n tree₀ i₀ tree i = (i ≤ n) × (length tree ≡ length tree₀) × (freshLevels s level n tree₀ ≡ freshLevels s (level + i) (n - i) tree)
+invariant-loop s level n tree₀ i₀ tree i = (i ≤ n) × (length tree ≡ length tree₀) × (fresh_levels s level n tree₀ ≡ fresh_levels s (level + i) (n - i) tree)
 
 abbrev decreases-loop : tie.decreases-loop
 decreases-loop s level n tree₀ i₀ tree i = n - i
 
 loop-holds : tie.Need-loop-init invariant-loop decreases-loop
-loop-holds c = let a = c.before.args in (omega arith, refl, fresh-all a.s a.level a.n a.tree.now)
+loop-holds c = let a = c.before.args in (omega arith, refl, fresh_all a.s a.level a.n a.tree.now)
 
 add-level-from : tie.Need-overflow-add-level-from invariant-loop decreases-loop
 add-level-from c = search rules
@@ -41,7 +41,7 @@ loop-again c =
     let a = t.before.before.before.args in (
       omega (arith, t.loop-test.true),
       search rules,
-      i.invariant.2 ∙ fresh-next a.s a.level a.n i.i i.tree _ _ t.loop-test.true l.level-from.ensures.0 f.fresh-level.ensures,
+      i.invariant.2 ∙ fresh_next a.s a.level a.n i.i i.tree _ _ t.loop-test.true l.level-from.ensures.0 f.fresh-level.ensures,
     )
 
 same_length : tie.Need-same-length invariant-loop decreases-loop
@@ -51,7 +51,7 @@ returns : tie.Need-returns invariant-loop decreases-loop
 returns c =
     let i = c.before.loop in
     let a = c.before.before.before.args in
-    sym (i.invariant.2 ∙ fresh-none a.s _ _ i.tree (omega (arith, c.loop-test.false)))
+    sym (i.invariant.2 ∙ fresh_none a.s _ _ i.tree (omega (arith, c.loop-test.false)))
 
 pub fresh-levels-spec : {M : Type 1} → statement M
 fresh-levels-spec =

@@ -1,5 +1,5 @@
 use borrow.Author.Rules.{rules}
-use Rattle.buddy_grow.proofs.Grown.{grown-done}
+use Rattle.buddy_grow.proofs.Grown.{grown_done}
 use Rattle.buddy_grow.proofs.growing.grow.Statement.{statement}
 use Rattle.buddy_grow.proofs.growing.grow.Tie as tie
 
@@ -26,7 +26,7 @@ returns c =
     let f = c.before.before.before.before.before.before in
     let w = f.before.before in
     let a = w.before.before.before.before.args in
-    grown-done a.s a.n _ a.head.now a.tree.now _ _ w.word.ensures f.fresh-levels.ensures c.before.before.put.ensures
+    grown_done a.s a.n _ a.head.now a.tree.now _ _ w.word.ensures f.fresh-levels.ensures c.before.before.put.ensures
 
 pub grow_spec : {M : Type 1} → statement M
 grow_spec =

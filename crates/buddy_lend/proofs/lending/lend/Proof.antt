@@ -3,10 +3,10 @@ use mathlib.Core.Path.{refl, sym, subst}
 use mathlib.Core.List.{[]}
 use lib.ListN.{length}
 use native.Mathlib.Omega.{arith}
-use Rattle.slab.specs.declared.Taken.{Taken}
+use Rattle.slabs.specs.declared.Taken.{Taken}
 use Rattle.book_rules.specs.Ready.{Opens}
-use Rattle.buddy_lend.proofs.Booked.{place_in, node_in, booked-done}
-use Rattle.buddy_lend.proofs.Lent.{head-leaves, head-stands, pair-low, off-low, side-is, loan-is, lends-roomy, lent-done}
+use Rattle.buddy_lend.proofs.Booked.{place_in, node_in, booked_done}
+use Rattle.buddy_lend.proofs.Lent.{head_leaves, head_stands, pair_low, off_low, side_is, loan_is, lends_roomy, lent_done}
 use Rattle.buddy_lend.proofs.lending.lend.Statement.{statement}
 use Rattle.buddy_lend.proofs.lending.lend.Tie as tie
 
@@ -17,17 +17,17 @@ standing-pair-requires : tie.Need-standing-pair-requires
 standing-pair-requires c κs =
     let b = c.before.before.before.before.before in
     let a = b.args in
-    head-stands a.s a.from a.tree.now _ c.before.level-from.ensures.0 _ b.requires.1 b.requires.0.leaves
+    head_stands a.s a.from a.tree.now _ c.before.level-from.ensures.0 _ b.requires.1 b.requires.0.leaves
 
 side-from-requires : tie.Need-side-from-requires
 side-from-requires c κs =
     let f = c.before.before in
     let b = c.before.before.before.before.before.before in
     let a = b.args in
-    (b.requires.0.enters.fit, omega (arith, b.requires.0.low), off-low a.s a.from a.tree.now _ f.level-from.ensures.0 _ b.requires.1 _ c.standing-pair.ensures b.requires.0.offset)
+    (b.requires.0.enters.fit, omega (arith, b.requires.0.low), off_low a.s a.from a.tree.now _ f.level-from.ensures.0 _ b.requires.1 _ c.standing-pair.ensures b.requires.0.offset)
 
 slice-read-t18 : tie.Need-slice-read-t18
-slice-read-t18 c = omega (arith, c.before.before.before.before.before.before.before.before.requires.0.enters.opens.loans-long)
+slice-read-t18 c = omega (arith, c.before.before.before.before.before.before.before.before.requires.0.enters.opens.loans_long)
 
 add-t20 : tie.Need-overflow-add-t20
 add-t20 c = omega (arith, c.before.before.before.before.before.before.before.before.requires.0.enters.serial)
@@ -40,12 +40,12 @@ take-side-requires c κs =
     let b = c.before.before.before.before.before.before.before.before.before.before in
     let a = b.args in
     let place = place_in a.s a.loans.now a.index.now _ b.requires.2 b.requires.0.enters.opens.place in (
-      (b.requires.0.enters.fit.pairs-most, b.requires.0.below, b.requires.0.low, omega (arith, place, b.requires.0.enters.fit.store.loans-most), pair-low a.s a.from a.tree.now _ f.level-from.ensures.0 _ b.requires.1 _ e.standing-pair.ensures b.requires.0.pair, b.requires.0.long),
+      (b.requires.0.enters.fit.pairs_most_lem, b.requires.0.below, b.requires.0.low, omega (arith, place, b.requires.0.enters.fit.store.loans_most_lem), pair_low a.s a.from a.tree.now _ f.level-from.ensures.0 _ b.requires.1 _ e.standing-pair.ensures b.requires.0.pair, b.requires.0.long),
       (
-        (b.requires.1, side-is a.s a.from a.tree.now _ f.level-from.ensures.0 _ b.requires.1 _ e.standing-pair.ensures),
+        (b.requires.1, side_is a.s a.from a.tree.now _ f.level-from.ensures.0 _ b.requires.1 _ e.standing-pair.ensures),
         (
-          head-leaves a.s a.from a.tree.now _ b.requires.1 b.requires.0.leaves,
-          lends-roomy a.s a.from a.tree.now _ f.level-from.ensures.0 _ b.requires.1 _ e.standing-pair.ensures a.size a.loans.now _ o.side-from.ensures _ refl a.level b.requires.0.roomy,
+          head_leaves a.s a.from a.tree.now _ b.requires.1 b.requires.0.leaves,
+          lends_roomy a.s a.from a.tree.now _ f.level-from.ensures.0 _ b.requires.1 _ e.standing-pair.ensures a.size a.loans.now _ o.side-from.ensures _ refl a.level b.requires.0.roomy,
         ),
       ),
     )
@@ -62,7 +62,7 @@ put-node-requires c κs =
     let a = b.args in
     let place = place_in a.s a.loans.now a.index.now _ b.requires.2 b.requires.0.enters.opens.place in
     let node = node_in a.s a.loans.now a.index.now _ b.requires.2 (length a.index.now) b.requires.0.enters.node in
-    (b.requires.0.enters.fit, omega (arith, place, b.requires.0.enters.fit.store.loans-most), omega (arith, node))
+    (b.requires.0.enters.fit, omega (arith, place, b.requires.0.enters.fit.store.loans_most_lem), omega (arith, node))
 
 same_length : tie.Need-same-length
 same_length c = search rules
@@ -83,9 +83,9 @@ returns c =
     let f = c.before.before.before.before.before.before.before.before.before.before.before.before.before.before.before.before.before.before.before.before.before in
     let b = c.before.before.before.before.before.before.before.before.before.before.before.before.before.before.before.before.before.before.before.before.before.before.before.before.before in
     let a = b.args in
-    let booked = booked-done a.s a.loans.now a.index.now _ b.requires.2 _ refl _ [] _ _ _ _ d.enter-at.ensures.0 d.enter-at.ensures.1 m.put-node.ensures in (
-      loan-is a.s a.from a.tree.now _ f.level-from.ensures.0 _ b.requires.1 _ e.standing-pair.ensures a.size a.loans.now _ o.side-from.ensures _ refl,
-      lent-done a.s a.from a.tree.now _ f.level-from.ensures.0 _ b.requires.1 _ e.standing-pair.ensures a.size a.loans.now _ o.side-from.ensures _ refl a.level a.index.now _ b.requires.2 _ _ _ _ n.take-side.ensures.0 n.take-side.ensures.1 booked,
+    let booked = booked_done a.s a.loans.now a.index.now _ b.requires.2 _ refl _ [] _ _ _ _ d.enter-at.ensures.0 d.enter-at.ensures.1 m.put-node.ensures in (
+      loan_is a.s a.from a.tree.now _ f.level-from.ensures.0 _ b.requires.1 _ e.standing-pair.ensures a.size a.loans.now _ o.side-from.ensures _ refl,
+      lent_done a.s a.from a.tree.now _ f.level-from.ensures.0 _ b.requires.1 _ e.standing-pair.ensures a.size a.loans.now _ o.side-from.ensures _ refl a.level a.index.now _ b.requires.2 _ _ _ _ n.take-side.ensures.0 n.take-side.ensures.1 booked,
     )
 
 pub lend_spec : {M : Type 1} → statement M

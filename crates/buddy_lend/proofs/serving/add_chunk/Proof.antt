@@ -1,6 +1,6 @@
 use borrow.Author.Rules.{rules}
 use native.Mathlib.Omega.{arith}
-use Rattle.buddy_lend.proofs.Served.{top-takes, top-low, chunk-done}
+use Rattle.buddy_lend.proofs.Served.{top_takes, top_low, chunk_done}
 use Rattle.buddy_lend.proofs.serving.add_chunk.Statement.{statement}
 use Rattle.buddy_lend.proofs.serving.add_chunk.Tie as tie
 
@@ -18,7 +18,7 @@ pair-taken-requires c κs =
     let w = c.before.before.before in
     let b = w.before.before.before.before in
     let a = b.args in
-    top-takes a.s a.head.now a.tree.now _ w.word.ensures _ c.level-from.ensures.0 b.requires.1 b.requires.2 b.requires.3 b.requires.5
+    top_takes a.s a.head.now a.tree.now _ w.word.ensures _ c.level-from.ensures.0 b.requires.1 b.requires.2 b.requires.3 b.requires.5
 
 put-chunk-requires : tie.Need-put-chunk-requires
 put-chunk-requires c κs = search rules
@@ -30,7 +30,7 @@ put-top-requires c κs =
     let w = c.before.before.before.before.before.before.before.before.before in
     let b = c.before.before.before.before.before.before.before.before.before.before.before.before.before in
     let a = b.args in
-    (b.requires.0.pairs-most, omega (arith, b.requires.0.pairs-most, top-low a.s a.head.now a.tree.now _ w.word.ensures _ f.level-from.ensures.0 _ o.pair-taken.ensures b.requires.3))
+    (b.requires.0.pairs_most_lem, omega (arith, b.requires.0.pairs_most_lem, top_low a.s a.head.now a.tree.now _ w.word.ensures _ f.level-from.ensures.0 _ o.pair-taken.ensures b.requires.3))
 
 same_length : tie.Need-same-length
 same_length c = search rules
@@ -47,7 +47,7 @@ returns c =
     let w = c.before.before.before.before.before.before.before.before.before.before.before.before in
     let b = c.before.before.before.before.before.before.before.before.before.before.before.before.before.before.before.before in
     let a = b.args in
-    chunk-done a.s a.head.now a.tree.now _ w.word.ensures _ f.level-from.ensures.0 _ o.pair-taken.ensures _ a.chunks.now b.requires.4 a.memory a.bytes _ _ q.put-chunk.ensures p.put-top.ensures
+    chunk_done a.s a.head.now a.tree.now _ w.word.ensures _ f.level-from.ensures.0 _ o.pair-taken.ensures _ a.chunks.now b.requires.4 a.memory a.bytes _ _ q.put-chunk.ensures p.put-top.ensures
 
 pub add-chunk-spec : {M : Type 1} → statement M
 add-chunk-spec =

@@ -4,7 +4,7 @@ use mathlib.Core.List.{List}
 use Prim.Native.Nat.{ℕ}
 use lib.ListN.{set}
 use Rattle.words.specs.Words.{cell_of}
-use Rattle.buddy_rules.specs.Tables.{chunkWords, memoryAt, chunkSizeAt}
+use Rattle.buddy_rules.specs.Tables.{chunk_words, memory_at, chunk_size_at}
 use Rattle.buddy_lend.proofs.serving.put_chunk.Statement.{statement}
 use Rattle.buddy_lend.proofs.serving.put_chunk.Tie as tie
 
@@ -27,8 +27,8 @@ returns c =
     let n = c.before.before.before.before.before.before.before.before.before.before in
     let a = c.before.before.before.before.before.before.before.before.before.before.before.before.before.args in
     q.put-cell2.ensures
-    ∙ ap (λ (t : List ℕ). set t (cell_of chunkSizeAt chunkWords a.c) a.bytes) p.put-cell.ensures
-    ∙ ap (λ (t : List ℕ). set (set t (cell_of memoryAt chunkWords a.c) a.memory) (cell_of chunkSizeAt chunkWords a.c) a.bytes) n.put.ensures
+    ∙ ap (λ (t : List ℕ). set t (cell_of chunk_size_at chunk_words a.c) a.bytes) p.put-cell.ensures
+    ∙ ap (λ (t : List ℕ). set (set t (cell_of memory_at chunk_words a.c) a.memory) (cell_of chunk_size_at chunk_words a.c) a.bytes) n.put.ensures
 
 pub put-chunk-spec : {M : Type 1} → statement M
 put-chunk-spec = tie.close (tie.spec put-requires put-cell-requires put-cell-requires-2 same_length returns)

@@ -1,5 +1,5 @@
 use borrow.Author.Rules.{rules}
-use Rattle.buddy_lend.proofs.Served.{top-done}
+use Rattle.buddy_lend.proofs.Served.{top_done}
 use Rattle.buddy_lend.proofs.serving.put_top.Statement.{statement}
 use Rattle.buddy_lend.proofs.serving.put_top.Tie as tie
 
@@ -34,7 +34,7 @@ returns c =
     let p = w.before.before.before.before in
     let f = p.before.before.before in
     let a = f.before.before.args in
-    top-done a.pairs _ f.chunks-from.ensures.0 a.tree.now a.c a.p _ a.vacant _ _ _ p.before.record_of.ensures p.put.ensures w.split-word.ensures q.put-cell.ensures
+    top_done a.pairs _ f.chunks-from.ensures.0 a.tree.now a.c a.p _ a.vacant _ _ _ p.before.record_of.ensures p.put.ensures w.split-word.ensures q.put-cell.ensures
 
 pub put-top-spec : {M : Type 1} → statement M
 put-top-spec =

@@ -4,17 +4,17 @@ use mathlib.Core.List.{List}
 use Prim.Native.Nat.{ℕ, ◌+◌, ◌-◌, ◌<◌}
 use native.Mathlib.Omega.{arith}
 use lib.ListN.{length}
-use Rattle.slab.specs.Slab.{nowhere}
-use Rattle.slab.specs.declared.Taken.{Taken}
+use Rattle.slabs.specs.Slab.{nowhere}
+use Rattle.slabs.specs.declared.Taken.{Taken}
 use Rattle.book_rules.specs.Ready.{Opens}
 use Rattle.buddy_trees.specs.Trees.{up}
-use Rattle.buddy_rules.specs.Nodes.{freeWord}
-use Rattle.buddy_rules.specs.Level.{pairTaken, added}
-use Rattle.buddy_rules.specs.Moves.{leftNext}
-use Rattle.buddy_rules.specs.Tables.{levelFrom}
+use Rattle.buddy_rules.specs.Nodes.{free_word}
+use Rattle.buddy_rules.specs.Level.{pair_taken, added}
+use Rattle.buddy_rules.specs.Moves.{left_next}
+use Rattle.buddy_rules.specs.Tables.{level_from}
 use Rattle.buddy_moves.specs.Roomy.{Roomy}
-use Rattle.buddy_lend.proofs.Booked.{place_in, node_in, booked-done}
-use Rattle.buddy_lend.proofs.Served.{still, loan-done, served-done}
+use Rattle.buddy_lend.proofs.Booked.{place_in, node_in, booked_done}
+use Rattle.buddy_lend.proofs.Served.{still, loan_done, served_done}
 use Rattle.buddy_lend.proofs.serving.serve.Statement.{statement}
 use Rattle.buddy_lend.proofs.serving.serve.Tie as tie
 
@@ -51,13 +51,13 @@ split-chunk-requires c κs =
     let place = place_in a.s a.loans.now a.index.now _ b.requires.1 b.requires.0.enters.opens.place in
     let now = still a.s a.memory a.bytes a.head.now a.loans.now a.chunks.now a.index.now a.tree.now _ _ m.add-chunk.ensures _ w.word.ensures _ (ap (λ (x : Taken). x.place) b.requires.2) a.level in (
       (
-        b.requires.0.enters.fit.pairs-most,
+        b.requires.0.enters.fit.pairs_most_lem,
         omega (arith, w.word.ensures, b.requires.0.below, b.requires.0.low),
-        omega (arith, place, b.requires.0.enters.fit.store.loans-most),
-        now (λ (x n : ℕ) (t : List ℕ). (pairTaken (levelFrom a.s (up (n - a.level - 1) a.level)) t).place < a.s.pairs) b.requires.0.own,
+        omega (arith, place, b.requires.0.enters.fit.store.loans_most_lem),
+        now (λ (x n : ℕ) (t : List ℕ). (pair_taken (level_from a.s (up (n - a.level - 1) a.level)) t).place < a.s.pairs) b.requires.0.own,
         omega (arith, b.requires.0.long),
       ),
-      now (λ (x n : ℕ) (t : List ℕ). Roomy a.s.pairs a.level x 0 (leftNext a.s.pairs (up (n - a.level - 1) a.level) t) (n - a.level - 1) (added (levelFrom a.s (up (n - a.level - 1) a.level)) x 0 nowhere freeWord t)) b.requires.0.roomy,
+      now (λ (x n : ℕ) (t : List ℕ). Roomy a.s.pairs a.level x 0 (left_next a.s.pairs (up (n - a.level - 1) a.level) t) (n - a.level - 1) (added (level_from a.s (up (n - a.level - 1) a.level)) x 0 nowhere free_word t)) b.requires.0.roomy,
     )
 
 enter-at-requires : tie.Need-enter-at-requires
@@ -72,7 +72,7 @@ put-node-requires c κs =
     let a = b.args in
     let place = place_in a.s a.loans.now a.index.now _ b.requires.1 b.requires.0.enters.opens.place in
     let node = node_in a.s a.loans.now a.index.now _ b.requires.1 (length a.index.now) b.requires.0.enters.node in
-    (b.requires.0.enters.fit, omega (arith, place, b.requires.0.enters.fit.store.loans-most), omega (arith, node))
+    (b.requires.0.enters.fit, omega (arith, place, b.requires.0.enters.fit.store.loans_most_lem), omega (arith, node))
 
 same_length : tie.Need-same-length
 same_length c = search rules
@@ -96,9 +96,9 @@ returns c =
     let w = c.before.before.before.before.before.before.before.before.before.before.before.before.before.before.before.before.before.before.before.before.before.before.before.before.before in
     let b = c.before.before.before.before.before.before.before.before.before.before.before.before.before.before.before.before.before.before.before.before.before.before.before.before.before.before.before.before.before.before.before in
     let a = b.args in
-    let booked = booked-done a.s a.loans.now a.index.now _ b.requires.1 _ (ap (λ (x : ℕ). x + 1) g.word2.ensures) _ a.head.now _ _ _ _ d.enter-at.ensures.0 d.enter-at.ensures.1 q.put-node.ensures in (
-      loan-done a.s a.memory a.bytes a.head.now a.loans.now a.chunks.now a.index.now a.tree.now _ _ m.add-chunk.ensures _ w.word.ensures _ (ap (λ (x : Taken). x.place) b.requires.2) a.level a.size _ g.word2.ensures,
-      served-done a.s a.memory a.bytes a.head.now a.loans.now a.chunks.now a.index.now a.tree.now _ _ m.add-chunk.ensures _ w.word.ensures _ (ap (λ (x : Taken). x.place) b.requires.2) a.level _ b.requires.1 a.size _ _ _ _ n.split-chunk.ensures.0 n.split-chunk.ensures.1 booked,
+    let booked = booked_done a.s a.loans.now a.index.now _ b.requires.1 _ (ap (λ (x : ℕ). x + 1) g.word2.ensures) _ a.head.now _ _ _ _ d.enter-at.ensures.0 d.enter-at.ensures.1 q.put-node.ensures in (
+      loan_done a.s a.memory a.bytes a.head.now a.loans.now a.chunks.now a.index.now a.tree.now _ _ m.add-chunk.ensures _ w.word.ensures _ (ap (λ (x : Taken). x.place) b.requires.2) a.level a.size _ g.word2.ensures,
+      served_done a.s a.memory a.bytes a.head.now a.loans.now a.chunks.now a.index.now a.tree.now _ _ m.add-chunk.ensures _ w.word.ensures _ (ap (λ (x : Taken). x.place) b.requires.2) a.level _ b.requires.1 a.size _ _ _ _ n.split-chunk.ensures.0 n.split-chunk.ensures.1 booked,
     )
 
 pub serve-spec : {M : Type 1} → statement M

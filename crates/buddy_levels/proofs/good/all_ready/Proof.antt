@@ -1,12 +1,12 @@
 use Rattle.std.proofs.Common.{◌≡◌, ltb, sym, refl, ap, ◌∙◌, rules, le-ltb, lt-ltb}
 use Rattle.buddy_rules.specs.Nodes.{exhausted}
-use Rattle.buddy_rules.specs.LevelTest.{along, readyIn, readyAfter}
-use Rattle.buddy_levels.proofs.Turns.{along-none, along-on, along-done}
+use Rattle.buddy_rules.specs.LevelTest.{along, ready_in, ready_after}
+use Rattle.buddy_levels.proofs.Turns.{along_none, along_on, along_done}
 use Rattle.buddy_levels.proofs.good.all_ready.Statement.{statement}
 use Rattle.buddy_levels.proofs.good.all_ready.Tie as tie
 
 abbrev invariant-loop : tie.invariant-loop
-invariant-loop tree base h k next p₀ left₀ p left = along (readyIn base tree) (readyAfter base tree) h k ≡ along (readyIn base tree) (readyAfter base tree) p left
+invariant-loop tree base h k next p₀ left₀ p left = along (ready_in base tree) (ready_after base tree) h k ≡ along (ready_in base tree) (ready_after base tree) p left
 
 abbrev decreases-loop : tie.decreases-loop
 decreases-loop tree base h k next p₀ left₀ p left = left
@@ -28,7 +28,7 @@ returns c =
     let d = c.before.before in
     let a = d.before.before.before.args in
     let no = sym (ap (ltb exhausted) c.before.field.ensures) ∙ le-ltb exhausted _ c.if1.true in
-    sym (d.before.loop.invariant ∙ along-none (readyIn a.base a.tree.now) (readyAfter a.base a.tree.now) _ _ d.loop-test.true no)
+    sym (d.before.loop.invariant ∙ along_none (ready_in a.base a.tree.now) (ready_after a.base a.tree.now) _ _ d.loop-test.true no)
 
 link-requires : tie.Need-link-requires invariant-loop decreases-loop
 link-requires c κs = search rules
@@ -45,10 +45,10 @@ loop-again c =
     let d = b.before.before in
     let a = d.before.before.before.args in
     let yes = sym (ap (ltb exhausted) b.before.field.ensures) ∙ lt-ltb exhausted _ b.if1.false in
-    d.before.loop.invariant ∙ along-on (readyIn a.base a.tree.now) (readyAfter a.base a.tree.now) _ _ _ d.loop-test.true yes c.link.ensures
+    d.before.loop.invariant ∙ along_on (ready_in a.base a.tree.now) (ready_after a.base a.tree.now) _ _ _ d.loop-test.true yes c.link.ensures
 
 returns-2 : tie.Need-returns-2 invariant-loop decreases-loop
-returns-2 c = sym (c.before.loop.invariant ∙ along-done _ _ _ _ c.loop-test.false)
+returns-2 c = sym (c.before.loop.invariant ∙ along_done _ _ _ _ c.loop-test.false)
 
 pub all-ready-spec : {M : Type 1} → statement M
 all-ready-spec =

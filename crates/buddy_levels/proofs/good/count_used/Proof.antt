@@ -1,5 +1,5 @@
 use Rattle.std.proofs.Common.{rules}
-use Rattle.buddy_levels.proofs.Turns.{used-is}
+use Rattle.buddy_levels.proofs.Turns.{used_is}
 use Rattle.buddy_levels.proofs.good.count_used.Statement.{statement}
 use Rattle.buddy_levels.proofs.good.count_used.Tie as tie
 
@@ -28,7 +28,7 @@ returns : tie.Need-returns
 returns c =
     let l = c.before in
     let o = l.before.before in
-    used-is o.args.base o.args.tree.now o.args.places l.led-to.result c.off-chain.result o.requires.2 l.led-to.ensures c.off-chain.ensures
+    used_is o.args.base o.args.tree.now o.args.places l.led-to.result c.off-chain.result o.requires.2 l.led-to.ensures c.off-chain.ensures
 
 pub count-used-spec : {M : Type 1} → statement M
 count-used-spec =

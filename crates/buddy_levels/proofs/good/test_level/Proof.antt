@@ -1,7 +1,7 @@
 use Rattle.std.proofs.Common.{◌+◌, false, get_or, refl, arith, rules}
-use Rattle.lists.proofs.Bools.{true-false}
-use Rattle.buddy_rules.specs.Level.{usedAt}
-use Rattle.buddy_levels.proofs.Turns.{level-over, level-torn, level_all, used-few, ready-few}
+use Rattle.lists.proofs.Bools.{true_false}
+use Rattle.buddy_rules.specs.Level.{used_at}
+use Rattle.buddy_levels.proofs.Turns.{level_over, level_torn, level_all, used_few, ready_few}
 use Rattle.buddy_levels.proofs.good.test_level.Statement.{statement}
 use Rattle.buddy_levels.proofs.good.test_level.Tie as tie
 
@@ -17,7 +17,7 @@ shared-slice-read-places c = search rules
 returns : tie.Need-returns
 returns c =
     let a = c.before.before.before.args in
-    (level-over a.base a.pairs a.tree.now (get_or a.tree.now (a.base + usedAt) 0) refl c.if1.true, ((λ e. absurd (true-false false e refl)), omega arith, omega arith))
+    (level_over a.base a.pairs a.tree.now (get_or a.tree.now (a.base + used_at) 0) refl c.if1.true, ((λ e. absurd (true_false false e refl)), omega arith, omega arith))
 
 count-used-requires : tie.Need-count-used-requires
 count-used-requires c κs = search rules
@@ -30,8 +30,8 @@ returns-2 c =
     let r = c.before in
     let u = r.before in
     let a = u.before.before.before.before.args in (
-      level-torn a.base a.pairs a.tree.now (get_or a.tree.now (a.base + usedAt) 0) refl u.count-used.result r.ring-size.result u.count-used.ensures r.ring-size.ensures c.if2.true,
-      ((λ e. absurd (true-false false e refl)), omega arith, omega arith),
+      level_torn a.base a.pairs a.tree.now (get_or a.tree.now (a.base + used_at) 0) refl u.count-used.result r.ring-size.result u.count-used.ensures r.ring-size.ensures c.if2.true,
+      ((λ e. absurd (true_false false e refl)), omega arith, omega arith),
     )
 
 add-led-to : tie.Need-overflow-add-led-to
@@ -51,13 +51,13 @@ returns-3 c =
     let u = r.before in
     let g = u.before in
     let a = g.before.before.before.args in
-    let n = get_or a.tree.now (a.base + usedAt) 0 in (
+    let n = get_or a.tree.now (a.base + used_at) 0 in (
       level_all a.base a.pairs a.tree.now n refl u.count-used.result r.ring-size.result u.count-used.ensures r.ring-size.ensures g.if1.false f.if2.false l.led-to.result c.all-ready.result
           l.led-to.ensures c.all-ready.ensures,
       (
         (λ e. (u.count-used.ensures, r.ring-size.ensures)),
-        used-few a.base a.pairs a.tree.now n refl u.count-used.result r.ring-size.result u.count-used.ensures r.ring-size.ensures g.if1.false f.if2.false,
-        ready-few a.base a.pairs a.tree.now n refl u.count-used.result r.ring-size.result u.count-used.ensures r.ring-size.ensures g.if1.false f.if2.false,
+        used_few a.base a.pairs a.tree.now n refl u.count-used.result r.ring-size.result u.count-used.ensures r.ring-size.ensures g.if1.false f.if2.false,
+        ready_few a.base a.pairs a.tree.now n refl u.count-used.result r.ring-size.result u.count-used.ensures r.ring-size.ensures g.if1.false f.if2.false,
       ),
     )
 

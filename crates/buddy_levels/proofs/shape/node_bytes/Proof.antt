@@ -1,6 +1,6 @@
 use Rattle.std.proofs.Common.{ℕ, ◌+◌, ◌^◌, ◌≤◌, sym, subst, rules}
-use Rattle.counter.specs.Limits.{levelsMost, minimalBits}
-use Rattle.buddy_levels.proofs.Bounds.{node-bytes-is, node-bytes-most}
+use Rattle.counter.specs.Limits.{levels_most, minimal_bits}
+use Rattle.buddy_levels.proofs.Bounds.{node_bytes_is, node_bytes_most}
 use Rattle.buddy_levels.proofs.shape.node_bytes.Statement.{statement}
 use Rattle.buddy_levels.proofs.shape.node_bytes.Tie as tie
 
@@ -10,8 +10,8 @@ shl-result c = search rules
 returns : tie.Need-returns
 returns c =
     let a = c.args in
-    let e = node-bytes-is a.minimal a.level c.requires.0 c.requires.1 in
-    (e, subst (λ (x : ℕ). x ≤ 2 ^ (minimalBits + levelsMost)) (sym e) (node-bytes-most a.minimal a.level c.requires.0 c.requires.1))
+    let e = node_bytes_is a.minimal a.level c.requires.0 c.requires.1 in
+    (e, subst (λ (x : ℕ). x ≤ 2 ^ (minimal_bits + levels_most)) (sym e) (node_bytes_most a.minimal a.level c.requires.0 c.requires.1))
 
 pub node-bytes-spec : {M : Type 1} → statement M
 node-bytes-spec = tie.close (tie.spec shl-result returns)

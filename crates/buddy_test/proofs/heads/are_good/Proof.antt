@@ -5,25 +5,25 @@ use Prim.Native.Nat.{ℕ, ◌*◌, ◌-◌, ◌≤◌, ◌<◌}
 use native.Mathlib.Omega.{arith}
 use lib.ListN.{length}
 use borrow.Author.Rules.{rules}
-use Rattle.lists.proofs.Bools.{true-false, not_yes, not-no}
-use Rattle.counter.specs.Limits.{levelsMost, pairsMost}
-use Rattle.buddy_rules.specs.LevelTest.{levelOk}
-use Rattle.buddy_rules.specs.Level.{levelStart}
-use Rattle.buddy_rules.specs.Test.{every, pairsInUse, pairsReady}
-use Rattle.buddy_rules.proofs.Tests.{every-stop, every-next}
-use Rattle.buddy_levels.specs.Seen.{partSettings, levelPart}
-use Rattle.buddy_test.proofs.Parts.{level-fits, good-told, pairs-none, pairs_next, ready-none, ready-next}
+use Rattle.lists.proofs.Bools.{true_false, not_yes, not_no}
+use Rattle.counter.specs.Limits.{levels_most, pairs_most}
+use Rattle.buddy_rules.specs.LevelTest.{level_ok}
+use Rattle.buddy_rules.specs.Level.{level_start}
+use Rattle.buddy_rules.specs.Test.{every, pairs_in_use, pairs_ready}
+use Rattle.buddy_rules.proofs.Tests.{every_stop, every_next}
+use Rattle.buddy_levels.specs.Seen.{part_settings, level_part}
+use Rattle.buddy_test.proofs.Parts.{level_fits, good_told, pairs_none, pairs_next, ready_none, ready_next}
 use Rattle.buddy_test.proofs.heads.are_good.Statement.{statement}
 use Rattle.buddy_test.proofs.heads.are_good.Tie as tie
 
 abbrev invariant-loop : tie.invariant-loop
 invariant-loop pairs levels tree used₀ ready₀ l₀ used ready l =
     (l ≤ levels)
-    × (every (λ (i : ℕ). levelOk (levelStart pairs i) pairs tree) l ≡ true)
-    × (used ≡ pairsInUse (partSettings 0 pairs 0) (levelPart 0 [] tree) l)
-    × (ready ≡ pairsReady (partSettings 0 pairs 0) (levelPart 0 [] tree) l)
-    × (used ≤ l * pairsMost)
-    × (ready ≤ l * pairsMost)
+    × (every (λ (i : ℕ). level_ok (level_start pairs i) pairs tree) l ≡ true)
+    × (used ≡ pairs_in_use (part_settings 0 pairs 0) (level_part 0 [] tree) l)
+    × (ready ≡ pairs_ready (part_settings 0 pairs 0) (level_part 0 [] tree) l)
+    × (used ≤ l * pairs_most)
+    × (ready ≤ l * pairs_most)
 
 abbrev decreases-loop : tie.decreases-loop
 decreases-loop pairs levels tree used₀ ready₀ l₀ used ready l = levels - l
@@ -31,7 +31,7 @@ decreases-loop pairs levels tree used₀ ready₀ l₀ used ready l = levels - l
 loop-holds : tie.Need-loop-init invariant-loop decreases-loop
 loop-holds c =
     let a = c.before.args in
-    (omega arith, refl, pairs-none a.pairs a.tree.now, ready-none a.pairs a.tree.now, omega arith, omega arith)
+    (omega arith, refl, pairs_none a.pairs a.tree.now, ready_none a.pairs a.tree.now, omega arith, omega arith)
 
 level-from-requires : tie.Need-level-from-requires invariant-loop decreases-loop
 level-from-requires c κs = search rules
@@ -40,8 +40,8 @@ test-level-requires : tie.Need-test-level-requires invariant-loop decreases-loop
 test-level-requires c κs =
     let o = c.before.before in
     let i = o.before.before in
-    let low : o.loop.l < levelsMost = omega (arith, c.before.loop-test.true, i.requires.1) in
-    (c.level-from.ensures.1, level-fits i.args.pairs o.loop.l c.level-from.result (length i.args.tree.now) low c.level-from.ensures.0 i.requires.2)
+    let low : o.loop.l < levels_most = omega (arith, c.before.loop-test.true, i.requires.1) in
+    (c.level-from.ensures.1, level_fits i.args.pairs o.loop.l c.level-from.result (length i.args.tree.now) low c.level-from.ensures.0 i.requires.2)
 
 returns : tie.Need-returns invariant-loop decreases-loop
 returns c =
@@ -49,10 +49,10 @@ returns c =
     let f = g.before in
     let o = f.before.before in
     let a = o.before.before.args in
-    let good : ℕ → Bool = λ (i : ℕ). levelOk (levelStart a.pairs i) a.pairs a.tree.now in
-    let e = good-told a.pairs o.loop.l f.level-from.result a.tree.now g.test-level.result.ok f.level-from.ensures.0 g.test-level.ensures.0 in (
-      sym (every-stop good a.levels o.loop.l f.before.loop-test.true (sym e ∙ not_yes _ c.if1.true)),
-      ((λ z. absurd (true-false false z refl)), omega arith, omega arith),
+    let good : ℕ → Bool = λ (i : ℕ). level_ok (level_start a.pairs i) a.pairs a.tree.now in
+    let e = good_told a.pairs o.loop.l f.level-from.result a.tree.now g.test-level.result.ok f.level-from.ensures.0 g.test-level.ensures.0 in (
+      sym (every_stop good a.levels o.loop.l f.before.loop-test.true (sym e ∙ not_yes _ c.if1.true)),
+      ((λ z. absurd (true_false false z refl)), omega arith, omega arith),
     )
 
 add-used : tie.Need-overflow-add-used invariant-loop decreases-loop
@@ -83,14 +83,14 @@ loop-again c =
     let o = f.before.before in
     let i = o.before.before in
     let a = i.args in
-    let good : ℕ → Bool = λ (i : ℕ). levelOk (levelStart a.pairs i) a.pairs a.tree.now in
-    let e = good-told a.pairs o.loop.l f.level-from.result a.tree.now g.test-level.result.ok f.level-from.ensures.0 g.test-level.ensures.0 in
-    let yes : g.test-level.result.ok ≡ true = not-no _ y.if1.false in
+    let good : ℕ → Bool = λ (i : ℕ). level_ok (level_start a.pairs i) a.pairs a.tree.now in
+    let e = good_told a.pairs o.loop.l f.level-from.result a.tree.now g.test-level.result.ok f.level-from.ensures.0 g.test-level.ensures.0 in
+    let yes : g.test-level.result.ok ≡ true = not_no _ y.if1.false in
     let told = g.test-level.ensures.1.0 yes in (
       omega arith,
-      every-next good o.loop.l o.loop.invariant.1 (sym e ∙ yes),
+      every_next good o.loop.l o.loop.invariant.1 (sym e ∙ yes),
       pairs_next a.pairs a.tree.now o.loop.l f.level-from.result g.test-level.result.used o.loop.used f.level-from.ensures.0 o.loop.invariant.2 told.0,
-      ready-next a.pairs a.tree.now o.loop.l f.level-from.result g.test-level.result.ready o.loop.ready f.level-from.ensures.0 o.loop.invariant.3 told.1,
+      ready_next a.pairs a.tree.now o.loop.l f.level-from.result g.test-level.result.ready o.loop.ready f.level-from.ensures.0 o.loop.invariant.3 told.1,
       omega (arith, g.test-level.ensures.1.1, o.loop.invariant.4, i.requires.0),
       omega (arith, g.test-level.ensures.1.2, o.loop.invariant.5, i.requires.0),
     )
@@ -100,10 +100,10 @@ returns-2 c =
     let o = c.before in
     let a = o.before.before.args in
     let e : o.loop.l ≡ a.levels = omega arith in (
-      sym o.loop.invariant.1 ∙ ap (every (λ (i : ℕ). levelOk (levelStart a.pairs i) a.pairs a.tree.now)) e,
+      sym o.loop.invariant.1 ∙ ap (every (λ (i : ℕ). level_ok (level_start a.pairs i) a.pairs a.tree.now)) e,
       (
         (λ z.
-            (o.loop.invariant.2 ∙ ap (pairsInUse (partSettings 0 a.pairs 0) (levelPart 0 [] a.tree.now)) e, o.loop.invariant.3 ∙ ap (pairsReady (partSettings 0 a.pairs 0) (levelPart 0 [] a.tree.now)) e)),
+            (o.loop.invariant.2 ∙ ap (pairs_in_use (part_settings 0 a.pairs 0) (level_part 0 [] a.tree.now)) e, o.loop.invariant.3 ∙ ap (pairs_ready (part_settings 0 a.pairs 0) (level_part 0 [] a.tree.now)) e)),
         omega (arith, o.loop.invariant.4),
         omega (arith, o.loop.invariant.5),
       ),

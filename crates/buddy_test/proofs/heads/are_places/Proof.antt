@@ -1,5 +1,5 @@
 use borrow.Author.Rules.{rules}
-use Rattle.buddy_test.proofs.Parts.{places-told, held-told}
+use Rattle.buddy_test.proofs.Parts.{places_told, held_told}
 use Rattle.buddy_test.proofs.heads.are_places.Statement.{statement}
 use Rattle.buddy_test.proofs.heads.are_places.Tie as tie
 
@@ -24,8 +24,8 @@ returns c =
     let f = v.before in
     let o = f.before.before.before.before in
     let a = o.args in (
-      places-told a.s a.n f.chunks-from.result v.led-to.result a.chunks.now a.tree.now c.test_parts.result.ok o.requires.1 f.chunks-from.ensures.0 v.led-to.ensures c.test_parts.ensures.0,
-      ((λ e. held-told a.s a.n c.test_parts.result.used a.chunks.now o.requires.1 (c.test_parts.ensures.1.0 e)), c.test_parts.ensures.1.1),
+      places_told a.s a.n f.chunks-from.result v.led-to.result a.chunks.now a.tree.now c.test_parts.result.ok o.requires.1 f.chunks-from.ensures.0 v.led-to.ensures c.test_parts.ensures.0,
+      ((λ e. held_told a.s a.n c.test_parts.result.used a.chunks.now o.requires.1 (c.test_parts.ensures.1.0 e)), c.test_parts.ensures.1.1),
     )
 
 pub are-places-spec : {M : Type 1} → statement M

@@ -4,16 +4,16 @@ use mathlib.Core.List.{[]}
 use Prim.Native.Nat.{◌-◌, ◌≤◌}
 use native.Mathlib.Omega.{arith}
 use borrow.Author.Rules.{rules}
-use Rattle.lists.proofs.Bools.{not_yes, not-no}
-use Rattle.buddy_levels.specs.Seen.{partTables}
-use Rattle.buddy_rules.specs.Test.{every, unitsOk}
-use Rattle.buddy_rules.proofs.Tests.{every-stop, every-next}
-use Rattle.buddy_test.proofs.Parts.{units-told}
+use Rattle.lists.proofs.Bools.{not_yes, not_no}
+use Rattle.buddy_levels.specs.Seen.{part_tables}
+use Rattle.buddy_rules.specs.Test.{every, units_ok}
+use Rattle.buddy_rules.proofs.Tests.{every_stop, every_next}
+use Rattle.buddy_test.proofs.Parts.{units_told}
 use Rattle.buddy_test.proofs.heads.are_units.Statement.{statement}
 use Rattle.buddy_test.proofs.heads.are_units.Tie as tie
 
 abbrev invariant-loop : tie.invariant-loop
-invariant-loop s n loans k₀ k = (k ≤ n) × (every (unitsOk s (partTables 0 loans [] [] [])) k ≡ true)
+invariant-loop s n loans k₀ k = (k ≤ n) × (every (units_ok s (part_tables 0 loans [] [] [])) k ≡ true)
 
 abbrev decreases-loop : tie.decreases-loop
 decreases-loop s n loans k₀ k = n - k
@@ -34,8 +34,8 @@ returns c =
     let o = l.before.before in
     let q = o.before.before in
     let a = q.args in
-    let e = units-told a.s o.loop.k a.loans.now l.loan-in.result l.loan-in.ensures (omega (arith, l.before.loop-test.true, q.requires.2)) u.is-units.result u.is-units.ensures in
-    sym (every-stop (unitsOk a.s (partTables 0 a.loans.now [] [] [])) a.n o.loop.k l.before.loop-test.true (sym e ∙ not_yes _ c.if1.true))
+    let e = units_told a.s o.loop.k a.loans.now l.loan-in.result l.loan-in.ensures (omega (arith, l.before.loop-test.true, q.requires.2)) u.is-units.result u.is-units.ensures in
+    sym (every_stop (units_ok a.s (part_tables 0 a.loans.now [] [] [])) a.n o.loop.k l.before.loop-test.true (sym e ∙ not_yes _ c.if1.true))
 
 add-k : tie.Need-overflow-add-k invariant-loop decreases-loop
 add-k c = search rules
@@ -50,15 +50,15 @@ loop-again c =
     let o = l.before.before in
     let q = o.before.before in
     let a = q.args in
-    let e = units-told a.s o.loop.k a.loans.now l.loan-in.result l.loan-in.ensures (omega (arith, l.before.loop-test.true, q.requires.2)) u.is-units.result u.is-units.ensures in
-    (omega arith, every-next (unitsOk a.s (partTables 0 a.loans.now [] [] [])) o.loop.k o.loop.invariant.1 (sym e ∙ not-no _ c.if1.false))
+    let e = units_told a.s o.loop.k a.loans.now l.loan-in.result l.loan-in.ensures (omega (arith, l.before.loop-test.true, q.requires.2)) u.is-units.result u.is-units.ensures in
+    (omega arith, every_next (units_ok a.s (part_tables 0 a.loans.now [] [] [])) o.loop.k o.loop.invariant.1 (sym e ∙ not_no _ c.if1.false))
 
 returns-2 : tie.Need-returns-2 invariant-loop decreases-loop
 returns-2 c =
     let o = c.before in
     let a = o.before.before.args in
     let e : o.loop.k ≡ a.n = omega arith in
-    sym o.loop.invariant.1 ∙ ap (every (unitsOk a.s (partTables 0 a.loans.now [] [] []))) e
+    sym o.loop.invariant.1 ∙ ap (every (units_ok a.s (part_tables 0 a.loans.now [] [] []))) e
 
 pub are-units-spec : {M : Type 1} → statement M
 are-units-spec =

@@ -1,6 +1,6 @@
 use borrow.Author.Rules.{rules}
 use Rattle.buddy_rules.specs.Tables.{tables}
-use Rattle.buddy_test.proofs.Parts.{head-told}
+use Rattle.buddy_test.proofs.Parts.{head_told}
 use Rattle.buddy_test.proofs.heads.is_head.Statement.{statement}
 use Rattle.buddy_test.proofs.heads.is_head.Tie as tie
 
@@ -24,7 +24,7 @@ returns c =
     let f = c.before in
     let l = f.before in
     let a = l.before.before.before.before.before.before.args in
-    head-told a.s (tables a.head.now a.loans.now a.chunks.now a.index.now a.tree.now) c.is_Signed.result l.word.result f.level.result c.is_Signed.ensures l.word.ensures f.level.ensures
+    head_told a.s (tables a.head.now a.loans.now a.chunks.now a.index.now a.tree.now) c.is_Signed.result l.word.result f.level.result c.is_Signed.ensures l.word.ensures f.level.ensures
 
 pub is-head-spec : {M : Type 1} → statement M
 is-head-spec =

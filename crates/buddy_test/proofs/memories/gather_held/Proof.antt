@@ -5,15 +5,15 @@ use Prim.Native.Nat.{◌-◌, ◌≤◌, ◌<◌}
 use native.Mathlib.Omega.{arith}
 use borrow.Author.Rules.{rules}
 use lib.ListN.{length, take, get_or, length-set}
-use Rattle.buddy_levels.specs.Seen.{levelPart}
-use Rattle.buddy_rules.specs.Tables.{chunkPlacesAt, memories}
-use Rattle.buddy_test.proofs.Apart.{gather_none, gather-put, gather-pass}
+use Rattle.buddy_levels.specs.Seen.{level_part}
+use Rattle.buddy_rules.specs.Tables.{chunk_places_at, memories}
+use Rattle.buddy_test.proofs.Apart.{gather_none, gather_put, gather_pass}
 use Rattle.buddy_test.proofs.memories.gather_held.Statement.{statement}
 use Rattle.buddy_test.proofs.memories.gather_held.Tie as tie
 
 abbrev invariant-loop : tie.invariant-loop
 invariant-loop chunks n found₀ k₀ c₀ found k c =
-    (k ≤ c) × (c ≤ n) × (length found ≡ length found₀) × (take k found ≡ memories (levelPart 0 chunks []) c)
+    (k ≤ c) × (c ≤ n) × (length found ≡ length found₀) × (take k found ≡ memories (level_part 0 chunks []) c)
 
 abbrev decreases-loop : tie.decreases-loop
 decreases-loop chunks n found₀ k₀ c₀ found k c = n - c
@@ -53,19 +53,19 @@ loop-again c =
     let a = s.args in
     let i = o.loop.invariant in
     let room = s.requires.0 in
-    let low : o.loop.c < get_or a.chunks.now chunkPlacesAt 0 = omega (arith, t.loop-test.true, s.requires.1) in
+    let low : o.loop.c < get_or a.chunks.now chunk_places_at 0 = omega (arith, t.loop-test.true, s.requires.1) in
     ⊎_elim
     (λ w. (
       omega (arith, w.3),
       omega arith,
       ap length w.2 ∙ simp length-set i.2,
-      rw (w.2, w.3) (gather-put o.loop.c o.loop.k a.chunks.now o.loop.found z.cell.result low z.cell.ensures i.3 w.1.result w.0.taken w.1.ensures (omega arith)),
+      rw (w.2, w.3) (gather_put o.loop.c o.loop.k a.chunks.now o.loop.found z.cell.result low z.cell.ensures i.3 w.1.result w.0.taken w.1.ensures (omega arith)),
     ))
     (λ w. (
       omega (arith, w.2),
       omega arith,
       ap length w.1 ∙ i.2,
-      rw (w.1, w.2) (gather-pass o.loop.c o.loop.k a.chunks.now o.loop.found z.cell.result low z.cell.ensures i.3 w.0.left),
+      rw (w.1, w.2) (gather_pass o.loop.c o.loop.k a.chunks.now o.loop.found z.cell.result low z.cell.ensures i.3 w.0.left),
     ))
     c.if1.branch
 
@@ -77,7 +77,7 @@ returns c =
     let o = c.before in
     let a = o.before.before.before.args in
     let e : o.loop.c ≡ a.n = omega arith in
-    (o.loop.invariant.3 ∙ ap (memories (levelPart 0 a.chunks.now [])) e, (omega arith, o.loop.invariant.2))
+    (o.loop.invariant.3 ∙ ap (memories (level_part 0 a.chunks.now [])) e, (omega arith, o.loop.invariant.2))
 
 pub gather-held-spec : {M : Type 1} → statement M
 gather-held-spec =

@@ -1,11 +1,11 @@
 use borrow.Author.Rules.{rules}
 use mathlib.Core.Path.{refl, sym, ◌∙◌}
 use native.Mathlib.Omega.{arith}
-use Rattle.lists.proofs.Bools.{not_yes, not-no}
-use Rattle.buddy_levels.specs.Pairs.{entFrom}
-use Rattle.buddy_levels.specs.Seen.{partSettings, loanPart}
-use Rattle.buddy_levels.proofs.Reading.{pair-used}
-use Rattle.buddy_walk.proofs.Downs.{node-free, node-loan, node-low, node-split, pair-past, pair-lost, pair_left, pair-right, some_left, split-some, half-size, within-lower, level-there}
+use Rattle.lists.proofs.Bools.{not_yes, not_no}
+use Rattle.buddy_levels.specs.Pairs.{ent_from}
+use Rattle.buddy_levels.specs.Seen.{part_settings, loan_part}
+use Rattle.buddy_levels.proofs.Reading.{pair_used}
+use Rattle.buddy_walk.proofs.Downs.{node_free, node_loan, node_low, node_split, pair_past, pair_lost, pair_left, pair_right, some_left, split_some, half_size, within_lower, level_there}
 use Prim.Native.Nat.{ℕ, ◌+◌, ◌*◌, ◌-◌, ◌^◌, ◌<◌}
 use borrow.Fn.Kinds.{In}
 use borrow.Fn.PlainCycle.{Measures, is, falls, and}
@@ -71,7 +71,7 @@ left-at-node-returns : (t : ℕ) → left-at-node-lts.Need-returns (
 ) (left-at-node-at t) left-at-node.Post
 left-at-node-returns t c =
     let a = c.before.before.before.before.args in
-    λ u o z. node-free (partSettings u a.pairs a.most) (loanPart a.loans.now a.index.now a.tree.now) a.level a.chunk a.offset a.node a.word a.left c.if1.true
+    λ u o z. node_free (part_settings u a.pairs a.most) (loan_part a.loans.now a.index.now a.tree.now) a.level a.chunk a.offset a.node a.word a.left c.if1.true
 
 left-at-node-says-loan-requires : (t : ℕ) → left-at-node-lts.Need-says-loan-requires (
   says-loan-reads.Asked,
@@ -134,7 +134,7 @@ left-at-node-returns-2 t c =
     let f = q.before in
     let a = f.before.before.before.before.args in
     λ u o z.
-    node-loan (partSettings u a.pairs a.most) (loanPart a.loans.now a.index.now a.tree.now) a.chunk a.offset a.node a.word a.left f.if1.false q.says-loan.result q.says-loan.ensures
+    node_loan (part_settings u a.pairs a.most) (loan_part a.loans.now a.index.now a.tree.now) a.chunk a.offset a.node a.word a.left f.if1.false q.says-loan.result q.says-loan.ensures
     a.level k.loan-said.result c.left-at-loan.result i.if2.true k.loan-said.ensures (c.left-at-loan.ensures u a.level o z)
 
 left-at-node-returns-3 : (t : ℕ) → left-at-node-lts.Need-returns-3 (
@@ -155,7 +155,7 @@ left-at-node-returns-3 t c =
     let f = q.before in
     let a = f.before.before.before.before.args in
     λ u o z.
-    node-low (partSettings u a.pairs a.most) (loanPart a.loans.now a.index.now a.tree.now) a.chunk a.offset a.node a.word a.left f.if1.false q.says-loan.result q.says-loan.ensures a.level i.if2.false c.if3.true
+    node_low (part_settings u a.pairs a.most) (loan_part a.loans.now a.index.now a.tree.now) a.chunk a.offset a.node a.word a.left f.if1.false q.says-loan.result q.says-loan.ensures a.level i.if2.false c.if3.true
 
 left-at-node-pair-said-requires : (t : ℕ) → left-at-node-lts.Need-pair-said-requires (
   says-loan-reads.Asked,
@@ -173,7 +173,7 @@ left-at-node-pair-said-requires t c κs =
     let i = c.before in
     let q = i.before in
     let f = q.before in
-    split-some f.before.before.before.before.args.word q.says-loan.result f.if1.false q.says-loan.ensures i.if2.false
+    split_some f.before.before.before.before.args.word q.says-loan.result f.if1.false q.says-loan.ensures i.if2.false
 
 left-at-node-sub-left-at-pair : (t : ℕ) → left-at-node-lts.Need-overflow-sub-left-at-pair (
   says-loan-reads.Asked,
@@ -205,7 +205,7 @@ left-at-node-left-at-pair-requires t c κs =
     let f = c.before.before.before.before.before.before.before.before in
     let a = f.args in
     let n = c.before.if3.false in
-    let w = within-lower (a.level - 1 + 1) a.level a.pairs a.most a.loans.now a.index.now a.tree.now (omega arith) f.requires.1.0 in
+    let w = within_lower (a.level - 1 + 1) a.level a.pairs a.most a.loans.now a.index.now a.tree.now (omega arith) f.requires.1.0 in
     (omega arith, (w, omega arith, omega arith))
 
 left-at-node-returns-4 : (t : ℕ) → left-at-node-lts.Need-returns-4 (
@@ -228,8 +228,8 @@ left-at-node-returns-4 t c =
     let f = q.before in
     let a = f.before.before.before.before.args in
     λ u o z.
-    node-split (partSettings u a.pairs a.most) (loanPart a.loans.now a.index.now a.tree.now) a.chunk a.offset a.node a.word a.left f.if1.false q.says-loan.result q.says-loan.ensures
-    a.level m.pair-said.result c.left-at-pair.result i.if2.false n.if3.false m.pair-said.ensures (c.left-at-pair.ensures u o (half-size u a.level a.size n.if3.false z))
+    node_split (part_settings u a.pairs a.most) (loan_part a.loans.now a.index.now a.tree.now) a.chunk a.offset a.node a.word a.left f.if1.false q.says-loan.result q.says-loan.ensures
+    a.level m.pair-said.result c.left-at-pair.result i.if2.false n.if3.false m.pair-said.ensures (c.left-at-pair.ensures u o (half_size u a.level a.size n.if3.false z))
 
 left-at-pair-level-from-requires : (t : ℕ) → left-at-pair-lts.Need-level-from-requires (
   level-from-reads.Asked,
@@ -265,7 +265,7 @@ left-at-pair-add-if1 t c =
     let l = c in
     let f = l.before.before.before.before in
     let a = f.args in
-    let w = level-there a.level a.pairs a.most l.level-from.result a.loans.now a.index.now a.tree.now l.level-from.ensures.0 f.pre.1.0 in
+    let w = level_there a.level a.pairs a.most l.level-from.result a.loans.now a.index.now a.tree.now l.level-from.ensures.0 f.pre.1.0 in
     search rules
 
 left-at-pair-mul-if1 : (t : ℕ) → left-at-pair-lts.Need-overflow-mul-if1 (
@@ -286,7 +286,7 @@ left-at-pair-mul-if1 t c =
     let l = c in
     let f = l.before.before.before.before in
     let a = f.args in
-    let w = level-there a.level a.pairs a.most l.level-from.result a.loans.now a.index.now a.tree.now l.level-from.ensures.0 f.pre.1.0 in
+    let w = level_there a.level a.pairs a.most l.level-from.result a.loans.now a.index.now a.tree.now l.level-from.ensures.0 f.pre.1.0 in
     search rules
 
 left-at-pair-shared-slice-read-if1 : (t : ℕ) → left-at-pair-lts.Need-shared-slice-read-if1 (
@@ -307,7 +307,7 @@ left-at-pair-shared-slice-read-if1 t c =
     let l = c.before in
     let f = l.before.before.before.before in
     let a = f.args in
-    let w = level-there a.level a.pairs a.most l.level-from.result a.loans.now a.index.now a.tree.now l.level-from.ensures.0 f.requires.1.0 in
+    let w = level_there a.level a.pairs a.most l.level-from.result a.loans.now a.index.now a.tree.now l.level-from.ensures.0 f.requires.1.0 in
     search rules
 
 left-at-pair-returns : (t : ℕ) → left-at-pair-lts.Need-returns (
@@ -327,7 +327,7 @@ left-at-pair-returns : (t : ℕ) → left-at-pair-lts.Need-returns (
 left-at-pair-returns t c =
     let l = c.before.before in
     let a = l.before.before.before.before.args in
-    λ u o z. pair-past (partSettings u a.pairs a.most) (loanPart a.loans.now a.index.now a.tree.now) a.level a.chunk a.offset a.node a.p a.left l.level-from.result _ l.level-from.ensures.0 refl c.if1.true
+    λ u o z. pair_past (part_settings u a.pairs a.most) (loan_part a.loans.now a.index.now a.tree.now) a.level a.chunk a.offset a.node a.p a.left l.level-from.result _ l.level-from.ensures.0 refl c.if1.true
 
 left-at-pair-standing-pair-requires : (t : ℕ) → left-at-pair-lts.Need-standing-pair-requires (
   level-from-reads.Asked,
@@ -347,7 +347,7 @@ left-at-pair-standing-pair-requires t c κs =
     let l = c.before.before in
     let f = l.before.before.before.before in
     let a = f.args in
-    let w = level-there a.level a.pairs a.most l.level-from.result a.loans.now a.index.now a.tree.now l.level-from.ensures.0 f.requires.1.0 in
+    let w = level_there a.level a.pairs a.most l.level-from.result a.loans.now a.index.now a.tree.now l.level-from.ensures.0 f.requires.1.0 in
     omega (arith, w, c.if1.false)
 
 left-at-pair-is-entry-requires : (t : ℕ) → left-at-pair-lts.Need-is-entry-requires (
@@ -386,9 +386,9 @@ left-at-pair-returns-2 t c =
     let g = r.before in
     let l = g.before.before in
     let a = l.before.before.before.before.args in
-    let is = r.standing-pair.ensures ∙ sym (pair-used l.level-from.result a.p a.tree.now _ refl g.if1.false) in
+    let is = r.standing-pair.ensures ∙ sym (pair_used l.level-from.result a.p a.tree.now _ refl g.if1.false) in
     λ u o z.
-    pair-lost (partSettings u a.pairs a.most) (loanPart a.loans.now a.index.now a.tree.now) a.level a.chunk a.offset a.node a.p a.left l.level-from.result (entFrom r.standing-pair.result) i.is-entry.result
+    pair_lost (part_settings u a.pairs a.most) (loan_part a.loans.now a.index.now a.tree.now) a.level a.chunk a.offset a.node a.p a.left l.level-from.result (ent_from r.standing-pair.result) i.is-entry.result
     l.level-from.ensures.0 is i.is-entry.ensures (not_yes _ c.if2.true)
 
 left-at-pair-left-node-requires : (t : ℕ) → left-at-pair-lts.Need-left-node-requires (
@@ -410,7 +410,7 @@ left-at-pair-left-node-requires t c κs =
     let l = g.before.before in
     let f = l.before.before.before.before in
     let a = f.args in
-    let w = level-there a.level a.pairs a.most l.level-from.result a.loans.now a.index.now a.tree.now l.level-from.ensures.0 f.requires.1.0 in
+    let w = level_there a.level a.pairs a.most l.level-from.result a.loans.now a.index.now a.tree.now l.level-from.ensures.0 f.requires.1.0 in
     let h : a.p < 2 ^ 63 = omega (arith, w, g.if1.false, f.well-formed.1.1.1.1.1.1.1.1.1.1.1.0.1) in
     h
 
@@ -431,7 +431,7 @@ left-at-pair-sub-left-at-node : (t : ℕ) → left-at-pair-lts.Need-overflow-sub
 left-at-pair-sub-left-at-node t c =
     let f = c.before in
     let i = f.before in
-    omega (arith, some_left i.before.before.before.before.before.before.before.before.args.left i.is-entry.result (not-no _ f.if2.false))
+    omega (arith, some_left i.before.before.before.before.before.before.before.before.args.left i.is-entry.result (not_no _ f.if2.false))
 
 left-at-pair-left-at-node-requires : (t : ℕ) → left-at-pair-lts.Need-left-at-node-requires (
   level-from-reads.Asked,
@@ -450,7 +450,7 @@ left-at-pair-left-at-node-requires : (t : ℕ) → left-at-pair-lts.Need-left-at
 left-at-pair-left-at-node-requires t c κs =
     let f = c.before.before.before.before.before.before.before.before.before.before in
     let a = f.args in
-    let w = within-lower a.level (a.level + 1) a.pairs a.most a.loans.now a.index.now a.tree.now (omega arith) f.requires.1.0 in
+    let w = within_lower a.level (a.level + 1) a.pairs a.most a.loans.now a.index.now a.tree.now (omega arith) f.requires.1.0 in
     (omega arith, (w, omega arith, omega arith))
 
 left-at-pair-returns-3 : (t : ℕ) → left-at-pair-lts.Need-returns-3 (
@@ -476,11 +476,11 @@ left-at-pair-returns-3 t c =
     let g = r.before in
     let l = g.before.before in
     let a = l.before.before.before.before.args in
-    let is = r.standing-pair.ensures ∙ sym (pair-used l.level-from.result a.p a.tree.now _ refl g.if1.false) in
+    let is = r.standing-pair.ensures ∙ sym (pair_used l.level-from.result a.p a.tree.now _ refl g.if1.false) in
     λ u o z.
-    pair_left (partSettings u a.pairs a.most) (loanPart a.loans.now a.index.now a.tree.now) a.level a.chunk a.offset a.node a.p a.left l.level-from.result (entFrom r.standing-pair.result) i.is-entry.result
+    pair_left (part_settings u a.pairs a.most) (loan_part a.loans.now a.index.now a.tree.now) a.level a.chunk a.offset a.node a.p a.left l.level-from.result (ent_from r.standing-pair.result) i.is-entry.result
     l.level-from.ensures.0 is i.is-entry.ensures
-    k.left-node.result n.left-at-node.result (not-no _ f.if2.false) k.left-node.ensures (n.left-at-node.ensures u o z) c.if3.true
+    k.left-node.result n.left-at-node.result (not_no _ f.if2.false) k.left-node.ensures (n.left-at-node.ensures u o z) c.if3.true
 
 left-at-pair-add-left-at-node : (t : ℕ) → left-at-pair-lts.Need-overflow-add-left-at-node (
   level-from-reads.Asked,
@@ -531,7 +531,7 @@ left-at-pair-left-at-node-requires-2 : (t : ℕ) → left-at-pair-lts.Need-left-
 left-at-pair-left-at-node-requires-2 t c κs =
     let f = c.before.before.before.before.before.before.before.before.before.before.before.before.before in
     let a = f.args in
-    let w = within-lower a.level (a.level + 1) a.pairs a.most a.loans.now a.index.now a.tree.now (omega arith) f.requires.1.0 in
+    let w = within_lower a.level (a.level + 1) a.pairs a.most a.loans.now a.index.now a.tree.now (omega arith) f.requires.1.0 in
     (omega arith, (w, omega arith, omega arith))
 
 left-at-pair-returns-4 : (t : ℕ) → left-at-pair-lts.Need-returns-4 (
@@ -559,11 +559,11 @@ left-at-pair-returns-4 t c =
     let g = r.before in
     let l = g.before.before in
     let a = l.before.before.before.before.args in
-    let is = r.standing-pair.ensures ∙ sym (pair-used l.level-from.result a.p a.tree.now _ refl g.if1.false) in
+    let is = r.standing-pair.ensures ∙ sym (pair_used l.level-from.result a.p a.tree.now _ refl g.if1.false) in
     λ u o z.
-    pair-right (partSettings u a.pairs a.most) (loanPart a.loans.now a.index.now a.tree.now) a.level a.chunk a.offset a.node a.p a.left l.level-from.result (entFrom r.standing-pair.result) i.is-entry.result
+    pair_right (part_settings u a.pairs a.most) (loan_part a.loans.now a.index.now a.tree.now) a.level a.chunk a.offset a.node a.p a.left l.level-from.result (ent_from r.standing-pair.result) i.is-entry.result
     l.level-from.ensures.0 is i.is-entry.ensures
-    k.left-node.result n.left-at-node.result (not-no _ f.if2.false) k.left-node.ensures (n.left-at-node.ensures u o z)
+    k.left-node.result n.left-at-node.result (not_no _ f.if2.false) k.left-node.ensures (n.left-at-node.ensures u o z)
     y.right-node.result a.size c.left-at-node2.result x.if3.false y.right-node.ensures z (c.left-at-node2.ensures u o z)
 
 pub +left-at-node-left-at-pair-spec : {M : Type 1} → statement M

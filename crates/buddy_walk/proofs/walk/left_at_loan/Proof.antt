@@ -1,8 +1,8 @@
 use borrow.Author.Rules.{rules}
 use mathlib.Core.List.{[]}
 use native.Mathlib.Omega.{arith}
-use Rattle.buddy_levels.specs.Seen.{partSettings, loanPart}
-use Rattle.buddy_walk.proofs.Downs.{loan-past, loan-met, loan-lost, some_left}
+use Rattle.buddy_levels.specs.Seen.{part_settings, loan_part}
+use Rattle.buddy_walk.proofs.Downs.{loan_past, loan_met, loan_lost, some_left}
 use Rattle.buddy_walk.proofs.walk.left_at_loan.Statement.{statement}
 use Rattle.buddy_walk.proofs.walk.left_at_loan.Tie as tie
 
@@ -12,7 +12,7 @@ shared-slice-read-if1 c = search rules
 returns : tie.Need-returns
 returns c =
     let a = c.before.before.before.before.args in
-    λ u l o z. loan-past (partSettings u 0 a.most) (loanPart a.loans.now a.index.now []) a.place a.chunk l a.offset a.node a.left c.if1.true
+    λ u l o z. loan_past (part_settings u 0 a.most) (loan_part a.loans.now a.index.now []) a.place a.chunk l a.offset a.node a.left c.if1.true
 
 mul-i : tie.Need-overflow-mul-i
 mul-i c = search rules
@@ -64,7 +64,7 @@ returns-2 c =
     let i = n.before in
     let a = i.before.before.before.before.args in
     λ u l o z.
-    loan-met (partSettings u 0 a.most) (loanPart a.loans.now a.index.now []) a.place a.chunk l a.offset a.node a.left a.size n.Node-at.result
+    loan_met (part_settings u 0 a.most) (loan_part a.loans.now a.index.now []) a.place a.chunk l a.offset a.node a.left a.size n.Node-at.result
     o z i.if1.false n.Node-at.ensures c.if2.true
 
 returns-3 : tie.Need-returns-3
@@ -73,7 +73,7 @@ returns-3 c =
     let i = n.before in
     let a = i.before.before.before.before.args in
     λ u l o z.
-    loan-lost (partSettings u 0 a.most) (loanPart a.loans.now a.index.now []) a.place a.chunk l a.offset a.node a.left a.size n.Node-at.result
+    loan_lost (part_settings u 0 a.most) (loan_part a.loans.now a.index.now []) a.place a.chunk l a.offset a.node a.left a.size n.Node-at.result
     o z i.if1.false n.Node-at.ensures c.if2.false
 
 pub left-at-loan-spec : {M : Type 1} → statement M

@@ -1,6 +1,6 @@
 use borrow.Author.Rules.{rules}
 use Rattle.freelist_rules.specs.Tables.{tables}
-use Rattle.freelist.proofs.Wholes.{asked-whole}
+use Rattle.freelist.proofs.Wholes.{asked_whole}
 use Rattle.freelist.proofs.asks.ask.Statement.{statement}
 use Rattle.freelist.proofs.asks.ask.Tie as tie
 
@@ -30,7 +30,7 @@ returns c =
     let l = c.before.before.before.before.before.before.before.before.before in
     let h = l.before.before.before.before.before in
     let a = h.before.before.before.before.before.before.before.args in
-    asked-whole a.s a.a _ h.share-of.ensures (tables a.head.now a.loans.now a.chunks.now a.index.now a.regions.now) _ a.size a.mask _ _ _ l.ask.ensures c.asked.ensures.0 c.asked.ensures.1
+    asked_whole a.s a.a _ h.share-of.ensures (tables a.head.now a.loans.now a.chunks.now a.index.now a.regions.now) _ a.size a.mask _ _ _ l.ask.ensures c.asked.ensures.0 c.asked.ensures.1
 
 pub ask-spec : {M : Type 1} → statement M
 ask-spec =

@@ -2,7 +2,7 @@ use borrow.Author.Rules.{rules}
 use mathlib.Core.Path.{◌∙◌}
 use Rattle.store_rules.proofs.Holders.{holder}
 use Rattle.freelist_rules.specs.Tables.{tables}
-use Rattle.freelist.proofs.Asking.{ask-ready, ask-done}
+use Rattle.freelist.proofs.Asking.{ask_ready, ask_done}
 use Rattle.freelist.proofs.calls.ask.Statement.{statement}
 use Rattle.freelist.proofs.calls.ask.Tie as tie
 
@@ -13,7 +13,7 @@ carry-ask-requires : tie.Need-carry-ask-requires
 carry-ask-requires c κs =
     let p = c.before.before.before.before in
     let a = p.before.before.before.before.before.before.before.before.before.before.args in
-    ask-ready a.s (holder a.s.store a.share) a.size a.mask (tables a.head.now a.loans.now a.chunks.now a.index.now a.regions.now) p.plan-ask.result p.plan-ask.ensures.0 p.plan-ask.ensures.1
+    ask_ready a.s (holder a.s.store a.share) a.size a.mask (tables a.head.now a.loans.now a.chunks.now a.index.now a.regions.now) p.plan-ask.result p.plan-ask.ensures.0 p.plan-ask.ensures.1
 
 same_length : tie.Need-same-length
 same_length c = search rules
@@ -33,7 +33,7 @@ returns c =
     let p = k.before.before.before.before.before in
     let a = p.before.before.before.before.before.before.before.before.before.before.args in
     k.carry-ask.ensures (holder a.s.store a.share) a.size a.mask p.plan-ask.ensures.1
-    ∙ ask-done a.s (holder a.s.store a.share) a.size a.mask (tables a.head.now a.loans.now a.chunks.now a.index.now a.regions.now) _ p.plan-ask.ensures.0
+    ∙ ask_done a.s (holder a.s.store a.share) a.size a.mask (tables a.head.now a.loans.now a.chunks.now a.index.now a.regions.now) _ p.plan-ask.ensures.0
 
 pub ask-spec : {M : Type 1} → statement M
 ask-spec =

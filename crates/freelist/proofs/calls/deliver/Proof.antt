@@ -2,7 +2,7 @@ use borrow.Author.Rules.{rules}
 use mathlib.Core.Path.{◌∙◌}
 use Rattle.store_rules.proofs.Holders.{holding}
 use Rattle.freelist_rules.specs.Tables.{tables}
-use Rattle.freelist.proofs.Arriving.{deliver-ready, deliver-done}
+use Rattle.freelist.proofs.Arriving.{deliver_ready, deliver_done}
 use Rattle.freelist.proofs.calls.deliver.Statement.{statement}
 use Rattle.freelist.proofs.calls.deliver.Tie as tie
 
@@ -13,7 +13,7 @@ carry-deliver-requires : tie.Need-carry-deliver-requires
 carry-deliver-requires c κs =
     let p = c.before.before.before.before.before in
     let a = p.before.before.before.before.before.before.before.before.before.before.before.args in
-    deliver-ready a.s (holding a.s.store a.share a.order) a.o (tables a.head.now a.loans.now a.chunks.now a.index.now a.regions.now) p.plan-deliver.result p.plan-deliver.ensures.0 p.plan-deliver.ensures.1
+    deliver_ready a.s (holding a.s.store a.share a.order) a.o (tables a.head.now a.loans.now a.chunks.now a.index.now a.regions.now) p.plan-deliver.result p.plan-deliver.ensures.0 p.plan-deliver.ensures.1
 
 same_length : tie.Need-same-length
 same_length c = search rules
@@ -35,7 +35,7 @@ returns c =
     let k = c.before.before.before.before.before.before.before.before.before.before in
     let p = k.before.before.before.before.before.before in
     let a = p.before.before.before.before.before.before.before.before.before.before.before.args in
-    k.carry-deliver.ensures ∙ deliver-done a.s (holding a.s.store a.share a.order) a.o (tables a.head.now a.loans.now a.chunks.now a.index.now a.regions.now) _ p.plan-deliver.ensures.0
+    k.carry-deliver.ensures ∙ deliver_done a.s (holding a.s.store a.share a.order) a.o (tables a.head.now a.loans.now a.chunks.now a.index.now a.regions.now) _ p.plan-deliver.ensures.0
 
 pub deliver-spec : {M : Type 1} → statement M
 deliver-spec =

@@ -2,9 +2,9 @@ use borrow.Author.Rules.{rules}
 use mathlib.Core.Path.{◌∙◌}
 use Prim.Native.Nat.{◌≤◌}
 use native.Mathlib.Omega.{arith}
-use Rattle.counter.specs.Limits.{objectsMost}
+use Rattle.counter.specs.Limits.{objects_most}
 use Rattle.freelist_rules.specs.Tables.{tables}
-use Rattle.freelist.proofs.Returning.{return-ready, return-done}
+use Rattle.freelist.proofs.Returning.{return_ready, return_done}
 use Rattle.freelist.proofs.calls.return_block.Statement.{statement}
 use Rattle.freelist.proofs.calls.return_block.Tie as tie
 
@@ -16,8 +16,8 @@ carry-return-requires c κs =
     let p = c.before.before.before.before.before in
     let b = p.before.before.before.before.before.before.before.before.before.before.before.before in
     let a = b.args in
-    let few : a.share.objects ≤ objectsMost = omega (arith, b.well-formed.1) in
-    return-ready a.s a.share (tables a.head.now a.loans.now a.chunks.now a.index.now a.regions.now) a.list.now few a.b p.plan-return.result p.plan-return.ensures
+    let few : a.share.objects ≤ objects_most = omega (arith, b.well-formed.1) in
+    return_ready a.s a.share (tables a.head.now a.loans.now a.chunks.now a.index.now a.regions.now) a.list.now few a.b p.plan-return.result p.plan-return.ensures
 
 same_length : tie.Need-same-length
 same_length c = search rules
@@ -39,7 +39,7 @@ returns c =
     let k = c.before.before.before.before.before.before.before.before.before.before in
     let p = k.before.before.before.before.before.before in
     let a = p.before.before.before.before.before.before.before.before.before.before.before.before.args in
-    k.carry-return.ensures ∙ return-done a.s a.share (tables a.head.now a.loans.now a.chunks.now a.index.now a.regions.now) a.list.now a.b p.plan-return.result p.plan-return.ensures
+    k.carry-return.ensures ∙ return_done a.s a.share (tables a.head.now a.loans.now a.chunks.now a.index.now a.regions.now) a.list.now a.b p.plan-return.result p.plan-return.ensures
 
 pub return-block-spec : {M : Type 1} → statement M
 return-block-spec =

@@ -4,7 +4,7 @@ use Rattle.freelist_rules.specs.Tables.{tables}
 use Rattle.freelist_decide.specs.Plans.{plan_of, Planned}
 use Rattle.freelist_decide.specs.declared.deciding.Plan.{Plan}
 use Rattle.freelist.specs.Ready.{AskReady}
-use Rattle.freelist.proofs.Asking.{ask-refused, ask-taken, ask-ordered}
+use Rattle.freelist.proofs.Asking.{ask_refused, ask_taken, ask_ordered}
 use Rattle.freelist.proofs.carries.carry_ask.Statement.{statement}
 use Rattle.freelist.proofs.carries.carry_ask.Tie as tie
 
@@ -40,7 +40,7 @@ returns : tie.Need-returns
 returns c =
     let i = c.before.before in
     let a = i.before.before.before.before.before.before.before.args in
-    λ account size mask k. ask-refused a.s size mask a.head.now a.loans.now a.chunks.now a.regions.now a.index.now (plan_of a.plan) account _ _ (ap plan_of i.plan.given.1) c.refuse-ask.ensures
+    λ account size mask k. ask_refused a.s size mask a.head.now a.loans.now a.chunks.now a.regions.now a.index.now (plan_of a.plan) account _ _ (ap plan_of i.plan.given.1) c.refuse-ask.ensures
 
 same_length : tie.Need-same-length
 same_length c = search rules
@@ -58,7 +58,7 @@ returns-2 c =
     let a = i.before.before.before.before.before.before.before.args in
     λ account size mask k.
     let e = subst (λ (p : Plan). Planned a.s size mask (tables a.head.now a.loans.now a.chunks.now a.index.now a.regions.now) p) i.plan2.given.1 k in
-    ask-taken a.s size mask a.head.now a.loans.now a.chunks.now a.regions.now a.index.now (plan_of a.plan) account _ _ _ _ _ _ _ _ (ap plan_of i.plan2.given.1) e.0 e.1 l.lend.ensures.0 l.lend.ensures.1 c.answer-block.ensures
+    ask_taken a.s size mask a.head.now a.loans.now a.chunks.now a.regions.now a.index.now (plan_of a.plan) account _ _ _ _ _ _ _ _ (ap plan_of i.plan2.given.1) e.0 e.1 l.lend.ensures.0 l.lend.ensures.1 c.answer-block.ensures
 
 same-length-4 : tie.Need-same-length-4
 same-length-4 c = search rules
@@ -68,7 +68,7 @@ returns-3 c =
     let r = c.before.before.before in
     let i = r.before.before.before in
     let a = i.before.before.before.before.before.before.before.args in
-    λ account size mask k. ask-ordered a.s size mask a.head.now a.loans.now a.chunks.now a.regions.now a.index.now (plan_of a.plan) account _ _ _ (ap plan_of i.plan3.given.1) r.raise-size.ensures c.answer-order.ensures
+    λ account size mask k. ask_ordered a.s size mask a.head.now a.loans.now a.chunks.now a.regions.now a.index.now (plan_of a.plan) account _ _ _ (ap plan_of i.plan3.given.1) r.raise-size.ensures c.answer-order.ensures
 
 pub carry-ask-spec : {M : Type 1} → statement M
 carry-ask-spec =

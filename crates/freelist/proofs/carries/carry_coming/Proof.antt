@@ -1,10 +1,10 @@
 use borrow.Author.Rules.{rules}
 use mathlib.Core.Path.{ap, subst}
 use Rattle.freelist_rules.specs.Tables.{tables}
-use Rattle.store.specs.Comings.{comingOf}
+use Rattle.store.specs.Comings.{coming_of}
 use Rattle.store.specs.declared.comings.Coming.{Coming}
 use Rattle.freelist.specs.Ready.{ComingReady}
-use Rattle.freelist.proofs.Arriving.{refused-done, went-done, lost-done}
+use Rattle.freelist.proofs.Arriving.{refused_done, went_done, lost_done}
 use Rattle.freelist.proofs.carries.carry_coming.Statement.{statement}
 use Rattle.freelist.proofs.carries.carry_coming.Tie as tie
 
@@ -34,7 +34,7 @@ returns : tie.Need-returns
 returns c =
     let i = c.before.before in
     let a = i.before.before.before.before.before.before.before.args in
-    refused-done a.s a.share a.order (tables a.head.now a.loans.now a.chunks.now a.index.now a.regions.now) (comingOf a.coming) _ _ _ _ (ap comingOf i.coming.given.1) c.refuse-delivery.ensures.0 c.refuse-delivery.ensures.1 c.refuse-delivery.ensures.2
+    refused_done a.s a.share a.order (tables a.head.now a.loans.now a.chunks.now a.index.now a.regions.now) (coming_of a.coming) _ _ _ _ (ap coming_of i.coming.given.1) c.refuse-delivery.ensures.0 c.refuse-delivery.ensures.1 c.refuse-delivery.ensures.2
 
 same_length : tie.Need-same-length
 same_length c = search rules
@@ -56,13 +56,13 @@ returns-2 c =
     let k = c.before.before.before.before.before.before.before.before.before.before in
     let i = k.before.before.before.before.before.before.before.before in
     let a = i.before.before.before.before.before.before.before.args in
-    went-done a.s a.share a.order (tables a.head.now a.loans.now a.chunks.now a.index.now a.regions.now) (comingOf a.coming) _ _ _ _ _ _ (ap comingOf i.coming2.given.1) k.keep-chunk.ensures
+    went_done a.s a.share a.order (tables a.head.now a.loans.now a.chunks.now a.index.now a.regions.now) (coming_of a.coming) _ _ _ _ _ _ (ap coming_of i.coming2.given.1) k.keep-chunk.ensures
 
 returns-3 : tie.Need-returns-3
 returns-3 c =
     let i = c.before.before.before.before in
     let a = i.before.before.before.before.before.before.before.args in
-    lost-done a.s a.share a.order (tables a.head.now a.loans.now a.chunks.now a.index.now a.regions.now) (comingOf a.coming) _ _ _ _ _ _ _ (ap comingOf i.coming3.given.1) c.lose-order.ensures.0 c.lose-order.ensures.1 c.lose-order.ensures.2
+    lost_done a.s a.share a.order (tables a.head.now a.loans.now a.chunks.now a.index.now a.regions.now) (coming_of a.coming) _ _ _ _ _ _ _ (ap coming_of i.coming3.given.1) c.lose-order.ensures.0 c.lose-order.ensures.1 c.lose-order.ensures.2
 
 pub carry-coming-spec : {M : Type 1} → statement M
 carry-coming-spec =

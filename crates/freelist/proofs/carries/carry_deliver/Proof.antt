@@ -2,11 +2,11 @@ use borrow.Author.Rules.{rules}
 use mathlib.Core.Path.{sym, ap, subst, ◌∙◌}
 use Rattle.store_rules.proofs.Holders.{holding}
 use Rattle.freelist_rules.specs.Tables.{tables}
-use Rattle.freelist_outcomes.specs.Deliver.{carryDeliver}
-use Rattle.freelist.specs.Deliveries.{deliveryOf}
+use Rattle.freelist_outcomes.specs.Deliver.{carry_deliver}
+use Rattle.freelist.specs.Deliveries.{delivery_of}
 use Rattle.freelist.specs.Ready.{DeliverReady}
 use Rattle.freelist.specs.declared.plans.Delivery.{Delivery}
-use Rattle.freelist.proofs.Arriving.{refused-done}
+use Rattle.freelist.proofs.Arriving.{refused_done}
 use Rattle.freelist.proofs.carries.carry_deliver.Statement.{statement}
 use Rattle.freelist.proofs.carries.carry_deliver.Tie as tie
 
@@ -30,7 +30,7 @@ returns : tie.Need-returns
 returns c =
     let i = c.before.before in
     let a = i.before.before.before.before.before.before.before.args in
-    refused-done a.s a.share a.order (tables a.head.now a.loans.now a.chunks.now a.index.now a.regions.now) (deliveryOf a.plan) _ _ _ _ (ap deliveryOf i.plan.given.1) c.refuse-delivery.ensures.0 c.refuse-delivery.ensures.1 c.refuse-delivery.ensures.2
+    refused_done a.s a.share a.order (tables a.head.now a.loans.now a.chunks.now a.index.now a.regions.now) (delivery_of a.plan) _ _ _ _ (ap delivery_of i.plan.given.1) c.refuse-delivery.ensures.0 c.refuse-delivery.ensures.1 c.refuse-delivery.ensures.2
 
 same_length : tie.Need-same-length
 same_length c = search rules
@@ -52,7 +52,7 @@ returns-2 c =
     let k = c.before.before.before.before.before.before.before.before.before.before in
     let i = k.before.before.before.before.before.before.before in
     let a = i.before.before.before.before.before.before.before.args in
-    k.carry-coming.ensures ∙ ap (λ (x : Delivery). carryDeliver a.s (holding a.s.store a.share a.order) (tables a.head.now a.loans.now a.chunks.now a.index.now a.regions.now) (deliveryOf x)) (sym i.plan2.given.1)
+    k.carry-coming.ensures ∙ ap (λ (x : Delivery). carry_deliver a.s (holding a.s.store a.share a.order) (tables a.head.now a.loans.now a.chunks.now a.index.now a.regions.now) (delivery_of x)) (sym i.plan2.given.1)
 
 pub carry-deliver-spec : {M : Type 1} → statement M
 carry-deliver-spec =

@@ -4,7 +4,7 @@ use Rattle.store_rules.proofs.Holders.{holder}
 use Rattle.freelist_rules.specs.Tables.{tables}
 use Rattle.returning.specs.declared.Back.{Back}
 use Rattle.freelist.specs.Ready.{ReturnReady}
-use Rattle.freelist.proofs.Returning.{return_refused, return-taken, takes-few, with-head}
+use Rattle.freelist.proofs.Returning.{return_refused, return_taken, takes_few, with_head}
 use Rattle.freelist.proofs.carries.carry_return.Statement.{statement}
 use Rattle.freelist.proofs.carries.carry_return.Tie as tie
 
@@ -23,7 +23,7 @@ take-in-requires c κs =
     let b = i.before.before.before.before.before.before.before.before in
     let a = b.args in
     let t = tables a.head.now a.loans.now a.chunks.now a.index.now a.regions.now in
-    takes-few a.s a.share.objects a.b _ t a.list.now (subst (λ (x : Back). ReturnReady a.s a.share.objects a.b t a.list.now x) i.plan2.given.1 b.requires)
+    takes_few a.s a.share.objects a.b _ t a.list.now (subst (λ (x : Back). ReturnReady a.s a.share.objects a.b t a.list.now x) i.plan2.given.1 b.requires)
 
 returns : tie.Need-returns
 returns c =
@@ -51,8 +51,8 @@ returns-2 c =
     let k = c.before.before.before.before.before.before.before.before.before.before in
     let i = k.before.before.before.before.before.before.before in
     let a = i.before.before.before.before.before.before.before.before.args in
-    return-taken a.s a.share (tables a.head.now a.loans.now a.chunks.now a.index.now a.regions.now) a.list.now a.b a.plan _ _ _ i.plan2.given.1 refl
-    (with-head a.s (holder a.s.store a.share) a.b _ _ _ a.head.now a.loans.now a.chunks.now a.index.now a.regions.now a.list.now _ _ _ _ _ k.take_in.ensures)
+    return_taken a.s a.share (tables a.head.now a.loans.now a.chunks.now a.index.now a.regions.now) a.list.now a.b a.plan _ _ _ i.plan2.given.1 refl
+    (with_head a.s (holder a.s.store a.share) a.b _ _ _ a.head.now a.loans.now a.chunks.now a.index.now a.regions.now a.list.now _ _ _ _ _ k.take_in.ensures)
 
 pub carry-return-spec : {M : Type 1} → statement M
 carry-return-spec =

@@ -1,10 +1,10 @@
 use borrow.Author.Rules.{rules}
 use mathlib.Core.Path.{refl, ap, subst}
-use Rattle.counter.specs.Gate.{verdictOf}
+use Rattle.counter.specs.Gate.{verdict_of}
 use Rattle.counter.specs.declared.refusal.Gate.{Gate}
 use Rattle.freelist_rules.specs.Tables.{tables}
 use Rattle.freelist.specs.Ready.{SetUpReady}
-use Rattle.freelist.proofs.Fresh.{refused-done, fresh-done}
+use Rattle.freelist.proofs.Fresh.{refused_done, fresh_done}
 use Rattle.freelist.proofs.carries.carry_set_up.Statement.{statement}
 use Rattle.freelist.proofs.carries.carry_set_up.Tie as tie
 
@@ -25,7 +25,7 @@ returns : tie.Need-returns
 returns c =
     let i = c.before in
     let a = i.before.before.before.before.before.before.before.args in
-    refused-done a.s (tables a.head.now a.loans.now a.chunks.now a.index.now a.regions.now) (verdictOf a.plan) _ _ (ap verdictOf i.plan.given.1) refl
+    refused_done a.s (tables a.head.now a.loans.now a.chunks.now a.index.now a.regions.now) (verdict_of a.plan) _ _ (ap verdict_of i.plan.given.1) refl
 
 same_length : tie.Need-same-length
 same_length c = search rules
@@ -47,7 +47,7 @@ returns-2 c =
     let f = c.before.before.before.before.before.before.before.before.before.before in
     let e = f.before.before.before.before.before.before in
     let a = e.before.before.before.before.before.before.before.args in
-    fresh-done a.s (tables a.head.now a.loans.now a.chunks.now a.index.now a.regions.now) (verdictOf a.plan) _ _ (ap verdictOf e.enum_told.given.1) f.fresh.ensures refl
+    fresh_done a.s (tables a.head.now a.loans.now a.chunks.now a.index.now a.regions.now) (verdict_of a.plan) _ _ (ap verdict_of e.enum_told.given.1) f.fresh.ensures refl
 
 pub carry-set-up-spec : {M : Type 1} → statement M
 carry-set-up-spec =

@@ -1,5 +1,5 @@
 use borrow.Author.Rules.{rules}
-use Rattle.freelist.proofs.Arriving.{lends-now, kept-done}
+use Rattle.freelist.proofs.Arriving.{lends_now, kept_done}
 use Rattle.freelist.proofs.carries.keep_chunk.Statement.{statement}
 use Rattle.freelist.proofs.carries.keep_chunk.Tie as tie
 
@@ -29,7 +29,7 @@ lend-requires c κs =
     let n = u.before.before.before in
     let b = n.before.before.before.before.before.before.before.before.before.before in
     let a = b.args in
-    lends-now a.s a.share a.k a.memory a.b a.head.now a.loans.now a.chunks.now a.regions.now a.index.now b.requires _ _ _ _ _ n.region-count.ensures u.lower-to-unit.ensures d.add-chunk.ensures
+    lends_now a.s a.share a.k a.memory a.b a.head.now a.loans.now a.chunks.now a.regions.now a.index.now b.requires _ _ _ _ _ n.region-count.ensures u.lower-to-unit.ensures d.add-chunk.ensures
 
 deliver-block-requires : tie.Need-deliver-block-requires
 deliver-block-requires c κs = search rules
@@ -58,7 +58,7 @@ returns c =
     let n = u.before.before.before in
     let b = n.before.before.before.before.before.before.before.before.before.before in
     let a = b.args in
-    kept-done a.s a.share a.k a.memory a.b a.head.now a.loans.now a.chunks.now a.regions.now a.index.now b.requires _ _ _ _ _ _ _ _ _ _ _ _ _ n.region-count.ensures u.lower-to-unit.ensures g.charged.ensures d.add-chunk.ensures l.lend.ensures.0 l.lend.ensures.1 c.deliver-block.ensures.0 c.deliver-block.ensures.1 c.deliver-block.ensures.2
+    kept_done a.s a.share a.k a.memory a.b a.head.now a.loans.now a.chunks.now a.regions.now a.index.now b.requires _ _ _ _ _ _ _ _ _ _ _ _ _ n.region-count.ensures u.lower-to-unit.ensures g.charged.ensures d.add-chunk.ensures l.lend.ensures.0 l.lend.ensures.1 c.deliver-block.ensures.0 c.deliver-block.ensures.1 c.deliver-block.ensures.2
 
 pub keep-chunk-spec : {M : Type 1} → statement M
 keep-chunk-spec =

@@ -2,7 +2,7 @@ use borrow.Author.Rules.{rules}
 use mathlib.Core.Bool.{true}
 use native.Mathlib.Omega.{arith}
 use Rattle.store_rules.proofs.Holders.{holder}
-use Rattle.freelist.proofs.Returning.{let-go-done, releases-now, taken_in}
+use Rattle.freelist.proofs.Returning.{let_go_done, releases_now, taken_in}
 use Rattle.freelist.proofs.carries.take_in.Statement.{statement}
 use Rattle.freelist.proofs.carries.take_in.Tie as tie
 
@@ -16,7 +16,7 @@ release-requires c κs =
     let k = c.before.before.before.before.before.before.before.before.before in
     let b = k.before.before.before.before.before.before.before.before.before.before in
     let a = b.args in
-    (releases-now a.s (holder a.s.store a.share) a.b a.at a.loans.now a.chunks.now a.regions.now a.index.now _ _ _ k.take_back.ensures a.share.objects a.list.now b.requires.releases).0
+    (releases_now a.s (holder a.s.store a.share) a.b a.at a.loans.now a.chunks.now a.regions.now a.index.now _ _ _ k.take_back.ensures a.share.objects a.list.now b.requires.releases).0
 
 settle-requires : tie.Need-settle-requires
 settle-requires c κs =
@@ -24,7 +24,7 @@ settle-requires c κs =
     let k = r.before.before.before.before.before.before.before.before.before.before in
     let b = k.before.before.before.before.before.before.before.before.before.before in
     let a = b.args in
-    let few = (releases-now a.s (holder a.s.store a.share) a.b a.at a.loans.now a.chunks.now a.regions.now a.index.now _ _ _ k.take_back.ensures a.share.objects a.list.now b.requires.releases).1 in
+    let few = (releases_now a.s (holder a.s.store a.share) a.b a.at a.loans.now a.chunks.now a.regions.now a.index.now _ _ _ k.take_back.ensures a.share.objects a.list.now b.requires.releases).1 in
     omega (arith, few, r.release.ensures.0)
 
 same_length : tie.Need-same-length
@@ -49,7 +49,7 @@ returns c =
     let a = k.before.before.before.before.before.before.before.before.before.before.args in
     let e = r.release.ensures in
     taken_in a.s (holder a.s.store a.share) a.b a.at a.loans.now a.chunks.now a.regions.now a.index.now _ _ _ k.take_back.ensures a.list.now _ _ _ _ _
-    (let-go-done a.s a.share true _ _ a.list.now _ _ _ _ _ _ _ e.0 e.1.0 e.1.1.0 e.1.1.1 c.settle.ensures.0 c.settle.ensures.1)
+    (let_go_done a.s a.share true _ _ a.list.now _ _ _ _ _ _ _ e.0 e.1.0 e.1.1.0 e.1.1.1 c.settle.ensures.0 c.settle.ensures.1)
 
 pub take-in-spec : {M : Type 1} → statement M
 take-in-spec =

@@ -1,6 +1,6 @@
 use borrow.Author.Rules.{rules}
 use Rattle.freelist_rules.specs.Tables.{tables}
-use Rattle.freelist.proofs.Wholes.{delivered-whole}
+use Rattle.freelist.proofs.Wholes.{delivered_whole}
 use Rattle.freelist.proofs.deliveries.deliver.Statement.{statement}
 use Rattle.freelist.proofs.deliveries.deliver.Tie as tie
 
@@ -33,7 +33,7 @@ returns c =
     let l = c.before.before.before.before.before.before.before.before.before.before.before in
     let h = l.before.before.before.before.before.before in
     let a = h.before.before.before.before.before.before.before.args in
-    delivered-whole a.s a.a _ h.share-of.ensures (tables a.head.now a.loans.now a.chunks.now a.index.now a.regions.now) _ a.o _ _ _ l.deliver.ensures c.delivered.ensures.0 c.delivered.ensures.1
+    delivered_whole a.s a.a _ h.share-of.ensures (tables a.head.now a.loans.now a.chunks.now a.index.now a.regions.now) _ a.o _ _ _ l.deliver.ensures c.delivered.ensures.0 c.delivered.ensures.1
 
 pub deliver-spec : {M : Type 1} → statement M
 deliver-spec =

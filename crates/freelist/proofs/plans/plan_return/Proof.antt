@@ -1,12 +1,12 @@
 use borrow.Author.Rules.{rules}
 use mathlib.Core.Path.{sym, ap, ◌∙◌}
-use Rattle.counter.specs.Gate.{verdictOf}
-use Rattle.store_rules.specs.Outcomes.{listOk}
+use Rattle.counter.specs.Gate.{verdict_of}
+use Rattle.store_rules.specs.Outcomes.{list_ok}
 use Rattle.store_rules.proofs.Holders.{holder}
 use Rattle.freelist_rules.specs.Tables.{tables}
-use Rattle.freelist_outcomes.proofs.Passing.{gate-passed}
-use Rattle.freelist_decide.proofs.Seeing.{book-reads}
-use Rattle.freelist.proofs.Planned.{return-shut, return-go}
+use Rattle.freelist_outcomes.proofs.Passing.{gate_passed}
+use Rattle.freelist_decide.proofs.Seeing.{book_reads}
+use Rattle.freelist.proofs.Planned.{return_shut, return_go}
 use Rattle.freelist.proofs.plans.plan_return.Statement.{statement}
 use Rattle.freelist.proofs.plans.plan_return.Tie as tie
 
@@ -24,21 +24,21 @@ decide-return-requires c κs =
     let g = c.before.before in
     let a = g.before.before.before.before.before.before.before.before.before.args in
     let t = tables a.head.now a.loans.now a.chunks.now a.index.now a.regions.now in
-    let p = gate-passed a.s (holder a.s.store a.share) t (listOk a.s.store a.list.now) (sym (ap verdictOf c.enum_told.given.1) ∙ g.gate.ensures) in
-    book-reads a.s t p.settings p.lengths p.sound
+    let p = gate_passed a.s (holder a.s.store a.share) t (list_ok a.s.store a.list.now) (sym (ap verdict_of c.enum_told.given.1) ∙ g.gate.ensures) in
+    book_reads a.s t p.settings p.lengths p.sound
 
 returns : tie.Need-returns
 returns c =
     let g = c.before.before.before in
     let a = g.before.before.before.before.before.before.before.before.before.args in
-    return-shut a.s (holder a.s.store a.share) a.b (tables a.head.now a.loans.now a.chunks.now a.index.now a.regions.now) (listOk a.s.store a.list.now) _ (sym (ap verdictOf c.before.g.given.1) ∙ g.gate.ensures)
+    return_shut a.s (holder a.s.store a.share) a.b (tables a.head.now a.loans.now a.chunks.now a.index.now a.regions.now) (list_ok a.s.store a.list.now) _ (sym (ap verdict_of c.before.g.given.1) ∙ g.gate.ensures)
 
 returns-2 : tie.Need-returns-2
 returns-2 c =
     let e = c.before in
     let g = e.before.before in
     let a = g.before.before.before.before.before.before.before.before.before.args in
-    return-go a.s (holder a.s.store a.share) a.b (tables a.head.now a.loans.now a.chunks.now a.index.now a.regions.now) (listOk a.s.store a.list.now) _ (sym (ap verdictOf e.enum_told.given.1) ∙ g.gate.ensures) c.decide-return.ensures
+    return_go a.s (holder a.s.store a.share) a.b (tables a.head.now a.loans.now a.chunks.now a.index.now a.regions.now) (list_ok a.s.store a.list.now) _ (sym (ap verdict_of e.enum_told.given.1) ∙ g.gate.ensures) c.decide-return.ensures
 
 pub plan-return-spec : {M : Type 1} → statement M
 plan-return-spec =

@@ -1,6 +1,6 @@
 use borrow.Author.Rules.{rules}
 use Rattle.freelist_rules.specs.Tables.{tables}
-use Rattle.freelist.proofs.Wholes.{cleaned-whole}
+use Rattle.freelist.proofs.Wholes.{cleaned_whole}
 use Rattle.freelist.proofs.returns.clean_up.Statement.{statement}
 use Rattle.freelist.proofs.returns.clean_up.Tie as tie
 
@@ -27,7 +27,7 @@ returns c =
     let l = c.before.before.before.before.before.before.before in
     let h = l.before.before.before.before in
     let a = h.before.before.before.before.before.before.before.before.args in
-    cleaned-whole a.s a.a _ h.share-of.ensures (tables a.head.now a.loans.now a.chunks.now a.index.now a.regions.now) _ a.list.now _ _ _ _ c.released.ensures.0 c.released.ensures.1 l.clean-up.ensures
+    cleaned_whole a.s a.a _ h.share-of.ensures (tables a.head.now a.loans.now a.chunks.now a.index.now a.regions.now) _ a.list.now _ _ _ _ c.released.ensures.0 c.released.ensures.1 l.clean-up.ensures
 
 pub clean-up-spec : {M : Type 1} → statement M
 clean-up-spec =

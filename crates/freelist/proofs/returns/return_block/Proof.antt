@@ -1,6 +1,6 @@
 use borrow.Author.Rules.{rules}
 use Rattle.freelist_rules.specs.Tables.{tables}
-use Rattle.freelist.proofs.Wholes.{returned-whole}
+use Rattle.freelist.proofs.Wholes.{returned_whole}
 use Rattle.freelist.proofs.returns.return_block.Statement.{statement}
 use Rattle.freelist.proofs.returns.return_block.Tie as tie
 
@@ -33,7 +33,7 @@ returns c =
     let l = c.before.before.before.before.before.before.before.before.before.before.before in
     let h = l.before.before.before.before.before.before in
     let a = h.before.before.before.before.before.before.before.before.args in
-    returned-whole a.s a.a _ h.share-of.ensures (tables a.head.now a.loans.now a.chunks.now a.index.now a.regions.now) _ a.list.now _ _ _ _ c.released.ensures.0 c.released.ensures.1 a.b l.return-block.ensures
+    returned_whole a.s a.a _ h.share-of.ensures (tables a.head.now a.loans.now a.chunks.now a.index.now a.regions.now) _ a.list.now _ _ _ _ c.released.ensures.0 c.released.ensures.1 a.b l.return-block.ensures
 
 pub return-block-spec : {M : Type 1} → statement M
 return-block-spec =

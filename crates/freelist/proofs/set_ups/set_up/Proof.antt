@@ -1,7 +1,7 @@
 use borrow.Author.Rules.{rules}
 use mathlib.Core.Path.{◌∙◌}
 use Rattle.freelist_rules.specs.Tables.{tables}
-use Rattle.freelist.proofs.Fresh.{set-up-ready, set-up-done}
+use Rattle.freelist.proofs.Fresh.{set_up_ready, set_up_done}
 use Rattle.freelist.proofs.set_ups.set_up.Statement.{statement}
 use Rattle.freelist.proofs.set_ups.set_up.Tie as tie
 
@@ -12,7 +12,7 @@ carry-set-up-requires : tie.Need-carry-set-up-requires
 carry-set-up-requires c κs =
     let p = c.before.before.before.before.before in
     let a = p.before.before.before.before.before.before.before.before.before.before.before.args in
-    set-up-ready a.s (tables a.head.now a.loans.now a.chunks.now a.index.now a.regions.now) p.plan-set-up.result p.plan-set-up.ensures
+    set_up_ready a.s (tables a.head.now a.loans.now a.chunks.now a.index.now a.regions.now) p.plan-set-up.result p.plan-set-up.ensures
 
 same_length : tie.Need-same-length
 same_length c = search rules
@@ -34,7 +34,7 @@ returns c =
     let k = c.before.before.before.before.before.before.before.before.before.before in
     let p = k.before.before.before.before.before.before in
     let a = p.before.before.before.before.before.before.before.before.before.before.before.args in
-    k.carry-set-up.ensures ∙ set-up-done a.s (tables a.head.now a.loans.now a.chunks.now a.index.now a.regions.now) _ p.plan-set-up.ensures
+    k.carry-set-up.ensures ∙ set_up_done a.s (tables a.head.now a.loans.now a.chunks.now a.index.now a.regions.now) _ p.plan-set-up.ensures
 
 pub set-up-spec : {M : Type 1} → statement M
 set-up-spec =

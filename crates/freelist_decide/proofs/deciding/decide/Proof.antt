@@ -1,12 +1,12 @@
 use borrow.Author.Rules.{rules}
 use mathlib.Core.Path.{sym, ap, ◌∙◌}
 use native.Mathlib.Omega.{arith}
-use Rattle.lists.proofs.Bools.{not_yes, not-no}
-use Rattle.counter.proofs.Tables.{alignment-yes}
-use Rattle.freelist_regions.specs.Found.{foundOf}
-use Rattle.freelist_regions.proofs.Asking.{both-ones}
-use Rattle.freelist_outcomes.proofs.Plans.{size-most}
-use Rattle.freelist_decide.proofs.Tests.{found-is, start_is, carried-is, decide-mask, decide-size, decide-at, decide-nowhere}
+use Rattle.lists.proofs.Bools.{not_yes, not_no}
+use Rattle.counter.proofs.Tables.{alignment_yes}
+use Rattle.freelist_regions.specs.Found.{found_of}
+use Rattle.freelist_regions.proofs.Asking.{both_ones}
+use Rattle.freelist_outcomes.proofs.Plans.{size_most_lem}
+use Rattle.freelist_decide.proofs.Tests.{found_is, start_is, carried_is, decide_mask, decide_size, decide_at, decide_nowhere}
 use Rattle.freelist_decide.proofs.deciding.decide.Statement.{statement}
 use Rattle.freelist_decide.proofs.deciding.decide.Tie as tie
 
@@ -17,7 +17,7 @@ returns : tie.Need-returns
 returns c =
     let m = c.before in
     let a = m.before.before.before.before.before.before.args in
-    (decide-mask a.s a.h a.objects a.size a.mask a.head.now a.loans.now a.chunks.now a.index.now a.regions.now (sym m.is-alignment.ensures ∙ not_yes _ c.if1.true), tt)
+    (decide_mask a.s a.h a.objects a.size a.mask a.head.now a.loans.now a.chunks.now a.index.now a.regions.now (sym m.is-alignment.ensures ∙ not_yes _ c.if1.true), tt)
 
 is-size-requires : tie.Need-is-size-requires
 is-size-requires c κs = search rules
@@ -27,19 +27,19 @@ returns-2 c =
     let z = c.before in
     let m = z.before.before in
     let a = m.before.before.before.before.before.before.args in
-    (decide-size a.s a.h a.objects a.size a.mask a.head.now a.loans.now a.chunks.now a.index.now a.regions.now (sym m.is-alignment.ensures ∙ not-no _ z.before.if1.false) (sym z.is-size.ensures ∙ not_yes _ c.if2.true), tt)
+    (decide_size a.s a.h a.objects a.size a.mask a.head.now a.loans.now a.chunks.now a.index.now a.regions.now (sym m.is-alignment.ensures ∙ not_no _ z.before.if1.false) (sym z.is-size.ensures ∙ not_yes _ c.if2.true), tt)
 
 size-for-requires : tie.Need-size-for-requires
 size-for-requires c κs =
     let z = c.before in
     let b = z.before.before.before.before.before.before.before.before in
-    (b.requires.0.settings, size-most b.args.s b.args.size (sym z.is-size.ensures ∙ not-no _ c.if2.false))
+    (b.requires.0.settings, size_most_lem b.args.s b.args.size (sym z.is-size.ensures ∙ not_no _ c.if2.false))
 
 mask-for-requires : tie.Need-mask-for-requires
 mask-for-requires c κs =
     let m = c.before.before.before.before in
     let b = m.before.before.before.before.before.before in
-    (b.requires.0.settings, alignment-yes b.args.mask (sym m.is-alignment.ensures ∙ not-no _ c.before.before.before.if1.false))
+    (b.requires.0.settings, alignment_yes b.args.mask (sym m.is-alignment.ensures ∙ not_no _ c.before.before.before.if1.false))
 
 region-count-requires : tie.Need-region-count-requires
 region-count-requires c κs = search rules
@@ -48,7 +48,7 @@ find-fit-requires : tie.Need-find-fit-requires
 find-fit-requires c κs =
     let m = c.before.before.before.before.before.before in
     let b = m.before.before.before.before.before.before in
-    (both-ones b.args.s b.requires.0.settings b.args.mask _ (alignment-yes b.args.mask (sym m.is-alignment.ensures ∙ not-no _ c.before.before.before.before.before.if1.false)) c.before.mask-for.ensures, omega (arith, c.region-count.ensures, b.requires.0.long, b.requires.0.count))
+    (both_ones b.args.s b.requires.0.settings b.args.mask _ (alignment_yes b.args.mask (sym m.is-alignment.ensures ∙ not_no _ c.before.before.before.before.before.if1.false)) c.before.mask-for.ensures, omega (arith, c.region-count.ensures, b.requires.0.long, b.requires.0.count))
 
 enum-known-found : tie.Need-enum-known-found
 enum-known-found c = search rules
@@ -74,9 +74,9 @@ returns-3 c =
     let g = z.before.before in
     let b = g.before.before.before.before.before.before in
     let a = b.args in
-    let found = found-is a.s a.h a.objects a.size a.mask a.head.now a.loans.now a.chunks.now a.index.now a.regions.now (foundOf f.find-fit.result) _ _ _ f.find-fit.ensures.0 m.mask-for.ensures n.size_for_lem.ensures k.region-count.ensures in
+    let found = found_is a.s a.h a.objects a.size a.mask a.head.now a.loans.now a.chunks.now a.index.now a.regions.now (found_of f.find-fit.result) _ _ _ f.find-fit.ensures.0 m.mask-for.ensures n.size_for_lem.ensures k.region-count.ensures in
     let starts = start_is a.s a.h a.objects a.size a.mask a.head.now a.loans.now a.chunks.now a.index.now a.regions.now _ _ _ _ _ _ c.before.before.found.given.1 f.find-fit.ensures.1 m.mask-for.ensures n.size_for_lem.ensures k.region-count.ensures in
-    (decide-at a.s a.h a.objects a.size a.mask a.head.now a.loans.now a.chunks.now a.index.now a.regions.now _ _ (sym g.is-alignment.ensures ∙ not-no _ z.before.if1.false) (sym z.is-size.ensures ∙ not-no _ n.before.if2.false) (sym (ap foundOf c.before.before.found.given.1) ∙ found) c.decide-take.ensures.0, c.decide-take.ensures.1 _ _ _ starts)
+    (decide_at a.s a.h a.objects a.size a.mask a.head.now a.loans.now a.chunks.now a.index.now a.regions.now _ _ (sym g.is-alignment.ensures ∙ not_no _ z.before.if1.false) (sym z.is-size.ensures ∙ not_no _ n.before.if2.false) (sym (ap found_of c.before.before.found.given.1) ∙ found) c.decide-take.ensures.0, c.decide-take.ensures.1 _ _ _ starts)
 
 returns-4 : tie.Need-returns-4
 returns-4 c =
@@ -88,8 +88,8 @@ returns-4 c =
     let g = z.before.before in
     let b = g.before.before.before.before.before.before in
     let a = b.args in
-    let found = found-is a.s a.h a.objects a.size a.mask a.head.now a.loans.now a.chunks.now a.index.now a.regions.now (foundOf f.find-fit.result) _ _ _ f.find-fit.ensures.0 m.mask-for.ensures n.size_for_lem.ensures k.region-count.ensures in
-    (decide-nowhere a.s a.h a.objects a.size a.mask a.head.now a.loans.now a.chunks.now a.index.now a.regions.now _ (sym g.is-alignment.ensures ∙ not-no _ z.before.if1.false) (sym z.is-size.ensures ∙ not-no _ n.before.if2.false) (sym (ap foundOf c.before.enum_told.given.1) ∙ found) (c.decide-buy.ensures.0 a.size n.size_for_lem.ensures), carried-is a.s a.h a.objects a.size a.mask a.head.now a.loans.now a.chunks.now a.index.now a.regions.now c.decide-buy.result _ _ m.mask-for.ensures n.size_for_lem.ensures c.decide-buy.ensures.1)
+    let found = found_is a.s a.h a.objects a.size a.mask a.head.now a.loans.now a.chunks.now a.index.now a.regions.now (found_of f.find-fit.result) _ _ _ f.find-fit.ensures.0 m.mask-for.ensures n.size_for_lem.ensures k.region-count.ensures in
+    (decide_nowhere a.s a.h a.objects a.size a.mask a.head.now a.loans.now a.chunks.now a.index.now a.regions.now _ (sym g.is-alignment.ensures ∙ not_no _ z.before.if1.false) (sym z.is-size.ensures ∙ not_no _ n.before.if2.false) (sym (ap found_of c.before.enum_told.given.1) ∙ found) (c.decide-buy.ensures.0 a.size n.size_for_lem.ensures), carried_is a.s a.h a.objects a.size a.mask a.head.now a.loans.now a.chunks.now a.index.now a.regions.now c.decide-buy.result _ _ m.mask-for.ensures n.size_for_lem.ensures c.decide-buy.ensures.1)
 
 pub decide-spec : {M : Type 1} → statement M
 decide-spec =

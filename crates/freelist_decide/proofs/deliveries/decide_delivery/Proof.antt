@@ -3,11 +3,11 @@ use mathlib.Core.Path.{ap, ◌∙◌}
 use mathlib.Core.Bool.{Bool}
 use lib.ListN.{get_or}
 use Rattle.words.specs.Rows.{rows}
-use Rattle.store_rules.specs.Delivery.{freeList}
+use Rattle.store_rules.specs.Delivery.{free_list}
 use Rattle.store.specs.Comings.{comes}
-use Rattle.store.proofs.Coming.{comes-is}
-use Rattle.freelist_rules.specs.Records.{chunkRow}
-use Rattle.freelist_rules.specs.Tables.{chunksAt}
+use Rattle.store.proofs.Coming.{comes_is}
+use Rattle.freelist_rules.specs.Records.{chunk_row}
+use Rattle.freelist_rules.specs.Tables.{chunks_at}
 use Rattle.freelist_rules.specs.Walk.{memories}
 use Rattle.freelist_decide.proofs.deliveries.decide_delivery.Statement.{statement}
 use Rattle.freelist_decide.proofs.deliveries.decide_delivery.Tie as tie
@@ -23,8 +23,8 @@ returns c =
     let k = c.before in
     let a = k.before.before.args in
     c.come.ensures
-    ∙ ap (λ (b : Bool). comes freeList a.o b a.order) k.is_Known.ensures
-    ∙ comes-is freeList a.o (memories (rows chunkRow (get_or a.chunks.now chunksAt 0) a.chunks.now)) a.order
+    ∙ ap (λ (b : Bool). comes free_list a.o b a.order) k.is_Known.ensures
+    ∙ comes_is free_list a.o (memories (rows chunk_row (get_or a.chunks.now chunks_at 0) a.chunks.now)) a.order
 
 pub decide-delivery-spec : {M : Type 1} → statement M
 decide-delivery-spec = tie.close (tie.spec is-known-requires come-requires returns)

@@ -4,14 +4,14 @@ use Prim.Native.Nat.{ℕ, ◌-◌, ◌≤◌}
 use native.Mathlib.Omega.{arith}
 use Rattle.words.specs.Rows.{rows}
 use Rattle.store_rules.specs.Delivery.{holds}
-use Rattle.freelist_rules.specs.Records.{chunkRow}
+use Rattle.freelist_rules.specs.Records.{chunk_row}
 use Rattle.freelist_rules.specs.Walk.{memories}
 use Rattle.freelist_decide.proofs.Holding.{held_next}
 use Rattle.freelist_decide.proofs.deliveries.is_held.Statement.{statement}
 use Rattle.freelist_decide.proofs.deliveries.is_held.Tie as tie
 
 abbrev invariant-loop : tie.invariant-loop
-invariant-loop chunks k memory held₀ i₀ held i = (i ≤ k) × (held ≡ holds memory (memories (rows chunkRow i chunks)))
+invariant-loop chunks k memory held₀ i₀ held i = (i ≤ k) × (held ≡ holds memory (memories (rows chunk_row i chunks)))
 
 abbrev decreases-loop : tie.decreases-loop
 decreases-loop chunks k memory held₀ i₀ held i = k - i
@@ -39,7 +39,7 @@ returns c =
     let l = c.before in
     let a = l.before.before.args in
     let e : l.loop.i ≡ a.k = omega (arith, l.loop.invariant.0) in
-    l.loop.invariant.1 ∙ ap (λ (i : ℕ). holds a.memory (memories (rows chunkRow i a.chunks.now))) e
+    l.loop.invariant.1 ∙ ap (λ (i : ℕ). holds a.memory (memories (rows chunk_row i a.chunks.now))) e
 
 pub is-held-spec : {M : Type 1} → statement M
 is-held-spec =

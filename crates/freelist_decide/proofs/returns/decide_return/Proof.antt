@@ -1,7 +1,7 @@
 use mathlib.Core.Path.{refl}
 use mathlib.Core.List.{[]}
 use Rattle.freelist_rules.specs.Tables.{tables}
-use Rattle.freelist_decide.proofs.Few.{return-is}
+use Rattle.freelist_decide.proofs.Few.{return_is}
 use borrow.Author.Rules.{rules}
 use Rattle.freelist_decide.proofs.returns.decide_return.Statement.{statement}
 use Rattle.freelist_decide.proofs.returns.decide_return.Tie as tie
@@ -15,7 +15,7 @@ decide-requires c κs = search rules
 returns : tie.Need-returns
 returns c =
     let a = c.before.before.before.before.before.args in
-    return-is a.s a.b (tables [] a.loans.now [] a.index.now []) _ _ refl c.decide.ensures
+    return_is a.s a.b (tables [] a.loans.now [] a.index.now []) _ _ refl c.decide.ensures
 
 pub decide-return-spec : {M : Type 1} → statement M
 decide-return-spec = tie.close (tie.spec shared-slice-read-places decide-requires returns)

@@ -1,6 +1,6 @@
 use borrow.Author.Rules.{rules}
 use native.Mathlib.Omega.{arith}
-use Rattle.freelist_gate.proofs.Gates.{covered-is}
+use Rattle.freelist_gate.proofs.Gates.{covered_is}
 use Rattle.freelist_gate.proofs.gating.is_covered.Statement.{statement}
 use Rattle.freelist_gate.proofs.gating.is_covered.Tie as tie
 
@@ -19,7 +19,7 @@ returns : tie.Need-returns
 returns c =
     let w = c.before.before in
     let a = w.before.before.args in
-    covered-is a.h a.objects _ _ _ a.chunks.now w.word.ensures c.before.chunk_bytes_lem.ensures c.covers.ensures
+    covered_is a.h a.objects _ _ _ a.chunks.now w.word.ensures c.before.chunk_bytes_lem.ensures c.covers.ensures
 
 pub is-covered-spec : {M : Type 1} → statement M
 is-covered-spec = tie.close (tie.spec word-requires chunk-bytes-requires covers-requires returns)

@@ -1,9 +1,9 @@
 use borrow.Author.Rules.{rules}
 use mathlib.Core.Path.{sym, ◌∙◌}
-use Rattle.counter.proofs.Tables.{free-list-yes}
+use Rattle.counter.proofs.Tables.{free_list_yes}
 use Rattle.freelist_rules.specs.Tables.{tables}
 use Rattle.store_rules.proofs.Holders.{holder}
-use Rattle.freelist_gate.proofs.Gates.{lent-yes, lent-no}
+use Rattle.freelist_gate.proofs.Gates.{lent_yes, lent_no}
 use Rattle.freelist_gate.proofs.gating.is_in_table.Statement.{statement}
 use Rattle.freelist_gate.proofs.gating.is_in_table.Tie as tie
 
@@ -13,7 +13,7 @@ in-table-requires c κs = search rules
 lengths-fit-requires : tie.Need-lengths-fit-requires
 lengths-fit-requires c κs =
     let k = c.before.before in
-    free-list-yes k.before.before.before.before.before.before.args.s (sym k.in_table.ensures ∙ c.before.if1.true)
+    free_list_yes k.before.before.before.before.before.before.args.s (sym k.in_table.ensures ∙ c.before.if1.true)
 
 heap-in-table-requires : tie.Need-heap-in-table-requires
 heap-in-table-requires c κs = search rules
@@ -24,13 +24,13 @@ returns c =
     let f = h.before in
     let k = f.before.before.before in
     let a = k.before.before.before.before.before.before.args in
-    lent-yes a.s (tables a.head.now a.loans.now a.chunks.now a.index.now a.regions.now) a.share _ _ (sym k.in_table.ensures ∙ f.before.before.if1.true) h.heap-in-table.ensures f.lengths-fit.ensures
+    lent_yes a.s (tables a.head.now a.loans.now a.chunks.now a.index.now a.regions.now) a.share _ _ (sym k.in_table.ensures ∙ f.before.before.if1.true) h.heap-in-table.ensures f.lengths-fit.ensures
 
 returns-2 : tie.Need-returns-2
 returns-2 c =
     let k = c.before in
     let a = k.before.before.before.before.before.before.args in
-    lent-no a.s (tables a.head.now a.loans.now a.chunks.now a.index.now a.regions.now) (holder a.s.store a.share) (sym k.in_table.ensures ∙ c.if1.false)
+    lent_no a.s (tables a.head.now a.loans.now a.chunks.now a.index.now a.regions.now) (holder a.s.store a.share) (sym k.in_table.ensures ∙ c.if1.false)
 
 pub is-in-table-spec : {M : Type 1} → statement M
 is-in-table-spec =

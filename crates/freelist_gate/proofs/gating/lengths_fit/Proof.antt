@@ -1,6 +1,6 @@
 use borrow.Author.Rules.{rules}
 use Rattle.freelist_rules.specs.Tables.{tables}
-use Rattle.freelist_gate.proofs.Gates.{lengths-is}
+use Rattle.freelist_gate.proofs.Gates.{lengths_is}
 use Rattle.freelist_gate.proofs.gating.lengths_fit.Statement.{statement}
 use Rattle.freelist_gate.proofs.gating.lengths_fit.Tie as tie
 
@@ -43,7 +43,7 @@ add-result-7 c = search rules
 returns : tie.Need-returns
 returns c =
     let a = c.before.before.before.before.before.before.args in
-    lengths-is a.s (tables a.head.now a.loans.now a.chunks.now a.index.now a.regions.now)
+    lengths_is a.s (tables a.head.now a.loans.now a.chunks.now a.index.now a.regions.now)
 
 pub lengths-fit-spec : {M : Type 1} → statement M
 lengths-fit-spec =

@@ -1,12 +1,12 @@
 use borrow.Author.Rules.{rules}
-use Rattle.freelist_marks.proofs.Finding.{numbers-part, there, nowhere}
+use Rattle.freelist_marks.proofs.Finding.{numbers_part, there, nowhere}
 use Rattle.freelist_marks.proofs.chunks.find_chunk.Statement.{statement}
 use Rattle.freelist_marks.proofs.chunks.find_chunk.Tie as tie
 
 seat-requires : tie.Need-seat-requires
 seat-requires c κs =
     let s = c.before in
-    numbers-part s.args.t.now s.args.k s.args.number s.requires
+    numbers_part s.args.t.now s.args.k s.args.number s.requires
 
 chunk-at-requires : tie.Need-chunk-at-requires
 chunk-at-requires c κs = search rules

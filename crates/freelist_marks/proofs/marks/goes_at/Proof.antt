@@ -1,5 +1,5 @@
 use borrow.Author.Rules.{rules}
-use Rattle.freelist_marks.proofs.Finding.{goes-whole, goes-not}
+use Rattle.freelist_marks.proofs.Finding.{goes_whole, goes_not}
 use Rattle.freelist_marks.proofs.marks.goes_at.Statement.{statement}
 use Rattle.freelist_marks.proofs.marks.goes_at.Tie as tie
 
@@ -21,13 +21,13 @@ returns c =
     let r = f.before in
     let s = r.before.before.before.before.before in
     let a = s.args in
-    goes-whole a.chunks.now a.regions.now a.k a.i s.requires a.spared _ r.before.before.cell.ensures r.before.if1.true r.region-at.result r.region-at.ensures f.find-chunk.result f.find-chunk.ensures _ c.is_all.ensures
+    goes_whole a.chunks.now a.regions.now a.k a.i s.requires a.spared _ r.before.before.cell.ensures r.before.if1.true r.region-at.result r.region-at.ensures f.find-chunk.result f.find-chunk.ensures _ c.is_all.ensures
 
 returns-2 : tie.Need-returns-2
 returns-2 c =
     let s = c.before.before.before.before in
     let a = s.args in
-    goes-not a.chunks.now a.regions.now a.k a.i s.requires a.spared _ c.before.cell.ensures c.if1.false
+    goes_not a.chunks.now a.regions.now a.k a.i s.requires a.spared _ c.before.cell.ensures c.if1.false
 
 pub goes-at-spec : {M : Type 1} → statement M
 goes-at-spec =

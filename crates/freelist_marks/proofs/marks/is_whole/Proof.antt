@@ -1,5 +1,5 @@
 use borrow.Author.Rules.{rules}
-use Rattle.freelist_marks.proofs.Finding.{whole_by, not-whole}
+use Rattle.freelist_marks.proofs.Finding.{whole_by, not_whole}
 use Rattle.freelist_marks.proofs.marks.is_whole.Statement.{statement}
 use Rattle.freelist_marks.proofs.marks.is_whole.Tie as tie
 
@@ -19,7 +19,7 @@ returns c =
 returns-2 : tie.Need-returns-2
 returns-2 c =
     let s = c.before.before.before in
-    not-whole s.args.chunks.now s.args.k s.requires s.args.r c.if1.false
+    not_whole s.args.chunks.now s.args.k s.requires s.args.r c.if1.false
 
 pub is-whole-spec : {M : Type 1} → statement M
 is-whole-spec = tie.close (tie.spec find-chunk-requires is-all-requires returns returns-2)

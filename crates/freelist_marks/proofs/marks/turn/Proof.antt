@@ -1,5 +1,5 @@
 use borrow.Author.Rules.{rules}
-use Rattle.freelist_marks.proofs.Fronts.{turned-some, turned_none}
+use Rattle.freelist_marks.proofs.Fronts.{turned_some, turned_none}
 use Rattle.freelist_marks.proofs.marks.turn.Statement.{statement}
 use Rattle.freelist_marks.proofs.marks.turn.Tie as tie
 
@@ -27,7 +27,7 @@ returns c =
     let e = d.before.before.before.before in
     let f = e.before.before in
     let s = f.before.before.before.before in
-    turned-some s.args.m s.args.list.now _ _ _ (search rules) s.requires f.word.ensures e.shift.ensures d.put.ensures
+    turned_some s.args.m s.args.list.now _ _ _ (search rules) s.requires f.word.ensures e.shift.ensures d.put.ensures
 
 returns-2 : tie.Need-returns-2
 returns-2 c =

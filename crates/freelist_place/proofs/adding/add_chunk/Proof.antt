@@ -1,5 +1,5 @@
 use borrow.Author.Rules.{rules}
-use Rattle.freelist_place.proofs.Writing.{added-done}
+use Rattle.freelist_place.proofs.Writing.{added_done}
 use Rattle.freelist_place.proofs.adding.add_chunk.Statement.{statement}
 use Rattle.freelist_place.proofs.adding.add_chunk.Tie as tie
 
@@ -54,7 +54,7 @@ returns c =
     let l = k.before.before in
     let o = l.before.before.before.before.before.before in
     let a = o.args in
-    added-done a.s a.memory a.size a.head.now a.chunks.now a.index.now a.regions.now o.requires.0 _ _ _ _ _ _ _ _ l.Before-of.ensures k.word.ensures m.word2.ensures z.double.ensures p.put-chunk.ensures d.count-chunk.ensures r.append.ensures h.raise-size.ensures
+    added_done a.s a.memory a.size a.head.now a.chunks.now a.index.now a.regions.now o.requires.0 _ _ _ _ _ _ _ _ l.Before-of.ensures k.word.ensures m.word2.ensures z.double.ensures p.put-chunk.ensures d.count-chunk.ensures r.append.ensures h.raise-size.ensures
 
 pub add-chunk-spec : {M : Type 1} → statement M
 add-chunk-spec = tie.close (tie.spec before-of-requires word-requires word-requires-2 add-number double-requires put-chunk-requires add-count-chunk count-chunk-requires append-requires raise-size-requires same_length same-length-2 same-length-3 returns)

@@ -1,8 +1,8 @@
 use borrow.Author.Rules.{rules}
 use Rattle.freelist_place.proofs.adding.count_chunk.Statement.{statement}
 use Rattle.freelist_place.proofs.adding.count_chunk.Tie as tie
-use Rattle.freelist_place.proofs.Writing.{twice-set}
-use Rattle.freelist_rules.specs.Tables.{madeAt, chunksAt}
+use Rattle.freelist_place.proofs.Writing.{twice_set}
+use Rattle.freelist_rules.specs.Tables.{made_at, chunks_at}
 
 put-requires : tie.Need-put-requires
 put-requires c κs = search rules
@@ -16,7 +16,7 @@ same_length c = search rules
 returns : tie.Need-returns
 returns c =
     let a = c.before.before.before.before.before.before.before.before.before.args in
-    twice-set a.chunks.now _ _ chunksAt madeAt a.held a.number c.before.before.before.before.before.before.put.ensures c.before.before.put2.ensures
+    twice_set a.chunks.now _ _ chunks_at made_at a.held a.number c.before.before.before.before.before.before.put.ensures c.before.before.put2.ensures
 
 pub count-chunk-spec : {M : Type 1} → statement M
 count-chunk-spec = tie.close (tie.spec put-requires put-requires-2 same_length returns)

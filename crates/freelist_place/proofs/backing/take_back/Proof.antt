@@ -1,7 +1,7 @@
 use borrow.Author.Rules.{rules}
 use mathlib.Core.Path.{refl}
 use native.Mathlib.Omega.{arith}
-use Rattle.freelist_place.proofs.Writing.{reads-front, unthreads, given-done}
+use Rattle.freelist_place.proofs.Writing.{reads_front, unthreads, given_done}
 use Rattle.freelist_place.proofs.backing.take_back.Statement.{statement}
 use Rattle.freelist_place.proofs.backing.take_back.Tie as tie
 
@@ -20,7 +20,7 @@ before-of-requires : tie.Need-before-of-requires
 before-of-requires c κs =
     let o = c.before.before.before.before.before.before.before.before in
     let a = o.args in
-    reads-front a.s a.b a.at a.chunks.now a.index.now a.regions.now o.requires.0 _ refl
+    reads_front a.s a.b a.at a.chunks.now a.index.now a.regions.now o.requires.0 _ refl
 
 join-requires : tie.Need-join-requires
 join-requires c κs = search rules
@@ -55,7 +55,7 @@ returns c =
     let f = j.before.before in
     let o = f.before.before.before.before.before.before.before.before.before in
     let a = o.args in
-    given-done a.s a.b a.at a.chunks.now a.index.now a.regions.now o.requires.0 _ refl _ k.strike.ensures.1 _ a.loans.now _ _ _ f.Before-of.ensures j.join.ensures k.strike.ensures.0 t.unthread.ensures
+    given_done a.s a.b a.at a.chunks.now a.index.now a.regions.now o.requires.0 _ refl _ k.strike.ensures.1 _ a.loans.now _ _ _ f.Before-of.ensures j.join.ensures k.strike.ensures.0 t.unthread.ensures
 
 pub take-back-spec : {M : Type 1} → statement M
 take-back-spec = tie.close (tie.spec add_r mul-r slice-read-r before-of-requires join-requires place-of-requires strike-requires unthread-requires same_length same-length-2 same-length-3 returns)

@@ -1,7 +1,7 @@
 use borrow.Author.Rules.{rules}
 use native.Mathlib.Omega.{arith}
 use mathlib.Core.Path.{refl}
-use Rattle.freelist_place.proofs.Counting.{few, whole-few, appended-done}
+use Rattle.freelist_place.proofs.Counting.{few, whole_few, appended_done}
 use Rattle.freelist_place.proofs.counted.append.Statement.{statement}
 use Rattle.freelist_place.proofs.counted.append.Tie as tie
 
@@ -31,7 +31,7 @@ add-count-regions-2 : tie.Need-overflow-add-count-regions-2
 add-count-regions-2 c =
     let o = c.before.before.before.before.before.before.before.before in
     let a = o.args in
-    let h = whole-few a.s a.regions.now o.requires.0 _ refl _ refl o.requires.2 in
+    let h = whole_few a.s a.regions.now o.requires.0 _ refl _ refl o.requires.2 in
     search rules
 
 count-regions-requires : tie.Need-count-regions-requires
@@ -48,7 +48,7 @@ returns c =
     let p = q.before.before.before.before in
     let o = p.before.before.before.before.before in
     let a = o.args in
-    appended-done a.s a.regions.now o.requires.0 _ refl a.g _ _ _ _ _ o.requires.1 refl p.put-gap.ensures refl refl q.count-regions.ensures
+    appended_done a.s a.regions.now o.requires.0 _ refl a.g _ _ _ _ _ o.requires.1 refl p.put-gap.ensures refl refl q.count-regions.ensures
 
 pub append-spec : {M : Type 1} → statement M
 append-spec = tie.close (tie.spec slice-read-n slice-read-whole put-gap-requires add-count-regions add-count-regions-2 count-regions-requires same_length returns)

@@ -1,6 +1,6 @@
 use borrow.Author.Rules.{rules}
 use mathlib.Core.Path.{refl}
-use Rattle.freelist_rules.specs.Threads.{cutGaps}
+use Rattle.freelist_rules.specs.Threads.{cut_gaps}
 use Rattle.freelist_place.proofs.Counting.{cut_fits, laid_done}
 use Rattle.freelist_place.proofs.counted.cut.Statement.{statement}
 use Rattle.freelist_place.proofs.counted.cut.Tie as tie
@@ -30,7 +30,7 @@ returns c =
     let r = q.before.before.before.before in
     let o = r.before.before.before.before in
     let a = o.args in
-    laid_done a.s a.regions.now o.requires.0 _ refl (cutGaps a.place a.i a.loan) _ a.whole _ _ r.cut-region.ensures.0 r.cut-region.ensures.1 q.count-regions.ensures
+    laid_done a.s a.regions.now o.requires.0 _ refl (cut_gaps a.place a.i a.loan) _ a.whole _ _ r.cut-region.ensures.0 r.cut-region.ensures.1 q.count-regions.ensures
 
 pub cut_spec : {M : Type 1} → statement M
 cut_spec = tie.close (tie.spec slice-read-n cut-region-requires count-regions-requires same_length returns)

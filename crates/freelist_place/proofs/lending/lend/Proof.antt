@@ -2,7 +2,7 @@ use borrow.Author.Rules.{rules}
 use mathlib.Core.Path.{refl}
 use native.Mathlib.Omega.{arith}
 use Rattle.freelist_place.specs.Lent.{taken}
-use Rattle.freelist_place.proofs.Serving.{start-within, loan-done, threads, lent-done}
+use Rattle.freelist_place.proofs.Serving.{start_within, loan_done, threads, lent_done}
 use Rattle.freelist_place.proofs.lending.lend.Statement.{statement}
 use Rattle.freelist_place.proofs.lending.lend.Tie as tie
 
@@ -14,7 +14,7 @@ loan-of-requires c κs =
     let g = c.before in
     let o = g.before.before.before.before.before.before.before in
     let a = o.args in
-    (omega (arith, o.requires.opens.loans-long), o.requires.serial, start-within a.s a.i a.start (taken a.place a.places a.vacant) a.loans.now a.chunks.now a.index.now a.regions.now o.requires _ g.gap_at.ensures)
+    (omega (arith, o.requires.opens.loans_long), o.requires.serial, start_within a.s a.i a.start (taken a.place a.places a.vacant) a.loans.now a.chunks.now a.index.now a.regions.now o.requires _ g.gap_at.ensures)
 
 slice-read-without : tie.Need-slice-read-without
 slice-read-without c =
@@ -63,7 +63,7 @@ returns c =
     let g = l.before.before in
     let o = g.before.before.before.before.before.before.before in
     let a = o.args in
-    (loan-done a.s a.i a.start (taken a.place a.places a.vacant) a.loans.now a.chunks.now a.index.now a.regions.now o.requires _ g.gap_at.ensures _ l.loan-of.ensures, lent-done a.s a.i a.start (taken a.place a.places a.vacant) a.loans.now a.chunks.now a.index.now a.regions.now o.requires _ g.gap_at.ensures _ l.loan-of.ensures _ e.enter-at.ensures.1 _ _ _ _ _ _ refl b.without.ensures r.record_of.ensures q.cut.ensures e.enter-at.ensures.0 t.thread.ensures)
+    (loan_done a.s a.i a.start (taken a.place a.places a.vacant) a.loans.now a.chunks.now a.index.now a.regions.now o.requires _ g.gap_at.ensures _ l.loan-of.ensures, lent_done a.s a.i a.start (taken a.place a.places a.vacant) a.loans.now a.chunks.now a.index.now a.regions.now o.requires _ g.gap_at.ensures _ l.loan-of.ensures _ e.enter-at.ensures.1 _ _ _ _ _ _ refl b.without.ensures r.record_of.ensures q.cut.ensures e.enter-at.ensures.0 t.thread.ensures)
 
 pub lend_spec : {M : Type 1} → statement M
 lend_spec = tie.close (tie.spec gap-at-requires loan-of-requires slice-read-without without-requires record-of-requires cut-requires enter-at-requires thread-requires same_length same-length-2 same-length-3 returns)

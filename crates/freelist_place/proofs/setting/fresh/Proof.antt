@@ -1,5 +1,5 @@
 use borrow.Author.Rules.{rules}
-use Rattle.freelist_place.proofs.SettingUp.{fresh-done}
+use Rattle.freelist_place.proofs.SettingUp.{fresh_done}
 use Rattle.freelist_rules.specs.Tables.{tables}
 use Rattle.freelist_place.proofs.setting.fresh.Statement.{statement}
 use Rattle.freelist_place.proofs.setting.fresh.Tie as tie
@@ -35,7 +35,7 @@ returns c =
     let h = k.before.before.before.before.before.before in
     let o = h.before.before.before.before.before.before.before in
     let a = o.args in
-    fresh-done a.s (tables a.head.now a.loans.now a.chunks.now a.index.now a.regions.now) _ _ _ _ _ o.requires.1 h.fresh-head.ensures k.clear.ensures.0 k.clear.ensures.1.0 k.clear.ensures.1.1 i.put-blank.ensures
+    fresh_done a.s (tables a.head.now a.loans.now a.chunks.now a.index.now a.regions.now) _ _ _ _ _ o.requires.1 h.fresh-head.ensures k.clear.ensures.0 k.clear.ensures.1.0 k.clear.ensures.1.1 i.put-blank.ensures
 
 pub fresh-spec : {M : Type 1} → statement M
 fresh-spec =

@@ -1,6 +1,6 @@
 use borrow.Author.Rules.{rules}
 use mathlib.Core.Path.{refl}
-use Rattle.freelist_place.proofs.Counting.{one-more-whole, no-more-whole}
+use Rattle.freelist_place.proofs.Counting.{one_more_whole, no_more_whole}
 use Rattle.freelist_place.proofs.wholes.with.Statement.{statement}
 use Rattle.freelist_place.proofs.wholes.with.Tie as tie
 
@@ -17,13 +17,13 @@ returns : tie.Need-returns
 returns c =
     let b = c.before in
     let a = b.before.before.before.args in
-    one-more-whole a.chunks.now _ refl a.r _ b.is_whole.ensures a.whole c.if1.true
+    one_more_whole a.chunks.now _ refl a.r _ b.is_whole.ensures a.whole c.if1.true
 
 returns-2 : tie.Need-returns-2
 returns-2 c =
     let b = c.before in
     let a = b.before.before.before.args in
-    no-more-whole a.chunks.now _ refl a.r _ b.is_whole.ensures a.whole c.if1.false
+    no_more_whole a.chunks.now _ refl a.r _ b.is_whole.ensures a.whole c.if1.false
 
 pub with-spec : {M : Type 1} → statement M
 with-spec = tie.close (tie.spec shared-slice-read-k is-whole-requires add-result returns returns-2)

@@ -1,6 +1,6 @@
 use borrow.Author.Rules.{rules}
 use mathlib.Core.Path.{refl}
-use Rattle.freelist_place.proofs.Counting.{one-less-whole, no-less-whole}
+use Rattle.freelist_place.proofs.Counting.{one_less_whole, no_less_whole}
 use Rattle.freelist_place.proofs.wholes.without.Statement.{statement}
 use Rattle.freelist_place.proofs.wholes.without.Tie as tie
 
@@ -20,13 +20,13 @@ returns-2 : tie.Need-returns-2
 returns-2 c =
     let b = c.before in
     let a = b.before.before.before.before.args in
-    one-less-whole a.chunks.now _ refl a.r _ b.is_whole.ensures a.whole c.if2.true
+    one_less_whole a.chunks.now _ refl a.r _ b.is_whole.ensures a.whole c.if2.true
 
 returns-3 : tie.Need-returns-3
 returns-3 c =
     let b = c.before in
     let a = b.before.before.before.before.args in
-    no-less-whole a.chunks.now _ refl a.r _ b.is_whole.ensures a.whole c.if2.false
+    no_less_whole a.chunks.now _ refl a.r _ b.is_whole.ensures a.whole c.if2.false
 
 pub without-spec : {M : Type 1} → statement M
 without-spec = tie.close (tie.spec returns shared-slice-read-k is-whole-requires sub-result returns-2 returns-3)

@@ -1,5 +1,5 @@
 use Rattle.std.proofs.Common.{◌≡◌, ◌-◌, ◌≤◌, length, sym, refl, ◌∙◌, arith, rules}
-use Rattle.freelist_regions.proofs.Renaming.{rest, rest-next, rest-stop, rest_end}
+use Rattle.freelist_regions.proofs.Renaming.{rest, rest_next, rest_stop, rest_end}
 use Rattle.freelist_regions.proofs.fronts.rename.Statement.{statement}
 use Rattle.freelist_regions.proofs.fronts.rename.Tie as tie
 
@@ -33,7 +33,7 @@ loop-again c =
     let a = s.args in (
       omega arith,
       search rules,
-      rest-next a.n l.loop.i a.a a.b l.loop.t (omega (arith, l.loop.invariant.1, s.requires.1)) (search rules) _ f.word_at.ensures p.before.before.if1.true _ p.put-word-at.ensures ∙ l.loop.invariant.2,
+      rest_next a.n l.loop.i a.a a.b l.loop.t (omega (arith, l.loop.invariant.1, s.requires.1)) (search rules) _ f.word_at.ensures p.before.before.if1.true _ p.put-word-at.ensures ∙ l.loop.invariant.2,
     )
 
 same_length : tie.Need-same-length invariant-loop decreases-loop
@@ -44,7 +44,7 @@ returns c =
     let l = c.before.before.before.before in
     let s = l.before.before in
     let a = s.args in
-    sym (rest-stop a.n l.loop.i a.a a.b l.loop.t (omega (arith, l.loop.invariant.1, s.requires.1)) (search rules) _ c.before.word_at.ensures c.if1.false) ∙ l.loop.invariant.2
+    sym (rest_stop a.n l.loop.i a.a a.b l.loop.t (omega (arith, l.loop.invariant.1, s.requires.1)) (search rules) _ c.before.word_at.ensures c.if1.false) ∙ l.loop.invariant.2
 
 same-length-2 : tie.Need-same-length-2 invariant-loop decreases-loop
 same-length-2 c = c.before.loop.invariant.1

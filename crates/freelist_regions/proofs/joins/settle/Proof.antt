@@ -1,5 +1,5 @@
 use Rattle.std.proofs.Common.{ℕ, ◌<◌, ◌≤◌, arith, rules}
-use Rattle.freelist_regions.proofs.Settling.{settles-both, settles-before, settles-next, settles-between}
+use Rattle.freelist_regions.proofs.Settling.{settles_both, settles_before, settles_next, settles_between}
 use Rattle.freelist_regions.proofs.joins.settle.Statement.{statement}
 use Rattle.freelist_regions.proofs.joins.settle.Tie as tie
 
@@ -28,7 +28,7 @@ returns : tie.Need-returns
 returns c =
     let s = c.before.before.before.before.before.before.before.before.before.before.before in
     let a = s.args in
-    settles-both a.before a.next a.n a.k a.t.now s.requires a.g c.before.before.before.before.before.before.before.before.before.if1.true c.before.before.before.before.before.before.before.before.if2.true _ _ c.before.before.before.before.before.before.close_row.ensures c.before.before.put-gap.ensures
+    settles_both a.before a.next a.n a.k a.t.now s.requires a.g c.before.before.before.before.before.before.before.before.before.if1.true c.before.before.before.before.before.before.before.before.if2.true _ _ c.before.before.before.before.before.before.close_row.ensures c.before.before.put-gap.ensures
 
 sub-put-gap-2 : tie.Need-overflow-sub-put-gap-2
 sub-put-gap-2 c = c.before.before.before.before.requires.some c.before.before.if1.true
@@ -46,7 +46,7 @@ returns-2 : tie.Need-returns-2
 returns-2 c =
     let s = c.before.before.before.before.before.before.before in
     let a = s.args in
-    settles-before a.before a.next a.n a.k a.t.now s.requires a.g c.before.before.before.before.before.if1.true c.before.before.before.before.if2.false _ c.before.before.put-gap2.ensures
+    settles_before a.before a.next a.n a.k a.t.now s.requires a.g c.before.before.before.before.before.if1.true c.before.before.before.before.if2.false _ c.before.before.put-gap2.ensures
 
 put-gap-requires-3 : tie.Need-put-gap-requires-3
 put-gap-requires-3 c κs =
@@ -61,7 +61,7 @@ returns-3 : tie.Need-returns-3
 returns-3 c =
     let s = c.before.before.before.before.before.before.before in
     let a = s.args in
-    settles-next a.before a.next a.n a.k a.t.now s.requires a.g c.before.before.before.before.before.if1.false c.before.before.before.before.if3.true _ c.before.before.put-gap3.ensures
+    settles_next a.before a.next a.n a.k a.t.now s.requires a.g c.before.before.before.before.before.if1.false c.before.before.before.before.if3.true _ c.before.before.put-gap3.ensures
 
 open-row-requires : tie.Need-open-row-requires
 open-row-requires c κs = search rules
@@ -82,7 +82,7 @@ returns-4 : tie.Need-returns-4
 returns-4 c =
     let s = c.before.before.before.before.before.before.before.before.before.before.before in
     let a = s.args in
-    settles-between a.before a.next a.n a.k a.t.now s.requires a.g c.before.before.before.before.before.before.before.before.before.if1.false c.before.before.before.before.before.before.before.before.if3.false _ _ c.before.before.before.before.before.before.open_row.ensures c.before.before.put-gap4.ensures
+    settles_between a.before a.next a.n a.k a.t.now s.requires a.g c.before.before.before.before.before.before.before.before.before.if1.false c.before.before.before.before.before.before.before.before.if3.false _ _ c.before.before.before.before.before.before.open_row.ensures c.before.before.put-gap4.ensures
 
 pub settle-spec : {M : Type 1} → statement M
 settle-spec =

@@ -1,6 +1,6 @@
 use Rattle.std.proofs.Common.{◌-◌, ◌∙◌, arith}
 use Rattle.words.proofs.Records.{cell_row}
-use Rattle.freelist_rules.specs.Records.{regionStartAt, regionWords}
+use Rattle.freelist_rules.specs.Records.{region_start_at, region_words}
 use Rattle.freelist_regions.proofs.joins.start_of.Statement.{statement}
 use Rattle.freelist_regions.proofs.joins.start_of.Tie as tie
 
@@ -11,7 +11,7 @@ word-at-requires : tie.Need-word-at-requires
 word-at-requires c κs = let s = c.before.before in let h = s.requires.0 c.if1.true in omega (arith, h, s.requires.1)
 
 returns : tie.Need-returns
-returns c = let a = c.before.before.before.args in rw c.before.if1.true (c.word_at.ensures ∙ cell_row a.t.now regionStartAt regionWords (a.k - 1))
+returns c = let a = c.before.before.before.args in rw c.before.if1.true (c.word_at.ensures ∙ cell_row a.t.now region_start_at region_words (a.k - 1))
 
 returns-2 : tie.Need-returns-2
 returns-2 c = rw c.if1.false

@@ -1,6 +1,6 @@
 use Rattle.std.proofs.Common.{◌-◌, ◌&&◌, eqb, ◌∙◌, rules, le-ltb, lt-ltb}
 use Rattle.words.proofs.Records.{cell_row}
-use Rattle.freelist_rules.specs.Records.{regionWords, regionChunkAt, regionEndAt}
+use Rattle.freelist_rules.specs.Records.{region_words, region_chunk_at, region_end_at}
 use Rattle.freelist_regions.proofs.joins.touches_before.Statement.{statement}
 use Rattle.freelist_regions.proofs.joins.touches_before.Tie as tie
 
@@ -21,8 +21,8 @@ returns c =
     let q = c.before.before in
     let p = q.before in
     let a = p.before.before.before.args in
-    let x = p.word_at.ensures ∙ cell_row a.t.now regionChunkAt regionWords (a.k - 1) in
-    let y = q.word-at2.ensures ∙ cell_row a.t.now regionEndAt regionWords (a.k - 1) in
+    let x = p.word_at.ensures ∙ cell_row a.t.now region_chunk_at region_words (a.k - 1) in
+    let y = q.word-at2.ensures ∙ cell_row a.t.now region_end_at region_words (a.k - 1) in
     rw (lt-ltb _ _ p.before.if1.true) (λ j. eqb (x j) a.b.chunk && eqb (y j) a.b.start)
 
 returns-2 : tie.Need-returns-2

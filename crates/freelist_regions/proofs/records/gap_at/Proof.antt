@@ -1,5 +1,5 @@
 use Rattle.std.proofs.Common.{rules}
-use Rattle.freelist_regions.proofs.Whole.{gap-read}
+use Rattle.freelist_regions.proofs.Whole.{gap_read}
 use Rattle.freelist_regions.proofs.records.gap_at.Statement.{statement}
 use Rattle.freelist_regions.proofs.records.gap_at.Tie as tie
 
@@ -18,7 +18,7 @@ word-at-requires-4 c κs = search rules
 returns : tie.Need-returns
 returns c =
     let a = c.before.before.before.before.before.args in
-    gap-read a.t.now a.i _ _ _ _ c.before.before.before.word_at.ensures c.before.before.word-at2.ensures c.before.word-at3.ensures c.word-at4.ensures
+    gap_read a.t.now a.i _ _ _ _ c.before.before.before.word_at.ensures c.before.before.word-at2.ensures c.before.word-at3.ensures c.word-at4.ensures
 
 pub gap-at-spec : {M : Type 1} → statement M
 gap-at-spec =

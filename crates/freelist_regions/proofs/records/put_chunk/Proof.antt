@@ -1,5 +1,5 @@
 use Rattle.std.proofs.Common.{rules}
-use Rattle.freelist_regions.proofs.Whole.{three-written}
+use Rattle.freelist_regions.proofs.Whole.{three_written}
 use Rattle.freelist_regions.proofs.records.put_chunk.Statement.{statement}
 use Rattle.freelist_regions.proofs.records.put_chunk.Tie as tie
 
@@ -21,7 +21,7 @@ returns c =
     let e = d.before.before.before.before in
     let f = e.before.before.before.before in
     let a = f.before.before.before.args in
-    three-written a.t.now 3 a.i _ _ _ _ _ _ f.put-cell.ensures e.put-cell2.ensures d.put-cell3.ensures
+    three_written a.t.now 3 a.i _ _ _ _ _ _ f.put-cell.ensures e.put-cell2.ensures d.put-cell3.ensures
 
 pub put-chunk-spec : {M : Type 1} → statement M
 put-chunk-spec = tie.close (tie.spec put-cell-requires put-cell-requires-2 put-cell-requires-3 same_length returns)

@@ -1,5 +1,5 @@
 use Rattle.std.proofs.Common.{rules}
-use Rattle.freelist_regions.proofs.Whole.{gap-written}
+use Rattle.freelist_regions.proofs.Whole.{gap_written}
 use Rattle.freelist_regions.proofs.records.put_gap.Statement.{statement}
 use Rattle.freelist_regions.proofs.records.put_gap.Tie as tie
 
@@ -25,7 +25,7 @@ returns c =
     let f = e.before.before.before.before in
     let g = f.before.before.before.before in
     let a = g.before.before.before.args in
-    gap-written a.t.now a.i a.g _ _ _ _ g.put-word-at.ensures f.put-word-at2.ensures e.put-word-at3.ensures d.put-word-at4.ensures
+    gap_written a.t.now a.i a.g _ _ _ _ g.put-word-at.ensures f.put-word-at2.ensures e.put-word-at3.ensures d.put-word-at4.ensures
 
 pub put-gap-spec : {M : Type 1} → statement M
 put-gap-spec =

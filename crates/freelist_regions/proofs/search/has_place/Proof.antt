@@ -1,17 +1,17 @@
 use Rattle.std.proofs.Common.{◌≡◌, ℕ, ◌<◌, ◌≤◌, false, leb, ap, rules, le-leb}
 use borrow.Author.Tests.{lt-leb}
 use Rattle.freelist_rules.specs.Records.{region}
-use Rattle.freelist_rules.specs.Place.{cut, fitsIn}
+use Rattle.freelist_rules.specs.Place.{cut, fits_in}
 use Rattle.freelist_regions.proofs.search.has_place.Statement.{statement}
 use Rattle.freelist_regions.proofs.search.has_place.Tie as tie
 
 module _ (mask size start end chunk : ℕ) where
-  reaches : (x : ℕ) → size ≤ end → x ≡ cut mask size (region chunk start end) → leb start x ≡ fitsIn mask size (region chunk start end)
-  unfolding fitsIn
+  reaches : (x : ℕ) → size ≤ end → x ≡ cut mask size (region chunk start end) → leb start x ≡ fits_in mask size (region chunk start end)
+  unfolding fits_in
   reaches x l e = rw (le-leb _ _ l) (ap (leb start) e)
 
-  ends-short : end < size → false ≡ fitsIn mask size (region chunk start end)
-  unfolding fitsIn
+  ends-short : end < size → false ≡ fits_in mask size (region chunk start end)
+  unfolding fits_in
   ends-short h = rw (lt-leb size end h)
 
 lower-to-unit-requires : tie.Need-lower-to-unit-requires

@@ -1,7 +1,7 @@
 use Rattle.std.proofs.Common.{◌≤◌, arith}
-use Rattle.lists.proofs.Bools.{not-no}
+use Rattle.lists.proofs.Bools.{not_no}
 use Rattle.freelist_regions.specs.Found.{NoneFits}
-use Rattle.freelist_regions.proofs.Passing.{more-passed}
+use Rattle.freelist_regions.proofs.Passing.{more_passed}
 use Rattle.freelist_regions.proofs.search.without_short.Statement.{statement}
 use Rattle.freelist_regions.proofs.search.without_short.Tie as tie
 
@@ -27,7 +27,7 @@ loop-again : tie.Need-loop-preserved invariant-loop decreases-loop
 loop-again c =
     let l = c.before.before.before.loop in
     let a = c.before.before.before.before.before.args in
-    (omega arith, more-passed a.size a.t.now 4 l.k a.n (omega arith) (c.before.are-short.ensures (not-no _ c.if1.false)) l.invariant.1)
+    (omega arith, more_passed a.size a.t.now 4 l.k a.n (omega arith) (c.before.are-short.ensures (not_no _ c.if1.false)) l.invariant.1)
 
 returns-2 : tie.Need-returns-2 invariant-loop decreases-loop
 returns-2 c = c.before.loop.invariant

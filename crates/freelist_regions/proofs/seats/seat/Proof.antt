@@ -1,7 +1,7 @@
 use Rattle.std.proofs.Common.{◌≡◌, ℕ, ◌+◌, ◌-◌, ◌/◌, ◌<◌, ◌≤◌, true, false, arith, rules}
 use Rattle.freelist_regions.proofs.Halves.{lowered, raised}
 use Rattle.freelist_regions.specs.Seat.{reaches}
-use Rattle.freelist_regions.proofs.Seating.{reach-yes, reach-not}
+use Rattle.freelist_regions.proofs.Seating.{reach_yes, reach_not}
 use Rattle.freelist_regions.proofs.seats.seat.Statement.{statement}
 use Rattle.freelist_regions.proofs.seats.seat.Tie as tie
 
@@ -35,7 +35,7 @@ loop-again c =
       omega arith,
       omega arith,
       l.invariant.2,
-      lowered (reaches s.args.t.now s.args.number) s.args.k mid s.requires (reach-yes s.args.t.now s.args.number mid _ c.before.cell.ensures c.if1.true),
+      lowered (reaches s.args.t.now s.args.number) s.args.k mid s.requires (reach_yes s.args.t.now s.args.number mid _ c.before.cell.ensures c.if1.true),
     )
 
 add-lo : tie.Need-overflow-add-lo invariant-loop decreases-loop
@@ -51,7 +51,7 @@ loop-again-2 c =
     let mid = l.lo + (l.hi - l.lo) / 2 in (
       omega arith,
       omega arith,
-      raised (reaches s.args.t.now s.args.number) s.args.k mid (omega arith) s.requires (reach-not s.args.t.now s.args.number mid _ c.before.cell.ensures c.if1.false),
+      raised (reaches s.args.t.now s.args.number) s.args.k mid (omega arith) s.requires (reach_not s.args.t.now s.args.number mid _ c.before.cell.ensures c.if1.false),
       l.invariant.3,
     )
 

@@ -1,12 +1,12 @@
 use Rattle.std.proofs.Common.{◌≡◌, ◌/◌, sym, ◌∙◌, ⊎_elim, arith}
-use Rattle.freelist_rules.specs.Records.{regionWords, regionChunkAt}
+use Rattle.freelist_rules.specs.Records.{region_words, region_chunk_at}
 use Rattle.freelist_regions.specs.Stand.{after}
 use Rattle.freelist_regions.proofs.Halves.{Between, stays, moves}
 use Rattle.freelist_regions.proofs.stands.stands_at.Statement.{statement}
 use Rattle.freelist_regions.proofs.stands.stands_at.Tie as tie
 
 abbrev invariant-loop : tie.invariant-loop
-invariant-loop t n chunk place lo₀ left₀ lo left = Between (after t regionChunkAt regionWords chunk place) n lo left
+invariant-loop t n chunk place lo₀ left₀ lo left = Between (after t region_chunk_at region_words chunk place) n lo left
 
 abbrev decreases-loop : tie.decreases-loop
 decreases-loop t n chunk place lo₀ left₀ lo left = left
@@ -38,7 +38,7 @@ loop-again c =
     let l = v.before.before.loop in
     let s = v.before.before.before.before in
     let a = s.args in
-    let f = after a.t.now regionChunkAt regionWords a.chunk a.place in
+    let f = after a.t.now region_chunk_at region_words a.chunk a.place in
     ⊎_elim
     (λ w. rw w.1 (stays f a.n l.lo l.left (l.left / 2) s.requires.1 l.invariant (omega arith) (omega arith) (sym v.is-after.ensures ∙ w.0.taken)))
     (λ w. rw w.1 (moves f a.n l.lo l.left (l.left / 2) s.requires.1 l.invariant (omega arith) (omega arith) (sym v.is-after.ensures ∙ w.0.left)))

@@ -1,5 +1,5 @@
 use borrow.Author.Rules.{rules}
-use Rattle.freelist_release.proofs.Releasing.{count_fits, released-some}
+use Rattle.freelist_release.proofs.Releasing.{count_fits, released_some}
 use Rattle.freelist_release.proofs.dropping.drop_chunks.Statement.{statement}
 use Rattle.freelist_release.proofs.dropping.drop_chunks.Tie as tie
 
@@ -32,7 +32,7 @@ returns c =
     let m = r.before.before.before.before.before in
     let s = m.before.before.before.before.before.before.before in
     let a = s.args in
-    released-some a.chunks.now a.k a.regions.now a.n a.spare a.list.now s.requires.1 m.mark.result.count _ m.mark.ensures.0 m.mark.ensures.1.1 s.requires.0.2 _ _ _ _ _ m.mark.ensures.1.0 r.keep-regions.ensures h.keep-chunks.ensures
+    released_some a.chunks.now a.k a.regions.now a.n a.spare a.list.now s.requires.1 m.mark.result.count _ m.mark.ensures.0 m.mark.ensures.1.1 s.requires.0.2 _ _ _ _ _ m.mark.ensures.1.0 r.keep-regions.ensures h.keep-chunks.ensures
 
 pub drop-chunks-spec : {M : Type 1} → statement M
 drop-chunks-spec =

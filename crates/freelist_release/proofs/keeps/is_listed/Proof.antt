@@ -4,7 +4,7 @@ use Prim.Native.Nat.{◌-◌, ◌≤◌}
 use native.Mathlib.Omega.{arith}
 use lib.ListN.{take, drop}
 use Rattle.freelist_release.specs.Listed.{among}
-use Rattle.freelist_release.proofs.Listing.{among-here, among-past, among-end}
+use Rattle.freelist_release.proofs.Listing.{among_here, among_past, among_end}
 use Rattle.freelist_release.proofs.keeps.is_listed.Statement.{statement}
 use Rattle.freelist_release.proofs.keeps.is_listed.Tie as tie
 
@@ -26,7 +26,7 @@ returns c =
     let l = c.before.before.before.loop in
     let s = c.before.before.before.before.before in
     let a = s.args in
-    sym (l.invariant.1 ∙ among-here a.x a.list.now a.m l.i (search rules) s.requires _ c.before.word.ensures c.if1.true)
+    sym (l.invariant.1 ∙ among_here a.x a.list.now a.m l.i (search rules) s.requires _ c.before.word.ensures c.if1.true)
 
 add-i : tie.Need-overflow-add-i invariant-loop decreases-loop
 add-i c = search rules
@@ -39,14 +39,14 @@ loop-again c =
     let l = c.before.before.before.loop in
     let s = c.before.before.before.before.before in
     let a = s.args in
-    (omega arith, l.invariant.1 ∙ among-past a.x a.list.now a.m l.i (search rules) s.requires _ c.before.word.ensures c.if1.false)
+    (omega arith, l.invariant.1 ∙ among_past a.x a.list.now a.m l.i (search rules) s.requires _ c.before.word.ensures c.if1.false)
 
 returns-2 : tie.Need-returns-2 invariant-loop decreases-loop
 returns-2 c =
     let l = c.before.loop in
     let s = c.before.before.before in
     let a = s.args in
-    sym (l.invariant.1 ∙ among-end a.x a.list.now a.m l.i (search rules) s.requires)
+    sym (l.invariant.1 ∙ among_end a.x a.list.now a.m l.i (search rules) s.requires)
 
 pub is-listed-spec : {M : Type 1} → statement M
 is-listed-spec =

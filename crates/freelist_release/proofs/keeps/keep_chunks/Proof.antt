@@ -3,10 +3,10 @@ use Prim.Native.Nat.{◌-◌, ◌≤◌}
 use native.Mathlib.Omega.{arith}
 use lib.ListN.{take}
 use Rattle.words.specs.Rows.{rows}
-use Rattle.freelist_rules.specs.Records.{chunkRow}
+use Rattle.freelist_rules.specs.Records.{chunk_row}
 use Rattle.freelist_release.specs.Listed.{unlisted}
-use Rattle.freelist_release.proofs.Keeping.{kept-none, kept-length}
-use Rattle.freelist_release.proofs.Turns.{KeptChunks, chunk-past, chunk-more, chunks-done}
+use Rattle.freelist_release.proofs.Keeping.{kept_none, kept_length}
+use Rattle.freelist_release.proofs.Turns.{KeptChunks, chunk_past, chunk_more, chunks_done}
 use Rattle.freelist_release.proofs.keeps.keep_chunks.Statement.{statement}
 use Rattle.freelist_release.proofs.keeps.keep_chunks.Tie as tie
 
@@ -19,7 +19,7 @@ decreases-loop chunks₀ k list m i₀ kept₀ chunks i kept = k - i
 loop-holds : tie.Need-loop-init invariant-loop decreases-loop
 loop-holds c =
     let a = c.before.before.args in
-    (omega arith, kept-none chunkRow (unlisted (take a.m a.list.now)) (rows chunkRow a.k a.chunks.now) a.chunks.now (omega (arith, c.before.before.requires.0)))
+    (omega arith, kept_none chunk_row (unlisted (take a.m a.list.now)) (rows chunk_row a.k a.chunks.now) a.chunks.now (omega (arith, c.before.before.requires.0)))
 
 chunk-at-requires : tie.Need-chunk-at-requires invariant-loop decreases-loop
 chunk-at-requires c κs = search rules
@@ -41,7 +41,7 @@ loop-again c =
     let s = l.before.before.before in
     let a = s.args in (
       omega arith,
-      chunk-past (take a.m a.list.now) a.chunks.now a.k l.loop.chunks l.loop.i l.loop.auto l.loop.invariant.1 (search rules) s.requires.0 r.chunk-at.result r.chunk-at.ensures _ g.is-listed.ensures c.if1.true,
+      chunk_past (take a.m a.list.now) a.chunks.now a.k l.loop.chunks l.loop.i l.loop.auto l.loop.invariant.1 (search rules) s.requires.0 r.chunk-at.result r.chunk-at.ensures _ g.is-listed.ensures c.if1.true,
     )
 
 put-chunk-requires : tie.Need-put-chunk-requires invariant-loop decreases-loop
@@ -66,7 +66,7 @@ loop-again-2 c =
     let s = l.before.before.before in
     let a = s.args in (
       omega arith,
-      chunk-more (take a.m a.list.now) a.chunks.now a.k l.loop.chunks l.loop.i l.loop.auto l.loop.invariant.1 (search rules) s.requires.0 r.chunk-at.result r.chunk-at.ensures _ g.is-listed.ensures f.if1.false _ p.put-chunk.ensures,
+      chunk_more (take a.m a.list.now) a.chunks.now a.k l.loop.chunks l.loop.i l.loop.auto l.loop.invariant.1 (search rules) s.requires.0 r.chunk-at.result r.chunk-at.ensures _ g.is-listed.ensures f.if1.false _ p.put-chunk.ensures,
     )
 
 same_length : tie.Need-same-length invariant-loop decreases-loop
@@ -74,13 +74,13 @@ same_length c =
     let l = c.before in
     let s = l.before.before.before in
     let a = s.args in
-    kept-length chunkRow (unlisted (take a.m a.list.now)) (rows chunkRow a.k a.chunks.now) a.chunks.now l.loop.chunks l.loop.i l.loop.auto l.loop.invariant.1 a.k (search rules) s.requires.0
+    kept_length chunk_row (unlisted (take a.m a.list.now)) (rows chunk_row a.k a.chunks.now) a.chunks.now l.loop.chunks l.loop.i l.loop.auto l.loop.invariant.1 a.k (search rules) s.requires.0
 
 returns : tie.Need-returns invariant-loop decreases-loop
 returns c =
     let l = c.before in
     let a = l.before.before.before.args in
-    chunks-done (take a.m a.list.now) a.chunks.now a.k l.loop.chunks l.loop.i l.loop.auto l.loop.invariant.1 (search rules)
+    chunks_done (take a.m a.list.now) a.chunks.now a.k l.loop.chunks l.loop.i l.loop.auto l.loop.invariant.1 (search rules)
 
 pub keep-chunks-spec : {M : Type 1} → statement M
 keep-chunks-spec =

@@ -6,16 +6,16 @@ use Prim.Native.Nat.{ℕ, ◌+◌, ◌*◌, ◌-◌, ◌≤◌}
 use native.Mathlib.Omega.{arith}
 use lib.ListN.{length}
 use Rattle.words.specs.Rows.{rows}
-use Rattle.freelist_rules.specs.Records.{chunkRow, gapRow, regionWords}
+use Rattle.freelist_rules.specs.Records.{chunk_row, gap_row, region_words}
 use Rattle.store_rules.specs.declared.Chunk.{Chunk}
-use Rattle.freelist_rules.specs.Threads.{stayingGaps}
-use Rattle.freelist_release.proofs.Keeping.{kept-none, kept-length}
-use Rattle.freelist_release.proofs.Turns.{KeptRegions, region-past, region-more, regions-done}
+use Rattle.freelist_rules.specs.Threads.{staying_gaps}
+use Rattle.freelist_release.proofs.Keeping.{kept_none, kept_length}
+use Rattle.freelist_release.proofs.Turns.{KeptRegions, region_past, region_more, regions_done}
 use Rattle.freelist_release.proofs.keeps.keep_regions.Statement.{statement}
 use Rattle.freelist_release.proofs.keeps.keep_regions.Tie as tie
 
 abbrev invariant-loop : tie.invariant-loop
-invariant-loop chunks k regions₀ n spare i₀ kept₀ regions i kept = (i ≤ n) × KeptRegions (rows chunkRow k chunks) spare regions₀ n regions i kept
+invariant-loop chunks k regions₀ n spare i₀ kept₀ regions i kept = (i ≤ n) × KeptRegions (rows chunk_row k chunks) spare regions₀ n regions i kept
 
 abbrev decreases-loop : tie.decreases-loop
 decreases-loop chunks k regions₀ n spare i₀ kept₀ regions i kept = n - i
@@ -23,7 +23,7 @@ decreases-loop chunks k regions₀ n spare i₀ kept₀ regions i kept = n - i
 loop-holds : tie.Need-loop-init invariant-loop decreases-loop
 loop-holds c =
     let a = c.before.before.args in
-    (omega arith, kept-none gapRow (stayingGaps (rows chunkRow a.k a.chunks.now) a.spare) (rows gapRow a.n a.regions.now) a.regions.now (omega (arith, c.before.before.requires.0)))
+    (omega arith, kept_none gap_row (staying_gaps (rows chunk_row a.k a.chunks.now) a.spare) (rows gap_row a.n a.regions.now) a.regions.now (omega (arith, c.before.before.requires.0)))
 
 add-goes-at : tie.Need-overflow-add-goes-at invariant-loop decreases-loop
 add-goes-at c = search rules
@@ -44,26 +44,26 @@ loop-again c =
     let s = l.before.before.before in
     let a = s.args in (
       omega arith,
-      region-past (rows chunkRow a.k a.chunks.now) a.spare a.regions.now a.n l.loop.regions l.loop.i l.loop.auto l.loop.invariant.1 (search rules) s.requires.0 _ g.Goes-at.ensures c.if1.true,
+      region_past (rows chunk_row a.k a.chunks.now) a.spare a.regions.now a.n l.loop.regions l.loop.i l.loop.auto l.loop.invariant.1 (search rules) s.requires.0 _ g.Goes-at.ensures c.if1.true,
     )
 
 -- the table is as long as it was
-long : (cs : List Chunk) (spare : Bool) (t u : List ℕ) (n i kept : ℕ) → KeptRegions cs spare t n u i kept → i ≤ n → regionWords + regionWords * n ≤ length t → length u ≡ length t
-long cs spare t u n i kept now h room = kept-length gapRow (stayingGaps cs spare) (rows gapRow n t) t u i kept now n h room
+long : (cs : List Chunk) (spare : Bool) (t u : List ℕ) (n i kept : ℕ) → KeptRegions cs spare t n u i kept → i ≤ n → region_words + region_words * n ≤ length t → length u ≡ length t
+long cs spare t u n i kept now h room = kept_length gap_row (staying_gaps cs spare) (rows gap_row n t) t u i kept now n h room
 
 gap-at-requires : tie.Need-gap-at-requires invariant-loop decreases-loop
 gap-at-requires c κs =
     let l = c.before.before.before.before.before in
     let s = l.before.before.before in
     let a = s.args in
-    omega (arith, s.requires.0, long (rows chunkRow a.k a.chunks.now) a.spare a.regions.now l.loop.regions a.n l.loop.i l.loop.auto l.loop.invariant.1 (search rules) s.requires.0)
+    omega (arith, s.requires.0, long (rows chunk_row a.k a.chunks.now) a.spare a.regions.now l.loop.regions a.n l.loop.i l.loop.auto l.loop.invariant.1 (search rules) s.requires.0)
 
 put-gap-requires : tie.Need-put-gap-requires invariant-loop decreases-loop
 put-gap-requires c κs =
     let l = c.before.before.before.before.before.before.before in
     let s = l.before.before.before in
     let a = s.args in
-    omega (arith, s.requires.0, l.loop.invariant.1.within, long (rows chunkRow a.k a.chunks.now) a.spare a.regions.now l.loop.regions a.n l.loop.i l.loop.auto l.loop.invariant.1 (search rules) s.requires.0)
+    omega (arith, s.requires.0, l.loop.invariant.1.within, long (rows chunk_row a.k a.chunks.now) a.spare a.regions.now l.loop.regions a.n l.loop.i l.loop.auto l.loop.invariant.1 (search rules) s.requires.0)
 
 add_kept : tie.Need-overflow-add-kept invariant-loop decreases-loop
 add_kept c = let l = c.before.before.before.before.before.before.before.before.before.before in omega (arith, l.loop.invariant.1.within)
@@ -84,7 +84,7 @@ loop-again-2 c =
     let s = l.before.before.before in
     let a = s.args in (
       omega arith,
-      region-more (rows chunkRow a.k a.chunks.now) a.spare a.regions.now a.n l.loop.regions l.loop.i l.loop.auto l.loop.invariant.1 (search rules) s.requires.0 _ g.Goes-at.ensures f.if1.false r.gap_at.result r.gap_at.ensures _ p.put-gap.ensures,
+      region_more (rows chunk_row a.k a.chunks.now) a.spare a.regions.now a.n l.loop.regions l.loop.i l.loop.auto l.loop.invariant.1 (search rules) s.requires.0 _ g.Goes-at.ensures f.if1.false r.gap_at.result r.gap_at.ensures _ p.put-gap.ensures,
     )
 
 same_length : tie.Need-same-length invariant-loop decreases-loop
@@ -92,13 +92,13 @@ same_length c =
     let l = c.before in
     let s = l.before.before.before in
     let a = s.args in
-    long (rows chunkRow a.k a.chunks.now) a.spare a.regions.now l.loop.regions a.n l.loop.i l.loop.auto l.loop.invariant.1 (search rules) s.requires.0
+    long (rows chunk_row a.k a.chunks.now) a.spare a.regions.now l.loop.regions a.n l.loop.i l.loop.auto l.loop.invariant.1 (search rules) s.requires.0
 
 returns : tie.Need-returns invariant-loop decreases-loop
 returns c =
     let l = c.before in
     let a = l.before.before.before.args in
-    regions-done (rows chunkRow a.k a.chunks.now) a.spare a.regions.now a.n l.loop.regions l.loop.i l.loop.auto l.loop.invariant.1 (search rules)
+    regions_done (rows chunk_row a.k a.chunks.now) a.spare a.regions.now a.n l.loop.regions l.loop.i l.loop.auto l.loop.invariant.1 (search rules)
 
 pub keep-regions-spec : {M : Type 1} → statement M
 keep-regions-spec =

@@ -3,22 +3,22 @@ use mathlib.Core.Path.{◌≡◌, sym, ap, ◌∙◌}
 use mathlib.Core.Bool.{◌&&◌}
 use Prim.Native.Nat.{◌+◌, ◌-◌, ◌≤◌}
 use native.Mathlib.Omega.{arith}
-use Rattle.slab.specs.Slab.{vacantAt}
-use Rattle.slab.specs.Test.{vacancies}
-use Rattle.slab.proofs.Steps.{vacancies-none}
-use Rattle.store_rules.specs.Loans.{loanWords, size_at, loansOf}
-use Rattle.book_rules.proofs.Following.{vacancies-most}
-use Rattle.freelist_rules.specs.Walk.{allOk, loanOk}
+use Rattle.slabs.specs.Slab.{vacant_at}
+use Rattle.slabs.specs.Test.{vacancies}
+use Rattle.slabs.proofs.Steps.{vacancies_none}
+use Rattle.store_rules.specs.Loans.{loan_words, size_at, loans_of}
+use Rattle.book_rules.proofs.Following.{vacancies_most}
+use Rattle.freelist_rules.specs.Walk.{all_ok, loan_ok}
 use Rattle.freelist_test.specs.Parts.{counted}
-use Rattle.freelist_test.proofs.Turns.{loansFrom, loans-start, loan-next, loans-end, vacant-next}
+use Rattle.freelist_test.proofs.Turns.{loans_from, loans_start, loan_next, loans_end, vacant_next}
 use Rattle.freelist_test.proofs.blocks.look_over.Statement.{statement}
 use Rattle.freelist_test.proofs.blocks.look_over.Tie as tie
 
 abbrev invariant-loop : tie.invariant-loop
 invariant-loop s given loans n ok₀ vacant₀ p₀ ok vacant p =
     (p ≤ n)
-    × (vacant ≡ vacancies (vacantAt loans size_at loanWords) p)
-    × (allOk (loanOk s (counted given 0 0)) (loansOf n loans) ≡ (ok && loansFrom (loanOk s (counted given 0 0)) loans n p))
+    × (vacant ≡ vacancies (vacant_at loans size_at loan_words) p)
+    × (all_ok (loan_ok s (counted given 0 0)) (loans_of n loans) ≡ (ok && loans_from (loan_ok s (counted given 0 0)) loans n p))
 
 abbrev decreases-loop : tie.decreases-loop
 decreases-loop s given loans n ok₀ vacant₀ p₀ ok vacant p = n - p
@@ -26,7 +26,7 @@ decreases-loop s given loans n ok₀ vacant₀ p₀ ok vacant p = n - p
 loop-holds : tie.Need-loop-init invariant-loop decreases-loop
 loop-holds c =
     let a = c.before.args in
-    (omega arith, sym (vacancies-none _), loans-start (loanOk a.s (counted a.given 0 0)) a.loans.now a.n)
+    (omega arith, sym (vacancies_none _), loans_start (loan_ok a.s (counted a.given 0 0)) a.loans.now a.n)
 
 loan-in-requires : tie.Need-loan-in-requires invariant-loop decreases-loop
 loan-in-requires c κs = search rules
@@ -44,8 +44,8 @@ add-vacant c =
     let a = o.before.before.args in
     omega (
       arith,
-      vacant-next a.loans.now o.loop.p l.loan-in.result o.loop.vacant c.vacancy.result l.loan-in.ensures o.loop.invariant.1 c.vacancy.ensures,
-      vacancies-most (vacantAt a.loans.now size_at loanWords) (o.loop.p + 1),
+      vacant_next a.loans.now o.loop.p l.loan-in.result o.loop.vacant c.vacancy.result l.loan-in.ensures o.loop.invariant.1 c.vacancy.ensures,
+      vacancies_most (vacant_at a.loans.now size_at loan_words) (o.loop.p + 1),
     )
 
 add-p : tie.Need-overflow-add-p invariant-loop decreases-loop
@@ -61,8 +61,8 @@ loop-again c =
     let o = l.before.before in
     let a = o.before.before.args in (
       omega arith,
-      vacant-next a.loans.now o.loop.p l.loan-in.result o.loop.vacant c.vacancy.result l.loan-in.ensures o.loop.invariant.1 c.vacancy.ensures,
-      loan-next (loanOk a.s (counted a.given 0 0)) a.loans.now a.n o.loop.p l.before.loop-test.true l.loan-in.result i.is-loan.result l.loan-in.ensures i.is-loan.ensures _ o.loop.ok o.loop.invariant.2,
+      vacant_next a.loans.now o.loop.p l.loan-in.result o.loop.vacant c.vacancy.result l.loan-in.ensures o.loop.invariant.1 c.vacancy.ensures,
+      loan_next (loan_ok a.s (counted a.given 0 0)) a.loans.now a.n o.loop.p l.before.loop-test.true l.loan-in.result i.is-loan.result l.loan-in.ensures i.is-loan.ensures _ o.loop.ok o.loop.invariant.2,
     )
 
 returns : tie.Need-returns invariant-loop decreases-loop
@@ -70,7 +70,7 @@ returns c =
     let o = c.before in
     let a = o.before.before.args in
     let e : o.loop.p ≡ a.n = omega arith in
-    (loans-end (loanOk a.s (counted a.given 0 0)) a.loans.now a.n o.loop.p c.loop-test.false _ o.loop.ok o.loop.invariant.2, o.loop.invariant.1 ∙ ap (vacancies _) e)
+    (loans_end (loan_ok a.s (counted a.given 0 0)) a.loans.now a.n o.loop.p c.loop-test.false _ o.loop.ok o.loop.invariant.2, o.loop.invariant.1 ∙ ap (vacancies _) e)
 
 pub look-over-spec : {M : Type 1} → statement M
 look-over-spec =

@@ -1,8 +1,8 @@
 use borrow.Author.Rules.{rules}
-use Rattle.lists.proofs.Bools.{not_yes, not-no}
+use Rattle.lists.proofs.Bools.{not_yes, not_no}
 use Rattle.words.specs.Rows.{rows}
-use Rattle.freelist_rules.specs.Records.{chunkRow}
-use Rattle.freelist_test.proofs.Groups.{apart-told, size-fails, each-fails, memories-left}
+use Rattle.freelist_rules.specs.Records.{chunk_row}
+use Rattle.freelist_test.proofs.Groups.{apart_told, size_fails, each_fails, memories_left}
 use Rattle.freelist_test.proofs.chunks.are_chunks.Statement.{statement}
 use Rattle.freelist_test.proofs.chunks.are_chunks.Tie as tie
 
@@ -13,7 +13,7 @@ returns : tie.Need-returns
 returns c =
     let z = c.before in
     let a = z.before.before.args in
-    size-fails a.s a.made a.size (rows chunkRow a.k a.chunks.now) z.is-sized.result z.is-sized.ensures (not_yes _ c.if1.true)
+    size_fails a.s a.made a.size (rows chunk_row a.k a.chunks.now) z.is-sized.result z.is-sized.ensures (not_yes _ c.if1.true)
 
 is-each-requires : tie.Need-is-each-requires
 is-each-requires c κs = search rules
@@ -24,7 +24,7 @@ returns-2 c =
     let i = e.before in
     let z = i.before in
     let a = z.before.before.args in
-    each-fails a.s a.made a.size (rows chunkRow a.k a.chunks.now) z.is-sized.result e.is-each.result z.is-sized.ensures (not-no _ i.if1.false) e.is-each.ensures (not_yes _ c.if2.true)
+    each_fails a.s a.made a.size (rows chunk_row a.k a.chunks.now) z.is-sized.result e.is-each.result z.is-sized.ensures (not_no _ i.if1.false) e.is-each.ensures (not_yes _ c.if2.true)
 
 is-distinct-requires : tie.Need-is-distinct-requires
 is-distinct-requires c κs = search rules
@@ -38,7 +38,7 @@ returns-3 c =
     let a = z.before.before.args in
     let r = c.is-distinct.result in
     let d = c.is-distinct.ensures in
-    memories-left a.s a.made a.size (rows chunkRow a.k a.chunks.now) z.is-sized.result e.is-each.result r z.is-sized.ensures (not-no _ i.if1.false) e.is-each.ensures (not-no _ j.if2.false) (apart-told a.chunks.now a.k r d.0 d.1)
+    memories_left a.s a.made a.size (rows chunk_row a.k a.chunks.now) z.is-sized.result e.is-each.result r z.is-sized.ensures (not_no _ i.if1.false) e.is-each.ensures (not_no _ j.if2.false) (apart_told a.chunks.now a.k r d.0 d.1)
 
 pub are-chunks-spec : {M : Type 1} → statement M
 are-chunks-spec =

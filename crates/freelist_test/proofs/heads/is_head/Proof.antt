@@ -1,6 +1,6 @@
 use borrow.Author.Rules.{rules}
 use Rattle.freelist_rules.specs.Tables.{tables}
-use Rattle.freelist_test.proofs.Groups.{head-told}
+use Rattle.freelist_test.proofs.Groups.{head_told}
 use Rattle.freelist_test.proofs.heads.is_head.Statement.{statement}
 use Rattle.freelist_test.proofs.heads.is_head.Tie as tie
 
@@ -16,7 +16,7 @@ word-requires c κs = search rules
 returns : tie.Need-returns
 returns c =
     let a = c.before.before.before.before.before.before.before.before.before.args in
-    head-told a.s (tables a.head.now a.loans.now a.chunks.now a.index.now a.regions.now) a.n c.before.is_Signed.result c.word.result c.before.is_Signed.ensures c.word.ensures
+    head_told a.s (tables a.head.now a.loans.now a.chunks.now a.index.now a.regions.now) a.n c.before.is_Signed.result c.word.result c.before.is_Signed.ensures c.word.ensures
 
 pub is-head-spec : {M : Type 1} → statement M
 is-head-spec = tie.close (tie.spec add_most is-signed-requires word-requires returns)

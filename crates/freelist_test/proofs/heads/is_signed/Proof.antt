@@ -1,6 +1,6 @@
 use borrow.Author.Rules.{rules}
 use Rattle.freelist_rules.specs.Tables.{tables, marks}
-use Rattle.store_rules.proofs.Signed.{signed-told}
+use Rattle.store_rules.proofs.Signed.{signed_told}
 use Rattle.freelist_test.proofs.heads.is_signed.Statement.{statement}
 use Rattle.freelist_test.proofs.heads.is_signed.Tie as tie
 
@@ -26,7 +26,7 @@ returns c =
     let l = k.before in
     let h = l.before in
     let a = h.before.before.before.before.before.before.args in
-    signed-told marks (tables a.head.now a.loans.now a.chunks.now a.index.now a.regions.now) _ _ _ _ _ h.word.ensures l.word2.ensures k.word3.ensures i.word4.ensures c.word5.ensures
+    signed_told marks (tables a.head.now a.loans.now a.chunks.now a.index.now a.regions.now) _ _ _ _ _ h.word.ensures l.word2.ensures k.word3.ensures i.word4.ensures c.word5.ensures
 
 pub is-signed-spec : {M : Type 1} → statement M
 is-signed-spec = tie.close (tie.spec word-requires word-requires-2 word-requires-3 word-requires-4 word-requires-5 returns)

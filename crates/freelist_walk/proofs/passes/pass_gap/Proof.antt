@@ -1,5 +1,5 @@
 use borrow.Author.Rules.{rules}
-use Rattle.freelist_walk.proofs.Piecing.{passed_none, passed-out, passed-gap}
+use Rattle.freelist_walk.proofs.Piecing.{passed_none, passed_out, passed_gap}
 use Rattle.freelist_walk.proofs.passes.pass_gap.Statement.{statement}
 use Rattle.freelist_walk.proofs.passes.pass_gap.Tie as tie
 
@@ -11,7 +11,7 @@ returns c =
 returns-2 : tie.Need-returns-2
 returns-2 c =
     let a = c.before.before.before.args in
-    passed-out a.t.now a.n a.d a.chunk a.from a.to a.last (search rules) a.to (search rules) (search rules)
+    passed_out a.t.now a.n a.d a.chunk a.from a.to a.last (search rules) a.to (search rules) (search rules)
 
 gap-at-requires : tie.Need-gap-at-requires
 gap-at-requires c κs = search rules
@@ -25,7 +25,7 @@ add-t12 c = search rules
 returns-3 : tie.Need-returns-3
 returns-3 c =
     let a = c.before.before.before.before.before.args in
-    passed-gap a.t.now a.n a.d a.chunk a.from a.to a.last (search rules) a.to (search rules) (search rules) c.before.gap_at.result c.is-gap.result c.before.gap_at.ensures c.is-gap.ensures
+    passed_gap a.t.now a.n a.d a.chunk a.from a.to a.last (search rules) a.to (search rules) (search rules) c.before.gap_at.result c.is-gap.result c.before.gap_at.ensures c.is-gap.ensures
 
 pub pass-gap-spec : {M : Type 1} → statement M
 pass-gap-spec =

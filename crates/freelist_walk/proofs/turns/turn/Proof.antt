@@ -1,7 +1,7 @@
 use borrow.Author.Rules.{rules}
 use mathlib.Core.Path.{sym, ◌∙◌}
 use native.Mathlib.Omega.{arith}
-use Rattle.freelist_walk.proofs.Stepping.{test-yes, loan-turned, chunk-turned}
+use Rattle.freelist_walk.proofs.Stepping.{test_yes, loan_turned, chunk_turned}
 use Rattle.freelist_walk.proofs.turns.turn.Statement.{statement}
 use Rattle.freelist_walk.proofs.turns.turn.Tie as tie
 
@@ -20,7 +20,7 @@ sub-loan-in c =
     let r = x.before in
     let z = r.before in
     let a = z.before.before.before.before.before.args in
-    omega (arith, test-yes a.s.left r.record-after.result a.places a.loans.now z.chunk_in.result.number (sym x.is-next.ensures ∙ c.if1.true))
+    omega (arith, test_yes a.s.left r.record-after.result a.places a.loans.now z.chunk_in.result.number (sym x.is-next.ensures ∙ c.if1.true))
 
 loan-in-requires : tie.Need-loan-in-requires
 loan-in-requires c κs =
@@ -29,7 +29,7 @@ loan-in-requires c κs =
     let z = r.before in
     let s = z.before.before.before.before.before in
     let a = s.args in
-    omega (arith, s.requires.0.loans-long, test-yes a.s.left r.record-after.result a.places a.loans.now z.chunk_in.result.number (sym x.is-next.ensures ∙ c.if1.true))
+    omega (arith, s.requires.0.loans_long, test_yes a.s.left r.record-after.result a.places a.loans.now z.chunk_in.result.number (sym x.is-next.ensures ∙ c.if1.true))
 
 pass-loan-requires : tie.Need-pass-loan-requires
 pass-loan-requires c κs = search rules
@@ -42,8 +42,8 @@ record-before-requires c κs =
     let z = r.before in
     let s = z.before.before.before.before.before in
     let a = s.args in
-    let v = test-yes a.s.left r.record-after.result a.places a.loans.now z.chunk_in.result.number (sym x.is-next.ensures ∙ i.if1.true) in
-    (omega (arith, v.2, s.requires.0.few), s.requires.0.loans-most, s.requires.0.index-long)
+    let v = test_yes a.s.left r.record-after.result a.places a.loans.now z.chunk_in.result.number (sym x.is-next.ensures ∙ i.if1.true) in
+    (omega (arith, v.2, s.requires.0.few), s.requires.0.loans_most_lem, s.requires.0.index_long)
 
 over-loan-requires : tie.Need-over-loan-requires
 over-loan-requires c κs =
@@ -52,7 +52,7 @@ over-loan-requires c κs =
     let r = x.before in
     let z = r.before in
     let a = z.before.before.before.before.before.args in
-    (test-yes a.s.left r.record-after.result a.places a.loans.now z.chunk_in.result.number (sym x.is-next.ensures ∙ i.if1.true)).0
+    (test_yes a.s.left r.record-after.result a.places a.loans.now z.chunk_in.result.number (sym x.is-next.ensures ∙ i.if1.true)).0
 
 returns : tie.Need-returns
 returns c =
@@ -65,7 +65,7 @@ returns c =
     let z = r.before in
     let s = z.before.before.before.before.before in
     let a = s.args in
-    loan-turned a.most a.k a.chunks.now a.loans.now a.places a.index.now a.regions.now a.n a.s z.chunk_in.result r.record-after.result
+    loan_turned a.most a.k a.chunks.now a.loans.now a.places a.index.now a.regions.now a.n a.s z.chunk_in.result r.record-after.result
     s.requires.1.0.0 s.requires.1.0.1 s.requires.1.1.0 s.requires.1.1.1 z.chunk_in.ensures r.record-after.ensures
     (sym x.is-next.ensures ∙ i.if1.true) l.loan-in.result l.loan-in.ensures p.pass-loan.result p.pass-loan.ensures b.record-before.result b.record-before.ensures c.over-loan.result c.over-loan.ensures
 
@@ -75,7 +75,7 @@ pass-gap-requires c κs = search rules
 over-chunk-requires : tie.Need-over-chunk-requires
 over-chunk-requires c κs =
     let s = c.before.before.before.before.before.before.before.before.before in
-    (omega (arith, s.requires.1.0.0, s.requires.0.chunks-most), s.requires.1.0.1.whole)
+    (omega (arith, s.requires.1.0.0, s.requires.0.chunks_most_lem), s.requires.1.0.1.whole)
 
 returns-2 : tie.Need-returns-2
 returns-2 c =
@@ -86,7 +86,7 @@ returns-2 c =
     let z = r.before in
     let s = z.before.before.before.before.before in
     let a = s.args in
-    chunk-turned a.most a.k a.chunks.now a.loans.now a.places a.index.now a.regions.now a.n a.s z.chunk_in.result r.record-after.result
+    chunk_turned a.most a.k a.chunks.now a.loans.now a.places a.index.now a.regions.now a.n a.s z.chunk_in.result r.record-after.result
     s.requires.1.0.0 s.requires.1.0.1 s.requires.1.1.0 s.requires.1.1.1 z.chunk_in.ensures r.record-after.ensures
     (sym x.is-next.ensures ∙ i.if1.false) g.pass-gap.result g.pass-gap.ensures c.over-chunk.result c.over-chunk.ensures
 

@@ -1,8 +1,8 @@
 use borrow.Author.Rules.{rules}
 use mathlib.Core.Path.{sym, ap, ◌∙◌}
-use Rattle.lists.proofs.Bools.{not_yes, not-no}
-use Rattle.store.specs.Fates.{engineOf, fateFrom}
-use Rattle.store.proofs.Coming.{arrive-not, arrive-go}
+use Rattle.lists.proofs.Bools.{not_yes, not_no}
+use Rattle.store.specs.Fates.{engine_of, fate_from}
+use Rattle.store.proofs.Coming.{arrive_not, arrive_go}
 use Rattle.store.proofs.comings.arrive.Statement.{statement}
 use Rattle.store.proofs.comings.arrive.Tie as tie
 
@@ -13,7 +13,7 @@ returns : tie.Need-returns
 returns c =
     let d = c.before in
     let a = d.before.before.args in
-    arrive-not (engineOf a.e) a.k a.o a.held (sym d.is-deliverable.ensures ∙ not_yes _ c.if1.true)
+    arrive_not (engine_of a.e) a.k a.o a.held (sym d.is-deliverable.ensures ∙ not_yes _ c.if1.true)
 
 lead-requires : tie.Need-lead-requires
 lead-requires c κs = search rules
@@ -29,14 +29,14 @@ returns-2 c =
     let f = c.before.before.before in
     let d = f.before.before in
     let a = d.before.before.args in
-    arrive-go (engineOf a.e) a.k a.o a.held _ (sym d.is-deliverable.ensures ∙ not-no _ f.before.if1.false) (sym (ap fateFrom c.before.fate.given.1) ∙ f.lead.ensures)
+    arrive_go (engine_of a.e) a.k a.o a.held _ (sym d.is-deliverable.ensures ∙ not_no _ f.before.if1.false) (sym (ap fate_from c.before.fate.given.1) ∙ f.lead.ensures)
 
 returns-3 : tie.Need-returns-3
 returns-3 c =
     let f = c.before.before.before in
     let d = f.before.before in
     let a = d.before.before.args in
-    arrive-go (engineOf a.e) a.k a.o a.held _ (sym d.is-deliverable.ensures ∙ not-no _ f.before.if1.false) (sym (ap fateFrom c.before.fate2.given.1) ∙ f.lead.ensures)
+    arrive_go (engine_of a.e) a.k a.o a.held _ (sym d.is-deliverable.ensures ∙ not_no _ f.before.if1.false) (sym (ap fate_from c.before.fate2.given.1) ∙ f.lead.ensures)
 
 pub arrive-spec : {M : Type 1} → statement M
 arrive-spec =

@@ -1,8 +1,8 @@
 use borrow.Author.Rules.{rules}
 use mathlib.Core.Path.{refl, sym, ap}
 use Rattle.store_rules.specs.Delivery.{mapped}
-use Rattle.store.specs.Fates.{engineOf}
-use Rattle.store.proofs.Leading.{failed-is}
+use Rattle.store.specs.Fates.{engine_of}
+use Rattle.store.proofs.Leading.{failed_is}
 use Rattle.store.proofs.fates.fate_of_map.Statement.{statement}
 use Rattle.store.proofs.fates.fate_of_map.Tie as tie
 
@@ -31,19 +31,19 @@ failed-requires-3 : tie.Need-failed-requires-3
 failed-requires-3 c κs = search rules
 
 returns : tie.Need-returns
-returns c = let a = c.before.before.args in ap (mapped (engineOf a.e) a.made.number) (sym c.enum_told.given.1)
+returns c = let a = c.before.before.args in ap (mapped (engine_of a.e) a.made.number) (sym c.enum_told.given.1)
 
 returns-2 : tie.Need-returns-2
-returns-2 c = let a = c.before.before.args in ap (mapped (engineOf a.e) a.made.number) (sym c.enum-told2.given.1)
+returns-2 c = let a = c.before.before.args in ap (mapped (engine_of a.e) a.made.number) (sym c.enum-told2.given.1)
 
 returns-3 : tie.Need-returns-3
-returns-3 c = let a = c.before.before.before.args in failed-is (engineOf a.e) a.made.number 12 a.made.mapping _ _ c.before.enum-told3.given.1 refl c.failed.ensures
+returns-3 c = let a = c.before.before.before.args in failed_is (engine_of a.e) a.made.number 12 a.made.mapping _ _ c.before.enum-told3.given.1 refl c.failed.ensures
 
 returns-4 : tie.Need-returns-4
-returns-4 c = let a = c.before.before.before.args in failed-is (engineOf a.e) a.made.number 11 a.made.mapping _ _ c.before.enum-told4.given.1 refl c.failed2.ensures
+returns-4 c = let a = c.before.before.before.args in failed_is (engine_of a.e) a.made.number 11 a.made.mapping _ _ c.before.enum-told4.given.1 refl c.failed2.ensures
 
 returns-5 : tie.Need-returns-5
-returns-5 c = let a = c.before.before.before.args in failed-is (engineOf a.e) a.made.number 12 a.made.mapping _ _ c.before.enum-told5.given.1 refl c.failed3.ensures
+returns-5 c = let a = c.before.before.before.args in failed_is (engine_of a.e) a.made.number 12 a.made.mapping _ _ c.before.enum-told5.given.1 refl c.failed3.ensures
 
 pub fate-of-map-spec : {M : Type 1} → statement M
 fate-of-map-spec =

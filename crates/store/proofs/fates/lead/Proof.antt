@@ -1,7 +1,7 @@
 use borrow.Author.Rules.{rules}
 use mathlib.Core.Path.{sym, ap, ◌∙◌}
-use Rattle.store_rules.specs.Delivery.{fateOf}
-use Rattle.store.specs.Fates.{engineOf}
+use Rattle.store_rules.specs.Delivery.{fate_of}
+use Rattle.store.specs.Fates.{engine_of}
 use Rattle.store.proofs.fates.lead.Statement.{statement}
 use Rattle.store.proofs.fates.lead.Tie as tie
 
@@ -27,13 +27,13 @@ returns : tie.Need-returns
 returns c =
     let k = c.before.before in
     let a = k.before.before.args in
-    c.fate-of-map.ensures ∙ ap (fateOf (engineOf a.e)) (sym k.o.given.1)
+    c.fate-of-map.ensures ∙ ap (fate_of (engine_of a.e)) (sym k.o.given.1)
 
 returns-2 : tie.Need-returns-2
-returns-2 c = let a = c.before.before.before.args in c.refuse.ensures ∙ ap (fateOf (engineOf a.e)) (sym c.before.enum_told.given.1)
+returns-2 c = let a = c.before.before.before.args in c.refuse.ensures ∙ ap (fate_of (engine_of a.e)) (sym c.before.enum_told.given.1)
 
 returns-3 : tie.Need-returns-3
-returns-3 c = let a = c.before.before.before.args in c.refuse2.ensures ∙ ap (fateOf (engineOf a.e)) (sym c.before.enum-told2.given.1)
+returns-3 c = let a = c.before.before.before.args in c.refuse2.ensures ∙ ap (fate_of (engine_of a.e)) (sym c.before.enum-told2.given.1)
 
 pub lead-spec : {M : Type 1} → statement M
 lead-spec =

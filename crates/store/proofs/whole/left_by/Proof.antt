@@ -1,10 +1,10 @@
 use borrow.Author.Rules.{rules}
 use mathlib.Core.Path.{sym, ap, ◌∙◌}
-use Rattle.counter.specs.Paper.{askSaid}
+use Rattle.counter.specs.Paper.{ask_said}
 use Rattle.counter.specs.declared.answers.AskAnswer.{AskAnswer}
-use Rattle.store_rules.specs.Shares.{askLeft}
-use Rattle.store.proofs.whole.left_by.Statement.{statement}
-use Rattle.store.proofs.whole.left_by.Tie as tie
+use Rattle.store_rules.specs.Shares.{ask_left}
+use Rattle.store.proofs.whole.left_by_lem.Statement.{statement}
+use Rattle.store.proofs.whole.left_by_lem.Tie as tie
 
 enum_told : tie.Need-enum-told
 enum_told c = search rules
@@ -28,7 +28,7 @@ returns-3 : tie.Need-returns-3
 returns-3 c =
     let k = c.before.before in
     let a = k.before.before.args in
-    c.with-order.ensures ∙ ap (λ (x : AskAnswer). askLeft a.a a.size a.mask (askSaid x)) (sym k.answer.given.1)
+    c.with-order.ensures ∙ ap (λ (x : AskAnswer). ask_left a.a a.size a.mask (ask_said x)) (sym k.answer.given.1)
 
 pub left-by-spec : {M : Type 1} → statement M
 left-by-spec =

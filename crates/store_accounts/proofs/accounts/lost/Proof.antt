@@ -1,5 +1,5 @@
 use borrow.Author.Rules.{rules}
-use Rattle.store_accounts.proofs.Settling.{lost-kept, lost-back, lost-refused}
+use Rattle.store_accounts.proofs.Settling.{lost_kept, lost_back, lost_refused}
 use Rattle.store_accounts.proofs.accounts.lost.Statement.{statement}
 use Rattle.store_accounts.proofs.accounts.lost.Tie as tie
 
@@ -22,18 +22,18 @@ returns : tie.Need-returns
 returns c =
     let i = c.before.before.before in
     let a = i.before.args in
-    lost-kept a.share _ a.size a.charge a.free i.if1.true c.before.enum_told.given.1 c.charged.ensures
+    lost_kept a.share _ a.size a.charge a.free i.if1.true c.before.enum_told.given.1 c.charged.ensures
 
 returns-2 : tie.Need-returns-2
 returns-2 c =
     let i = c.before.before.before in
     let a = i.before.args in
-    lost-back a.share _ a.size a.charge a.free _ i.if1.true c.before.enum-told2.given.1 c.given_back.ensures
+    lost_back a.share _ a.size a.charge a.free _ i.if1.true c.before.enum-told2.given.1 c.given_back.ensures
 
 returns-3 : tie.Need-returns-3
 returns-3 c =
     let a = c.before.before.args in
-    lost-refused a.share _ a.size a.charge a.free c.before.if1.false c.closed.ensures
+    lost_refused a.share _ a.size a.charge a.free c.before.if1.false c.closed.ensures
 
 pub lost-spec : {M : Type 1} → statement M
 lost-spec =

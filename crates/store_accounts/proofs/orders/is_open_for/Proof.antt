@@ -1,6 +1,6 @@
 use borrow.Author.Rules.{rules}
 use mathlib.Core.Path.{sym, ap}
-use Rattle.store_rules.specs.Tests.{openFor}
+use Rattle.store_rules.specs.Tests.{open_for}
 use Rattle.store_accounts.proofs.orders.is_open_for.Statement.{statement}
 use Rattle.store_accounts.proofs.orders.is_open_for.Tie as tie
 
@@ -16,7 +16,7 @@ returns c = search rules
 returns-2 : tie.Need-returns-2
 returns-2 c =
     let k = c.before.before.before in
-    ap (openFor k.before.before.args.number) (sym k.o.given.1)
+    ap (open_for k.before.before.args.number) (sym k.o.given.1)
 
 pub is-open-for-spec : {M : Type 1} → statement M
 is-open-for-spec = tie.close (tie.spec enum_told enum-known-o returns returns-2)

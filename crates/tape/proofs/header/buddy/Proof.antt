@@ -1,6 +1,6 @@
 use borrow.Author.Rules.{rules}
 use native.Mathlib.Omega.{arith}
-use Rattle.tape.proofs.Headers.{fits-yes}
+use Rattle.tape.proofs.Headers.{fits_yes}
 use Rattle.tape.proofs.header.buddy.Statement.{statement}
 use Rattle.tape.proofs.header.buddy.Tie as tie
 
@@ -23,7 +23,7 @@ word-requires-5 : tie.Need-word-requires-5
 word-requires-5 c κs = search rules
 
 narrow-requires : tie.Need-narrow-requires
-narrow-requires c κs = let s = c.before.before.before.before.before.before.before in omega (arith, (fits-yes s.args.bytes.now s.requires).objects-most)
+narrow-requires c κs = let s = c.before.before.before.before.before.before.before in omega (arith, (fits_yes s.args.bytes.now s.requires).objects_most_lem)
 
 returns : tie.Need-returns
 returns c = cc

@@ -1,5 +1,5 @@
 use borrow.Author.Rules.{rules}
-use Rattle.tape.specs.Header.{fitsOk}
+use Rattle.tape.specs.Header.{fits_ok}
 use Rattle.tape.proofs.header.fits.Statement.{statement}
 use Rattle.tape.proofs.header.fits.Tie as tie
 
@@ -22,7 +22,7 @@ cast-result : tie.Need-overflow-cast-result
 cast-result c = search rules
 
 returns : tie.Need-returns
-unfolding fitsOk
+unfolding fits_ok
 returns c = cc
 
 pub fits-spec : {M : Type 1} → statement M

@@ -1,6 +1,6 @@
 use borrow.Author.Rules.{rules}
 use native.Mathlib.Omega.{arith}
-use Rattle.tape.proofs.Headers.{fits-yes}
+use Rattle.tape.proofs.Headers.{fits_yes}
 use Rattle.tape.proofs.header.free_list.Statement.{statement}
 use Rattle.tape.proofs.header.free_list.Tie as tie
 
@@ -20,7 +20,7 @@ word-requires-4 : tie.Need-word-requires-4
 word-requires-4 c κs = search rules
 
 narrow-requires : tie.Need-narrow-requires
-narrow-requires c κs = let s = c.before.before.before.before.before.before in omega (arith, (fits-yes s.args.bytes.now s.requires).objects-most)
+narrow-requires c κs = let s = c.before.before.before.before.before.before in omega (arith, (fits_yes s.args.bytes.now s.requires).objects_most_lem)
 
 returns : tie.Need-returns
 returns c = cc

@@ -1,6 +1,6 @@
 use borrow.Author.Rules.{rules}
 use native.Mathlib.Omega.{arith}
-use Rattle.tape.proofs.Headers.{fits-yes}
+use Rattle.tape.proofs.Headers.{fits_yes}
 use Rattle.tape.proofs.header.store.Statement.{statement}
 use Rattle.tape.proofs.header.store.Tie as tie
 
@@ -8,19 +8,19 @@ word-requires : tie.Need-word-requires
 word-requires c κs = search rules
 
 narrow-requires : tie.Need-narrow-requires
-narrow-requires c κs = let s = c.before.before in omega (arith, (fits-yes s.args.bytes.now s.requires).number-most)
+narrow-requires c κs = let s = c.before.before in omega (arith, (fits_yes s.args.bytes.now s.requires).number_most)
 
 word-requires-2 : tie.Need-word-requires-2
 word-requires-2 c κs = search rules
 
 narrow-requires-2 : tie.Need-narrow-requires-2
-narrow-requires-2 c κs = let s = c.before.before.before.before in omega (arith, (fits-yes s.args.bytes.now s.requires).memtype-most)
+narrow-requires-2 c κs = let s = c.before.before.before.before in omega (arith, (fits_yes s.args.bytes.now s.requires).memtype_most)
 
 word-requires-3 : tie.Need-word-requires-3
 word-requires-3 c κs = search rules
 
 narrow-requires-3 : tie.Need-narrow-requires-3
-narrow-requires-3 c κs = let s = c.before.before.before.before.before.before in omega (arith, (fits-yes s.args.bytes.now s.requires).properties-most)
+narrow-requires-3 c κs = let s = c.before.before.before.before.before.before in omega (arith, (fits_yes s.args.bytes.now s.requires).properties_most_lem)
 
 word-requires-4 : tie.Need-word-requires-4
 word-requires-4 c κs = search rules

@@ -1,6 +1,6 @@
 use borrow.Author.Rules.{rules}
 use borrow.Author.Tests.{le-leb, lt-leb}
-use Rattle.tape.specs.Record.{deliveryIn}
+use Rattle.tape.specs.Record.{delivery_in}
 use Rattle.tape.proofs.record.delivery.Statement.{statement}
 use Rattle.tape.proofs.record.delivery.Tie as tie
 
@@ -8,19 +8,19 @@ mapping-requires : tie.Need-mapping-requires
 mapping-requires c κs = search rules
 
 returns : tie.Need-returns
-unfolding deliveryIn
+unfolding delivery_in
 returns c = rw (le-leb c.before.before.args.code 4 c.before.if1.true, c.mapping.ensures)
 
 returns-2 : tie.Need-returns-2
-unfolding deliveryIn
+unfolding delivery_in
 returns-2 c = rw (lt-leb c.before.before.args.code 4 c.before.if1.false, c.if2.true)
 
 returns-3 : tie.Need-returns-3
-unfolding deliveryIn
+unfolding delivery_in
 returns-3 c = rw (lt-leb c.before.before.before.args.code 4 c.before.before.if1.false, c.before.if2.false, c.if3.true)
 
 returns-4 : tie.Need-returns-4
-unfolding deliveryIn
+unfolding delivery_in
 returns-4 c = rw (lt-leb c.before.before.before.args.code 4 c.before.before.if1.false, c.before.if2.false, c.if3.false)
 
 pub delivery-spec : {M : Type 1} → statement M

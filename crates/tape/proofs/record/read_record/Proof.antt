@@ -1,6 +1,6 @@
 use borrow.Author.Rules.{rules}
 use mathlib.Core.Path.{◌∙◌}
-use Rattle.tape.proofs.Records.{record-short, record-whole, body-ask, body-deliver, body-return, body-last, body-torn}
+use Rattle.tape.proofs.Records.{record_short, record_whole, body_ask, body_deliver, body_return, body_last, body_torn}
 use Rattle.tape.proofs.record.read_record.Statement.{statement}
 use Rattle.tape.proofs.record.read_record.Tie as tie
 
@@ -16,7 +16,7 @@ returns c =
     let l = i.before in
     let k = l.before in
     let a = k.before.before.args in
-    record-short a.bytes.now a.buddy _ _ k.byte.ensures l.record-length.ensures i.if1.true
+    record_short a.bytes.now a.buddy _ _ k.byte.ensures l.record-length.ensures i.if1.true
 
 word-at-requires : tie.Need-word-at-requires
 word-at-requires c κs = search rules
@@ -30,7 +30,7 @@ returns-2 c =
     let l = i.before in
     let k = l.before in
     let a = k.before.before.args in
-    body-ask _ a.bytes.now a.buddy _ _ c.before.before.if2.true c.before.word_at.ensures c.word-at2.ensures ∙ record-whole a.bytes.now a.buddy _ _ k.byte.ensures l.record-length.ensures i.if1.false
+    body_ask _ a.bytes.now a.buddy _ _ c.before.before.if2.true c.before.word_at.ensures c.word-at2.ensures ∙ record_whole a.bytes.now a.buddy _ _ k.byte.ensures l.record-length.ensures i.if1.false
 
 byte-requires-2 : tie.Need-byte-requires-2
 byte-requires-2 c κs = search rules
@@ -47,7 +47,7 @@ returns-3 c =
     let l = i.before in
     let k = l.before in
     let a = k.before.before.args in
-    body-deliver _ a.bytes.now a.buddy _ _ _ c.before.before.before.if3.true c.before.before.byte2.ensures c.before.word-at3.ensures c.delivery.ensures ∙ record-whole a.bytes.now a.buddy _ _ k.byte.ensures l.record-length.ensures i.if1.false
+    body_deliver _ a.bytes.now a.buddy _ _ _ c.before.before.before.if3.true c.before.before.byte2.ensures c.before.word-at3.ensures c.delivery.ensures ∙ record_whole a.bytes.now a.buddy _ _ k.byte.ensures l.record-length.ensures i.if1.false
 
 block-requires : tie.Need-block-requires
 block-requires c κs = search rules
@@ -58,7 +58,7 @@ returns-4 c =
     let l = i.before in
     let k = l.before in
     let a = k.before.before.args in
-    body-return _ a.bytes.now a.buddy _ c.before.if4.true c.block.ensures ∙ record-whole a.bytes.now a.buddy _ _ k.byte.ensures l.record-length.ensures i.if1.false
+    body_return _ a.bytes.now a.buddy _ c.before.if4.true c.block.ensures ∙ record_whole a.bytes.now a.buddy _ _ k.byte.ensures l.record-length.ensures i.if1.false
 
 returns-5 : tie.Need-returns-5
 returns-5 c =
@@ -66,7 +66,7 @@ returns-5 c =
     let l = i.before in
     let k = l.before in
     let a = k.before.before.args in
-    body-last _ a.bytes.now a.buddy c.before.before.before.if2.false c.before.before.if3.false c.before.if4.false c.if5.true ∙ record-whole a.bytes.now a.buddy _ _ k.byte.ensures l.record-length.ensures i.if1.false
+    body_last _ a.bytes.now a.buddy c.before.before.before.if2.false c.before.before.if3.false c.before.if4.false c.if5.true ∙ record_whole a.bytes.now a.buddy _ _ k.byte.ensures l.record-length.ensures i.if1.false
 
 returns-6 : tie.Need-returns-6
 returns-6 c =
@@ -74,7 +74,7 @@ returns-6 c =
     let l = i.before in
     let k = l.before in
     let a = k.before.before.args in
-    body-torn _ a.bytes.now a.buddy c.before.before.before.if2.false c.before.before.if3.false c.before.if4.false c.if5.false ∙ record-whole a.bytes.now a.buddy _ _ k.byte.ensures l.record-length.ensures i.if1.false
+    body_torn _ a.bytes.now a.buddy c.before.before.before.if2.false c.before.before.if3.false c.before.if4.false c.if5.false ∙ record_whole a.bytes.now a.buddy _ _ k.byte.ensures l.record-length.ensures i.if1.false
 
 pub read-record-spec : {M : Type 1} → statement M
 read-record-spec =

@@ -2,7 +2,7 @@ use borrow.Author.Rules.{rules}
 use mathlib.Core.Path.{refl}
 use native.Mathlib.Omega.{arith}
 use lib.ListN.{length-set}
-use Rattle.wire_rules.specs.Wire.{answerOut}
+use Rattle.wire_rules.specs.Wire.{answer_out}
 use Rattle.wire.proofs.answers.tell.Statement.{statement}
 use Rattle.wire.proofs.answers.tell.Tie as tie
 
@@ -31,7 +31,7 @@ same_length : tie.Need-same-length
 same_length c = search rules
 
 returns : tie.Need-returns
-unfolding answerOut
+unfolding answer_out
 returns c = refl
 
 same-length-2 : tie.Need-same-length-2

@@ -1,7 +1,7 @@
 use borrow.Author.Rules.{rules}
-use Rattle.counter.specs.Paper.{askSaid}
+use Rattle.counter.specs.Paper.{ask_said}
 use Rattle.counter.specs.declared.answers.AskAnswer.{AskAnswer}
-use Rattle.wire_rules.proofs.Told.{told-as, told-order}
+use Rattle.wire_rules.proofs.Told.{told_as, told_order}
 use Rattle.wire.proofs.answers.tell_asked.Statement.{statement}
 use Rattle.wire.proofs.answers.tell_asked.Tie as tie
 
@@ -38,7 +38,7 @@ same_length c = search rules
 returns : tie.Need-returns
 returns c =
     let w = c.before.before.before.before.before.before.before.before.args.w.now in
-    told-as (λ (x : AskAnswer). askSaid x) w _ _ _ c.before.before.before.before.before.answer.given.1 c.before.before.tell-block.ensures
+    told_as (λ (x : AskAnswer). ask_said x) w _ _ _ c.before.before.before.before.before.answer.given.1 c.before.before.tell-block.ensures
 
 same-length-2 : tie.Need-same-length-2
 same-length-2 c = search rules
@@ -46,7 +46,7 @@ same-length-2 c = search rules
 returns-2 : tie.Need-returns-2
 returns-2 c =
     let w = c.before.before.before.before.before.before.before.before.before.before.before.args.w.now in
-    told-as (λ (x : AskAnswer). askSaid x) w _ _ _ c.before.before.before.before.before.before.before.before.answer2.given.1 (told-order w _ _ c.before.before.tell.ensures)
+    told_as (λ (x : AskAnswer). ask_said x) w _ _ _ c.before.before.before.before.before.before.before.before.answer2.given.1 (told_order w _ _ c.before.before.tell.ensures)
 
 same-length-3 : tie.Need-same-length-3
 same-length-3 c = search rules
@@ -54,7 +54,7 @@ same-length-3 c = search rules
 returns-3 : tie.Need-returns-3
 returns-3 c =
     let w = c.before.before.before.before.before.before.before.before.args.w.now in
-    told-as (λ (x : AskAnswer). askSaid x) w _ _ _ c.before.before.before.before.before.answer3.given.1 c.before.before.tell-refused.ensures
+    told_as (λ (x : AskAnswer). ask_said x) w _ _ _ c.before.before.before.before.before.answer3.given.1 c.before.before.tell-refused.ensures
 
 pub tell-asked-spec : {M : Type 1} → statement M
 tell-asked-spec =

@@ -1,5 +1,5 @@
 use borrow.Author.Rules.{rules}
-use Rattle.wire_rules.specs.Wire.{saidOut}
+use Rattle.wire_rules.specs.Wire.{said_out}
 use Rattle.wire.proofs.answers.tell_block.Statement.{statement}
 use Rattle.wire.proofs.answers.tell_block.Tie as tie
 
@@ -10,7 +10,7 @@ same_length : tie.Need-same-length
 same_length c = search rules
 
 returns : tie.Need-returns
-unfolding saidOut
+unfolding said_out
 returns c = c.before.before.tell.ensures
 
 pub tell-block-spec : {M : Type 1} → statement M

@@ -1,5 +1,5 @@
 use borrow.Author.Rules.{rules}
-use Rattle.wire_rules.proofs.Told.{six-set}
+use Rattle.wire_rules.proofs.Told.{six_set}
 use Rattle.wire.proofs.answers.tell_by_words.Statement.{statement}
 use Rattle.wire.proofs.answers.tell_by_words.Tie as tie
 
@@ -33,7 +33,7 @@ returns c =
     let p2 = p3.before.before.before.before in
     let p1 = p2.before.before.before.before in
     let a = p1.before.before.before.args in
-    six-set a.w.now _ _ _ _ _ _ a.what a.a a.b a.c a.d p1.put.ensures p2.put2.ensures p3.put3.ensures p4.put4.ensures p5.put5.ensures p6.put6.ensures
+    six_set a.w.now _ _ _ _ _ _ a.what a.a a.b a.c a.d p1.put.ensures p2.put2.ensures p3.put3.ensures p4.put4.ensures p5.put5.ensures p6.put6.ensures
 
 pub tell-by-words-spec : {M : Type 1} → statement M
 tell-by-words-spec =

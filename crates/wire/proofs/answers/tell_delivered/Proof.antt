@@ -1,7 +1,7 @@
 use borrow.Author.Rules.{rules}
-use Rattle.counter.specs.Paper.{deliverSaid}
+use Rattle.counter.specs.Paper.{deliver_said}
 use Rattle.counter.specs.declared.answers.DeliverAnswer.{DeliverAnswer}
-use Rattle.wire_rules.proofs.Told.{told-as}
+use Rattle.wire_rules.proofs.Told.{told_as}
 use Rattle.wire.proofs.answers.tell_delivered.Statement.{statement}
 use Rattle.wire.proofs.answers.tell_delivered.Tie as tie
 
@@ -23,7 +23,7 @@ same_length c = search rules
 returns : tie.Need-returns
 returns c =
     let w = c.before.before.before.before.before.before.before.before.args.w.now in
-    told-as (λ (x : DeliverAnswer). deliverSaid x) w _ _ _ c.before.before.before.before.before.answer.given.1 c.before.before.tell-block.ensures
+    told_as (λ (x : DeliverAnswer). deliver_said x) w _ _ _ c.before.before.before.before.before.answer.given.1 c.before.before.tell-block.ensures
 
 same-length-2 : tie.Need-same-length-2
 same-length-2 c = search rules
@@ -31,7 +31,7 @@ same-length-2 c = search rules
 returns-2 : tie.Need-returns-2
 returns-2 c =
     let w = c.before.before.before.before.before.before.before.before.args.w.now in
-    told-as (λ (x : DeliverAnswer). deliverSaid x) w _ _ _ c.before.before.before.before.before.answer2.given.1 c.before.before.tell-refused.ensures
+    told_as (λ (x : DeliverAnswer). deliver_said x) w _ _ _ c.before.before.before.before.before.answer2.given.1 c.before.before.tell-refused.ensures
 
 pub tell-delivered-spec : {M : Type 1} → statement M
 tell-delivered-spec =

@@ -1,8 +1,8 @@
 use borrow.Author.Rules.{rules}
-use Rattle.counter.specs.Paper.{rankSaid}
+use Rattle.counter.specs.Paper.{rank_said}
 use Rattle.counter.specs.declared.answers.RankAnswer.{RankAnswer}
-use Rattle.wire_rules.specs.Wire.{saidOut}
-use Rattle.wire_rules.proofs.Told.{told-as}
+use Rattle.wire_rules.specs.Wire.{said_out}
+use Rattle.wire_rules.proofs.Told.{told_as}
 use Rattle.wire.proofs.answers.tell_ranked.Statement.{statement}
 use Rattle.wire.proofs.answers.tell_ranked.Tie as tie
 
@@ -22,10 +22,10 @@ same_length : tie.Need-same-length
 same_length c = search rules
 
 returns : tie.Need-returns
-unfolding saidOut
+unfolding said_out
 returns c =
     let w = c.before.before.before.before.before.before.before.args.w.now in
-    told-as (λ (x : RankAnswer). rankSaid x) w _ _ _ c.before.before.before.before.enum_told.given.1 c.before.before.tell.ensures
+    told_as (λ (x : RankAnswer). rank_said x) w _ _ _ c.before.before.before.before.enum_told.given.1 c.before.before.tell.ensures
 
 same-length-2 : tie.Need-same-length-2
 same-length-2 c = search rules
@@ -33,7 +33,7 @@ same-length-2 c = search rules
 returns-2 : tie.Need-returns-2
 returns-2 c =
     let w = c.before.before.before.before.before.before.before.before.args.w.now in
-    told-as (λ (x : RankAnswer). rankSaid x) w _ _ _ c.before.before.before.before.before.answer.given.1 c.before.before.tell-refused.ensures
+    told_as (λ (x : RankAnswer). rank_said x) w _ _ _ c.before.before.before.before.before.answer.given.1 c.before.before.tell-refused.ensures
 
 pub tell-ranked-spec : {M : Type 1} → statement M
 tell-ranked-spec =

@@ -1,5 +1,5 @@
 use borrow.Author.Rules.{rules}
-use Rattle.wire_rules.proofs.Told.{refused-nothing, refused-memory}
+use Rattle.wire_rules.proofs.Told.{refused_nothing, refused_memory}
 use Rattle.wire.proofs.answers.tell_refused.Statement.{statement}
 use Rattle.wire.proofs.answers.tell_refused.Tie as tie
 
@@ -29,7 +29,7 @@ returns c =
     let t = c.before.before in
     let n = t.before.before.before.before in
     let a = n.before.before.args in
-    refused-nothing a.w.now _ a.r _ n.number.ensures t.before.before.enum_told.given.1 t.tell.ensures
+    refused_nothing a.w.now _ a.r _ n.number.ensures t.before.before.enum_told.given.1 t.tell.ensures
 
 same-length-2 : tie.Need-same-length-2
 same-length-2 c = search rules
@@ -39,7 +39,7 @@ returns-2 c =
     let t = c.before.before in
     let n = t.before.before.before.before.before in
     let a = n.before.before.args in
-    refused-memory a.w.now _ a.r _ _ n.number.ensures t.before.before.before.free.given.1 t.tell2.ensures
+    refused_memory a.w.now _ a.r _ _ n.number.ensures t.before.before.before.free.given.1 t.tell2.ensures
 
 pub tell-refused-spec : {M : Type 1} → statement M
 tell-refused-spec =

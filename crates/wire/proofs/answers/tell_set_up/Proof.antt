@@ -1,8 +1,8 @@
 use borrow.Author.Rules.{rules}
-use Rattle.counter.specs.Paper.{setUpSaid}
+use Rattle.counter.specs.Paper.{set_up_said}
 use Rattle.counter.specs.declared.answers.SetUpAnswer.{SetUpAnswer}
-use Rattle.wire_rules.specs.Wire.{saidOut}
-use Rattle.wire_rules.proofs.Told.{told-as}
+use Rattle.wire_rules.specs.Wire.{said_out}
+use Rattle.wire_rules.proofs.Told.{told_as}
 use Rattle.wire.proofs.answers.tell_set_up.Statement.{statement}
 use Rattle.wire.proofs.answers.tell_set_up.Tie as tie
 
@@ -22,10 +22,10 @@ same_length : tie.Need-same-length
 same_length c = search rules
 
 returns : tie.Need-returns
-unfolding saidOut
+unfolding said_out
 returns c =
     let w = c.before.before.before.before.before.before.before.args.w.now in
-    told-as (λ (x : SetUpAnswer). setUpSaid x) w _ _ _ c.before.before.before.before.enum_told.given.1 c.before.before.tell.ensures
+    told_as (λ (x : SetUpAnswer). set_up_said x) w _ _ _ c.before.before.before.before.enum_told.given.1 c.before.before.tell.ensures
 
 same-length-2 : tie.Need-same-length-2
 same-length-2 c = search rules
@@ -33,7 +33,7 @@ same-length-2 c = search rules
 returns-2 : tie.Need-returns-2
 returns-2 c =
     let w = c.before.before.before.before.before.before.before.before.args.w.now in
-    told-as (λ (x : SetUpAnswer). setUpSaid x) w _ _ _ c.before.before.before.before.before.answer.given.1 c.before.before.tell-refused.ensures
+    told_as (λ (x : SetUpAnswer). set_up_said x) w _ _ _ c.before.before.before.before.before.answer.given.1 c.before.before.tell-refused.ensures
 
 pub tell-set-up-spec : {M : Type 1} → statement M
 tell-set-up-spec =

@@ -1,12 +1,12 @@
 use borrow.Author.Rules.{rules}
 use borrow.Author.Tests.{eq-eqb, ne_eqb}
 use lib.ListN.{length}
-use Rattle.wire_rules.specs.Wire.{settingsOk}
+use Rattle.wire_rules.specs.Wire.{settings_ok}
 use Rattle.wire.proofs.settings.is_settings.Statement.{statement}
 use Rattle.wire.proofs.settings.is_settings.Tie as tie
 
 returns : tie.Need-returns
-unfolding settingsOk
+unfolding settings_ok
 returns c =
     let a = c.before.before.args in
     rw (ne_eqb (length a.w.now) a.n c.if1.true)
@@ -21,7 +21,7 @@ is-narrow-requires-3 : tie.Need-is-narrow-requires-3
 is-narrow-requires-3 c κs = search rules
 
 returns-2 : tie.Need-returns-2
-unfolding settingsOk
+unfolding settings_ok
 returns-2 c =
     let n = c.before.before in
     let a = n.before.before.before.args in

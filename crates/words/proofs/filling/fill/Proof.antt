@@ -4,7 +4,7 @@ use Prim.Native.Nat.{◌-◌, ◌≤◌}
 use native.Mathlib.Omega.{arith}
 use borrow.Author.Rules.{rules}
 use lib.ListN.{length, take, replicate, length-set}
-use Rattle.words.proofs.Filled.{fill_none, fill-next, fill_done}
+use Rattle.words.proofs.Filled.{fill_none, fill_next, fill_done}
 use Rattle.words.proofs.filling.fill.Statement.{statement}
 use Rattle.words.proofs.filling.fill.Tie as tie
 
@@ -42,7 +42,7 @@ loop-again c =
     let f = at-loop.loop.t in (
       omega arith,
       simp length-set (omega arith),
-      fill-next (length a.t.now) a.v f i (omega arith) (omega arith) at-loop.loop.invariant.2,
+      fill_next (length a.t.now) a.v f i (omega arith) (omega arith) at-loop.loop.invariant.2,
     )
 
 same_length : tie.Need-same-length invariant-loop decreases-loop

@@ -1,5 +1,5 @@
 use borrow.Author.Rules.{rules}
-use Rattle.words.proofs.Filled.{blank-put}
+use Rattle.words.proofs.Filled.{blank_put}
 use Rattle.words.proofs.filling.put_blank.Statement.{statement}
 use Rattle.words.proofs.filling.put_blank.Tie as tie
 
@@ -17,7 +17,7 @@ returns c =
     let p = c.before.before in
     let f = p.before.before.before.before in
     let a = f.before.before.before.args in
-    blank-put _ a.m a.v _ _ f.fill.ensures p.put.ensures
+    blank_put _ a.m a.v _ _ f.fill.ensures p.put.ensures
 
 pub put-blank-spec : {M : Type 1} → statement M
 put-blank-spec = tie.close (tie.spec fill-requires put-requires same_length returns)

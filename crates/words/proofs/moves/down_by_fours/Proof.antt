@@ -2,7 +2,7 @@ use native.Mathlib.Omega.{arith}
 use mathlib.Core.Path.{◌≡◌, refl}
 use Prim.Native.Nat.{◌+◌, ◌-◌, ◌*◌, ◌≤◌}
 use lib.ListN.{length, length-set}
-use Rattle.words.proofs.Moved.{run, run_none, turn-four, down-join}
+use Rattle.words.proofs.Moved.{run, run_none, turn_four, down_join}
 use Rattle.words.proofs.moves.down_by_fours.Statement.{statement}
 use Rattle.words.proofs.moves.down_by_fours.Tie as tie
 
@@ -106,8 +106,8 @@ loop-again c =
     let t = at-loop.loop.t in
     let j = at-loop.loop.j in (
       omega arith,
-      down-join a.t.now t _ a.src a.dst (4 * (j + 1)) (4 * j) 4 (omega arith) (omega arith) (omega arith)
-          at-loop.loop.invariant.1 (turn-four t (a.src + 4 * j) (a.dst + 4 * j) (omega arith) (omega arith)),
+      down_join a.t.now t _ a.src a.dst (4 * (j + 1)) (4 * j) 4 (omega arith) (omega arith) (omega arith)
+          at-loop.loop.invariant.1 (turn_four t (a.src + 4 * j) (a.dst + 4 * j) (omega arith) (omega arith)),
       simp length-set (omega arith),
     )
 

@@ -2,7 +2,7 @@ use native.Mathlib.Omega.{arith}
 use mathlib.Core.Path.{◌≡◌, refl}
 use Prim.Native.Nat.{◌+◌, ◌-◌, ◌≤◌}
 use lib.ListN.{length, length-set}
-use Rattle.words.proofs.Moved.{run, run_none, turn_one, down-join}
+use Rattle.words.proofs.Moved.{run, run_none, turn_one, down_join}
 use Rattle.words.proofs.moves.down_by_ones.Statement.{statement}
 use Rattle.words.proofs.moves.down_by_ones.Tie as tie
 
@@ -46,7 +46,7 @@ loop-again c =
     let t = at-loop.loop.t in
     let j = at-loop.loop.j in (
       omega arith,
-      down-join a.t.now t _ a.src a.dst (j + 1) j 1 (omega arith) (omega arith) (omega arith)
+      down_join a.t.now t _ a.src a.dst (j + 1) j 1 (omega arith) (omega arith) (omega arith)
           at-loop.loop.invariant.1 (turn_one t (a.src + j) (a.dst + j) (omega arith) (omega arith)),
       simp length-set (omega arith),
     )

@@ -1,6 +1,6 @@
 use native.Mathlib.Omega.{arith}
 use Prim.Native.Nat.{ℕ, ◌-◌, ◌*◌, ◌/◌}
-use Rattle.words.proofs.Moved.{down-join}
+use Rattle.words.proofs.Moved.{down_join}
 use borrow.Author.Rules.{rules}
 use Rattle.words.proofs.moves.shift_down.Statement.{statement}
 use Rattle.words.proofs.moves.shift_down.Tie as tie
@@ -30,7 +30,7 @@ returns : tie.Need-returns
 returns c =
     let a = c.before.before.before.before.before.before.before.before.before.args in
     let done : ℕ = 4 * (a.m / 4) in
-    down-join a.t.now _ _ a.src a.dst a.m done (a.m - done) (omega arith) (omega arith) (omega arith)
+    down_join a.t.now _ _ a.src a.dst a.m done (a.m - done) (omega arith) (omega arith) (omega arith)
     c.before.before.before.before.before.before.down-by-fours.ensures c.before.before.down-by-ones.ensures
 
 pub shift-down-spec : {M : Type 1} → statement M

@@ -1,6 +1,6 @@
 use native.Mathlib.Omega.{arith}
 use Prim.Native.Nat.{ℕ, ◌-◌, ◌*◌, ◌/◌}
-use Rattle.words.proofs.Moved.{up-join}
+use Rattle.words.proofs.Moved.{up_join}
 use borrow.Author.Rules.{rules}
 use Rattle.words.proofs.moves.shift_up.Statement.{statement}
 use Rattle.words.proofs.moves.shift_up.Tie as tie
@@ -30,7 +30,7 @@ returns : tie.Need-returns
 returns c =
     let a = c.before.before.before.before.before.before.before.before.before.args in
     let last : ℕ = 4 * (a.m / 4) in
-    up-join a.t.now _ _ a.src a.dst a.m last (a.m - last) (omega arith) (omega arith) (omega arith)
+    up_join a.t.now _ _ a.src a.dst a.m last (a.m - last) (omega arith) (omega arith) (omega arith)
     c.before.before.before.before.before.before.up-by-ones.ensures c.before.before.up-by-fours.ensures
 
 pub shift-up-spec : {M : Type 1} → statement M

@@ -2,7 +2,7 @@ use native.Mathlib.Omega.{arith}
 use mathlib.Core.Path.{◌≡◌, refl, ◌∙◌}
 use Prim.Native.Nat.{◌+◌, ◌-◌, ◌*◌, ◌≤◌}
 use lib.ListN.{length, length-set}
-use Rattle.words.proofs.Moved.{rising, turn-four, up_none, up_turn, up_done}
+use Rattle.words.proofs.Moved.{rising, turn_four, up_none, up_turn, up_done}
 use Rattle.words.proofs.moves.up_by_fours.Statement.{statement}
 use Rattle.words.proofs.moves.up_by_fours.Tie as tie
 
@@ -107,7 +107,7 @@ loop-again c =
     let j = at-loop.loop.j in (
       omega arith,
       up_turn a.t.now t _ a.src a.dst (4 * a.turns) (4 * j) (4 * (j - 1)) 4 (omega arith) (omega arith) (omega arith) (omega arith)
-          at-loop.loop.invariant.1 (turn-four t (a.src + 4 * (j - 1)) (a.dst + 4 * (j - 1)) (omega arith) (omega arith)),
+          at-loop.loop.invariant.1 (turn_four t (a.src + 4 * (j - 1)) (a.dst + 4 * (j - 1)) (omega arith) (omega arith)),
       simp length-set (omega arith),
     )
 

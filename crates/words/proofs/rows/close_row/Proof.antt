@@ -2,7 +2,7 @@ use native.Mathlib.Omega.{arith}
 use mathlib.Core.Path.{sym}
 use Prim.Native.Nat.{◌-◌}
 use Rattle.words.proofs.Cells.{scaled, past}
-use Rattle.words.proofs.Moved.{closed_none, closed-out}
+use Rattle.words.proofs.Moved.{closed_none, closed_out}
 use borrow.Author.Rules.{rules}
 use Rattle.words.proofs.rows.close_row.Statement.{statement}
 use Rattle.words.proofs.rows.close_row.Tie as tie
@@ -40,7 +40,7 @@ returns-2 c = let a = c.before.before.before.args in sym (closed_none a.w a.n a.
 returns-3 : tie.Need-returns-3
 returns-3 c =
     let a = c.before.before.args in
-    sym (closed-out a.w a.n a.i a.t.now (omega (arith, past 0 a.w a.n a.n (search rules) (omega arith))))
+    sym (closed_out a.w a.n a.i a.t.now (omega (arith, past 0 a.w a.n a.n (search rules) (omega arith))))
 
 pub close-row-spec : {M : Type 1} → statement M
 close-row-spec =

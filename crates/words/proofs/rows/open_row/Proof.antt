@@ -2,7 +2,7 @@ use native.Mathlib.Omega.{arith}
 use mathlib.Core.Path.{sym}
 use Prim.Native.Nat.{◌-◌}
 use Rattle.words.proofs.Cells.{scaled, past}
-use Rattle.words.proofs.Moved.{opened-none, opened_out}
+use Rattle.words.proofs.Moved.{opened_none, opened_out}
 use borrow.Author.Rules.{rules}
 use Rattle.words.proofs.rows.open_row.Statement.{statement}
 use Rattle.words.proofs.rows.open_row.Tie as tie
@@ -29,7 +29,7 @@ returns : tie.Need-returns
 returns c = c.before.before.shift.ensures
 
 returns-2 : tie.Need-returns-2
-returns-2 c = let a = c.before.before.before.args in sym (opened-none a.w a.n a.i a.t.now (omega arith))
+returns-2 c = let a = c.before.before.before.args in sym (opened_none a.w a.n a.i a.t.now (omega arith))
 
 returns-3 : tie.Need-returns-3
 returns-3 c =

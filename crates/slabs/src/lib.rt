@@ -1,0 +1,222 @@
+// A slab: places numbered from 0, of which the most recently vacated is taken first. Records stand in one lent table and
+// the links of the vacant places in another (or in other words of the same), each at a width of its own.
+ghost use Rattle.std.specs.Prelude.{◌≡◌, ℕ, ◌-◌, ◌<◌, ◌≤◌, true, length, slice_index, slice_set};
+ghost use Rattle.words.specs.Words.{widest, at_most, cell_of};
+ghost use Rattle.slabs.specs.Slab.{place_of, record_of, inserted, removed, removed_links, vacant_at, link_at};
+ghost use Rattle.slabs.specs.Test.{vacancies, leads, parted_ok, off_chain};
+
+// The end of a chain.
+pub const NOWHERE: u64 = 0xffff_ffff_ffff_ffff;
+
+// How many places were ever used, and the one vacated last, or NOWHERE.
+#[derive(Drop)]
+pub struct Slab {
+    pub places: u64,
+    pub vacant: u64,
+}
+
+#[derive(Drop)]
+pub struct Taken {
+    pub place: u64,
+    pub slab: Slab,
+}
+
+// Whether places are parted, and how many are used where they are.
+#[derive(Drop)]
+pub struct Parts {
+    pub ok: bool,
+    pub used: u64,
+}
+
+impl Slab {
+    // No place used yet.
+    pub fn new() -> Slab
+        ensures { result ≡ Rattle.slabs.specs.Slab.fresh }
+    {
+        Slab {
+            places: 0,
+            vacant: NOWHERE,
+        }
+    }
+
+    // The place vacated last, or the next new one. `at` and `step` say where the links stand.
+    pub fn insert(self, links: &[u64], at: usize, step: usize) -> Taken
+        requires { (0 < step) × (step ≤ widest) × (at ≤ at_most) }
+        ensures { result ≡ inserted self links.now at step }
+    {
+        let last = self.vacant;
+        let n = self.places;
+        if last < n {
+            let next = link(links, at, step, last);
+            return Taken {
+                place: last,
+                slab: Slab {
+                    places: n,
+                    vacant: next,
+                },
+            };
+        }
+        let more = std::num::wrapping_add_u64(n, 1);
+        Taken {
+            place: n,
+            slab: Slab {
+                places: more,
+                vacant: last,
+            },
+        }
+    }
+
+    // The place p is vacant from now on, and the next to be taken.
+    pub fn remove(self, links: &mut [u64], at: usize, step: usize, p: u64) -> Slab
+        requires { (0 < step) × (step ≤ widest) × (at ≤ at_most) }
+        ensures value { result ≡ removed self p }
+        ensures links_after { links.new ≡ removed_links self links.old at step p }
+    {
+        put_link(links, at, step, p, self.vacant);
+        Slab {
+            places: self.places,
+            vacant: p,
+        }
+    }
+}
+
+// The place that a link of a table leads to: the number of its record less 1, or NOWHERE.
+pub fn place_of(w: u64) -> u64
+    ensures { result ≡ place_of w }
+{
+    std::num::wrapping_sub_u64(w, 1)
+}
+
+// The link that leads to a place.
+pub fn record_of(p: u64) -> u64
+    ensures { result ≡ record_of p }
+{
+    std::num::wrapping_add_u64(p, 1)
+}
+
+// The place that the word at i leads to, NOWHERE past the end.
+pub fn led_to(t: &[u64], i: usize) -> u64
+    ensures { result ≡ place_of (slice_index t.now i) }
+{
+    place_of(words::word(t, i))
+}
+
+// The place that the link of p leads to, NOWHERE past the end. `at` and `step` say where the links stand.
+pub fn link(t: &[u64], at: usize, step: usize, p: u64) -> u64
+    requires { (0 < step) × (step ≤ widest) × (at ≤ at_most) }
+    ensures { result ≡ link_at t.now at step p }
+{
+    place_of(words::cell(t, at, step, p as usize))
+}
+
+// The link of p leads to q from now on; nothing is written past the end.
+pub fn put_link(t: &mut [u64], at: usize, step: usize, p: u64, q: u64)
+    requires { (0 < step) × (step ≤ widest) × (at ≤ at_most) }
+    ensures { t.new ≡ slice_set t.old (cell_of at step p) (record_of q) }
+{
+    words::put_cell(t, at, step, p as usize, record_of(q));
+}
+
+// How many of the first n places are vacant, by the marking word of each record.
+pub fn count_vacant(records: &[u64], mark: usize, width: usize, n: u64) -> u64
+    requires { (0 < width) × (width ≤ widest) × (mark ≤ at_most) }
+    ensures { result ≡ vacancies (vacant_at records.now mark width) n }
+{
+    let mut count = 0;
+    let mut p = 0;
+    while p < n {
+        if words::cell(records, mark, width, p as usize) == 0 {
+            count += 1;
+        }
+        p += 1;
+    }
+    count
+}
+
+// Whether the chain from h on leads through k vacant places below n, and ends there.
+pub fn chain_leads(
+    records: &[u64],
+    mark: usize,
+    width: usize,
+    links: &[u64],
+    at: usize,
+    step: usize,
+    n: u64,
+    h: u64,
+    k: u64,
+) -> bool
+    requires { (0 < width) × (width ≤ widest) × (0 < step) × (step ≤ widest) × (mark ≤ at_most) × (at ≤ at_most) }
+    ensures { result ≡ leads (vacant_at records.now mark width) (link_at links.now at step) n h k }
+{
+    let mut cur = h;
+    let mut left = k;
+    while 0 < left {
+        if n <= cur {
+            return false;
+        }
+        if words::cell(records, mark, width, cur as usize) != 0 {
+            return false;
+        }
+        cur = link(links, at, step, cur);
+        left -= 1;
+    }
+    cur == NOWHERE
+}
+
+// Whether used places and the vacant chain part the places, of which there are at most `most`, and how many are used where they do.
+pub fn test_parts(
+    s: Slab,
+    most: u64,
+    records: &[u64],
+    mark: usize,
+    width: usize,
+    links: &[u64],
+    at: usize,
+    step: usize,
+) -> Parts
+    requires { (0 < width) × (width ≤ widest) × (0 < step) × (step ≤ widest) × (mark ≤ at_most) × (at ≤ at_most) }
+    ensures ok_value { result.ok ≡ parted_ok (vacant_at records.now mark width) (link_at links.now at step) s most }
+    ensures used_value { (result.ok ≡ true → result.used ≡ s.places - vacancies (vacant_at records.now mark width) s.places) × (result.used ≤ s.places) }
+{
+    if most < s.places {
+        return Parts { ok: false, used: 0 };
+    }
+    let vacant = count_vacant(records, mark, width, s.places);
+    Parts {
+        ok: chain_leads(
+            records, mark, width, links, at, step, s.places, s.vacant, vacant,
+        ),
+        used: s.places - vacant,
+    }
+}
+
+// How many of n places are over when the chain from h on, which leads through vacant places below n, has ended: NOWHERE where it leads
+// elsewhere, or through more of them.
+pub fn off_chain(
+    records: &[u64],
+    mark: usize,
+    width: usize,
+    links: &[u64],
+    at: usize,
+    step: usize,
+    n: u64,
+    h: u64,
+) -> u64
+    requires { ((p : ℕ) → p < n → cell_of mark width p < length records.now) × ((p : ℕ) → p < n → cell_of at step p < length links.now) }
+    ensures { result ≡ off_chain (vacant_at records.now mark width) (link_at links.now at step) n h n }
+{
+    let mut cur = h;
+    let mut left = n;
+    while cur != NOWHERE {
+        if (n <= cur) | (left == 0) {
+            return NOWHERE;
+        }
+        let i = cur as usize;
+        if records[mark + width * i] != 0 {
+            return NOWHERE;
+        }
+        cur = place_of(links[at + step * i]);
+        left -= 1;
+    }
+    left
+}
