@@ -12,7 +12,7 @@ use crate::{ENTRY_WORDS, VACANT_AFTER_AT, VACATED_AT};
 use store_rules::{LOAN_WORDS, SIZE_AT};
 
 // Whether a book is right, and how many loans it has where it is.
-#[derive(Drop)]
+#[derive(Clone, Copy)]
 pub struct Kept {
     pub ok: bool,
     pub live: u64,

@@ -1,4 +1,6 @@
 // The book of a store's loans: their records in a slab, and an index by which a loan is found by its serial.
+#![tactic(auto)]
+
 mod chains;
 mod kept;
 

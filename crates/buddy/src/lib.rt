@@ -1,5 +1,7 @@
 // A buddy store as its user calls it: set up, ask, deliver, return. Each call is planned, by the gate and the tests behind it, and
 // then carried out; `calls` has the calls told of the store's share of the account.
+#![tactic(auto)]
+
 mod asks;
 pub mod calls;
 mod carries;

@@ -9,7 +9,7 @@ use buddy_rules::{CHUNK_SIZE_AT, CHUNK_WORDS, MEMORY_AT};
 use counter::{Block, BuddySettings};
 
 // So many chunks went, of so many bytes in all.
-#[derive(Drop)]
+#[derive(Clone, Copy)]
 pub struct Freed {
     pub count: u64,
     pub bytes: u64,

@@ -1,5 +1,7 @@
 // What a call of a buddy store comes to, once the gate is passed, read from its tables: an ask by what it looks for and finds
 // (its size, the level that serves it, the places for what it needs), a return by the book, a delivery by the chunks held.
+#![tactic(auto)]
+
 mod asks;
 mod deciding;
 mod deliveries;

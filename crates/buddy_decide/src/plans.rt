@@ -3,7 +3,7 @@ use counter::Refusal;
 use slabs::Taken;
 
 // A block of this size and level, from the head pair of the level `from`; its loan takes this place of the book.
-#[derive(Drop)]
+#[derive(Clone, Copy)]
 pub struct Taking {
     pub size: u64,
     pub level: u64,
@@ -13,7 +13,7 @@ pub struct Taking {
 }
 
 // A chunk of `order` bytes for a block of this size and level: the levels grown to, and the places that loan and chunk take.
-#[derive(Drop)]
+#[derive(Clone, Copy)]
 pub struct Buying {
     pub order: u64,
     pub size: u64,
@@ -23,7 +23,7 @@ pub struct Buying {
     pub chunk: Taken,
 }
 
-#[derive(Drop)]
+#[derive(Clone, Copy)]
 pub enum Plan {
     Refuse(Refusal),
     // no object remains: the levels grow to so many
@@ -33,7 +33,7 @@ pub enum Plan {
 }
 
 // A chunk of `order` bytes is needed, for an ask of this size and level, and so many levels.
-#[derive(Drop)]
+#[derive(Clone, Copy)]
 pub struct Needing {
     pub order: u64,
     pub size: u64,
@@ -42,7 +42,7 @@ pub struct Needing {
 }
 
 // What an ask comes to short of what a new chunk asks of heap and objects.
-#[derive(Drop)]
+#[derive(Clone, Copy)]
 pub enum Tried {
     Refuse(Refusal),
     Take(Taking),

@@ -12,7 +12,7 @@ use buddy_rules::{AFTER_AT, CHUNK_PLACES_AT, PLACE_WORDS};
 use slabs::{NOWHERE, Slab, Taken};
 
 // The head pair of a level, and that level; or the size of the chunk to order, and the levels that it needs.
-#[derive(Drop)]
+#[derive(Clone, Copy)]
 pub enum Found {
     At(u64, u64),
     Order(u64, u64),

@@ -13,14 +13,14 @@ use buddy_decide::{Buying, Plan};
 use counter::{BuddySettings, Heap, KeptOrder, OpenOrder, Refusal};
 use store_rules::Share;
 
-#[derive(Drop)]
+#[derive(Clone, Copy)]
 pub enum Still {
     No,
     Yes(Buying),
 }
 
 // Every test passed, with what the kept ask needs, or the first that failed.
-#[derive(Drop)]
+#[derive(Clone, Copy)]
 pub enum Passing {
     Shut(Refusal),
     Go(Buying),

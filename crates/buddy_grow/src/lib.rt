@@ -1,4 +1,6 @@
 // A buddy store's tables written at set-up, and its levels grown to a number.
+#![tactic(auto)]
+
 mod blank;
 mod growing;
 

@@ -11,7 +11,7 @@ use buddy_rules::EXHAUSTED;
 use slabs::NOWHERE;
 
 // Whether levels are right, and, where they are, how many pairs are in use and how many of them stand in the rings.
-#[derive(Drop)]
+#[derive(Clone, Copy)]
 pub struct Tested {
     pub ok: bool,
     pub used: u64,

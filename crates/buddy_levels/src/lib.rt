@@ -1,6 +1,8 @@
 // A level of a buddy store's pairs in words, which begin at `base` of a lent table: its ring of ready pairs and its vacant
 // places. What is done to it is defined for all words; what a gate stands before asks that the pairs it touches are there, and
 // looks at no bound.
+#![tactic(auto)]
+
 mod good;
 mod nodes;
 mod pairs;

@@ -6,7 +6,7 @@ ghost use Rattle.buddy_levels.specs.Stands.{Stands};
 
 use crate::{CHUNK_AT, HEADER_WORDS, LEFT_AT, OFF_AT, PAIR_WORDS, RIGHT_AT, TAG_AT, UP_AT, field};
 
-#[derive(Drop)]
+#[derive(Clone, Copy)]
 pub struct Pair {
     pub tag: u64,
     pub chunk: u64,

@@ -1,5 +1,7 @@
 // What a return and a loan do to a buddy store's tree: the climb and the split, level by level. What they and the code above them
 // ask of its tables a passed gate and a decided call give: proofs/ shows it.
+#![tactic(auto)]
+
 ghost use Rattle.std.specs.Prelude.{◌≡◌, length, set, ◌+◌, ◌≤◌, ◌<◌};
 ghost use Rattle.counter.specs.Limits.{levels_most, pairs_most, loans_most};
 ghost use Rattle.slabs.specs.Slab.{nowhere};

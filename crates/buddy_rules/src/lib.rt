@@ -1,6 +1,8 @@
 // A buddy store in its lent tables: its nodes by what its words say of them, a level of its pairs in words (its ring, its vacant
 // places, what is done to it), when the whole is sound, and the tests of both. specs/ says it; proofs/ what follows. No code but
 // constants: where the words stand, and those that have a name.
+#![tactic(auto)]
+
 mod layout;
 
 pub use layout::{

@@ -1,4 +1,6 @@
 // The test of a buddy store's tables. It reads each table as it stands, so that no word in one can make it fail.
+#![tactic(auto)]
+
 mod heads;
 mod memories;
 

@@ -1,4 +1,6 @@
 // The walk down each chunk of a buddy store, from its top node on, which counts down the pairs in use and the loans that it meets.
+#![tactic(auto)]
+
 mod walk;
 
 ghost use Rattle.std.specs.Prelude.{◌≡◌, ◌≤◌, ◌<◌, get_or};

@@ -4,7 +4,7 @@ use counter::Account;
 use reel::{Settings, Window};
 
 // The account that a tape's whole records lead to, how many these are, and whether they are all that is on it.
-#[derive(Drop)]
+#[derive(Clone, Copy)]
 pub struct Reached {
     pub account: Account,
     pub records: u64,

@@ -2,6 +2,8 @@
 // is left: each is answered, and a refusal leaves every word of the tables and of the release list as it was, and the account
 // too, but for what 01 lists: 11 and 12 close the order, and 9, 11 and 12 leave a buddy store's levels as the ask raised them.
 // Each argument names a tape; without arguments the tape is standard input.
+#![tactic(auto)]
+
 mod calls;
 mod history;
 mod trials;

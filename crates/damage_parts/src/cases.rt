@@ -16,7 +16,7 @@ pub const WITH_ORDER: u64 = 6;
 
 // A store's number, its settings, its account without an order and with one, a block that it lent, and a size to ask for that
 // no free place has.
-#[derive(Drop)]
+#[derive(Clone, Copy)]
 pub struct Case {
     pub store: u64,
     pub settings: Settings,
@@ -27,7 +27,7 @@ pub struct Case {
 }
 
 // Which word is damaged, and how.
-#[derive(Drop)]
+#[derive(Clone, Copy)]
 pub struct Place {
     pub table: u64,
     pub word: usize,
@@ -35,7 +35,7 @@ pub struct Place {
 }
 
 // So many stores, words and calls, and whether each refusal so far left everything as it was.
-#[derive(Drop)]
+#[derive(Clone, Copy)]
 pub struct Tally {
     pub stores: u64,
     pub words: u64,

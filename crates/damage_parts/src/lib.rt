@@ -1,5 +1,7 @@
 // What trials of damaged tables need beside the calls themselves: the tables in one row of words, accounts compared, the cases and
 // what a call on them comes to, and the lines that are printed.
+#![tactic(auto)]
+
 mod accounts;
 mod cases;
 mod image;

@@ -3,7 +3,7 @@ use counter::{Account, AskAnswer, DeliverAnswer, Refused, ReleaseAnswer};
 use reel::{Answer, Taken};
 
 // The account after a call, and the refusal's number, 0 where there is none.
-#[derive(Drop)]
+#[derive(Clone, Copy)]
 pub struct Done {
     pub account: Account,
     pub refusal: u32,

@@ -1,5 +1,7 @@
 // Whether one word of a table's records differs in all of them: at once where it rises from record to record, else by sorting, n log n
 // in the records.
+#![tactic(auto)]
+
 mod sorting;
 
 ghost use Rattle.std.specs.Prelude.{◌≡◌, true, ◌≤◌, ◌<◌, length};

@@ -1,6 +1,8 @@
 // A free-list store as its user calls it: set up, ask, deliver, return, clean up. What a call comes to is planned first, by the
 // gate and the tests behind it, and then carried out; `calls` has the calls told of the store's share of the account. What they
 // ask of its tables holds in every sound store: proofs/ shows it.
+#![tactic(auto)]
+
 mod asks;
 pub mod calls;
 mod carries;

@@ -21,7 +21,7 @@ use store::Coming;
 use store_rules::Share;
 
 // What a delivery comes to, with what its kept ask came to. A shut gate has no buying.
-#[derive(Drop)]
+#[derive(Clone, Copy)]
 pub enum Delivery {
     Shut(Refusal),
     Come(Coming, Buying),

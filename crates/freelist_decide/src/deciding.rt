@@ -17,7 +17,7 @@ use slabs::Taken;
 use store_rules::{GIVEN_AT, PLACES_AT};
 
 // The region that serves, where its block starts, and the place that the loan takes in the book.
-#[derive(Drop)]
+#[derive(Clone, Copy)]
 pub struct Taking {
     pub region: usize,
     pub start: u64,
@@ -25,7 +25,7 @@ pub struct Taking {
 }
 
 // The chunk to order; the rounded size and the joined mask that are looked for, and the place that the loan takes in the book.
-#[derive(Drop)]
+#[derive(Clone, Copy)]
 pub struct Buying {
     pub order: u64,
     pub size: u64,
@@ -34,7 +34,7 @@ pub struct Buying {
 }
 
 // What the tests worked out goes on in the plan.
-#[derive(Drop)]
+#[derive(Clone, Copy)]
 pub enum Plan {
     Refuse(Refusal),
     Take(Taking),

@@ -1,4 +1,6 @@
 // What a call of a free-list store comes to by the tests behind the gate: reads only.
+#![tactic(auto)]
+
 mod deciding;
 mod deliveries;
 mod returns;

@@ -19,7 +19,7 @@ use freelist_decide::{Buying, Plan};
 use store_rules::Share;
 
 // A passed gate tells what the kept ask comes to.
-#[derive(Drop)]
+#[derive(Clone, Copy)]
 pub enum Passing {
     Shut(Refusal),
     Go(Buying),

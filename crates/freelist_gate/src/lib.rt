@@ -1,4 +1,6 @@
 // The gate of a free-list store's calls, and of its set-up: reads only.
+#![tactic(auto)]
+
 mod deliveries;
 mod gating;
 

@@ -1,4 +1,6 @@
 // Which chunks of a free-list store go, and the list that the caller reads.
+#![tactic(auto)]
+
 mod chunks;
 mod marks;
 

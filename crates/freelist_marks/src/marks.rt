@@ -15,7 +15,7 @@ use freelist_regions::region_at;
 use freelist_rules::{REGION_START_AT, REGION_WORDS};
 use store_rules::{Chunk, Region};
 
-#[derive(Drop)]
+#[derive(Clone, Copy)]
 pub struct Marked {
     pub count: usize,
     pub bytes: u64,

@@ -1,4 +1,6 @@
 // A free-list store's tables written: set up, a chunk size raised, a block lent, a chunk added, a block taken back.
+#![tactic(auto)]
+
 mod adding;
 mod backing;
 mod counted;

@@ -16,7 +16,7 @@ use freelist_rules::{Gap, REGION_CHUNK_AT, REGION_END_AT, REGION_START_AT, REGIO
 use store_rules::Region;
 
 // How many regions there are then, and the one that the block is part of.
-#[derive(Drop)]
+#[derive(Clone, Copy)]
 pub struct Joined {
     pub count: usize,
     pub region: Region,

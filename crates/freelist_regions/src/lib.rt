@@ -1,5 +1,7 @@
 // A free-list store's records in their lent tables, and its free regions: sorted by chunk and start, one behind the other; and
 // what an ask looks for among them.
+#![tactic(auto)]
+
 mod asks;
 mod counts;
 mod fronts;

@@ -16,7 +16,7 @@ const AT_ONCE: usize = 4;
 
 const HALF: usize = 2;
 
-#[derive(Drop)]
+#[derive(Clone, Copy)]
 pub enum Found {
     Nowhere,
     // in this region, from this place on

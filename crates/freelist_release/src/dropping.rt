@@ -12,7 +12,7 @@ use crate::keeps::{keep_chunks, keep_regions};
 use freelist_marks::mark;
 
 // How many chunks went and of how many bytes; how many chunks and regions are left.
-#[derive(Drop)]
+#[derive(Clone, Copy)]
 pub struct Tally {
     pub count: u64,
     pub bytes: u64,

@@ -1,4 +1,6 @@
 // Wholly free chunks of a free-list store released: out of its tables, and into the list that the caller reads.
+#![tactic(auto)]
+
 mod dropping;
 mod keeps;
 mod spares;
@@ -16,7 +18,7 @@ use counter::FreeListSettings;
 use freelist_rules::{CHUNKS_AT, REGION_COUNT_AT, WHOLE_AT};
 
 // So many chunks went, of so many bytes in all.
-#[derive(Drop)]
+#[derive(Clone, Copy)]
 pub struct Freed {
     pub count: u64,
     pub bytes: u64,

@@ -1,4 +1,5 @@
 // A free-list store's records. specs/ says what each call does to them, proofs/ shows what follows. No code.
+#![tactic(auto)]
 
 // How many words each takes in a table; specs/Records has the same names.
 pub const CHUNK_WORDS: usize = 3;
@@ -43,7 +44,7 @@ pub const MADE_AT: usize = 1;
 pub const CHUNKS_AT: usize = 2;
 
 // A free region, and the record of the last loan in front of it by chunk and place, 0 where there is none.
-#[derive(Drop)]
+#[derive(Clone, Copy)]
 pub struct Gap {
     pub chunk: u64,
     pub start: u64,

@@ -12,7 +12,7 @@ use counter::FreeListSettings;
 use store_rules::Loan;
 
 // Whether each loan is right, and how many places are vacant.
-#[derive(Drop)]
+#[derive(Clone, Copy)]
 pub struct Seen {
     pub ok: bool,
     pub vacant: u64,

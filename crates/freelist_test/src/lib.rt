@@ -1,5 +1,7 @@
 // The test of a free-list store's tables: its marks and counts, its loans and their book, its chunks, and that loans and free
 // regions fill the chunks. It reads each table as it stands, so that no word in one can make it fail.
+#![tactic(auto)]
+
 mod blocks;
 mod chunks;
 mod heads;

@@ -10,7 +10,7 @@ use counter::FreeListSettings;
 use store_rules::{GIVEN_AT, PLACES_AT};
 
 // Whether the loans are right, and how many places are on loan where they are.
-#[derive(Drop)]
+#[derive(Clone, Copy)]
 pub struct Lent {
     pub ok: bool,
     pub live: u64,

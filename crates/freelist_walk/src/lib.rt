@@ -1,5 +1,7 @@
 // Whether the loans of a free-list store, as its index leads through them by place, and its free regions fill its chunks: one walk
 // over all of them together, which passes each of them once.
+#![tactic(auto)]
+
 mod passes;
 mod records;
 mod turns;

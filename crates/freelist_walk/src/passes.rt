@@ -10,7 +10,7 @@ use freelist_rules::Gap;
 use store_rules::Loan;
 
 // Whether a piece could be passed, and the byte and the region that are next then.
-#[derive(Drop)]
+#[derive(Clone, Copy)]
 pub struct Passed {
     pub ok: bool,
     pub byte: u64,

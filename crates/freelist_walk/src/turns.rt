@@ -15,7 +15,7 @@ use store_rules::{CHUNK_AT, LOAN_WORDS};
 
 // How far the walk has come: at a byte of a chunk, behind the loan of record `last`, with so many loans left, with the region that
 // is next, and with so many whole ones met. Not ok: it has ended with a no.
-#[derive(Drop)]
+#[derive(Clone, Copy)]
 pub struct Reached {
     pub ok: bool,
     pub chunk: usize,

@@ -1,5 +1,7 @@
 // One heap: what is used of it, and the two running totals of 128 bits, each in two words with carry.
 // Any numbers may be handed in; what passes a bound wraps, and the tests here say beforehand whether it would.
+#![tactic(auto)]
+
 ghost use Rattle.std.specs.Prelude.{◌≡◌};
 ghost use Rattle.heap.specs.Heap.{plus_of, charged_of, released_of, bears_ok, agrees_ok};
 

@@ -1,5 +1,7 @@
 // A free list's calls for programs in other languages: numbers and slices of words alone. specs/Calls says what each leaves.
 // The heaps are walked before the settings are read, so that those are not kept over the walk.
+#![tactic(auto)]
+
 ghost use Rattle.std.specs.Prelude.{◌≡◌};
 ghost use Rattle.freelist_rules.specs.Tables.{tables};
 ghost use Rattle.wire_rules.specs.Wire.{said_out};

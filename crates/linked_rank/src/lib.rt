@@ -1,4 +1,6 @@
 // The ranking for programs in other languages: slices of numbers alone. specs/Rows says which word is what.
+#![tactic(auto)]
+
 ghost use Rattle.std.specs.Prelude.{◌≡◌, ◌<◌};
 ghost use Rattle.counter.specs.Limits.{types_most, usages};
 ghost use Rattle.usage_rules.specs.Ranking.{rank_of};

@@ -1,5 +1,7 @@
 // Ranks a stand's memory types: standard input is one byte for each type, its property word; standard output a line for
 // each of the 64 usages, `USAGE COUNT MASK T0 T1 ..`, or the one line `refused 1`.
+#![tactic(auto)]
+
 ghost use Rattle.std.specs.Prelude.{◌≡◌, min, length};
 ghost use Rattle.std.proofs.Math.Seq.{paste};
 ghost use Rattle.io.specs.Counts.{IsPrefixLen};

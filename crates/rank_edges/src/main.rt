@@ -1,4 +1,6 @@
 // The ranking's edge cases: no types, as many as there may be, one more, and a property word past the last.
+#![tactic(auto)]
+
 fn main() {
     let mut words = [
         3u32, 14u32, 25u32, 36u32, 47u32, 58u32, 5u32, 16u32, 27u32, 38u32, 49u32, 60u32, 7u32,

@@ -2,7 +2,7 @@
 use counter::{Account, AskAnswer, Asked, DeliverAnswer, Delivered, ReleaseAnswer, Released};
 
 // A record that is no call of the store's engine, as a torn one, has no answer.
-#[derive(Drop)]
+#[derive(Clone, Copy)]
 pub enum Answer {
     Asked(AskAnswer),
     Delivered(DeliverAnswer),
@@ -10,7 +10,7 @@ pub enum Answer {
     Nothing,
 }
 
-#[derive(Drop)]
+#[derive(Clone, Copy)]
 pub struct Taken {
     pub account: Account,
     pub answer: Answer,

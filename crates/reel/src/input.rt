@@ -21,7 +21,7 @@ pub fn read_header(fd: i32) -> Header {
     tape::read_header(&bytes[..n])
 }
 
-#[derive(Drop)]
+#[derive(Clone, Copy)]
 pub struct Window {
     pub from: usize,
     pub to: usize,
@@ -87,7 +87,7 @@ fn is_torn(record: Record) -> bool {
 }
 
 // What a turn over a tape comes to: its end, or a record, torn or whole, and how many bytes that has; and the window after it.
-#[derive(Drop)]
+#[derive(Clone, Copy)]
 pub struct Turn {
     pub ended: bool,
     pub torn: bool,

@@ -1,5 +1,7 @@
 // What the programs that take tapes share short of the calls: a tape read through a buffer, record by record; the settings of a
 // store of either engine, and the account and the tables' lengths that it begins with; what a record's call answered.
+#![tactic(auto)]
+
 mod answers;
 mod input;
 mod settings;

@@ -1,7 +1,7 @@
 // The settings of a store of either engine.
 use counter::{BuddySettings, FreeListSettings, StoreSettings};
 
-#[derive(Drop)]
+#[derive(Clone, Copy)]
 pub enum Settings {
     FreeList(FreeListSettings),
     Buddy(BuddySettings),

@@ -27,7 +27,7 @@ pub fn fresh_account(heap: usize, size: u64, objects: u32) -> Account {
 }
 
 // How many words of each table a store is lent; `own` is a free list's regions or a buddy store's tree.
-#[derive(Drop)]
+#[derive(Clone, Copy)]
 pub struct Lengths {
     pub head: usize,
     pub loans: usize,
@@ -37,7 +37,7 @@ pub struct Lengths {
 }
 
 // The greatest limits that tables are lent for.
-#[derive(Drop)]
+#[derive(Clone, Copy)]
 pub struct Limits {
     pub loans: usize,
     pub chunks: usize,

@@ -1,5 +1,7 @@
 // Replays a tape into a fresh store with a fresh account: a line for each record, then the totals and how the tape ended.
 // Without arguments the tape is standard input; else each argument names one, and they are replayed in turn.
+#![tactic(auto)]
+
 mod run;
 mod start;
 

@@ -1,4 +1,6 @@
 // What a return comes to by a store's book of loans: test 7, the same of both engines.
+#![tactic(auto)]
+
 ghost use Rattle.std.specs.Prelude.{◌≡◌};
 ghost use Rattle.store_rules.specs.Views.{same_loan};
 ghost use Rattle.book_rules.specs.Ready.{Reads};
@@ -9,7 +11,7 @@ use counter::{Block, Refusal};
 use slabs::NOWHERE;
 use store_rules::Loan;
 
-#[derive(Drop)]
+#[derive(Clone, Copy)]
 pub enum Back {
     Refuse(Refusal),
     // the word of the index that leads to the loan

@@ -1,5 +1,7 @@
 // Places linked into a ring in a lent table. The word `head` leads to the head, 0 where the ring is empty; a place's links
 // stand `next_at` and `prev_at` words into the table, and `step` words on for each place before it.
+#![tactic(auto)]
+
 ghost use Rattle.std.specs.Prelude.{◌≡◌, ◌≤◌, ◌<◌, length, get_or, set};
 ghost use Rattle.words.specs.Words.{widest, at_most, cell_of};
 ghost use Rattle.slabs.specs.Slab.{place_of, record_of, link_at};

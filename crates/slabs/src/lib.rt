@@ -1,5 +1,7 @@
 // A slab: places numbered from 0, of which the most recently vacated is taken first. Records stand in one lent table and
 // the links of the vacant places in another (or in other words of the same), each at a width of its own.
+#![tactic(auto)]
+
 ghost use Rattle.std.specs.Prelude.{◌≡◌, ℕ, ◌-◌, ◌<◌, ◌≤◌, true, length, slice_index, slice_set};
 ghost use Rattle.words.specs.Words.{widest, at_most, cell_of};
 ghost use Rattle.slabs.specs.Slab.{place_of, record_of, inserted, removed, removed_links, vacant_at, link_at};
@@ -9,20 +11,20 @@ ghost use Rattle.slabs.specs.Test.{vacancies, leads, parted_ok, off_chain};
 pub const NOWHERE: u64 = 0xffff_ffff_ffff_ffff;
 
 // How many places were ever used, and the one vacated last, or NOWHERE.
-#[derive(Drop)]
+#[derive(Clone, Copy)]
 pub struct Slab {
     pub places: u64,
     pub vacant: u64,
 }
 
-#[derive(Drop)]
+#[derive(Clone, Copy)]
 pub struct Taken {
     pub place: u64,
     pub slab: Slab,
 }
 
 // Whether places are parted, and how many are used where they are.
-#[derive(Drop)]
+#[derive(Clone, Copy)]
 pub struct Parts {
     pub ok: bool,
     pub used: u64,

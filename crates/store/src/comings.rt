@@ -9,19 +9,19 @@ use crate::fates::{Engine, Fate, Loss};
 use counter::{KeptOrder, OpenOrder, Outcome, Refusal};
 
 // The memory is kept as a chunk, and serves the ask of this order.
-#[derive(Drop)]
+#[derive(Clone, Copy)]
 pub struct Keeping {
     pub kept: KeptOrder,
     pub memory: u64,
 }
 
-#[derive(Drop)]
+#[derive(Clone, Copy)]
 pub struct Losing {
     pub kept: KeptOrder,
     pub loss: Loss,
 }
 
-#[derive(Drop)]
+#[derive(Clone, Copy)]
 pub enum Coming {
     Refuse(Refusal),
     Keep(Keeping),

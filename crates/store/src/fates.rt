@@ -7,21 +7,21 @@ ghost use Rattle.store.specs.Fates.{engine_of, fate_from, deliverable};
 
 use counter::{Mapping, Memory, Outcome, Refusal, ToFree};
 
-#[derive(Drop)]
+#[derive(Clone, Copy)]
 pub enum Engine {
     Buddy,
     FreeList,
 }
 
 // How an order was lost: whether the heap was charged, and what is to be freed.
-#[derive(Drop)]
+#[derive(Clone, Copy)]
 pub struct Loss {
     pub refusal: Refusal,
     pub charged: bool,
     pub free: ToFree,
 }
 
-#[derive(Drop)]
+#[derive(Clone, Copy)]
 pub enum Fate {
     Kept(u64),
     Lost(Loss),

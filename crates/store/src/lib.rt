@@ -1,4 +1,6 @@
 // What the calls of both engines do alike: what a delivered outcome leads to, and what they answer.
+#![tactic(auto)]
+
 mod answers;
 mod comings;
 mod fates;

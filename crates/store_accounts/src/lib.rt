@@ -1,4 +1,6 @@
 // The account and the order, as the calls of both engines find and leave them.
+#![tactic(auto)]
+
 mod accounts;
 mod orders;
 

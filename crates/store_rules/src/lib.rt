@@ -1,4 +1,6 @@
 // What the stores of both engines share. specs/ says it; no code.
+#![tactic(auto)]
+
 use counter::{DeliverAnswer, Heap, OpenOrder, ReleaseAnswer};
 
 // Of the loans' own record, behind its mark: serials given, and loan places ever used; specs/Loans has the same names.
@@ -18,7 +20,7 @@ pub const OFFSET_AT: usize = 6;
 pub const SIZE_AT: usize = 7;
 
 // A block on loan. 01: "A block carries serial, chunk, offset, size."
-#[derive(Drop)]
+#[derive(Clone, Copy)]
 pub struct Loan {
     pub serial: u64,
     pub chunk: u64,
@@ -27,7 +29,7 @@ pub struct Loan {
 }
 
 // A chunk that a store holds: its number, the memory number that it has, its size.
-#[derive(Drop)]
+#[derive(Clone, Copy)]
 pub struct Chunk {
     pub number: u64,
     pub memory: u64,
@@ -35,7 +37,7 @@ pub struct Chunk {
 }
 
 // A free region: bytes `start` to `end` of a chunk.
-#[derive(Drop)]
+#[derive(Clone, Copy)]
 pub struct Region {
     pub chunk: u64,
     pub start: u64,
@@ -44,7 +46,7 @@ pub struct Region {
 
 // A store's share of the account, all that a call reads of it short of an order's text: whether every heap is in 01's table, whether
 // no order is open, the store's own heap, the device objects still allowed.
-#[derive(Drop)]
+#[derive(Clone, Copy)]
 pub struct Share {
     pub bounded: bool,
     pub idle: bool,
@@ -53,7 +55,7 @@ pub struct Share {
 }
 
 // What a delivery answers, with the share and the order that it leaves.
-#[derive(Drop)]
+#[derive(Clone, Copy)]
 pub struct DeliveredShare {
     pub share: Share,
     pub order: OpenOrder,
@@ -61,7 +63,7 @@ pub struct DeliveredShare {
 }
 
 // What a return or a clean-up answers, with the share that it leaves.
-#[derive(Drop)]
+#[derive(Clone, Copy)]
 pub struct ReleasedShare {
     pub share: Share,
     pub answer: ReleaseAnswer,

@@ -42,14 +42,14 @@ const HEAP_SIZE: usize = 11;
 const OBJECTS: usize = 12;
 
 // A free list's settings, and the size of its heap and the device objects allowed when it begins.
-#[derive(Drop)]
+#[derive(Clone, Copy)]
 pub struct FreeListStart {
     pub settings: FreeListSettings,
     pub heap_size: u64,
     pub objects: u32,
 }
 
-#[derive(Drop)]
+#[derive(Clone, Copy)]
 pub struct BuddyStart {
     pub settings: BuddySettings,
     pub heap_size: u64,
@@ -58,7 +58,7 @@ pub struct BuddyStart {
 
 // Refused: the header is short, or has a word that no settings or account can have. Whether 01's table allows the settings
 // is left to set-up.
-#[derive(Drop)]
+#[derive(Clone, Copy)]
 pub enum Header {
     FreeList(FreeListStart),
     Buddy(BuddyStart),

@@ -1,5 +1,7 @@
 // A tape: a header of words that names a store's settings, then records of calls. Here one is read; nothing that it can
 // hold makes any of these fail.
+#![tactic(auto)]
+
 mod header;
 mod numbers;
 mod record;

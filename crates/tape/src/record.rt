@@ -51,7 +51,7 @@ const DEVICE_REFUSAL: u8 = 5;
 const HOST_REFUSAL: u8 = 6;
 
 // Torn: it can't be read, and the replay stops there.
-#[derive(Drop)]
+#[derive(Clone, Copy)]
 pub enum Record {
     Ask(Ask),
     Deliver(Outcome),

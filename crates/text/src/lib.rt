@@ -1,4 +1,6 @@
 // Answers as lines of text on standard output: numbers in decimal, with single spaces.
+#![tactic(auto)]
+
 mod line;
 mod stores;
 

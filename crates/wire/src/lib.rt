@@ -1,4 +1,6 @@
 // Settings, outcomes and answers as words, for callers in other languages; wire_rules' specs/Wire says which word is what.
+#![tactic(auto)]
+
 mod answers;
 mod outcomes;
 mod settings;

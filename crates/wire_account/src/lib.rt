@@ -1,4 +1,6 @@
 // A store's share of the account, read from words and written again; wire_rules' specs/Wire says which word is what.
+#![tactic(auto)]
+
 ghost use Rattle.std.specs.Prelude.{◌≡◌, true, ◌<◌};
 ghost use Rattle.counter.specs.Account.{heap_at};
 ghost use Rattle.counter.specs.Limits.{heaps_most};

@@ -1,5 +1,7 @@
 // A lent table of words: total reads and writes, and words moved within it by blocks.
 // No word that a table holds can make any of these fail, so what is built on them equals its definition on torn tables too.
+#![tactic(auto)]
+
 mod filling;
 mod moves;
 mod rows;
