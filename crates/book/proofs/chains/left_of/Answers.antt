@@ -1,0 +1,23 @@
+use Rattle.std.proofs.Common.{◌≡◌, ◌-◌, ◌≤◌, sym, ap, ◌∙◌, ⊎_elim, arith, rules}
+use Rattle.slabs.specs.Slab.{vacant_at}
+use Rattle.store_rules.specs.Loans.{loan_words, size_at}
+use Rattle.book_rules.specs.Book.{serial_of, first_in, next_in}
+use Rattle.book_rules.specs.Chains.{left_of}
+use Rattle.book_rules.proofs.Following.{of_none, of_torn, of_on}
+use Rattle.book.proofs.chains.left_of.Goals as goal
+
+pub loop-i-init : goal.loop-i-init
+loop-i-init c = (search rules, sym (of_none _ _ _ _ _ _ _ _))
+
+pub loop-i-preserved : goal.loop-i-preserved
+loop-i-preserved c =
+    let b = c.loop-i.invariant.1 in
+    ⊎_elim (λ w. (omega arith, w.3 ∙ w.2.ensures ∙ sym (of_on _ _ _ _ _ _ _ _ _ _ _ b w.0.taken w.1.ensures)))
+    (λ w. (omega arith, w.1 ∙ w.0.left ∙ sym (of_torn _ _ _ _ _ _ _ _ _ (sym b ∙ w.0.left)))) c.if-left.branch
+
+pub returns : goal.returns
+returns c =
+    let b = c.loop-i in
+    let a = c.args in
+    let e : b.i ≡ a.n = omega arith in
+    b.invariant.1 ∙ ap (left_of _ _ _ _ _ _ _ _) e

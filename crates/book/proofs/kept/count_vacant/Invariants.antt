@@ -1,0 +1,12 @@
+use Rattle.std.proofs.Common.{◌≡◌, ◌+◌, ◌-◌, ◌≤◌, sym, ap, ◌∙◌, ⊎_elim, arith, rules, eq-eqb, ne_eqb}
+use Rattle.slabs.specs.Slab.{vacant_at}
+use Rattle.slabs.specs.Test.{vacancies}
+use Rattle.slabs.proofs.Steps.{vacancies_none, vacancies_more, vacancies_same}
+use Rattle.store_rules.specs.Loans.{loan_words, size_at}
+use Rattle.book.proofs.kept.count_vacant.Given as goal
+
+abbrev pub invariant-loop-p : goal.invariant-loop-p
+invariant-loop-p l = (l.p ≤ l.n) × (l.count ≤ l.p) × (l.count ≡ vacancies (vacant_at l.loans size_at loan_words) l.p)
+
+abbrev pub decreases-loop-p : goal.decreases-loop-p
+decreases-loop-p l = l.n - l.p

@@ -1,0 +1,10 @@
+use Rattle.std.proofs.Common.{◌≡◌, ℕ, ◌<◌, ◌≤◌, sym, ap, ◌∙◌, mod-lt, arith, rules}
+use Rattle.book_rules.specs.Book.{index_words, first_of, seek_in, word_to}
+use Rattle.book_rules.proofs.Seeking.{seek_past, seek_here, seek_on, seek_none, word_is}
+use Rattle.book.proofs.word_to.Given as goal
+
+abbrev pub invariant-loop-left : goal.invariant-loop-left
+invariant-loop-left l = (l.at < index_words l.n) × (word_to l.loans l.index l.n l.places l.serial ≡ seek_in l.loans l.index l.places l.serial l.at l.left)
+
+abbrev pub decreases-loop-left : goal.decreases-loop-left
+decreases-loop-left l = l.left

@@ -1,0 +1,26 @@
+use borrow.Author.Rules.{rules}
+use mathlib.Core.Path.{sym, ap, subst, ◌∙◌}
+use Rattle.counter.specs.Gate.{verdict_of}
+use Rattle.counter.specs.declared.refusal.Gate.{Gate}
+use Rattle.buddy_rules.specs.Tables.{tables}
+use Rattle.buddy_outcomes.specs.SetUp.{carry_set_up}
+use Rattle.buddy.specs.Ready.{SetUpReady}
+use Rattle.buddy.proofs.Fresh.{set_up_refused, set_up_done}
+use Rattle.buddy.proofs.carries.carry_set_up.Goals as goal
+
+pub fresh-requires : goal.fresh-requires
+fresh-requires c =
+    let a = c.args in
+    subst (SetUpReady a.s (tables a.head.now a.loans.now a.chunks.now a.index.now a.tree.now)) c.in-Go.is c.requires
+
+pub returns-in-Shut : goal.returns-in-Shut
+returns-in-Shut c =
+    let a = c.args in
+    let t = tables a.head.now a.loans.now a.chunks.now a.index.now a.tree.now in
+    set_up_refused a.s t _ ∙ ap (λ (g : Gate). carry_set_up a.s t (verdict_of g)) (sym c.in-Shut.is)
+
+pub returns-in-Go : goal.returns-in-Go
+returns-in-Go c =
+    let a = c.args in
+    let t = tables a.head.now a.loans.now a.chunks.now a.index.now a.tree.now in
+    set_up_done a.s t _ c.fresh.ensures ∙ ap (λ (g : Gate). carry_set_up a.s t (verdict_of g)) (sym c.in-Go.is)

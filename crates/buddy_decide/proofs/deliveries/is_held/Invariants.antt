@@ -1,0 +1,14 @@
+use borrow.Author.Rules.{rules}
+use mathlib.Core.Path.{◌≡◌, refl, ap, ◌∙◌}
+use Prim.Native.Nat.{ℕ, ◌-◌, ◌≤◌}
+use native.Mathlib.Omega.{arith}
+use Rattle.store_rules.specs.Delivery.{holds}
+use Rattle.buddy_rules.specs.Tables.{memories}
+use Rattle.buddy_decide.proofs.Known.{seen, held_next}
+use Rattle.buddy_decide.proofs.deliveries.is_held.Given as goal
+
+abbrev pub invariant-loop-c : goal.invariant-loop-c
+invariant-loop-c l = (l.c ≤ l.n) × (l.held ≡ holds l.memory (memories (seen l.chunks) l.c))
+
+abbrev pub decreases-loop-c : goal.decreases-loop-c
+decreases-loop-c l = l.n - l.c

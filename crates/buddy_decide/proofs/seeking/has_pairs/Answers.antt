@@ -1,0 +1,40 @@
+use mathlib.Core.Path.{◌≡◌, refl, sym, subst, ◌∙◌}
+use mathlib.Core.Logic.{⊎_elim}
+use mathlib.Core.List.{[]}
+use Prim.Native.Nat.{ℕ, ◌+◌, ◌-◌, ◌≤◌}
+use native.Mathlib.Numerals.{unary_clauses}
+use native.Mathlib.Omega.{arith}
+use Rattle.buddy_levels.specs.Seen.{part_settings, level_part}
+use Rattle.buddy_levels.specs.Stands.{Takes}
+use Rattle.buddy_outcomes.specs.Ask.{pairs_room}
+use Rattle.buddy_decide.proofs.Shows.{pairs_done, pairs_past, pairs_none, pairs_on}
+use borrow.Author.Rules.{rules}
+use Rattle.buddy_decide.proofs.seeking.has_pairs.Goals as goal
+
+pub loop-i-init : goal.loop-i-init
+loop-i-init c = (search rules, simp unary_clauses refl)
+
+pub pair_taken-taken-requires : goal.pair_taken-taken-requires
+pair_taken-taken-requires c =
+    subst (λ (x : ℕ). Takes x c.args.tree.now) (sym c.level_from.ensures.value) (c.requires.by_index (c.args.level + c.loop-i.i) c.if-l-levels.true)
+
+pub returns-then-pairs-taken : goal.returns-then-pairs-taken
+returns-then-pairs-taken c =
+    let a = c.args in
+    sym (c.loop-i.invariant.1 ∙ pairs_none a.pairs a.level a.n a.levels a.tree.now c.loop-i.i c.loop-i-test.true c.if-l-levels.true _ _ c.level_from.ensures.value c.pair_taken-taken.ensures c.if-pairs-taken.true)
+
+pub loop-i-preserved : goal.loop-i-preserved
+loop-i-preserved c =
+    let a = c.args in
+    let more = c.loop-i-test.true in (
+      omega (arith, more),
+      c.loop-i.invariant.1 ∙ ⊎_elim
+          (λ w. pairs_on a.pairs a.level a.n a.levels a.tree.now c.loop-i.i more w.0.taken _ _ w.1.ensures.0 w.2.ensures w.4.left)
+          (λ w. pairs_past a.pairs a.level a.n a.levels a.tree.now c.loop-i.i more w.left)
+          c.if-l-levels.branch,
+    )
+
+pub returns : goal.returns
+returns c =
+    let a = c.args in
+    sym (c.loop-i.invariant.1 ∙ pairs_done (part_settings 0 a.pairs 0) (level_part a.levels [] a.tree.now) a.level a.n c.loop-i.i c.loop-i-test.false)

@@ -1,0 +1,18 @@
+use mathlib.Core.Path.{◌≡◌, refl, sym, subst, ◌∙◌}
+use mathlib.Core.Logic.{⊎_elim}
+use mathlib.Core.List.{[]}
+use Prim.Native.Nat.{ℕ, ◌+◌, ◌-◌, ◌≤◌}
+use native.Mathlib.Numerals.{unary_clauses}
+use native.Mathlib.Omega.{arith}
+use Rattle.buddy_levels.specs.Seen.{part_settings, level_part}
+use Rattle.buddy_levels.specs.Stands.{Takes}
+use Rattle.buddy_outcomes.specs.Ask.{pairs_room}
+use Rattle.buddy_decide.proofs.Shows.{pairs_done, pairs_past, pairs_none, pairs_on}
+use borrow.Author.Rules.{rules}
+use Rattle.buddy_decide.proofs.seeking.has_pairs.Given as goal
+
+abbrev pub invariant-loop-i : goal.invariant-loop-i
+invariant-loop-i l = (l.i ≤ l.n) × (pairs_room (part_settings 0 l.pairs 0) (level_part l.levels [] l.tree) l.level l.n ≡ pairs_room (part_settings 0 l.pairs 0) (level_part l.levels [] l.tree) (l.level + l.i) (l.n - l.i))
+
+abbrev pub decreases-loop-i : goal.decreases-loop-i
+decreases-loop-i l = l.n - l.i

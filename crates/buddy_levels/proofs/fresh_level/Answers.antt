@@ -1,0 +1,8 @@
+use Rattle.buddy_levels.proofs.Steps.{level_fresh}
+use Rattle.std.proofs.Common.{rules}
+use Rattle.buddy_levels.proofs.fresh_level.Goals as goal
+
+pub returns : goal.returns
+returns c =
+    let a = c.args in
+    level_fresh a.base a.tree.now _ _ _ c.put.ensures c.put-2.ensures c.put-3.ensures

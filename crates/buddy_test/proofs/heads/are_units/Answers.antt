@@ -1,0 +1,33 @@
+use mathlib.Core.Path.{◌≡◌, refl, sym, ap, ◌∙◌}
+use mathlib.Core.Bool.{true}
+use mathlib.Core.List.{[]}
+use Prim.Native.Nat.{◌-◌, ◌≤◌}
+use native.Mathlib.Omega.{arith}
+use borrow.Author.Rules.{rules}
+use Rattle.lists.proofs.Bools.{not_yes, not_no}
+use Rattle.buddy_levels.specs.Seen.{part_tables}
+use Rattle.buddy_rules.specs.Test.{every, units_ok}
+use Rattle.buddy_rules.proofs.Tests.{every_stop, every_next}
+use Rattle.buddy_test.proofs.Parts.{units_told}
+use Rattle.buddy_test.proofs.heads.are_units.Goals as goal
+
+pub loop-k-init : goal.loop-k-init
+loop-k-init c = (omega arith, refl)
+
+pub returns-then-not-is_units : goal.returns-then-not-is_units
+returns-then-not-is_units c =
+    let a = c.args in
+    let e = units_told a.s c.loop-k.k a.loans.now c.loan_in.result c.loan_in.ensures (omega (arith, c.loop-k-test.true, c.requires.2)) c.is_units.result c.is_units.ensures in
+    sym (every_stop (units_ok a.s (part_tables 0 a.loans.now [] [] [])) a.n c.loop-k.k c.loop-k-test.true (sym e ∙ not_yes _ c.if-not-is_units.true))
+
+pub loop-k-preserved : goal.loop-k-preserved
+loop-k-preserved c =
+    let a = c.args in
+    let e = units_told a.s c.loop-k.k a.loans.now c.loan_in.result c.loan_in.ensures (omega (arith, c.loop-k-test.true, c.requires.2)) c.is_units.result c.is_units.ensures in
+    (omega arith, every_next (units_ok a.s (part_tables 0 a.loans.now [] [] [])) c.loop-k.k c.loop-k.invariant.1 (sym e ∙ not_no _ c.if-not-is_units.false))
+
+pub returns : goal.returns
+returns c =
+    let a = c.args in
+    let e : c.loop-k.k ≡ a.n = omega arith in
+    sym c.loop-k.invariant.1 ∙ ap (every (units_ok a.s (part_tables 0 a.loans.now [] [] []))) e

@@ -1,0 +1,18 @@
+use mathlib.Core.Path.{◌≡◌, refl, sym, ap, ◌∙◌}
+use mathlib.Core.Bool.{true}
+use mathlib.Core.List.{[]}
+use Prim.Native.Nat.{◌-◌, ◌≤◌}
+use native.Mathlib.Omega.{arith}
+use borrow.Author.Rules.{rules}
+use Rattle.lists.proofs.Bools.{not_yes, not_no}
+use Rattle.buddy_levels.specs.Seen.{part_tables}
+use Rattle.buddy_rules.specs.Test.{every, units_ok}
+use Rattle.buddy_rules.proofs.Tests.{every_stop, every_next}
+use Rattle.buddy_test.proofs.Parts.{units_told}
+use Rattle.buddy_test.proofs.heads.are_units.Given as goal
+
+abbrev pub invariant-loop-k : goal.invariant-loop-k
+invariant-loop-k l = (l.k ≤ l.n) × (every (units_ok l.s (part_tables 0 l.loans [] [] [])) l.k ≡ true)
+
+abbrev pub decreases-loop-k : goal.decreases-loop-k
+decreases-loop-k l = l.n - l.k

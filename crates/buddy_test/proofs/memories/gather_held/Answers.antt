@@ -1,0 +1,41 @@
+use mathlib.Core.Path.{◌≡◌, refl, ap, ◌∙◌}
+use mathlib.Core.Logic.{⊎_elim}
+use mathlib.Core.List.{[]}
+use Prim.Native.Nat.{◌-◌, ◌≤◌, ◌<◌}
+use native.Mathlib.Omega.{arith}
+use borrow.Author.Rules.{rules}
+use lib.ListN.{length, take, get_or, length-set}
+use Rattle.buddy_levels.specs.Seen.{level_part}
+use Rattle.buddy_rules.specs.Tables.{chunk_places_at, memories}
+use Rattle.buddy_test.proofs.Apart.{gather_none, gather_put, gather_pass}
+use Rattle.buddy_test.proofs.memories.gather_held.Goals as goal
+
+pub loop-c-init : goal.loop-c-init
+loop-c-init c =
+    let a = c.args in
+    (omega arith, omega arith, refl, gather_none a.chunks.now a.found.now)
+
+pub loop-c-preserved : goal.loop-c-preserved
+loop-c-preserved c =
+    let a = c.args in
+    let i = c.loop-c.invariant in
+    let room = c.requires.0 in
+    let low : c.loop-c.c < get_or a.chunks.now chunk_places_at 0 = omega (arith, c.loop-c-test.true, c.requires.1) in
+    ⊎_elim
+    (λ w. (
+      omega (arith, w.3),
+      omega arith,
+      ap length w.2 ∙ simp length-set i.2,
+      rw (w.2, w.3) (gather_put c.loop-c.c c.loop-c.k a.chunks.now c.loop-c.found c.cell.result low c.cell.ensures i.3 w.1.result w.0.taken w.1.ensures (omega arith)),
+    ))
+    (λ w. (
+      omega (arith, w.2),
+      omega arith,
+      ap length w.1 ∙ i.2,
+      rw (w.1, w.2) (gather_pass c.loop-c.c c.loop-c.k a.chunks.now c.loop-c.found c.cell.result low c.cell.ensures i.3 w.0.left),
+    ))
+    c.if-cell-ne0.branch
+
+pub returns : goal.returns
+returns c = let a = c.args in
+    let e : c.loop-c.c ≡ a.n = omega arith in record { found_after = c.loop-c.invariant.3 ∙ ap (memories (level_part 0 a.chunks.now [])) e; upper_bound = (omega arith, c.loop-c.invariant.2) }

@@ -1,0 +1,18 @@
+use mathlib.Core.Path.{◌≡◌, refl, ap, ◌∙◌}
+use mathlib.Core.Logic.{⊎_elim}
+use mathlib.Core.List.{[]}
+use Prim.Native.Nat.{◌-◌, ◌≤◌, ◌<◌}
+use native.Mathlib.Omega.{arith}
+use borrow.Author.Rules.{rules}
+use lib.ListN.{length, take, get_or, length-set}
+use Rattle.buddy_levels.specs.Seen.{level_part}
+use Rattle.buddy_rules.specs.Tables.{chunk_places_at, memories}
+use Rattle.buddy_test.proofs.Apart.{gather_none, gather_put, gather_pass}
+use Rattle.buddy_test.proofs.memories.gather_held.Given as goal
+
+abbrev pub invariant-loop-c : goal.invariant-loop-c
+invariant-loop-c l =
+    (l.k ≤ l.c) × (l.c ≤ l.n) × (length l.found ≡ length l.initial.found) × (take l.k l.found ≡ memories (level_part 0 l.chunks []) l.c)
+
+abbrev pub decreases-loop-c : goal.decreases-loop-c
+decreases-loop-c l = l.n - l.c

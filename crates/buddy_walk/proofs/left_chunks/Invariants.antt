@@ -1,0 +1,15 @@
+use borrow.Author.Rules.{rules}
+use mathlib.Core.Path.{◌≡◌, sym, ap, ◌∙◌}
+use Prim.Native.Nat.{◌-◌, ◌≤◌}
+use native.Mathlib.Omega.{arith}
+use Rattle.buddy_levels.specs.Seen.{part_tables}
+use Rattle.buddy_rules.specs.Test.{left_chunks}
+use Rattle.buddy_walk.proofs.Tops.{chunks_none, chunks_next, chunks_torn}
+use Rattle.buddy_walk.proofs.left_chunks.Given as goal
+
+abbrev pub invariant-loop-c : goal.invariant-loop-c
+invariant-loop-c l =
+    (l.c ≤ l.n) × (l.rest ≡ left_chunks l.s (part_tables l.levels l.loans l.chunks l.index l.tree) l.c l.left)
+
+abbrev pub decreases-loop-c : goal.decreases-loop-c
+decreases-loop-c l = l.n - l.c

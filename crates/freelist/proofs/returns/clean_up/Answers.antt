@@ -1,0 +1,9 @@
+use borrow.Author.Rules.{rules}
+use Rattle.freelist_rules.specs.Tables.{tables}
+use Rattle.freelist.proofs.Wholes.{cleaned_whole}
+use Rattle.freelist.proofs.returns.clean_up.Goals as goal
+
+pub returns : goal.returns
+returns c =
+    let a = c.args in
+    cleaned_whole a.s a.a _ c.share_of-share.ensures (tables a.head.now a.loans.now a.chunks.now a.index.now a.regions.now) _ a.list.now _ _ _ _ c.released.ensures.0 c.released.ensures.1 c.clean_up-r.ensures

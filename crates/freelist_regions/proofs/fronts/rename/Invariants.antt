@@ -1,0 +1,9 @@
+use Rattle.std.proofs.Common.{◌≡◌, ◌-◌, ◌≤◌, length, sym, refl, ◌∙◌, arith, rules}
+use Rattle.freelist_regions.proofs.Renaming.{rest, rest_next, rest_stop, rest_end}
+use Rattle.freelist_regions.proofs.fronts.rename.Given as goal
+
+abbrev pub invariant-loop-i : goal.invariant-loop-i
+invariant-loop-i l = (l.i ≤ l.n) × (length l.t ≡ length l.initial.t) × (rest l.n l.i l.a l.b l.t ≡ rest l.n l.from l.a l.b l.initial.t)
+
+abbrev pub decreases-loop-i : goal.decreases-loop-i
+decreases-loop-i l = l.n - l.i

@@ -1,0 +1,12 @@
+use Rattle.std.proofs.Common.{◌≡◌, ℕ, ◌+◌, ◌-◌, ◌/◌, ◌<◌, ◌≤◌, true, false, arith, rules}
+use Rattle.freelist_regions.proofs.Halves.{lowered, raised}
+use Rattle.freelist_regions.specs.Seat.{reaches}
+use Rattle.freelist_regions.proofs.Seating.{reach_yes, reach_not}
+use Rattle.freelist_regions.proofs.seats.seat.Given as goal
+
+abbrev pub invariant-loop-lo : goal.invariant-loop-lo
+invariant-loop-lo l =
+    (l.lo ≤ l.hi) × (l.hi ≤ l.k) × ((i : ℕ) → i < l.lo → reaches l.t l.number i ≡ false) × ((i : ℕ) → l.hi ≤ i → i < l.k → reaches l.t l.number i ≡ true)
+
+abbrev pub decreases-loop-lo : goal.decreases-loop-lo
+decreases-loop-lo l = l.hi - l.lo

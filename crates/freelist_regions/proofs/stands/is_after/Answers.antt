@@ -1,0 +1,5 @@
+use Rattle.std.proofs.Common.{rules}
+use Rattle.freelist_regions.proofs.stands.is_after.Goals as goal
+
+pub returns : goal.returns
+returns c = rw (c.word_at-p.ensures, c.word_at-c.ensures)

@@ -1,0 +1,15 @@
+use borrow.Author.Rules.{rules}
+use mathlib.Core.Path.{◌≡◌, refl, sym, ◌∙◌}
+use Prim.Native.Nat.{◌-◌, ◌≤◌}
+use native.Mathlib.Omega.{arith}
+use lib.ListN.{take, drop}
+use Rattle.freelist_release.specs.Listed.{among}
+use Rattle.freelist_release.proofs.Listing.{among_here, among_past, among_end}
+-- x is none of the first i words
+use Rattle.freelist_release.proofs.keeps.is_listed.Given as goal
+
+abbrev pub invariant-loop-i : goal.invariant-loop-i
+invariant-loop-i l = (l.i ≤ l.m) × (among l.x (take l.m l.list) ≡ among l.x (drop l.i (take l.m l.list)))
+
+abbrev pub decreases-loop-i : goal.decreases-loop-i
+decreases-loop-i l = l.m - l.i

@@ -1,0 +1,23 @@
+use borrow.Author.Rules.{rules}
+use mathlib.Core.Path.{◌≡◌, sym, ap, ◌∙◌}
+use mathlib.Core.Bool.{◌&&◌}
+use Prim.Native.Nat.{◌+◌, ◌-◌, ◌≤◌}
+use native.Mathlib.Omega.{arith}
+use Rattle.slabs.specs.Slab.{vacant_at}
+use Rattle.slabs.specs.Test.{vacancies}
+use Rattle.slabs.proofs.Steps.{vacancies_none}
+use Rattle.store_rules.specs.Loans.{loan_words, size_at, loans_of}
+use Rattle.book_rules.proofs.Following.{vacancies_most}
+use Rattle.freelist_rules.specs.Walk.{all_ok, loan_ok}
+use Rattle.freelist_test.specs.Parts.{counted}
+use Rattle.freelist_test.proofs.Turns.{loans_from, loans_start, loan_next, loans_end, vacant_next}
+use Rattle.freelist_test.proofs.blocks.look_over.Given as goal
+
+abbrev pub invariant-loop-p : goal.invariant-loop-p
+invariant-loop-p l =
+    (l.p ≤ l.n)
+    × (l.vacant ≡ vacancies (vacant_at l.loans size_at loan_words) l.p)
+    × (all_ok (loan_ok l.s (counted l.given 0 0)) (loans_of l.n l.loans) ≡ (l.ok && loans_from (loan_ok l.s (counted l.given 0 0)) l.loans l.n l.p))
+
+abbrev pub decreases-loop-p : goal.decreases-loop-p
+decreases-loop-p l = l.n - l.p

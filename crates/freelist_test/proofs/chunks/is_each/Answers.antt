@@ -1,0 +1,28 @@
+use borrow.Author.Rules.{rules}
+use mathlib.Core.Path.{◌≡◌, sym, ◌∙◌}
+use Prim.Native.Nat.{◌-◌, ◌≤◌}
+use native.Mathlib.Omega.{arith}
+use Rattle.lists.proofs.Bools.{not_yes, not_no}
+use Rattle.words.specs.Rows.{rows}
+use Rattle.freelist_rules.specs.Records.{chunk_row}
+use Rattle.freelist_test.specs.Parts.{each_ok}
+use Rattle.freelist_test.proofs.Turns.{each_from, each_starts, each_on, each_not, each_ends}
+use Rattle.freelist_test.proofs.chunks.is_each.Goals as goal
+
+pub loop-i-init : goal.loop-i-init
+loop-i-init c = let a = c.args in (omega arith, each_starts a.s a.made a.size a.chunks.now a.k)
+
+pub returns-then-not-before-c : goal.returns-then-not-before-c
+returns-then-not-before-c c =
+    let a = c.args in
+    sym (c.loop-i.invariant.1 ∙ each_not a.s a.made a.size a.chunks.now a.k c.loop-i.before c.loop-i.i c.loop-i-test.true c.chunk_at-c.result c.is_chunk.result c.chunk_at-c.ensures c.is_chunk.ensures (not_yes _ c.if-not-before-c.true))
+
+pub loop-i-preserved : goal.loop-i-preserved
+loop-i-preserved c =
+    let a = c.args in
+    (omega arith, c.loop-i.invariant.1 ∙ each_on a.s a.made a.size a.chunks.now a.k c.loop-i.before c.loop-i.i c.loop-i-test.true c.chunk_at-c.result c.is_chunk.result c.chunk_at-c.ensures c.is_chunk.ensures (not_no _ c.if-not-before-c.false))
+
+pub returns : goal.returns
+returns c =
+    let a = c.args in
+    sym (c.loop-i.invariant.1 ∙ each_ends a.s a.made a.size a.chunks.now a.k c.loop-i.before c.loop-i.i c.loop-i-test.false)

@@ -1,0 +1,17 @@
+use borrow.Author.Rules.{rules}
+use mathlib.Core.Path.{◌≡◌, sym, ◌∙◌}
+use Prim.Native.Nat.{◌-◌, ◌≤◌}
+use native.Mathlib.Omega.{arith}
+use Rattle.lists.proofs.Bools.{not_yes, not_no}
+use Rattle.words.specs.Rows.{rows}
+use Rattle.freelist_rules.specs.Records.{chunk_row}
+use Rattle.freelist_test.specs.Parts.{each_ok}
+use Rattle.freelist_test.proofs.Turns.{each_from, each_starts, each_on, each_not, each_ends}
+use Rattle.freelist_test.proofs.chunks.is_each.Given as goal
+
+abbrev pub invariant-loop-i : goal.invariant-loop-i
+invariant-loop-i l =
+    (l.i ≤ l.k) × (each_ok l.s l.made l.size (rows chunk_row l.k l.chunks) ≡ each_from l.s l.made l.size l.chunks l.k l.before l.i)
+
+abbrev pub decreases-loop-i : goal.decreases-loop-i
+decreases-loop-i l = l.k - l.i

@@ -1,0 +1,7 @@
+use Rattle.std.proofs.Common.{rules}
+use Rattle.heap.specs.Heap.{charged_of}
+use Rattle.heap.proofs.charge.Goals as goal
+
+pub returns : goal.returns
+unfolding charged_of
+returns c = rw (c.wrapping_add_u64-used.ensures, c.plus-allocated.ensures)

@@ -1,0 +1,37 @@
+use borrow.Author.Rules.{rules}
+use Rattle.freelist_rules.specs.Tables.{tables}
+use Rattle.wire_rules.specs.Wire.{list_words}
+use Rattle.wire_rules.proofs.Lent.{all_right}
+use Rattle.linked_list.proofs.Branches.{deliver_made, deliver_refused}
+use Rattle.linked_list.proofs.tibrezkam_list_deliver.Goals as goal
+
+pub heaps_in_table-table-requires : goal.heaps_in_table-table-requires
+heaps_in_table-table-requires c =
+    let a = c.args in
+    (all_right list_words a.settings.now a.account.now _ _ _ c.is_settings.ensures c.is_account.ensures c.if-is_settings-is_account.true).1
+
+pub read_free_list-s-requires : goal.read_free_list-s-requires
+read_free_list-s-requires c =
+    let a = c.args in
+    (all_right list_words a.settings.now a.account.now _ _ _ c.is_settings.ensures c.is_account.ensures c.if-is_settings-is_account.true).0
+
+pub read_share-share-requires : goal.read_share-share-requires
+read_share-share-requires c =
+    let a = c.args in
+    ((all_right list_words a.settings.now a.account.now _ _ _ c.is_settings.ensures c.is_account.ensures c.if-is_settings-is_account.true).1, c.heaps_in_table-table.ensures)
+
+pub read_order-order-requires : goal.read_order-order-requires
+read_order-order-requires c =
+    let a = c.args in
+    (all_right list_words a.settings.now a.account.now _ _ _ c.is_settings.ensures c.is_account.ensures c.if-is_settings-is_account.true).1
+
+pub put_share-requires : goal.put_share-requires
+put_share-requires c =
+    let a = c.args in
+    (all_right list_words a.settings.now a.account.now _ _ _ c.is_settings.ensures c.is_account.ensures c.if-is_settings-is_account.true).1
+
+pub returns-then-is_settings-is_account : goal.returns-then-is_settings-is_account
+returns-then-is_settings-is_account c = let a = c.args in record { account_after = (deliver_made a.settings.now a.account.now _ _ a.answer.now _ c.is_settings.ensures c.is_account.ensures _ _ _ (tables a.head.now a.loans.now a.chunks.now a.index.now a.regions.now) _ _ c.read_free_list-s.ensures c.read_share-share.ensures a.what a.memory a.mapping _ _ _ _ _ _ c.is_outcome.ensures c.if-is_settings-is_account.true c.read_outcome-o.ensures c.read_order-order.ensures c.deliver-r.ensures c.put_share.ensures c.put_order.ensures c.tell_delivered.ensures).0; regions_after = (deliver_made a.settings.now a.account.now _ _ a.answer.now _ c.is_settings.ensures c.is_account.ensures _ _ _ (tables a.head.now a.loans.now a.chunks.now a.index.now a.regions.now) _ _ c.read_free_list-s.ensures c.read_share-share.ensures a.what a.memory a.mapping _ _ _ _ _ _ c.is_outcome.ensures c.if-is_settings-is_account.true c.read_outcome-o.ensures c.read_order-order.ensures c.deliver-r.ensures c.put_share.ensures c.put_order.ensures c.tell_delivered.ensures).1; answer_after = (deliver_made a.settings.now a.account.now _ _ a.answer.now _ c.is_settings.ensures c.is_account.ensures _ _ _ (tables a.head.now a.loans.now a.chunks.now a.index.now a.regions.now) _ _ c.read_free_list-s.ensures c.read_share-share.ensures a.what a.memory a.mapping _ _ _ _ _ _ c.is_outcome.ensures c.if-is_settings-is_account.true c.read_outcome-o.ensures c.read_order-order.ensures c.deliver-r.ensures c.put_share.ensures c.put_order.ensures c.tell_delivered.ensures).2 }
+
+pub returns-else-is_settings-is_account : goal.returns-else-is_settings-is_account
+returns-else-is_settings-is_account c = let a = c.args in record { account_after = (deliver_refused a.settings.now a.account.now _ _ a.answer.now _ c.is_settings.ensures c.is_account.ensures (tables a.head.now a.loans.now a.chunks.now a.index.now a.regions.now) a.what a.memory a.mapping _ c.is_outcome.ensures c.if-is_settings-is_account.false c.tell_bad.ensures).0; regions_after = (deliver_refused a.settings.now a.account.now _ _ a.answer.now _ c.is_settings.ensures c.is_account.ensures (tables a.head.now a.loans.now a.chunks.now a.index.now a.regions.now) a.what a.memory a.mapping _ c.is_outcome.ensures c.if-is_settings-is_account.false c.tell_bad.ensures).1; answer_after = (deliver_refused a.settings.now a.account.now _ _ a.answer.now _ c.is_settings.ensures c.is_account.ensures (tables a.head.now a.loans.now a.chunks.now a.index.now a.regions.now) a.what a.memory a.mapping _ c.is_outcome.ensures c.if-is_settings-is_account.false c.tell_bad.ensures).2 }

@@ -1,0 +1,26 @@
+use borrow.Author.Rules.{rules}
+use mathlib.Core.Path.{◌≡◌, ap, ◌∙◌}
+use Prim.Native.Nat.{◌-◌, ◌≤◌}
+use native.Mathlib.Omega.{arith}
+use lib.ListN.{length}
+use Rattle.linked_rank.specs.Rows.{types_out}
+use Rattle.linked_rank.proofs.Rows.{types_more, types_length}
+use Rattle.linked_rank.proofs.put_types.Goals as goal
+
+pub loop-j-init : goal.loop-j-init
+unfolding types_out
+loop-j-init c = search rules
+
+pub loop-j-preserved : goal.loop-j-preserved
+loop-j-preserved c =
+    let l = c.loop-j in
+    (omega arith, types_more _ _ l.j _ _ _ l.invariant.1 c.put.ensures)
+
+pub shape_of-w : goal.shape_of-w
+shape_of-w c = let l = c.loop-j in ap length l.invariant.1 ∙ types_length _ _ l.j _
+
+pub returns : goal.returns
+returns c =
+    let l = c.loop-j in
+    let e : l.j ≡ 32 = omega arith in
+    rw e at l.invariant.1

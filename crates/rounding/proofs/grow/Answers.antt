@@ -1,0 +1,34 @@
+use mathlib.Core.Path.{sym}
+use Prim.Native.Nat.{◌-◌}
+use native.Mathlib.Omega.{arith}
+use borrow.Author.Rules.{rules}
+use Rattle.rounding_rules.specs.Growth.{grown}
+use Rattle.rounding_rules.proofs.Growth.{Reached, reached_first, reached_next, reached_positive, reached_done, reached_over, grown_none}
+use Rattle.rounding.proofs.grow.Goals as goal
+
+-- `grow` meets its contract. The loop's invariant: c is the chunk size doubled, no more often than it takes. The measure
+-- is what c lacks of the size.
+
+pub returns-then-chunk-eq0 : goal.returns-then-chunk-eq0
+returns-then-chunk-eq0 c = rw c.if-chunk-eq0.true (sym (grown_none c.args.size c.args.last))
+
+pub loop-c-init : goal.loop-c-init
+loop-c-init c = reached_first c.args.chunk c.args.size
+
+pub returns-then-c : goal.returns-then-c
+unfolding grown
+returns-then-c c = omega (arith, reached_over (omega arith) (omega arith) c.loop-c.invariant (omega arith))
+
+pub loop-c-smaller : goal.loop-c-smaller
+loop-c-smaller c = omega (arith, reached_positive (omega arith) c.loop-c.invariant)
+
+pub loop-c-preserved : goal.loop-c-preserved
+loop-c-preserved c = reached_next c.loop-c.invariant (omega arith)
+
+pub returns-then-c-last : goal.returns-then-c-last
+unfolding grown
+returns-then-c-last c = omega (arith, reached_done (omega arith) (omega arith) c.loop-c.invariant (omega arith))
+
+pub returns-else-c-last : goal.returns-else-c-last
+unfolding grown
+returns-else-c-last c = omega (arith, reached_done (omega arith) (omega arith) c.loop-c.invariant (omega arith))

@@ -1,0 +1,6 @@
+use Rattle.std.proofs.Common.{ap, ◌∙◌, rules}
+use Rattle.slabs.specs.Slab.{place_of}
+use Rattle.slabs.proofs.led_to.Goals as goal
+
+pub returns : goal.returns
+returns c = c.place_of.ensures ∙ ap place_of c.word.ensures

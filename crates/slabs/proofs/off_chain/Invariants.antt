@@ -1,0 +1,12 @@
+use Rattle.std.proofs.Common.{◌≡◌, ◌<◌, sym, refl, ◌∙◌, arith, rules, eq-eqb, ne_eqb}
+use Rattle.slabs.specs.Slab.{vacant_at, link_at}
+use Rattle.slabs.specs.Test.{off_chain}
+use Rattle.slabs.proofs.Steps.{off_done, off_past, off_below, off_more, off_used, off_on}
+use Rattle.slabs.proofs.off_chain.Given as goal
+
+abbrev pub invariant-loop-cur : goal.invariant-loop-cur
+invariant-loop-cur l =
+    off_chain (vacant_at l.records l.mark l.width) (link_at l.links l.at l.step) l.n l.h l.n ≡ off_chain (vacant_at l.records l.mark l.width) (link_at l.links l.at l.step) l.n l.cur l.left
+
+abbrev pub decreases-loop-cur : goal.decreases-loop-cur
+decreases-loop-cur l = l.left

@@ -1,0 +1,6 @@
+use Rattle.std.proofs.Common.{arith, rules}
+use Rattle.slabs.proofs.Links.{record_wraps}
+use Rattle.slabs.proofs.record_of.Goals as goal
+
+pub returns : goal.returns
+returns c = record_wraps c.args.p _ (omega arith) c.wrapping_add_u64.ensures

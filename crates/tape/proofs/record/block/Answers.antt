@@ -1,0 +1,5 @@
+use borrow.Author.Rules.{rules}
+use Rattle.tape.proofs.record.block.Goals as goal
+
+pub returns : goal.returns
+returns c = cc

@@ -1,0 +1,5 @@
+use borrow.Author.Rules.{rules}
+use Rattle.wire.proofs.settings.is_narrow.Goals as goal
+
+pub returns : goal.returns
+returns c = cc

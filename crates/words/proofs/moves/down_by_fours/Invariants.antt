@@ -1,0 +1,12 @@
+use native.Mathlib.Omega.{arith}
+use mathlib.Core.Path.{◌≡◌, refl}
+use Prim.Native.Nat.{◌+◌, ◌-◌, ◌*◌, ◌≤◌}
+use lib.ListN.{length, length-set}
+use Rattle.words.proofs.Moved.{run, run_none, turn_four, down_join}
+use Rattle.words.proofs.moves.down_by_fours.Given as goal
+
+abbrev pub invariant-loop-j : goal.invariant-loop-j
+invariant-loop-j l = (l.j ≤ l.turns) × (l.t ≡ run l.src l.dst (4 * l.j) l.initial.t) × (length l.t ≡ length l.initial.t)
+
+abbrev pub decreases-loop-j : goal.decreases-loop-j
+decreases-loop-j l = l.turns - l.j
