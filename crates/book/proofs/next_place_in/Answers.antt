@@ -10,4 +10,4 @@ returns-then-last-places c =
 pub returns : goal.returns
 returns c =
     let a = c.args in
-    taken_new a.places a.index.now _ c.place_of-last.ensures c.if-last-places.false _ c.wrapping_add_u64-more.ensures
+    taken_new a.places a.index.now _ c.place_of-last.ensures c.if-last-places.false _ c.wrapping_add_u64-more.ensures.value

@@ -18,4 +18,4 @@ returns-then-last-n c =
 pub returns : goal.returns
 returns c =
     let a = c.args in
-    taken_next a.base a.tree.now _ _ refl c.place_of-last.ensures c.if-last-n.false _ c.wrapping_add_u64-more.ensures
+    taken_next a.base a.tree.now _ _ refl c.place_of-last.ensures c.if-last-n.false _ c.wrapping_add_u64-more.ensures.value

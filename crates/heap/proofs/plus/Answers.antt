@@ -6,10 +6,10 @@ pub returns-then-lo-n : goal.returns-then-lo-n
 returns-then-lo-n c =
     let a = c.args in
     let r = c.wrapping_add_u64-lo in
-    plus_carried a.t a.n r.result _ (search rules) (search rules) (search rules) (search rules) r.ensures c.if-lo-n.true c.wrapping_add_u64-hi.ensures
+    plus_carried a.t a.n r.result _ (search rules) (search rules) (search rules) (search rules) r.ensures.value c.if-lo-n.true c.wrapping_add_u64-hi.ensures.value
 
 pub returns : goal.returns
 returns c =
     let a = c.args in
     let r = c.wrapping_add_u64-lo in
-    plus_plain a.t a.n r.result (search rules) (search rules) (search rules) (search rules) r.ensures c.if-lo-n.false
+    plus_plain a.t a.n r.result (search rules) (search rules) (search rules) (search rules) r.ensures.value c.if-lo-n.false

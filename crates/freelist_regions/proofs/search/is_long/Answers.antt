@@ -19,4 +19,4 @@ short mask size x r s w e h =
 pub returns : goal.returns
 returns c =
     let a = c.args in
-    λ e mask chunk. short mask a.size c.wrapping_sub_u64.result (region chunk a.start a.end) (omega arith) (omega arith) c.wrapping_sub_u64.ensures (leb-false _ _ e)
+    λ e mask chunk. short mask a.size c.wrapping_sub_u64.result (region chunk a.start a.end) (omega arith) (omega arith) c.wrapping_sub_u64.ensures.value (leb-false _ _ e)

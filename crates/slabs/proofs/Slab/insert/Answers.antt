@@ -10,4 +10,4 @@ returns-then-last-n c =
 pub returns : goal.returns
 returns c =
     let a = c.args in
-    rw (insert_next a.self a.links.now a.at a.step c.if-last-n.false) (rw c.wrapping_add_u64-more.ensures)
+    rw (insert_next a.self a.links.now a.at a.step c.if-last-n.false) (rw c.wrapping_add_u64-more.ensures.value)

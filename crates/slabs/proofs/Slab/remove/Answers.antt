@@ -4,4 +4,4 @@ use Rattle.slabs.proofs.Slab.remove.Goals as goal
 
 pub returns : goal.returns
 unfolding removed removed_links
-returns c = record { value = (search rules).0; links_after = (search rules).1 }
+returns c = record { value = search rules; links_after = search rules }
