@@ -1,6 +1,6 @@
 -- A ring in the words of a table: when a place is taken out the rest is the ring, from the place after it on, and when one is
 -- put in it stands before the head.
-use mathlib.Core.Path.{◌≡◌, refl, sym, ap, ◌∙◌}
+use mathlib.Core.Path.{◌≡◌, refl, sym, ap, ◌∙◌, subst}
 use mathlib.Core.Logic.{inl, inr}
 use mathlib.Core.List.{List, [], ◌∷◌, ◌++◌}
 use Prim.Native.Nat.{ℕ, ◌≤◌, ◌<◌}
@@ -41,7 +41,7 @@ module _ (head next_at prev_at step n : ℕ) (t : List ℕ) (A : Apart head next
   unlink_joins p y l r =
       let e : prev head next_at prev_at step t p ≡ last_of y l = first_prev _ _ p (y ∷ l) r in
       let f : next head next_at prev_at step t p ≡ y = r.closed.0.0 in
-      let o : (last_of y l ≡ p → ⊥) = λ s. not_mem p (y ∷ l) r.distinct.0 (rw s at (last_mem y l)) in
+      let o : (last_of y l ≡ p → ⊥) = λ s. not_mem p (y ∷ l) r.distinct.0 (subst (λ z. Mem z (y ∷ l)) s (last_mem y l)) in
       rw (e, f, ne_eqb (last_of y l) p o)
 
   -- the first of a ring goes out
@@ -168,7 +168,7 @@ module _ (head next_at prev_at step n : ℕ) (t : List ℕ) (A : Apart head next
       under z m = mem_below n z (h ∷ l) b m
 
       other : (z : ℕ) → Mem z (h ∷ l) → z ≡ p → ⊥
-      other z m e = not_mem p (h ∷ l) o (rw e at m)
+      other z m e = not_mem p (h ∷ l) o (subst (λ x. Mem x (h ∷ l)) e m)
 
       hn : h < n
       hn = b.0

@@ -1,6 +1,6 @@
 -- The laws of a ring, whatever tells its links: where it begins does not matter, and what it takes for one place to go out or
 -- come in.
-use mathlib.Core.Path.{◌≡◌, refl, ◌∙◌}
+use mathlib.Core.Path.{◌≡◌, refl, sym, ◌∙◌, subst}
 use mathlib.Core.Logic.{inl, inr, ⊎_elim}
 use mathlib.Core.List.{List, [], ◌∷◌, ◌++◌, append_assoc, append-nil}
 use Prim.Native.Nat.{ℕ}
@@ -61,7 +61,7 @@ module _ (next prev : ℕ → ℕ) where
       let s = split p R m in
       let o : Ring next prev (p ∷ s.b ++ s.a) = rotate s.a (p ∷ s.b) (rw s.is at r) in
       let back : (x : ℕ) → Mem x (p ∷ s.b ++ s.a) → Mem x R = λ x k. rw s.is (mem_swap x (p ∷ s.b) s.a k) in
-      (back (next p) (first_next p (s.b ++ s.a) o), back (prev p) (rw (first_prev p (s.b ++ s.a) o) (last_mem p (s.b ++ s.a))))
+      (back (next p) (first_next p (s.b ++ s.a) o), back (prev p) (subst (λ z. Mem z (p ∷ s.b ++ s.a)) (sym (first_prev p (s.b ++ s.a) o)) (last_mem p (s.b ++ s.a))))
 
 -- other links, next' and prev'
 module _ (next prev next' prev' : ℕ → ℕ) where
@@ -69,7 +69,7 @@ module _ (next prev next' prev' : ℕ → ℕ) where
   run_same : (x : ℕ) (l : List ℕ) → Distinct (x ∷ l) → ((z : ℕ) → Mem z (x ∷ l) → (z ≡ last_of x l → ⊥) → next' z ≡ next z) → ((z : ℕ) → Mem z l → prev' z ≡ prev z) → Run next prev x l → Run next' prev' x l
   run_same x [] d f g r = tt
   run_same x (y ∷ l) d f g r =
-      let other : (x ≡ last_of y l → ⊥) = λ e. not_mem x (y ∷ l) d.0 (rw e (last_mem y l)) in
+      let other : (x ≡ last_of y l → ⊥) = λ e. not_mem x (y ∷ l) d.0 (subst (λ z. Mem z (y ∷ l)) (sym e) (last_mem y l)) in
       ((f x (inl refl) other ∙ r.0.0, g y (inl refl) ∙ r.0.1), run_same y l d.1 (λ z m. f z (inr m)) (λ z m. g z (inr m)) r.1)
 
   -- a ring stays where the links of its places do

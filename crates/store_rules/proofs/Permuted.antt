@@ -1,5 +1,5 @@
 -- Blocks in another order: the same blocks, and still no two of one serial.
-use mathlib.Core.Path.{◌≡◌, sym, ap, ◌∙◌}
+use mathlib.Core.Path.{◌≡◌, sym, ap, ◌∙◌, subst}
 use mathlib.Core.Logic.{⊎_elim}
 use mathlib.Core.List.Memᴰ
 use mathlib.Core.List.{List, [], ◌∷◌, map, Memᴰ, Permᴰ}
@@ -35,7 +35,8 @@ perm_apart (Permᴰ.cons {b = b} {l₂ = l₂} e p) h =
     let z = ap (λ (b : Block). b.serial) e in
     let w : Other b.serial l₂ = rw (← z) (perm_other _ p h.0) in
     (w, perm_apart p h.1)
-perm_apart (Permᴰ.swap e f) h = rw (← e, ← f) (((λ q. h.0.0 (sym q)), h.1.0), (h.0.1, h.1.1))
+perm_apart (Permᴰ.swap {a = a} {b = b} {a' = a'} {b' = b'} {l = l} e f) h =
+    subst (λ y. Apart (a' ∷ y ∷ l)) e (subst (λ x. Apart (x ∷ a ∷ l)) f (((λ q. h.0.0 (sym q)), h.1.0), (h.0.1, h.1.1)))
 perm_apart (Permᴰ.trans p q) h = perm_apart q (perm_apart p h)
 
 -- a block among those that have another serial has another serial
