@@ -27,8 +27,8 @@ use Rattle.engines.proofs.Visits.{set_up?, set_up_stays, stores_stay, store_here
 -- what is heard first is booked first
 pub ledger_append : (bs : List Block) (ms ns : List Note) → ledger bs (ms ++ ns) ≡ ledger (ledger bs ms) ns
 ledger_append bs [] ns = refl
-ledger_append bs (lent b ∷ ms) ns = ledger_append _ ms ns
-ledger_append bs (back b ∷ ms) ns = ledger_append _ ms ns
+ledger_append bs (lent b ∷ ms) ns = ledger_append (b ∷ bs) ms ns
+ledger_append bs (back b ∷ ms) ns = ledger_append (blocks_less b bs) ms ns
 
 -- no two engines have one mark
 module _ (K : Type 0) (E : K → Engine) (differ : (i j : K) → (E i).shape.mark ≡ (E j).shape.mark → i ≡ j) where

@@ -56,10 +56,10 @@ are_leaves-requires c =
 pub returns-then-not-are_leaves : goal.returns-then-not-are_leaves
 returns-then-not-are_leaves c =
     let a = c.args in
-    let good = c.are_good-good.ensures.used_value.0 (not_no _ c.if-not-good.false) in
+    let good = c.are_good-good.ensures.used_value.0 c.if-not-good.false in
     let leaves =
-    leaves_told a.s c.word-levels.result a.loans.now a.chunks.now a.index.now a.tree.now c.word-places.result c.are_good-good.result.used c.are_kept-kept.result.live c.word-places.ensures good.0 (c.are_kept-kept.ensures.live_value.0 (not_no _ c.if-not-kept.false))
-    c.are_good-good.result.ready c.are_places-parts.result.used c.are_leaves.result good.1 (c.are_places-parts.ensures.used_value.0 (not_no _ c.if-not-parts.false)) c.are_leaves.ensures in
+    leaves_told a.s c.word-levels.result a.loans.now a.chunks.now a.index.now a.tree.now c.word-places.result c.are_good-good.result.used c.are_kept-kept.result.live c.word-places.ensures good.0 (c.are_kept-kept.ensures.live_value.0 c.if-not-kept.false)
+    c.are_good-good.result.ready c.are_places-parts.result.used c.are_leaves.result good.1 (c.are_places-parts.ensures.used_value.0 c.if-not-parts.false) c.are_leaves.ensures in
     leaves_fail a.s a.head.now a.loans.now a.chunks.now a.index.now a.tree.now c.is_head.result c.is_head.ensures c.if-not-is_head.false c.word-levels.result c.word-places.result c.word-held.result c.word-given.result c.word-levels.ensures c.word-places.ensures c.word-held.ensures c.word-given.ensures c.are_kept-kept.result.ok c.are_kept-kept.ensures.ok_value c.if-not-kept.false c.are_places-parts.result.ok c.are_places-parts.ensures.ok_value c.if-not-parts.false c.are_memories.result c.are_memories.ensures c.if-not-are_memories.false c.are_good-good.result.ok c.are_good-good.ensures.ok_value c.if-not-good.false c.are_leaves.result leaves c.if-not-are_leaves.true
 
 pub overflow_add-count : goal.overflow_add-count
@@ -72,23 +72,23 @@ overflow_add-count c =
 pub are_met-requires : goal.are_met-requires
 are_met-requires c =
     let a = c.args in
-    let good = c.are_good-good.ensures.used_value.0 (not_no _ c.if-not-good.false) in
+    let good = c.are_good-good.ensures.used_value.0 c.if-not-good.false in
     let levels = levels_few a.s a.head.now a.loans.now a.chunks.now a.index.now a.tree.now c.is_head.result c.is_head.ensures c.if-not-is_head.false c.word-levels.result c.word-places.result c.word-held.result c.word-given.result c.word-levels.ensures c.word-places.ensures c.word-held.ensures c.word-given.ensures in (
       c.requires.0,
       levels,
       held_few a.s a.head.now a.loans.now a.chunks.now a.index.now a.tree.now c.is_head.result c.is_head.ensures c.if-not-is_head.false c.word-levels.result c.word-places.result c.word-held.result c.word-given.result c.word-levels.ensures c.word-places.ensures c.word-held.ensures c.word-given.ensures c.are_kept-kept.result.ok c.are_kept-kept.ensures.ok_value c.if-not-kept.false c.are_places-parts.result.ok c.are_places-parts.ensures.ok_value c.if-not-parts.false c.requires.0,
       c.word-held.ensures,
-      within_told a.s c.word-levels.result a.loans.now a.chunks.now a.index.now a.tree.now a.head.now c.word-places.result c.requires.0 c.requires.1 levels c.word-places.ensures (places_own a.s a.head.now a.loans.now a.chunks.now a.index.now a.tree.now c.is_head.result c.is_head.ensures c.if-not-is_head.false c.word-levels.result c.word-places.result c.word-held.result c.word-given.result c.word-levels.ensures c.word-places.ensures c.word-held.ensures c.word-given.ensures c.are_kept-kept.result.ok c.are_kept-kept.ensures.ok_value c.if-not-kept.false) (sym c.are_good-good.ensures.ok_value ∙ not_no _ c.if-not-good.false),
-      count_told a.s c.word-levels.result a.loans.now a.chunks.now a.index.now a.tree.now c.word-places.result c.are_good-good.result.used c.are_kept-kept.result.live c.word-places.ensures good.0 (c.are_kept-kept.ensures.live_value.0 (not_no _ c.if-not-kept.false)),
+      within_told a.s c.word-levels.result a.loans.now a.chunks.now a.index.now a.tree.now a.head.now c.word-places.result c.requires.0 c.requires.1 levels c.word-places.ensures (places_own a.s a.head.now a.loans.now a.chunks.now a.index.now a.tree.now c.is_head.result c.is_head.ensures c.if-not-is_head.false c.word-levels.result c.word-places.result c.word-held.result c.word-given.result c.word-levels.ensures c.word-places.ensures c.word-held.ensures c.word-given.ensures c.are_kept-kept.result.ok c.are_kept-kept.ensures.ok_value c.if-not-kept.false) (sym c.are_good-good.ensures.ok_value ∙ c.if-not-good.false),
+      count_told a.s c.word-levels.result a.loans.now a.chunks.now a.index.now a.tree.now c.word-places.result c.are_good-good.result.used c.are_kept-kept.result.live c.word-places.ensures good.0 (c.are_kept-kept.ensures.live_value.0 c.if-not-kept.false),
     )
 
 pub returns-then-not-are_met : goal.returns-then-not-are_met
 returns-then-not-are_met c =
     let a = c.args in
-    let good = c.are_good-good.ensures.used_value.0 (not_no _ c.if-not-good.false) in
+    let good = c.are_good-good.ensures.used_value.0 c.if-not-good.false in
     let leaves =
-    leaves_told a.s c.word-levels.result a.loans.now a.chunks.now a.index.now a.tree.now c.word-places.result c.are_good-good.result.used c.are_kept-kept.result.live c.word-places.ensures good.0 (c.are_kept-kept.ensures.live_value.0 (not_no _ c.if-not-kept.false))
-    c.are_good-good.result.ready c.are_places-parts.result.used c.are_leaves.result good.1 (c.are_places-parts.ensures.used_value.0 (not_no _ c.if-not-parts.false)) c.are_leaves.ensures in
+    leaves_told a.s c.word-levels.result a.loans.now a.chunks.now a.index.now a.tree.now c.word-places.result c.are_good-good.result.used c.are_kept-kept.result.live c.word-places.ensures good.0 (c.are_kept-kept.ensures.live_value.0 c.if-not-kept.false)
+    c.are_good-good.result.ready c.are_places-parts.result.used c.are_leaves.result good.1 (c.are_places-parts.ensures.used_value.0 c.if-not-parts.false) c.are_leaves.ensures in
     met_fails a.s a.head.now a.loans.now a.chunks.now a.index.now a.tree.now c.is_head.result c.is_head.ensures c.if-not-is_head.false c.word-levels.result c.word-places.result c.word-held.result c.word-given.result c.word-levels.ensures c.word-places.ensures c.word-held.ensures c.word-given.ensures c.are_kept-kept.result.ok c.are_kept-kept.ensures.ok_value c.if-not-kept.false c.are_places-parts.result.ok c.are_places-parts.ensures.ok_value c.if-not-parts.false c.are_memories.result c.are_memories.ensures c.if-not-are_memories.false c.are_good-good.result.ok c.are_good-good.ensures.ok_value c.if-not-good.false c.are_leaves.result leaves c.if-not-are_leaves.false c.are_met.result c.are_met.ensures c.if-not-are_met.true
 
 pub are_units-requires : goal.are_units-requires
@@ -100,8 +100,8 @@ are_units-requires c =
 pub returns : goal.returns
 returns c =
     let a = c.args in
-    let good = c.are_good-good.ensures.used_value.0 (not_no _ c.if-not-good.false) in
+    let good = c.are_good-good.ensures.used_value.0 c.if-not-good.false in
     let leaves =
-    leaves_told a.s c.word-levels.result a.loans.now a.chunks.now a.index.now a.tree.now c.word-places.result c.are_good-good.result.used c.are_kept-kept.result.live c.word-places.ensures good.0 (c.are_kept-kept.ensures.live_value.0 (not_no _ c.if-not-kept.false))
-    c.are_good-good.result.ready c.are_places-parts.result.used c.are_leaves.result good.1 (c.are_places-parts.ensures.used_value.0 (not_no _ c.if-not-parts.false)) c.are_leaves.ensures in
+    leaves_told a.s c.word-levels.result a.loans.now a.chunks.now a.index.now a.tree.now c.word-places.result c.are_good-good.result.used c.are_kept-kept.result.live c.word-places.ensures good.0 (c.are_kept-kept.ensures.live_value.0 c.if-not-kept.false)
+    c.are_good-good.result.ready c.are_places-parts.result.used c.are_leaves.result good.1 (c.are_places-parts.ensures.used_value.0 c.if-not-parts.false) c.are_leaves.ensures in
     units_left a.s a.head.now a.loans.now a.chunks.now a.index.now a.tree.now c.is_head.result c.is_head.ensures c.if-not-is_head.false c.word-levels.result c.word-places.result c.word-held.result c.word-given.result c.word-levels.ensures c.word-places.ensures c.word-held.ensures c.word-given.ensures c.are_kept-kept.result.ok c.are_kept-kept.ensures.ok_value c.if-not-kept.false c.are_places-parts.result.ok c.are_places-parts.ensures.ok_value c.if-not-parts.false c.are_memories.result c.are_memories.ensures c.if-not-are_memories.false c.are_good-good.result.ok c.are_good-good.ensures.ok_value c.if-not-good.false c.are_leaves.result leaves c.if-not-are_leaves.false c.are_met.result c.are_met.ensures c.if-not-are_met.false c.are_units.result c.are_units.ensures

@@ -17,11 +17,11 @@ pub returns-then-not-high-first : goal.returns-then-not-high-first
 returns-then-not-high-first c =
     let a = c.args in
     chunk_high a.s (part_tables a.levels a.loans.now a.chunks.now a.index.now a.tree.now) a.c a.left c.cell-size.result c.requires.3 c.cell-size.ensures
-    c.if-size-eq0.false c.level-high.result c.level-first.result c.level-high.ensures c.level-first.ensures (not_yes _ c.if-not-high-first.true)
+    c.if-size-eq0.false c.level-high.result c.level-first.result c.level-high.ensures c.level-first.ensures c.if-not-high-first.true
 
 pub node_bytes-requires : goal.node_bytes-requires
 node_bytes-requires c =
-    (power_top c.requires.0.minimal, omega (arith, level_low c.level-high.result c.level-first.result c.args.levels (not_no _ c.if-not-high-first.false)))
+    (power_top c.requires.0.minimal, omega (arith, level_low c.level-high.result c.level-first.result c.args.levels c.if-not-high-first.false))
 
 pub returns-then-size-node_bytes : goal.returns-then-size-node_bytes
 returns-then-size-node_bytes c =
@@ -33,7 +33,7 @@ returns-then-size-node_bytes c =
 pub left_at_node-requires : goal.left_at_node-requires
 left_at_node-requires c =
     let a = c.args in
-    let low = level_low c.level-high.result c.level-first.result a.levels (not_no _ c.if-not-high-first.false) in
+    let low = level_low c.level-high.result c.level-first.result a.levels c.if-not-high-first.false in
     let long = chunk_size c.cell-size.result c.node_bytes.result _ c.if-size-node_bytes.false in (
       within_lower c.level-high.result a.levels a.s.pairs a.s.store.loans a.loans.now a.index.now a.tree.now low c.requires.4,
       omega (arith, low),
@@ -46,5 +46,5 @@ returns c =
     chunk_walk a.s (part_tables a.levels a.loans.now a.chunks.now a.index.now a.tree.now) a.c a.left c.cell-size.result c.requires.3 c.cell-size.ensures
     c.if-size-eq0.false c.level-high.result c.level-first.result c.level-high.ensures c.level-first.ensures
     c.chunks_from.result c.cell-top.result c.node_bytes.result c.chunks_from.ensures.value c.cell-top.ensures c.node_bytes.ensures.value
-    c.left_at_node.result (not_no _ c.if-not-high-first.false) c.if-size-node_bytes.false
+    c.left_at_node.result c.if-not-high-first.false c.if-size-node_bytes.false
     (c.left_at_node.ensures a.s.minimal (power_positive c.requires.0.minimal) (chunk_size c.cell-size.result c.node_bytes.result _ c.if-size-node_bytes.false ∙ c.node_bytes.ensures.value))

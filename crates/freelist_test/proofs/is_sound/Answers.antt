@@ -12,7 +12,7 @@ use Rattle.freelist_test.proofs.is_sound.Goals as goal
 
 pub returns-then-not-is_head : goal.returns-then-not-is_head
 returns-then-not-is_head c =
-    head_fails c.args.s c.args.head.now c.args.loans.now c.args.chunks.now c.args.index.now c.args.regions.now c.region_count-n.result c.is_head.result c.region_count-n.ensures c.is_head.ensures (not_yes _ c.if-not-is_head.true)
+    head_fails c.args.s c.args.head.now c.args.loans.now c.args.chunks.now c.args.index.now c.args.regions.now c.region_count-n.result c.is_head.result c.region_count-n.ensures c.is_head.ensures c.if-not-is_head.true
 
 pub are_lent-lent-requires : goal.are_lent-lent-requires
 are_lent-lent-requires c =
@@ -21,24 +21,24 @@ are_lent-lent-requires c =
 
 pub returns-then-not-lent : goal.returns-then-not-lent
 returns-then-not-lent c =
-    loans_fail c.args.s c.args.head.now c.args.loans.now c.args.chunks.now c.args.index.now c.args.regions.now c.region_count-n.result c.is_head.result c.region_count-n.ensures c.is_head.ensures (not_no _ c.if-not-is_head.false) c.are_lent-lent.result.ok c.are_lent-lent.ensures.ok_value (not_yes _ c.if-not-lent.true)
+    loans_fail c.args.s c.args.head.now c.args.loans.now c.args.chunks.now c.args.index.now c.args.regions.now c.region_count-n.result c.is_head.result c.region_count-n.ensures c.is_head.ensures c.if-not-is_head.false c.are_lent-lent.result.ok c.are_lent-lent.ensures.ok_value c.if-not-lent.true
 
 pub are_chunks-requires : goal.are_chunks-requires
 are_chunks-requires c =
-    (c.requires.0, omega (arith, head_chunks c.args.s (tables c.args.head.now c.args.loans.now c.args.chunks.now c.args.index.now c.args.regions.now) c.region_count-n.result (sym c.is_head.ensures ∙ not_no _ c.if-not-is_head.false), c.word-k.ensures, c.requires.0.store.chunks_most_lem))
+    (c.requires.0, omega (arith, head_chunks c.args.s (tables c.args.head.now c.args.loans.now c.args.chunks.now c.args.index.now c.args.regions.now) c.region_count-n.result (sym c.is_head.ensures ∙ c.if-not-is_head.false), c.word-k.ensures, c.requires.0.store.chunks_most_lem))
 
 pub returns-then-not-are_chunks : goal.returns-then-not-are_chunks
 returns-then-not-are_chunks c =
-    chunks_fail c.args.s c.args.head.now c.args.loans.now c.args.chunks.now c.args.index.now c.args.regions.now c.region_count-n.result c.is_head.result c.region_count-n.ensures c.is_head.ensures (not_no _ c.if-not-is_head.false) c.are_lent-lent.result.ok c.are_lent-lent.ensures.ok_value (not_no _ c.if-not-lent.false) c.word-k.result c.word-size.result c.word-made.result c.are_chunks.result c.word-k.ensures c.word-size.ensures c.word-made.ensures c.are_chunks.ensures (not_yes _ c.if-not-are_chunks.true)
+    chunks_fail c.args.s c.args.head.now c.args.loans.now c.args.chunks.now c.args.index.now c.args.regions.now c.region_count-n.result c.is_head.result c.region_count-n.ensures c.is_head.ensures c.if-not-is_head.false c.are_lent-lent.result.ok c.are_lent-lent.ensures.ok_value c.if-not-lent.false c.word-k.result c.word-size.result c.word-made.result c.are_chunks.result c.word-k.ensures c.word-size.ensures c.word-made.ensures c.are_chunks.ensures c.if-not-are_chunks.true
 
 pub walk-requires : goal.walk-requires
 walk-requires c = let t = (tables c.args.head.now c.args.loans.now c.args.chunks.now c.args.index.now c.args.regions.now) in
     let long = lengths_are c.args.s t c.requires.1 in
-    let head = sym c.is_head.ensures ∙ not_no _ c.if-not-is_head.false in
-    let right = sym c.are_chunks.ensures ∙ not_no _ c.if-not-are_chunks.false in
+    let head = sym c.is_head.ensures ∙ c.if-not-is_head.false in
+    let right = sym c.are_chunks.ensures ∙ c.if-not-are_chunks.false in
     let held = head_chunks c.args.s t c.region_count-n.result head in
-    let few = lent_few c.args.s c.args.loans.now c.args.index.now (sym c.are_lent-lent.ensures.ok_value ∙ not_no _ c.if-not-lent.false) in
-    let live = c.are_lent-lent.ensures.live_value (not_no _ c.if-not-lent.false) in record { laid = (
+    let few = lent_few c.args.s c.args.loans.now c.args.index.now (sym c.are_lent-lent.ensures.ok_value ∙ c.if-not-lent.false) in
+    let live = c.are_lent-lent.ensures.live_value c.if-not-lent.false in record { laid = (
         record {
           chunks_most_lem = omega (arith, held, c.word-k.ensures, c.requires.0.store.chunks_most_lem);
           loans_most_lem = c.requires.0.store.loans_most_lem;
@@ -53,4 +53,4 @@ walk-requires c = let t = (tables c.args.head.now c.args.loans.now c.args.chunks
 
 pub returns : goal.returns
 returns c =
-    walk_left c.args.s c.args.head.now c.args.loans.now c.args.chunks.now c.args.index.now c.args.regions.now c.region_count-n.result c.is_head.result c.region_count-n.ensures c.is_head.ensures (not_no _ c.if-not-is_head.false) c.are_lent-lent.result.ok c.are_lent-lent.ensures.ok_value (not_no _ c.if-not-lent.false) c.word-k.result c.word-size.result c.word-made.result c.are_chunks.result c.word-k.ensures c.word-size.ensures c.word-made.ensures c.are_chunks.ensures (not_no _ c.if-not-are_chunks.false) c.word-places.result c.are_lent-lent.result.live c.walk.result c.word-places.ensures (c.are_lent-lent.ensures.live_value (not_no _ c.if-not-lent.false)) c.walk.ensures
+    walk_left c.args.s c.args.head.now c.args.loans.now c.args.chunks.now c.args.index.now c.args.regions.now c.region_count-n.result c.is_head.result c.region_count-n.ensures c.is_head.ensures c.if-not-is_head.false c.are_lent-lent.result.ok c.are_lent-lent.ensures.ok_value c.if-not-lent.false c.word-k.result c.word-size.result c.word-made.result c.are_chunks.result c.word-k.ensures c.word-size.ensures c.word-made.ensures c.are_chunks.ensures c.if-not-are_chunks.false c.word-places.result c.are_lent-lent.result.live c.walk.result c.word-places.ensures (c.are_lent-lent.ensures.live_value c.if-not-lent.false) c.walk.ensures

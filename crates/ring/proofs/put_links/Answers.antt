@@ -10,4 +10,4 @@ use Rattle.ring.proofs.put_links.Goals as goal
 pub returns : goal.returns
 returns c =
     let a = c.args in
-    c.put_link_in-2.ensures ∙ ap (λ (x : List ℕ). set x (cell_of a.prev-at a.step a.p) (record_of a.prev)) c.put_link_in.ensures
+    c.put_link_in-2.ensures ∙ ap (λ (x : List ℕ). set x (cell_of a.prev_at a.step a.p) (record_of a.prev)) c.put_link_in.ensures

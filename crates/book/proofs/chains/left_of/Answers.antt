@@ -5,6 +5,7 @@ use Rattle.book_rules.specs.Book.{serial_of, first_in, next_in}
 use Rattle.book_rules.specs.Chains.{left_of}
 use Rattle.book_rules.proofs.Following.{of_none, of_torn, of_on}
 use Rattle.book.proofs.chains.left_of.Goals as goal
+use Rattle.book.proofs.chains.left_of.Goals.{then-left, else-left}
 
 pub loop-i-init : goal.loop-i-init
 loop-i-init c = (search rules, sym (of_none _ _ _ _ _ _ _ _))
@@ -12,8 +13,10 @@ loop-i-init c = (search rules, sym (of_none _ _ _ _ _ _ _ _))
 pub loop-i-preserved : goal.loop-i-preserved
 loop-i-preserved c =
     let b = c.loop-i.invariant.1 in
-    ⊎_elim (λ w. (omega arith, w.3 ∙ w.2.ensures ∙ sym (of_on _ _ _ _ _ _ _ _ _ _ _ b w.0.taken w.1.ensures)))
-    (λ w. (omega arith, w.1 ∙ w.0.left ∙ sym (of_torn _ _ _ _ _ _ _ _ _ (sym b ∙ w.0.left)))) c.if-left.branch
+    elim c.if-left.branch [
+      then-left w ↦ (omega arith, w.left-is ∙ ? ∙ sym (of_on _ _ _ _ _ _ _ _ _ _ _ b w.if-left.true ?)) |
+      else-left w ↦ (omega arith, w.left-is ∙ w.if-left.false ∙ sym (of_torn _ _ _ _ _ _ _ _ _ (sym b ∙ w.if-left.false)))
+    ]
 
 pub returns : goal.returns
 returns c =

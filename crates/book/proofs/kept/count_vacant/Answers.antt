@@ -4,6 +4,7 @@ use Rattle.slabs.specs.Test.{vacancies}
 use Rattle.slabs.proofs.Steps.{vacancies_none, vacancies_more, vacancies_same}
 use Rattle.store_rules.specs.Loans.{loan_words, size_at}
 use Rattle.book.proofs.kept.count_vacant.Goals as goal
+use Rattle.book.proofs.kept.count_vacant.Goals.{then-loans-p-eq0, else-loans-p-eq0}
 
 pub loop-p-init : goal.loop-p-init
 loop-p-init c = (search rules, search rules, sym (vacancies_none _))
@@ -11,8 +12,10 @@ loop-p-init c = (search rules, search rules, sym (vacancies_none _))
 pub loop-p-preserved : goal.loop-p-preserved
 loop-p-preserved c =
     let i = c.loop-p.invariant.2 in
-    ⊎_elim (λ w. (omega arith, omega arith, w.1 ∙ ap (λ x. x + 1) i ∙ sym (vacancies_more _ _ (eq-eqb _ _ w.0.taken))))
-    (λ w. (omega arith, omega arith, w.1 ∙ i ∙ sym (vacancies_same _ _ (ne_eqb _ _ w.0.left)))) c.if-loans-p-eq0.branch
+    elim c.if-loans-p-eq0.branch [
+      then-loans-p-eq0 w ↦ (omega arith, omega arith, w.count-is ∙ ap (λ x. x + 1) i ∙ sym (vacancies_more _ _ (eq-eqb _ _ w.if-loans-p-eq0.true))) |
+      else-loans-p-eq0 w ↦ (omega arith, omega arith, w.count-is ∙ i ∙ sym (vacancies_same _ _ (ne_eqb _ _ w.if-loans-p-eq0.false)))
+    ]
 
 pub returns : goal.returns
 returns c = let e : c.loop-p.p ≡ c.args.n = omega arith in c.loop-p.invariant.2 ∙ ap (vacancies _) e

@@ -10,19 +10,19 @@ has_room-requires c = let p = c.requires in (p.0.fit, p.0.levels, omega (arith, 
 
 pub returns-then-not-has_room : goal.returns-then-not-has_room
 returns-then-not-has_room c = let a = c.args in
-    let room = room_is a.s a.n.level a.head.now a.loans.now a.chunks.now a.index.now a.tree.now _ _ _ _ c.requires.3 c.next_loan-loan.ensures c.chunk_taken-chunk.ensures c.has_room.ensures in record { result_value = buy_full a.s a.n.level a.head.now a.loans.now a.chunks.now a.index.now a.tree.now a.h a.objects _ room (not_yes _ c.if-not-has_room.true); planned_at = refl }
+    let room = room_is a.s a.n.level a.head.now a.loans.now a.chunks.now a.index.now a.tree.now _ _ _ _ c.requires.3 c.next_loan-loan.ensures c.chunk_taken-chunk.ensures c.has_room.ensures in record { result_value = buy_full a.s a.n.level a.head.now a.loans.now a.chunks.now a.index.now a.tree.now a.h a.objects _ room c.if-not-has_room.true; planned_at = refl }
 
 pub returns-then-not-given-bears : goal.returns-then-not-given-bears
 returns-then-not-given-bears c = let a = c.args in
-    let room = room_is a.s a.n.level a.head.now a.loans.now a.chunks.now a.index.now a.tree.now _ _ _ _ c.requires.3 c.next_loan-loan.ensures c.chunk_taken-chunk.ensures c.has_room.ensures in record { result_value = buy_spent a.s a.n.level a.head.now a.loans.now a.chunks.now a.index.now a.tree.now a.h a.objects _ room (not_no _ c.if-not-has_room.false) (counts_are a.s a.n.level a.head.now a.loans.now a.chunks.now a.index.now a.tree.now a.h a.objects _ _ _ _ c.requires.2 c.word-given.ensures c.bears.ensures (not_yes _ c.if-not-given-bears.true)); planned_at = refl }
+    let room = room_is a.s a.n.level a.head.now a.loans.now a.chunks.now a.index.now a.tree.now _ _ _ _ c.requires.3 c.next_loan-loan.ensures c.chunk_taken-chunk.ensures c.has_room.ensures in record { result_value = buy_spent a.s a.n.level a.head.now a.loans.now a.chunks.now a.index.now a.tree.now a.h a.objects _ room c.if-not-has_room.false (counts_are a.s a.n.level a.head.now a.loans.now a.chunks.now a.index.now a.tree.now a.h a.objects _ _ _ _ c.requires.2 c.word-given.ensures c.bears.ensures c.if-not-given-bears.true); planned_at = refl }
 
 pub returns-then-objects-eq0 : goal.returns-then-objects-eq0
 returns-then-objects-eq0 c = let a = c.args in
-    let room = room_is a.s a.n.level a.head.now a.loans.now a.chunks.now a.index.now a.tree.now _ _ _ _ c.requires.3 c.next_loan-loan.ensures c.chunk_taken-chunk.ensures c.has_room.ensures in record { result_value = buy_none a.s a.n.level a.head.now a.loans.now a.chunks.now a.index.now a.tree.now a.h a.objects _ room (not_no _ c.if-not-has_room.false) (counts_are a.s a.n.level a.head.now a.loans.now a.chunks.now a.index.now a.tree.now a.h a.objects _ _ _ _ c.requires.2 c.word-given.ensures c.bears.ensures (not_no _ c.if-not-given-bears.false)) c.if-objects-eq0.true; planned_at = c.requires.3 }
+    let room = room_is a.s a.n.level a.head.now a.loans.now a.chunks.now a.index.now a.tree.now _ _ _ _ c.requires.3 c.next_loan-loan.ensures c.chunk_taken-chunk.ensures c.has_room.ensures in record { result_value = buy_none a.s a.n.level a.head.now a.loans.now a.chunks.now a.index.now a.tree.now a.h a.objects _ room c.if-not-has_room.false (counts_are a.s a.n.level a.head.now a.loans.now a.chunks.now a.index.now a.tree.now a.h a.objects _ _ _ _ c.requires.2 c.word-given.ensures c.bears.ensures c.if-not-given-bears.false) c.if-objects-eq0.true; planned_at = c.requires.3 }
 
 pub returns : goal.returns
 returns c = let a = c.args in
-    let room = room_is a.s a.n.level a.head.now a.loans.now a.chunks.now a.index.now a.tree.now _ _ _ _ c.requires.3 c.next_loan-loan.ensures c.chunk_taken-chunk.ensures c.has_room.ensures in record { result_value = buy_go a.s a.n.level a.head.now a.loans.now a.chunks.now a.index.now a.tree.now a.h a.objects _ room _ c.requires.2 (not_no _ c.if-not-has_room.false) (counts_are a.s a.n.level a.head.now a.loans.now a.chunks.now a.index.now a.tree.now a.h a.objects _ _ _ _ c.requires.2 c.word-given.ensures c.bears.ensures (not_no _ c.if-not-given-bears.false)) (search rules); planned_at = record {
+    let room = room_is a.s a.n.level a.head.now a.loans.now a.chunks.now a.index.now a.tree.now _ _ _ _ c.requires.3 c.next_loan-loan.ensures c.chunk_taken-chunk.ensures c.has_room.ensures in record { result_value = buy_go a.s a.n.level a.head.now a.loans.now a.chunks.now a.index.now a.tree.now a.h a.objects _ room _ c.requires.2 c.if-not-has_room.false (counts_are a.s a.n.level a.head.now a.loans.now a.chunks.now a.index.now a.tree.now a.h a.objects _ _ _ _ c.requires.2 c.word-given.ensures c.bears.ensures c.if-not-given-bears.false) (search rules); planned_at = record {
         size = refl;
         level = refl;
         levels = c.requires.3;

@@ -11,20 +11,20 @@ use Rattle.buddy_gate.proofs.gating.gate.Goals as goal
 pub returns-then-not-lent-list : goal.returns-then-not-lent-list
 returns-then-not-lent-list c =
     let a = c.args in
-    gate_lent a.s a.share (tables a.head.now a.loans.now a.chunks.now a.index.now a.tree.now) a.list (ap (λ (b : Bool). b && a.list) (sym c.is_in_table-lent.ensures) ∙ not_yes _ c.if-not-lent-list.true)
+    gate_lent a.s a.share (tables a.head.now a.loans.now a.chunks.now a.index.now a.tree.now) a.list (ap (λ (b : Bool). b && a.list) (sym c.is_in_table-lent.ensures) ∙ c.if-not-lent-list.true)
 
 pub returns-then-not-share : goal.returns-then-not-share
 returns-then-not-share c =
     let a = c.args in
-    gate_order a.s a.share (tables a.head.now a.loans.now a.chunks.now a.index.now a.tree.now) a.list (ap (λ (b : Bool). b && a.list) (sym c.is_in_table-lent.ensures) ∙ not_no _ c.if-not-lent-list.false) (not_yes _ c.if-not-share.true)
+    gate_order a.s a.share (tables a.head.now a.loans.now a.chunks.now a.index.now a.tree.now) a.list (ap (λ (b : Bool). b && a.list) (sym c.is_in_table-lent.ensures) ∙ c.if-not-lent-list.false) c.if-not-share.true
 
 pub gate_store-requires : goal.gate_store-requires
 gate_store-requires c =
     let a = c.args in
-    let fit = lent_in_lem a.s (holder a.s.store a.share) (tables a.head.now a.loans.now a.chunks.now a.index.now a.tree.now) (sym c.is_in_table-lent.ensures ∙ and_left _ a.list (not_no _ c.if-not-lent-list.false)) in
+    let fit = lent_in_lem a.s (holder a.s.store a.share) (tables a.head.now a.loans.now a.chunks.now a.index.now a.tree.now) (sym c.is_in_table-lent.ensures ∙ and_left _ a.list c.if-not-lent-list.false) in
     (fit.settings, fit.lengths)
 
 pub returns : goal.returns
 returns c =
     let a = c.args in
-    gate_rest a.s a.share (tables a.head.now a.loans.now a.chunks.now a.index.now a.tree.now) a.list _ (ap (λ (b : Bool). b && a.list) (sym c.is_in_table-lent.ensures) ∙ not_no _ c.if-not-lent-list.false) (not_no _ c.if-not-share.false) c.gate_store.ensures
+    gate_rest a.s a.share (tables a.head.now a.loans.now a.chunks.now a.index.now a.tree.now) a.list _ (ap (λ (b : Bool). b && a.list) (sym c.is_in_table-lent.ensures) ∙ c.if-not-lent-list.false) c.if-not-share.false c.gate_store.ensures

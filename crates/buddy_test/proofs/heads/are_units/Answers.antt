@@ -18,13 +18,13 @@ pub returns-then-not-is_units : goal.returns-then-not-is_units
 returns-then-not-is_units c =
     let a = c.args in
     let e = units_told a.s c.loop-k.k a.loans.now c.loan_in.result c.loan_in.ensures (omega (arith, c.loop-k-test.true, c.requires.2)) c.is_units.result c.is_units.ensures in
-    sym (every_stop (units_ok a.s (part_tables 0 a.loans.now [] [] [])) a.n c.loop-k.k c.loop-k-test.true (sym e ∙ not_yes _ c.if-not-is_units.true))
+    sym (every_stop (units_ok a.s (part_tables 0 a.loans.now [] [] [])) a.n c.loop-k.k c.loop-k-test.true (sym e ∙ c.if-not-is_units.true))
 
 pub loop-k-preserved : goal.loop-k-preserved
 loop-k-preserved c =
     let a = c.args in
     let e = units_told a.s c.loop-k.k a.loans.now c.loan_in.result c.loan_in.ensures (omega (arith, c.loop-k-test.true, c.requires.2)) c.is_units.result c.is_units.ensures in
-    (omega arith, every_next (units_ok a.s (part_tables 0 a.loans.now [] [] [])) c.loop-k.k c.loop-k.invariant.1 (sym e ∙ not_no _ c.if-not-is_units.false))
+    (omega arith, every_next (units_ok a.s (part_tables 0 a.loans.now [] [] [])) c.loop-k.k c.loop-k.invariant.1 (sym e ∙ c.if-not-is_units.false))
 
 pub returns : goal.returns
 returns c =

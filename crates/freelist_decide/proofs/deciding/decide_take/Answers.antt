@@ -16,7 +16,7 @@ next_place_in-loan-requires c =
     omega (arith, h.few, h.index_long)
 
 pub returns-then-not-is_place : goal.returns-then-not-is_place
-returns-then-not-is_place c = let a = c.args in record { result_value = take_full a.s a.loans.now a.index.now a.i (sym (left_is a.s a.loans.now a.index.now _ c.next_place_in-loan.ensures _ c.is_place.ensures) ∙ not_yes _ c.if-not-is_place.true); by_index = λ from n m e. tt }
+returns-then-not-is_place c = let a = c.args in record { result_value = take_full a.s a.loans.now a.index.now a.i (sym (left_is a.s a.loans.now a.index.now _ c.next_place_in-loan.ensures _ c.is_place.ensures) ∙ c.if-not-is_place.true); by_index = λ from n m e. tt }
 
 pub bounds-loans-1 : goal.bounds-loans-1
 bounds-loans-1 c =
@@ -24,7 +24,7 @@ bounds-loans-1 c =
     search rules
 
 pub returns-then-loans-ge18446744073709551615 : goal.returns-then-loans-ge18446744073709551615
-returns-then-loans-ge18446744073709551615 c = let a = c.args in record { result_value = take_spent a.s a.loans.now a.index.now a.i (sym (left_is a.s a.loans.now a.index.now _ c.next_place_in-loan.ensures _ c.is_place.ensures) ∙ not_no _ c.if-not-is_place.false) c.if-loans-ge18446744073709551615.true; by_index = λ from n m e. tt }
+returns-then-loans-ge18446744073709551615 c = let a = c.args in record { result_value = take_spent a.s a.loans.now a.index.now a.i (sym (left_is a.s a.loans.now a.index.now _ c.next_place_in-loan.ensures _ c.is_place.ensures) ∙ c.if-not-is_place.false) c.if-loans-ge18446744073709551615.true; by_index = λ from n m e. tt }
 
 pub returns : goal.returns
-returns c = let a = c.args in record { result_value = take_go a.s a.loans.now a.index.now a.i (sym (left_is a.s a.loans.now a.index.now _ c.next_place_in-loan.ensures _ c.is_place.ensures) ∙ not_no _ c.if-not-is_place.false) (search rules); by_index = λ from n m e. (e, c.next_place_in-loan.ensures) }
+returns c = let a = c.args in record { result_value = take_go a.s a.loans.now a.index.now a.i (sym (left_is a.s a.loans.now a.index.now _ c.next_place_in-loan.ensures _ c.is_place.ensures) ∙ c.if-not-is_place.false) (search rules); by_index = λ from n m e. (e, c.next_place_in-loan.ensures) }

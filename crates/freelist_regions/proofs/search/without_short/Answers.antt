@@ -14,7 +14,7 @@ pub loop-k-preserved : goal.loop-k-preserved
 loop-k-preserved c =
     let l = c.loop-k in
     let a = c.args in
-    (omega arith, more_passed a.size a.t.now 4 l.k a.n (omega arith) (c.are_short.ensures (not_no _ c.if-not-are_short.false)) l.invariant.1)
+    (omega arith, more_passed a.size a.t.now 4 l.k a.n (omega arith) (c.are_short.ensures c.if-not-are_short.false) l.invariant.1)
 
 pub returns : goal.returns
 returns c = c.loop-k.invariant

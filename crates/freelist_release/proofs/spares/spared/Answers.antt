@@ -12,19 +12,19 @@ use Rattle.freelist_release.proofs.spares.spared.Goals as goal
 pub returns-then-not-spare-n : goal.returns-then-not-spare-n
 returns-then-not-spare-n c =
     let a = c.args in
-    spared_off (rows chunk_row a.k a.chunks.now) a.spare a.regions.now a.n (not_yes _ c.if-not-spare-n.true)
+    spared_off (rows chunk_row a.k a.chunks.now) a.spare a.regions.now a.n c.if-not-spare-n.true
 
 pub overflow_sub-n : goal.overflow_sub-n
 overflow_sub-n c =
     let a = c.args in
-    omega (arith, ltb-true 0 a.n (and_right a.spare (ltb 0 a.n) (not_no _ c.if-not-spare-n.false)))
+    omega (arith, ltb-true 0 a.n (and_right a.spare (ltb 0 a.n) c.if-not-spare-n.false))
 
 pub returns-then-goes_at : goal.returns-then-goes_at
 returns-then-goes_at c =
     let a = c.args in
-    spared_on (rows chunk_row a.k a.chunks.now) a.spare a.regions.now a.n (not_no _ c.if-not-spare-n.false) _ true c.goes_at.ensures c.if-goes_at.true
+    spared_on (rows chunk_row a.k a.chunks.now) a.spare a.regions.now a.n c.if-not-spare-n.false _ true c.goes_at.ensures c.if-goes_at.true
 
 pub returns-else-goes_at : goal.returns-else-goes_at
 returns-else-goes_at c =
     let a = c.args in
-    spared_on (rows chunk_row a.k a.chunks.now) a.spare a.regions.now a.n (not_no _ c.if-not-spare-n.false) _ false c.goes_at.ensures c.if-goes_at.false
+    spared_on (rows chunk_row a.k a.chunks.now) a.spare a.regions.now a.n c.if-not-spare-n.false _ false c.goes_at.ensures c.if-goes_at.false

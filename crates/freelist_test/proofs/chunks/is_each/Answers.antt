@@ -15,12 +15,12 @@ loop-i-init c = let a = c.args in (omega arith, each_starts a.s a.made a.size a.
 pub returns-then-not-before-c : goal.returns-then-not-before-c
 returns-then-not-before-c c =
     let a = c.args in
-    sym (c.loop-i.invariant.1 ∙ each_not a.s a.made a.size a.chunks.now a.k c.loop-i.before c.loop-i.i c.loop-i-test.true c.chunk_at-c.result c.is_chunk.result c.chunk_at-c.ensures c.is_chunk.ensures (not_yes _ c.if-not-before-c.true))
+    sym (c.loop-i.invariant.1 ∙ each_not a.s a.made a.size a.chunks.now a.k c.loop-i.before c.loop-i.i c.loop-i-test.true c.chunk_at-c.result c.is_chunk.result c.chunk_at-c.ensures c.is_chunk.ensures c.if-not-before-c.true)
 
 pub loop-i-preserved : goal.loop-i-preserved
 loop-i-preserved c =
     let a = c.args in
-    (omega arith, c.loop-i.invariant.1 ∙ each_on a.s a.made a.size a.chunks.now a.k c.loop-i.before c.loop-i.i c.loop-i-test.true c.chunk_at-c.result c.is_chunk.result c.chunk_at-c.ensures c.is_chunk.ensures (not_no _ c.if-not-before-c.false))
+    (omega arith, c.loop-i.invariant.1 ∙ each_on a.s a.made a.size a.chunks.now a.k c.loop-i.before c.loop-i.i c.loop-i-test.true c.chunk_at-c.result c.is_chunk.result c.chunk_at-c.ensures c.is_chunk.ensures c.if-not-before-c.false)
 
 pub returns : goal.returns
 returns c =
