@@ -1,2 +1,2 @@
-pub mod Freed
+pub mod Freeing
 pub mod Returned

@@ -17,7 +17,7 @@ use Rattle.counter.specs.declared.answers.Block.{Block}
 use Rattle.store_rules.specs.Outcomes.{Listed}
 use Rattle.engines.specs.Engines.{Engine}
 use Rattle.engines.specs.Histories.{State, store_at, Visit, done, step, run, NoSetUp}
-use Rattle.engines.specs.Ledger.{Note, lent, back, note_of, ledger, Exactly, NoSerialTwice, NoByteTwice, Fine, notes_at}
+use Rattle.engines.specs.Ledger.{Note, lent, back, blocks_less, note_of, ledger, Exactly, NoSerialTwice, NoByteTwice, Fine, notes_at}
 use Rattle.engines.specs.Shapes.{Tables, mark_of, Call, sets_up, does, Marked}
 use Rattle.engines.proofs.CountUp.{setting}
 use Rattle.engines.proofs.Exact.{none_exactly}

@@ -270,7 +270,9 @@ module _ (f : ℕ → ℕ) (y : ℕ) where
   -- it is u or one of the records
   front_in : (u : ℕ) (rs : List ℕ) → (front_at f y u rs ≡ u) ⊎ Mem (front_at f y u rs) rs
   front_in u [] = inl refl
-  front_in u (r ∷ rs) = ⊎_elim (λ e. rw e (inr (front_in r rs))) (λ e. rw e (inl refl)) (told (ltb (f r) y))
+  front_in u (r ∷ rs) =
+      ⊎_elim (λ e. subst (λ (v : ℕ). (v ≡ u) ⊎ Mem v (r ∷ rs)) (sym (ap (λ b. cond b (front_at f y r rs) u) e)) (inr (front_in r rs)))
+      (λ e. subst (λ (v : ℕ). (v ≡ u) ⊎ Mem v (r ∷ rs)) (sym (ap (λ b. cond b (front_at f y r rs) u) e)) (inl refl)) (told (ltb (f r) y))
 
   -- where it is a, which is none of the records, it is whatever stands for a
   moves : (a c : ℕ) (B : List ℕ) → (Mem a B → ⊥) → front_at f y a B ≡ a → front_at f y c B ≡ c

@@ -104,11 +104,13 @@ module _ (after before after' before' : ℕ → ℕ) where
   -- through the same list they lead to the same
   pub leads_after : (u : ℕ) (rs : List ℕ) → Leads after before u rs → Leads after' before' u rs → (x : ℕ) → Mem x (u ∷ rs) → after x ≡ after' x
   leads_after u [] L M x (inl e) = ap after e ∙ L.0 ∙ sym M.0 ∙ ap after' (sym e)
+  leads_after u [] L M x (inr m) = elim m [ ]
   leads_after u (r ∷ rs) L M x (inl e) = ap after e ∙ L.0 ∙ sym M.0 ∙ ap after' (sym e)
   leads_after u (r ∷ rs) L M x (inr m) = leads_after r rs L.2 M.2 x m
 
   pub leads_before : (u : ℕ) (rs : List ℕ) → Leads after before u rs → Leads after' before' u rs → (x : ℕ) → Mem x (0 ∷ rs) → before x ≡ before' x
   leads_before u [] L M x (inl e) = ap before e ∙ L.1 ∙ sym M.1 ∙ ap before' (sym e)
+  leads_before u [] L M x (inr m) = elim m [ ]
   leads_before u (r ∷ rs) L M x (inl e) = leads_before r rs L.2 M.2 x (inl e)
   leads_before u (r ∷ rs) L M x (inr (inl e)) = ap before e ∙ L.1 ∙ sym M.1 ∙ ap before' (sym e)
   leads_before u (r ∷ rs) L M x (inr (inr m)) = leads_before r rs L.2 M.2 x (inr m)

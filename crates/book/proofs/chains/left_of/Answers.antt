@@ -14,7 +14,7 @@ pub loop-i-preserved : goal.loop-i-preserved
 loop-i-preserved c =
     let b = c.loop-i.invariant.1 in
     elim c.if-left.branch [
-      then-left w ↦ (omega arith, w.left-is ∙ ? ∙ sym (of_on _ _ _ _ _ _ _ _ _ _ _ b w.if-left.true ?)) |
+      then-left w ↦ (omega arith, w.left-is ∙ w.left_after-left.ensures ∙ sym (of_on _ _ _ _ _ _ _ _ _ _ _ b w.if-left.true w.first_of-first.ensures)) |
       else-left w ↦ (omega arith, w.left-is ∙ w.if-left.false ∙ sym (of_torn _ _ _ _ _ _ _ _ _ (sym b ∙ w.if-left.false)))
     ]
 
