@@ -1,6 +1,5 @@
 use mathlib.Core.Path.{refl, sym, ◌∙◌}
 use lib.ListN.{length}
-use borrow.Author.Rules.{rules}
 use Rattle.distinct.specs.Column.{column}
 use Rattle.distinct.proofs.Order.{climbing_distinct, sorted_climbs, distinct_sorted}
 use Rattle.distinct.proofs.all_differ.Goals as goal

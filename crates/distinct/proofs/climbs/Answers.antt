@@ -1,9 +1,5 @@
-use mathlib.Core.Path.{◌≡◌, sym, ◌∙◌}
-use Prim.Native.Nat.{◌-◌, ◌≤◌}
+use mathlib.Core.Path.{sym, ◌∙◌}
 use native.Mathlib.Omega.{arith}
-use borrow.Author.Rules.{rules}
-use lib.ListN.{length, drop}
-use Rattle.distinct.specs.Order.{climbing}
 use Rattle.distinct.proofs.Order.{climbing_on, climbing_stops, climbing_ends}
 use Rattle.distinct.proofs.climbs.Goals as goal
 

@@ -1,10 +1,7 @@
-use mathlib.Core.Path.{◌≡◌, sym, ◌∙◌}
+use mathlib.Core.Path.{◌≡◌}
 use Prim.Native.Nat.{◌-◌, ◌≤◌}
-use native.Mathlib.Omega.{arith}
-use borrow.Author.Rules.{rules}
 use lib.ListN.{length, drop}
 use Rattle.distinct.specs.Order.{climbing}
-use Rattle.distinct.proofs.Order.{climbing_on, climbing_stops, climbing_ends}
 use Rattle.distinct.proofs.climbs.Given as goal
 
 abbrev pub invariant-loop-i : goal.invariant-loop-i

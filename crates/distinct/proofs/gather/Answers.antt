@@ -1,10 +1,6 @@
-use mathlib.Core.Path.{◌≡◌, refl}
-use mathlib.Core.List.{◌++◌}
-use Prim.Native.Nat.{◌-◌, ◌≤◌}
+use mathlib.Core.Path.{refl}
 use native.Mathlib.Omega.{arith}
-use borrow.Author.Rules.{rules}
-use lib.ListN.{length, take, length-set}
-use Rattle.distinct.specs.Column.{column, column_from}
+use lib.ListN.{length, length-set}
 use Rattle.distinct.proofs.Filling.{column_none, column_next, column_done}
 use Rattle.distinct.proofs.gather.Goals as goal
 

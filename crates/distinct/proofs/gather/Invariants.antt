@@ -1,11 +1,8 @@
-use mathlib.Core.Path.{◌≡◌, refl}
+use mathlib.Core.Path.{◌≡◌}
 use mathlib.Core.List.{◌++◌}
 use Prim.Native.Nat.{◌-◌, ◌≤◌}
-use native.Mathlib.Omega.{arith}
-use borrow.Author.Rules.{rules}
-use lib.ListN.{length, take, length-set}
+use lib.ListN.{length, take}
 use Rattle.distinct.specs.Column.{column, column_from}
-use Rattle.distinct.proofs.Filling.{column_none, column_next, column_done}
 use Rattle.distinct.proofs.gather.Given as goal
 
 abbrev pub invariant-loop-i : goal.invariant-loop-i

@@ -1,7 +1,6 @@
 use mathlib.Core.Path.{◌≡◌, sym, subst}
 use mathlib.Core.Bool.{true}
 use Prim.Native.Nat.{ℕ}
-use borrow.Author.Rules.{rules}
 use Rattle.lists.specs.Members.{Distinct}
 use Rattle.counter.specs.Limits.{chunks_most}
 use Rattle.distinct.specs.Column.{column}
