@@ -1,7 +1,5 @@
-use borrow.Author.Rules.{rules}
 use mathlib.Core.Path.{◌∙◌}
 use native.Mathlib.Omega.{arith}
-use Rattle.lists.proofs.Bools.{not_yes, not_no}
 use Rattle.rounding_rules.proofs.Masks.{power_top, power_positive}
 use Rattle.buddy_levels.specs.Seen.{part_tables}
 use Rattle.buddy_walk.proofs.Tops.{chunk_none, chunk_high, chunk_off, chunk_walk, chunk_size, level_low}

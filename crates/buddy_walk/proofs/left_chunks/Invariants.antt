@@ -1,10 +1,7 @@
-use borrow.Author.Rules.{rules}
-use mathlib.Core.Path.{◌≡◌, sym, ap, ◌∙◌}
+use mathlib.Core.Path.{◌≡◌}
 use Prim.Native.Nat.{◌-◌, ◌≤◌}
-use native.Mathlib.Omega.{arith}
 use Rattle.buddy_levels.specs.Seen.{part_tables}
 use Rattle.buddy_rules.specs.Test.{left_chunks}
-use Rattle.buddy_walk.proofs.Tops.{chunks_none, chunks_next, chunks_torn}
 use Rattle.buddy_walk.proofs.left_chunks.Given as goal
 
 abbrev pub invariant-loop-c : goal.invariant-loop-c

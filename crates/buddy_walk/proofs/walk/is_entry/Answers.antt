@@ -1,5 +1,4 @@
 use mathlib.Core.List.{[]}
-use borrow.Author.Rules.{rules}
 use Rattle.buddy_levels.specs.Pairs.{ent_from}
 use Rattle.buddy_levels.specs.Seen.{part_settings, loan_part}
 use Rattle.buddy_walk.proofs.Downs.{entry_is}
