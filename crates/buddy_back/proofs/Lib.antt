@@ -1,2 +1,2 @@
-pub mod Freeing
+pub mod Frees
 pub mod Returned

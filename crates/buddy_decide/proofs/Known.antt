@@ -15,7 +15,7 @@ use Rattle.counter.specs.declared.answers.Outcome.TheVariants as O
 use Rattle.store_rules.specs.Arrivals.{Arrival}
 use Rattle.store_rules.specs.Delivery.{buddy, holds}
 use Rattle.store.specs.Comings.{known_in, comes}
-use Rattle.store.proofs.Comings.{comes_is}
+use Rattle.store.proofs.Comes.{comes_is}
 use Rattle.buddy_levels.specs.Seen.{level_part}
 use Rattle.buddy_rules.specs.Tables.{Tables, chunk_places_at, chunk_words, memory_at, chunk_size_at, memory_in, held_in, memories}
 use Rattle.buddy_outcomes.specs.Deliver.{decide_deliver}

@@ -5,7 +5,7 @@ use lib.ListN.{get_or}
 use Rattle.words.specs.Rows.{rows}
 use Rattle.store_rules.specs.Delivery.{free_list}
 use Rattle.store.specs.Comings.{comes}
-use Rattle.store.proofs.Comings.{comes_is}
+use Rattle.store.proofs.Comes.{comes_is}
 use Rattle.freelist_rules.specs.Records.{chunk_row}
 use Rattle.freelist_rules.specs.Tables.{chunks_at}
 use Rattle.freelist_rules.specs.Walk.{memories}
