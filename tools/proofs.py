@@ -166,10 +166,7 @@ def convert(crate, fn_path, key, d, folder, text):
             if po[0] is None:
                 out = ["c"] + rest_
                 if field == "requires" and d["pre"] and len(rest_) > 1 and rest_[1].isdigit():
-                    k = int(rest_[1]) - (d["pre"].get("before") or 0)
-                    fl = d["pre"]["fields"]
-                    if k < len(fl) - 1 or (k == len(fl) - 1 and True):
-                        out = ["c", "requires", fl[k]] + rest_[2:]
+                    out = ["c", "requires"] + clause(d["pre"]["fields"], rest_[1:])
                 return ".".join(out)
             a = f.arm(at, field, rest_[1:]) or f.arm(q, field, rest_[1:])
             if a is None:
@@ -182,8 +179,7 @@ def convert(crate, fn_path, key, d, folder, text):
             tail = rest_[1:]
             cl = d["clauses"][f.index[q]] if d["clauses"] else None
             if cl and len(tail) > 1 and tail[0] in ("ensures",) and tail[1].isdigit():
-                fl = cl["fields"]; k = int(tail[1])
-                if k < len(fl): tail = [tail[0], fl[k]] + tail[2:]
+                tail = [tail[0]] + clause(cl["fields"], tail[1:])
             if tail and tail[0] in ("new", "auto") and len(tail) > 1 and tail[1].isdigit():
                 ps = d["params"].get(po[2]) or []
                 k = int(tail[1])
@@ -260,6 +256,16 @@ def convert(crate, fn_path, key, d, folder, text):
     for need, b in gone:
         if not re.search(r"= search rules\s*$", b) and not re.search(r"= omega arith\s*$", b): say(folder, "gone", need)
     os.remove(os.path.join(folder, "Proof.antt"))
+
+def clause(fields, path):
+    """The clause that a path leads to, in a product that is nested to the right, and the rest of the path."""
+    k, i = 0, 0
+    while k < len(fields) - 1:
+        if i >= len(path) or not path[i].isdigit(): return path
+        step = path[i]; i += 1
+        if step == "0": break
+        k += 1
+    return [fields[k]] + path[i:]
 
 def split_lets(s):
     """The lets that a term begins with, and the term behind them."""

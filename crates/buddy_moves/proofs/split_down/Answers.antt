@@ -11,14 +11,14 @@ use borrow.Author.Rules.{rules}
 use Rattle.buddy_moves.proofs.split_down.Goals as goal
 
 pub loop-d-init : goal.loop-d-init
-loop-d-init c = (c.requires.pairs_le_pairs_most.1, refl, c.requires.roomy.0, refl, c.requires.roomy.1.0)
+loop-d-init c = (c.requires.pairs_le_pairs_most.1, refl, c.requires.roomy, refl, c.requires.node_bound.0)
 
 pub add_pair-p-requires : goal.add_pair-p-requires
 add_pair-p-requires c =
     let b = c.loop-d in
     let a = c.args in
     let r = roomy_place a.pairs a.level a.chunk a.offset a.loan b.n b.tree _ _ refl b.d (search rules) c.level_from-base.ensures.value b.invariant.2 in
-    omega (arith, in_level a.pairs (a.level + (b.d - 1)) _ (omega (arith, b.invariant.0)) r, c.level_from-base.ensures.value, b.invariant.1, c.requires.roomy.1.1)
+    omega (arith, in_level a.pairs (a.level + (b.d - 1)) _ (omega (arith, b.invariant.0)) r, c.level_from-base.ensures.value, b.invariant.1, c.requires.node_bound.1)
 
 pub split_word-requires : goal.split_word-requires
 split_word-requires c =
@@ -31,7 +31,7 @@ put_word-requires c =
     let b = c.loop-d in
     let a = c.args in
     let low : a.level + (b.d - 1) + 1 < levels_most = search rules in
-    omega (arith, in_level a.pairs (a.level + (b.d - 1) + 1) (pair_of b.n) low b.invariant.4, c.level_from.ensures.value, b.invariant.1, c.requires.roomy.1.1)
+    omega (arith, in_level a.pairs (a.level + (b.d - 1) + 1) (pair_of b.n) low b.invariant.4, c.level_from.ensures.value, b.invariant.1, c.requires.node_bound.1)
 
 pub left_node-n-requires : goal.left_node-n-requires
 left_node-n-requires c =
@@ -55,7 +55,7 @@ pub put_word-requires-2 : goal.put_word-requires-2
 put_word-requires-2 c =
     let b = c.loop-d in
     let a = c.args in
-    omega (arith, in_level a.pairs a.level (pair_of b.n) (omega (arith, b.invariant.0)) b.invariant.4, c.level_from-2.ensures.value, b.invariant.1, c.requires.roomy.1.1)
+    omega (arith, in_level a.pairs a.level (pair_of b.n) (omega (arith, b.invariant.0)) b.invariant.4, c.level_from-2.ensures.value, b.invariant.1, c.requires.node_bound.1)
 
 pub returns : goal.returns
 returns c = let b = c.loop-d in

@@ -10,7 +10,7 @@ loop-s-init c =
     going_starts a.most a.k a.chunks.now a.loans.now a.places a.index.now a.regions.now a.n a.live c.requires.laid.1
 
 pub turn-s-requires : goal.turn-s-requires
-turn-s-requires c = record { laid = c.requires.laid.0; chunk_lt_k = (omega arith, c.loop-s.invariant.stands); chunks_value = c.requires.chunks_value.0; all = c.requires.chunks_value.1 }
+turn-s-requires c = record { laid = c.requires.laid.0; chunk_lt_k = (omega arith, c.loop-s.invariant.stands); chunks_value = c.requires.chunks_value; all = c.requires.all }
 
 pub returns-then-not-s : goal.returns-then-not-s
 returns-then-not-s c =

@@ -33,4 +33,4 @@ pub returns-in-From : goal.returns-in-From
 returns-in-From c =
     let a = c.args in
     let e = c.in-From.is in
-    return_done a.s a.share a.b (tables a.head.now a.loans.now a.chunks.now a.index.now a.tree.now) a.list.now _ _ c.take_back-f.ensures.value _ _ _ _ c.take_back-f.ensures.tree_after.0 c.take_back-f.ensures.tree_after.1 c.settle.ensures.0 c.settle.ensures.1 ∙ ap (λ (x : Back). carry_return a.s (holder a.s.store a.share) a.b (tables a.head.now a.loans.now a.chunks.now a.index.now a.tree.now) a.list.now (back_of x)) (sym e)
+    return_done a.s a.share a.b (tables a.head.now a.loans.now a.chunks.now a.index.now a.tree.now) a.list.now _ _ c.take_back-f.ensures.value _ _ _ _ c.take_back-f.ensures.tree_after c.take_back-f.ensures.list_after c.settle.ensures.0 c.settle.ensures.1 ∙ ap (λ (x : Back). carry_return a.s (holder a.s.store a.share) a.b (tables a.head.now a.loans.now a.chunks.now a.index.now a.tree.now) a.list.now (back_of x)) (sym e)

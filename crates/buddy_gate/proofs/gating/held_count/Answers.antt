@@ -7,6 +7,7 @@ use Rattle.buddy_outcomes.specs.Gate.{held_count}
 use Rattle.buddy_decide.proofs.Known.{seen}
 use Rattle.buddy_gate.proofs.Held.{count_more, count_none, count_low}
 use Rattle.buddy_gate.proofs.gating.held_count.Goals as goal
+use Rattle.buddy_gate.proofs.gating.held_count.Goals.{then-cell-ne0, else-cell-ne0}
 
 pub loop-c-init : goal.loop-c-init
 unfolding held_count
@@ -22,10 +23,10 @@ loop-c-preserved c =
     let a = c.args in
     let read = c.cell.ensures in (
       omega arith,
-      ⊎_elim
-          (λ x. x.1 ∙ count_more a.chunks.now _ _ (omega (arith, c.requires)) read _ c.loop-c.invariant.1 x.0.taken)
-          (λ x. x.1 ∙ count_none a.chunks.now _ _ (omega (arith, c.requires)) read _ c.loop-c.invariant.1 x.0.left)
-          c.if-cell-ne0.branch,
+      elim c.if-cell-ne0.branch [
+        then-cell-ne0 w ↦ w.count-is ∙ count_more a.chunks.now _ _ (omega (arith, c.requires)) read _ c.loop-c.invariant.1 w.if-cell-ne0.true |
+        else-cell-ne0 w ↦ w.count-is ∙ count_none a.chunks.now _ _ (omega (arith, c.requires)) read _ c.loop-c.invariant.1 w.if-cell-ne0.false
+      ],
     )
 
 pub returns : goal.returns

@@ -9,6 +9,7 @@ use Rattle.buddy_levels.specs.Seen.{level_part}
 use Rattle.buddy_rules.specs.Tables.{chunk_places_at, memories}
 use Rattle.buddy_test.proofs.Apart.{gather_none, gather_put, gather_pass}
 use Rattle.buddy_test.proofs.memories.gather_held.Goals as goal
+use Rattle.buddy_test.proofs.memories.gather_held.Goals.{then-cell-ne0, else-cell-ne0}
 
 pub loop-c-init : goal.loop-c-init
 loop-c-init c =
@@ -21,20 +22,20 @@ loop-c-preserved c =
     let i = c.loop-c.invariant in
     let room = c.requires.0 in
     let low : c.loop-c.c < get_or a.chunks.now chunk_places_at 0 = omega (arith, c.loop-c-test.true, c.requires.1) in
-    ⊎_elim
-    (λ w. (
-      omega (arith, w.3),
-      omega arith,
-      ap length w.2 ∙ simp length-set i.2,
-      rw (w.2, w.3) (gather_put c.loop-c.c c.loop-c.k a.chunks.now c.loop-c.found c.cell.result low c.cell.ensures i.3 w.1.result w.0.taken w.1.ensures (omega arith)),
-    ))
-    (λ w. (
-      omega (arith, w.2),
-      omega arith,
-      ap length w.1 ∙ i.2,
-      rw (w.1, w.2) (gather_pass c.loop-c.c c.loop-c.k a.chunks.now c.loop-c.found c.cell.result low c.cell.ensures i.3 w.0.left),
-    ))
-    c.if-cell-ne0.branch
+    elim c.if-cell-ne0.branch [
+      then-cell-ne0 w ↦ (
+        omega (arith, w.k-is),
+        omega arith,
+        ap length w.found-is ∙ simp length-set i.2,
+        rw (w.found-is, w.k-is) (gather_put c.loop-c.c c.loop-c.k a.chunks.now c.loop-c.found c.cell.result low c.cell.ensures i.3 w.cell-found.result w.if-cell-ne0.true w.cell-found.ensures (omega arith)),
+      ) |
+      else-cell-ne0 w ↦ (
+        omega (arith, w.k-is),
+        omega arith,
+        ap length w.found-is ∙ i.2,
+        rw (w.found-is, w.k-is) (gather_pass c.loop-c.c c.loop-c.k a.chunks.now c.loop-c.found c.cell.result low c.cell.ensures i.3 w.if-cell-ne0.false),
+      )
+    ]
 
 pub returns : goal.returns
 returns c = let a = c.args in

@@ -32,4 +32,4 @@ count_regions-requires c =
 pub returns : goal.returns
 returns c =
     let a = c.args in
-    joined_done a.s a.regions.now c.requires.regions_fit.0 _ refl a.chunks.now a.b a.loan a.front _ _ _ c.join_region-joined.result.region _ _ refl c.join_region-joined.ensures.count_value c.join_region-joined.ensures.region_value.0 c.join_region-joined.ensures.region_value.1 c.with-now_whole.ensures c.count_regions.ensures
+    joined_done a.s a.regions.now c.requires.regions_fit.0 _ refl a.chunks.now a.b a.loan a.front _ _ _ c.join_region-joined.result.region _ _ refl c.join_region-joined.ensures.count_value c.join_region-joined.ensures.region_value c.join_region-joined.ensures.t_after c.with-now_whole.ensures c.count_regions.ensures

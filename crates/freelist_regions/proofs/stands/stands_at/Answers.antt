@@ -3,6 +3,7 @@ use Rattle.freelist_rules.specs.Records.{region_words, region_chunk_at}
 use Rattle.freelist_regions.specs.Stand.{after}
 use Rattle.freelist_regions.proofs.Halves.{Between, stays, moves}
 use Rattle.freelist_regions.proofs.stands.stands_at.Goals as goal
+use Rattle.freelist_regions.proofs.stands.stands_at.Goals.{then-is_after, else-is_after}
 
 pub loop-left-init : goal.loop-left-init
 loop-left-init c = (omega arith, omega arith, (λ i h. absurd (omega arith)), (λ i h g. absurd (omega arith)))
@@ -12,10 +13,10 @@ loop-left-preserved c =
     let l = c.loop-left in
     let a = c.args in
     let f = after a.t.now region_chunk_at region_words a.chunk a.place in
-    ⊎_elim
-    (λ w. rw w.1 (stays f a.n l.lo l.left (l.left / 2) c.requires.parting l.invariant (omega arith) (omega arith) (sym c.is_after.ensures ∙ w.0.taken)))
-    (λ w. rw w.1 (moves f a.n l.lo l.left (l.left / 2) c.requires.parting l.invariant (omega arith) (omega arith) (sym c.is_after.ensures ∙ w.0.left)))
-    c.if-is_after.branch
+    elim c.if-is_after.branch [
+      then-is_after w ↦ rw w.lo-is (stays f a.n l.lo l.left (l.left / 2) c.requires.parting l.invariant (omega arith) (omega arith) (sym c.is_after.ensures ∙ w.if-is_after.true)) |
+      else-is_after w ↦ rw w.lo-is (moves f a.n l.lo l.left (l.left / 2) c.requires.parting l.invariant (omega arith) (omega arith) (sym c.is_after.ensures ∙ w.if-is_after.false))
+    ]
 
 pub returns : goal.returns
 returns c =

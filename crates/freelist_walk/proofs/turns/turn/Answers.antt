@@ -29,16 +29,16 @@ pub returns-then-is_next : goal.returns-then-is_next
 returns-then-is_next c =
     let a = c.args in
     loan_turned a.most a.k a.chunks.now a.loans.now a.places a.index.now a.regions.now a.n a.s c.chunk_in-c.result c.record_after-r.result
-    c.requires.chunk_lt_k.0.0 c.requires.chunk_lt_k.0.1 c.requires.chunk_lt_k.1.0 c.requires.chunk_lt_k.1.1 c.chunk_in-c.ensures c.record_after-r.ensures
+    c.requires.chunk_lt_k.0 c.requires.chunk_lt_k.1 c.requires.chunks_value c.requires.all c.chunk_in-c.ensures c.record_after-r.ensures
     (sym c.is_next.ensures ∙ c.if-is_next.true) c.loan_in-l.result c.loan_in-l.ensures c.pass_loan-p.result c.pass_loan-p.ensures c.record_before-back.result c.record_before-back.ensures c.over_loan.result c.over_loan.ensures
 
 pub over_chunk-requires : goal.over_chunk-requires
 over_chunk-requires c =
-    (omega (arith, c.requires.chunk_lt_k.0.0, c.requires.laid.chunks_most_lem), c.requires.chunk_lt_k.0.1.whole)
+    (omega (arith, c.requires.chunk_lt_k.0, c.requires.laid.chunks_most_lem), c.requires.chunk_lt_k.1.whole)
 
 pub returns : goal.returns
 returns c =
     let a = c.args in
     chunk_turned a.most a.k a.chunks.now a.loans.now a.places a.index.now a.regions.now a.n a.s c.chunk_in-c.result c.record_after-r.result
-    c.requires.chunk_lt_k.0.0 c.requires.chunk_lt_k.0.1 c.requires.chunk_lt_k.1.0 c.requires.chunk_lt_k.1.1 c.chunk_in-c.ensures c.record_after-r.ensures
+    c.requires.chunk_lt_k.0 c.requires.chunk_lt_k.1 c.requires.chunks_value c.requires.all c.chunk_in-c.ensures c.record_after-r.ensures
     (sym c.is_next.ensures ∙ c.if-is_next.false) c.pass_gap-p.result c.pass_gap-p.ensures c.over_chunk.result c.over_chunk.ensures
