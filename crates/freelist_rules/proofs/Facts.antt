@@ -66,7 +66,7 @@ held_where n x cs h =
 -- a byte is in one chunk at most
 pub held_once : (p n x : ℕ) (cs : List Chunk) → ChunksRise p cs → held n x cs ≤ 1
 held_once p n x [] r = omega arith
-held_once p n x (c ∷ cs) r = go (lt_or_le 0 (on n x c.number 0 c.size)) (held_once (suc c.number) n x cs r.2)
+held_once p n x (c ∷ cs) r = go (lt_or_le 0 (on n x c.number 0 c.size)) (held_once (0 + suc c.number) n x cs r.2)
   where
     rest : c.number ≡ n → held n x cs ≡ 0
     rest e = total_none (λ (d : Chunk). on n x d.number 0 d.size) cs (λ d m. on_out n x d.number 0 d.size (λ f g h. omega (arith, (rising_low _ _ 0 _ cs r.2 d m).0)))

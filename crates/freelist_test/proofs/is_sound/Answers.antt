@@ -1,5 +1,6 @@
+use mathlib.Core.Bool.{not}
 use borrow.Author.Rules.{rules}
-use mathlib.Core.Path.{sym, ◌∙◌}
+use mathlib.Core.Path.{ap, sym, ◌∙◌}
 use native.Mathlib.Omega.{arith}
 use Rattle.lists.proofs.Bools.{not_yes, not_no}
 use Rattle.words.specs.Rows.{rows}
@@ -21,7 +22,7 @@ are_lent-lent-requires c =
 
 pub returns-then-not-lent : goal.returns-then-not-lent
 returns-then-not-lent c =
-    loans_fail c.args.s c.args.head.now c.args.loans.now c.args.chunks.now c.args.index.now c.args.regions.now c.region_count-n.result c.is_head.result c.region_count-n.ensures c.is_head.ensures c.if-not-is_head.false c.are_lent-lent.result.ok c.are_lent-lent.ensures.ok_value c.if-not-lent.true
+    loans_fail c.args.s c.args.head.now c.args.loans.now c.args.chunks.now c.args.index.now c.args.regions.now c.region_count-n.result c.is_head.result c.region_count-n.ensures c.is_head.ensures c.if-not-is_head.false c.are_lent-lent.result.ok c.are_lent-lent.ensures.ok_value (not_yes _ c.if-not-lent.true)
 
 pub are_chunks-requires : goal.are_chunks-requires
 are_chunks-requires c =
@@ -29,7 +30,7 @@ are_chunks-requires c =
 
 pub returns-then-not-are_chunks : goal.returns-then-not-are_chunks
 returns-then-not-are_chunks c =
-    chunks_fail c.args.s c.args.head.now c.args.loans.now c.args.chunks.now c.args.index.now c.args.regions.now c.region_count-n.result c.is_head.result c.region_count-n.ensures c.is_head.ensures c.if-not-is_head.false c.are_lent-lent.result.ok c.are_lent-lent.ensures.ok_value c.if-not-lent.false c.word-k.result c.word-size.result c.word-made.result c.are_chunks.result c.word-k.ensures c.word-size.ensures c.word-made.ensures c.are_chunks.ensures c.if-not-are_chunks.true
+    chunks_fail c.args.s c.args.head.now c.args.loans.now c.args.chunks.now c.args.index.now c.args.regions.now c.region_count-n.result c.is_head.result c.region_count-n.ensures c.is_head.ensures c.if-not-is_head.false c.are_lent-lent.result.ok c.are_lent-lent.ensures.ok_value (not_no _ c.if-not-lent.false) c.word-k.result c.word-size.result c.word-made.result c.are_chunks.result c.word-k.ensures c.word-size.ensures c.word-made.ensures c.are_chunks.ensures c.if-not-are_chunks.true
 
 pub walk-requires : goal.walk-requires
 walk-requires c = let t = (tables c.args.head.now c.args.loans.now c.args.chunks.now c.args.index.now c.args.regions.now) in
@@ -37,8 +38,8 @@ walk-requires c = let t = (tables c.args.head.now c.args.loans.now c.args.chunks
     let head = sym c.is_head.ensures ∙ c.if-not-is_head.false in
     let right = sym c.are_chunks.ensures ∙ c.if-not-are_chunks.false in
     let held = head_chunks c.args.s t c.region_count-n.result head in
-    let few = lent_few c.args.s c.args.loans.now c.args.index.now (sym c.are_lent-lent.ensures.ok_value ∙ c.if-not-lent.false) in
-    let live = c.are_lent-lent.ensures.live_value c.if-not-lent.false in record { laid = (
+    let few = lent_few c.args.s c.args.loans.now c.args.index.now (sym c.are_lent-lent.ensures.ok_value ∙ (not_no _ c.if-not-lent.false)) in
+    let live = c.are_lent-lent.ensures.live_value (not_no _ c.if-not-lent.false) in record { laid = (
         record {
           chunks_most_lem = omega (arith, held, c.word-k.ensures, c.requires.0.store.chunks_most_lem);
           loans_most_lem = c.requires.0.store.loans_most_lem;
@@ -53,4 +54,4 @@ walk-requires c = let t = (tables c.args.head.now c.args.loans.now c.args.chunks
 
 pub returns : goal.returns
 returns c =
-    walk_left c.args.s c.args.head.now c.args.loans.now c.args.chunks.now c.args.index.now c.args.regions.now c.region_count-n.result c.is_head.result c.region_count-n.ensures c.is_head.ensures c.if-not-is_head.false c.are_lent-lent.result.ok c.are_lent-lent.ensures.ok_value c.if-not-lent.false c.word-k.result c.word-size.result c.word-made.result c.are_chunks.result c.word-k.ensures c.word-size.ensures c.word-made.ensures c.are_chunks.ensures c.if-not-are_chunks.false c.word-places.result c.are_lent-lent.result.live c.walk.result c.word-places.ensures (c.are_lent-lent.ensures.live_value c.if-not-lent.false) c.walk.ensures
+    walk_left c.args.s c.args.head.now c.args.loans.now c.args.chunks.now c.args.index.now c.args.regions.now c.region_count-n.result c.is_head.result c.region_count-n.ensures c.is_head.ensures c.if-not-is_head.false c.are_lent-lent.result.ok c.are_lent-lent.ensures.ok_value (not_no _ c.if-not-lent.false) c.word-k.result c.word-size.result c.word-made.result c.are_chunks.result c.word-k.ensures c.word-size.ensures c.word-made.ensures c.are_chunks.ensures c.if-not-are_chunks.false c.word-places.result c.are_lent-lent.result.live c.walk.result c.word-places.ensures (c.are_lent-lent.ensures.live_value (not_no _ c.if-not-lent.false)) c.walk.ensures

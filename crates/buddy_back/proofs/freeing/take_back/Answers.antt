@@ -2,7 +2,7 @@ use borrow.Author.Rules.{rules}
 use mathlib.Core.List.{[]}
 use Rattle.buddy_rules.specs.Tables.{tables}
 use Rattle.buddy_moves.proofs.Backing.{backs_rest}
-use Rattle.buddy_back.proofs.Freed.{freed_yes, freed_no}
+use Rattle.buddy_back.proofs.Frees.{freed_yes, freed_no}
 use Rattle.buddy_back.proofs.Returned.{given_freed, given_kept}
 use Rattle.buddy_back.proofs.freeing.take_back.Goals as goal
 

@@ -10,7 +10,7 @@ use Rattle.buddy_outcomes.specs.Ask.{pairs_room}
 use Rattle.buddy_decide.proofs.Shows.{pairs_done, pairs_past, pairs_none, pairs_on}
 use borrow.Author.Rules.{rules}
 use Rattle.buddy_decide.proofs.seeking.has_pairs.Goals as goal
-use Rattle.buddy_decide.proofs.seeking.has_pairs.Goals.{then-l-levels, else-l-levels}
+use Rattle.buddy_decide.proofs.seeking.has_pairs.Goals.{then-l-levels+else-pairs-taken, else-l-levels}
 
 pub loop-i-init : goal.loop-i-init
 loop-i-init c = (search rules, simp unary_clauses refl)
@@ -30,7 +30,7 @@ loop-i-preserved c =
     let more = c.loop-i-test.true in (
       omega (arith, more),
       c.loop-i.invariant.1 ∙ elim c.if-l-levels.branch [
-        then-l-levels w ↦ pairs_on a.pairs a.level a.n a.levels a.tree.now c.loop-i.i more w.if-l-levels.true _ _ w.level_from.ensures.value w.pair_taken-taken.ensures w.if-pairs-taken.false |
+        then-l-levels+else-pairs-taken w ↦ pairs_on a.pairs a.level a.n a.levels a.tree.now c.loop-i.i more w.if-l-levels.true _ _ w.level_from.ensures.value w.pair_taken-taken.ensures w.if-pairs-taken.false |
         else-l-levels w ↦ pairs_past a.pairs a.level a.n a.levels a.tree.now c.loop-i.i more w.if-l-levels.false
       ],
     )

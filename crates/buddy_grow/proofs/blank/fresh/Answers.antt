@@ -21,4 +21,4 @@ returns c =
     let a = c.args in
     let p = c.requires in
     let w = c.fresh_rows.ensures in
-    fresh_done a.s _ _ _ _ _ c.fresh_head.ensures w.0 w.1.0 w.1.1 (c.put_blank.ensures ∙ ap (λ (n : ℕ). blank n marks.room 0) p.1.room)
+    fresh_done a.s _ _ _ _ _ c.fresh_head.ensures w.loans_after w.chunks_after w.index_after (c.put_blank.ensures ∙ ap (λ (n : ℕ). blank n marks.room 0) p.1.room)

@@ -1,5 +1,5 @@
 use mathlib.Core.Path.{◌≡◌, refl, sym, ap, ◌∙◌}
-use mathlib.Core.Bool.{Bool, true, false}
+use mathlib.Core.Bool.{not, Bool, true, false}
 use mathlib.Core.List.{[]}
 use Prim.Native.Nat.{ℕ, ◌*◌, ◌-◌, ◌≤◌, ◌<◌}
 use native.Mathlib.Omega.{arith}
@@ -28,7 +28,7 @@ test_level-level-requires c =
 pub returns-then-not-level : goal.returns-then-not-level
 returns-then-not-level c = let a = c.args in
     let good : ℕ → Bool = λ (i : ℕ). level_ok (level_start a.pairs i) a.pairs a.tree.now in
-    let e = good_told a.pairs c.loop-l.l c.level_from-base.result a.tree.now c.test_level-level.result.ok c.level_from-base.ensures.value c.test_level-level.ensures.ok_value in record { ok_value = sym (every_stop good a.levels c.loop-l.l c.loop-l-test.true (sym e ∙ c.if-not-level.true)); used_value = ((λ z. absurd (true_false false z refl)), omega arith, omega arith) }
+    let e = good_told a.pairs c.loop-l.l c.level_from-base.result a.tree.now c.test_level-level.result.ok c.level_from-base.ensures.value c.test_level-level.ensures.ok_value in record { ok_value = sym (every_stop good a.levels c.loop-l.l c.loop-l-test.true (sym e ∙ (not_yes _ c.if-not-level.true))); used_value = ((λ z. absurd (true_false false z refl)), omega arith, omega arith) }
 
 pub overflow_add-used : goal.overflow_add-used
 overflow_add-used c =
@@ -43,7 +43,7 @@ loop-l-preserved c =
     let a = c.args in
     let good : ℕ → Bool = λ (c : ℕ). level_ok (level_start a.pairs c) a.pairs a.tree.now in
     let e = good_told a.pairs c.loop-l.l c.level_from-base.result a.tree.now c.test_level-level.result.ok c.level_from-base.ensures.value c.test_level-level.ensures.ok_value in
-    let yes : c.test_level-level.result.ok ≡ true = c.if-not-level.false in
+    let yes : c.test_level-level.result.ok ≡ true = (not_no _ c.if-not-level.false) in
     let told = c.test_level-level.ensures.used_value.0 yes in (
       omega arith,
       every_next good c.loop-l.l c.loop-l.invariant.1 (sym e ∙ yes),

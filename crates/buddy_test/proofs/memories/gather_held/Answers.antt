@@ -27,7 +27,7 @@ loop-c-preserved c =
         omega (arith, w.k-is),
         omega arith,
         ap length w.found-is ∙ simp length-set i.2,
-        rw (w.found-is, w.k-is) (gather_put c.loop-c.c c.loop-c.k a.chunks.now c.loop-c.found c.cell.result low c.cell.ensures i.3 w.cell-found.result w.if-cell-ne0.true w.cell-found.ensures (omega arith)),
+        rw (w.found-is, w.k-is) (gather_put c.loop-c.c c.loop-c.k a.chunks.now c.loop-c.found c.cell.result low c.cell.ensures i.3 w.cell-then-cell-ne0.result w.if-cell-ne0.true w.cell-then-cell-ne0.ensures (omega arith)),
       ) |
       else-cell-ne0 w ↦ (
         omega (arith, w.k-is),

@@ -1,6 +1,6 @@
 use borrow.Author.Rules.{rules}
 use mathlib.Core.Path.{sym, ap, ◌∙◌}
-use mathlib.Core.Bool.{Bool, ◌&&◌}
+use mathlib.Core.Bool.{not, Bool, ◌&&◌}
 use Rattle.lists.proofs.Bools.{not_yes, not_no, and_left}
 use Rattle.store_rules.proofs.Holders.{holder}
 use Rattle.freelist_rules.specs.Tables.{tables}
@@ -16,7 +16,7 @@ returns-then-not-lent-list c =
 pub returns-then-not-share : goal.returns-then-not-share
 returns-then-not-share c =
     let a = c.args in
-    gate_closed a.s a.share (tables a.head.now a.loans.now a.chunks.now a.index.now a.regions.now) a.list (ap (λ (b : Bool). b && a.list) (sym c.is_in_table-lent.ensures) ∙ c.if-not-lent-list.false) c.if-not-share.true
+    gate_closed a.s a.share (tables a.head.now a.loans.now a.chunks.now a.index.now a.regions.now) a.list (ap (λ (b : Bool). b && a.list) (sym c.is_in_table-lent.ensures) ∙ c.if-not-lent-list.false) (not_yes _ c.if-not-share.true)
 
 pub gate_store-requires : goal.gate_store-requires
 gate_store-requires c =
@@ -26,4 +26,4 @@ gate_store-requires c =
 pub returns : goal.returns
 returns c =
     let a = c.args in
-    gate_open a.s a.share (tables a.head.now a.loans.now a.chunks.now a.index.now a.regions.now) a.list _ (ap (λ (b : Bool). b && a.list) (sym c.is_in_table-lent.ensures) ∙ c.if-not-lent-list.false) c.if-not-share.false c.gate_store.ensures
+    gate_open a.s a.share (tables a.head.now a.loans.now a.chunks.now a.index.now a.regions.now) a.list _ (ap (λ (b : Bool). b && a.list) (sym c.is_in_table-lent.ensures) ∙ c.if-not-lent-list.false) (not_no _ c.if-not-share.false) c.gate_store.ensures

@@ -1,6 +1,6 @@
 use borrow.Author.Rules.{rules}
-use mathlib.Core.Path.{refl}
-use mathlib.Core.Bool.{false}
+use mathlib.Core.Path.{ap, refl}
+use mathlib.Core.Bool.{not, false}
 use native.Mathlib.Omega.{arith}
 use Rattle.lists.proofs.Bools.{not_yes, not_no, true_false}
 use Rattle.slabs.specs.Slab.{vacant_at}
@@ -13,7 +13,7 @@ pub returns-then-most-places : goal.returns-then-most-places
 returns-then-most-places c = let a = c.args in record { ok_value = lent_over a.s a.loans.now a.index.now c.word-places.result c.word-places.ensures (omega arith); live_value = λ e. absurd (true_false false e refl) }
 
 pub returns-then-not-seen : goal.returns-then-not-seen
-returns-then-not-seen c = let a = c.args in record { ok_value = lent_not a.s a.loans.now a.index.now c.word-places.result c.word-given.result c.word-places.ensures c.word-given.ensures c.look_over-seen.result.ok c.look_over-seen.ensures.ok_value c.if-not-seen.true; live_value = λ e. absurd (true_false false e refl) }
+returns-then-not-seen c = let a = c.args in record { ok_value = lent_not a.s a.loans.now a.index.now c.word-places.result c.word-given.result c.word-places.ensures c.word-given.ensures c.look_over-seen.result.ok c.look_over-seen.ensures.ok_value (not_yes _ c.if-not-seen.true); live_value = λ e. absurd (true_false false e refl) }
 
 pub overflow_sub-result : goal.overflow_sub-result
 overflow_sub-result c =
@@ -21,4 +21,4 @@ overflow_sub-result c =
     omega (arith, c.look_over-seen.ensures.vacant_value, vacancies_most (vacant_at a.loans.now size_at loan_words) c.word-places.result)
 
 pub returns : goal.returns
-returns c = let a = c.args in record { ok_value = lent_told a.s a.loans.now a.index.now c.word-places.result c.word-given.result c.word-places.ensures c.word-given.ensures c.look_over-seen.result.ok c.is_led.result c.look_over-seen.ensures.ok_value c.if-not-seen.false c.is_led.ensures; live_value = λ e. live_told a.loans.now c.word-places.result c.look_over-seen.result.vacant c.word-places.ensures c.look_over-seen.ensures.vacant_value }
+returns c = let a = c.args in record { ok_value = lent_told a.s a.loans.now a.index.now c.word-places.result c.word-given.result c.word-places.ensures c.word-given.ensures c.look_over-seen.result.ok c.is_led.result c.look_over-seen.ensures.ok_value (not_no _ c.if-not-seen.false) c.is_led.ensures; live_value = λ e. live_told a.loans.now c.word-places.result c.look_over-seen.result.vacant c.word-places.ensures c.look_over-seen.ensures.vacant_value }
