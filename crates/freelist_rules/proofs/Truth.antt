@@ -79,10 +79,10 @@ module _ (s : FreeListSettings) (fit : FreeListIn s) (head loans chunks index ro
   leads' = subst (Leads (after_in s.store.loans index') (before_in s.store.loans index') 0) (sym thread_follows) U.threaded.leads
 
   pub after_follows : (r : ℕ) → Mem r (0 ∷ T.threaded.records) → after_in s.store.loans index r ≡ after_in s.store.loans index' r
-  after_follows = leads_after _ _ _ _ 0 T.threaded.records T.threaded.leads leads'
+  after_follows = leads_after (after_in s.store.loans index) (before_in s.store.loans index) (after_in s.store.loans index') (before_in s.store.loans index') 0 T.threaded.records T.threaded.leads leads'
 
   pub before_follows : (r : ℕ) → Mem r (0 ∷ T.threaded.records) → before_in s.store.loans index r ≡ before_in s.store.loans index' r
-  before_follows = leads_before _ _ _ _ 0 T.threaded.records T.threaded.leads leads'
+  before_follows = leads_before (after_in s.store.loans index) (before_in s.store.loans index) (after_in s.store.loans index') (before_in s.store.loans index') 0 T.threaded.records T.threaded.leads leads'
 
   -- the regions with the loans in front of them, and how many are whole
   pub gaps_follow : gaps_in (tables head loans chunks index room) ≡ gaps_in (tables head loans chunks index' room')
