@@ -21,7 +21,7 @@ bounds-regions-2 c =
     search rules
 
 pub returns-then-whole-eq0 : goal.returns-then-whole-eq0
-returns-then-whole-eq0 c = let a = c.args in record { count_value = (none_left a.s a.spare a.chunks.now a.regions.now a.list.now _ _ refl refl c.requires (none_whole a.s a.spare a.chunks.now a.regions.now a.list.now _ _ refl refl c.requires _ refl c.if-whole-eq0.true)).0; bytes_value = (none_left a.s a.spare a.chunks.now a.regions.now a.list.now _ _ refl refl c.requires (none_whole a.s a.spare a.chunks.now a.regions.now a.list.now _ _ refl refl c.requires _ refl c.if-whole-eq0.true)).1; regions_after = (none_left a.s a.spare a.chunks.now a.regions.now a.list.now _ _ refl refl c.requires (none_whole a.s a.spare a.chunks.now a.regions.now a.list.now _ _ refl refl c.requires _ refl c.if-whole-eq0.true)).2; list_after = (none_left a.s a.spare a.chunks.now a.regions.now a.list.now _ _ refl refl c.requires (none_whole a.s a.spare a.chunks.now a.regions.now a.list.now _ _ refl refl c.requires _ refl c.if-whole-eq0.true)).3 }
+returns-then-whole-eq0 c = let a = c.args in record { count_value = (none_left a.s a.spare a.chunks.now a.regions.now a.list.now _ _ refl refl c.requires (none_whole a.s a.spare a.chunks.now a.regions.now a.list.now _ _ refl refl c.requires _ refl c.if-whole-eq0.true)).0; bytes_value = (none_left a.s a.spare a.chunks.now a.regions.now a.list.now _ _ refl refl c.requires (none_whole a.s a.spare a.chunks.now a.regions.now a.list.now _ _ refl refl c.requires _ refl c.if-whole-eq0.true)).1.0; regions_after = (none_left a.s a.spare a.chunks.now a.regions.now a.list.now _ _ refl refl c.requires (none_whole a.s a.spare a.chunks.now a.regions.now a.list.now _ _ refl refl c.requires _ refl c.if-whole-eq0.true)).1.1.0; list_after = (none_left a.s a.spare a.chunks.now a.regions.now a.list.now _ _ refl refl c.requires (none_whole a.s a.spare a.chunks.now a.regions.now a.list.now _ _ refl refl c.requires _ refl c.if-whole-eq0.true)).1.1.1 }
 
 pub spared-stay-requires : goal.spared-stay-requires
 spared-stay-requires c =
@@ -31,9 +31,9 @@ spared-stay-requires c =
 pub returns-then-whole-stay : goal.returns-then-whole-stay
 returns-then-whole-stay c = let a = c.args in record { count_value = (none_left a.s a.spare a.chunks.now a.regions.now a.list.now _ _ refl refl c.requires
     (none_gone a.s a.spare a.chunks.now a.regions.now a.list.now _ _ refl refl c.requires _ _ refl c.spared-stay.ensures (omega (arith, c.if-whole-stay.true)))).0; bytes_value = (none_left a.s a.spare a.chunks.now a.regions.now a.list.now _ _ refl refl c.requires
-    (none_gone a.s a.spare a.chunks.now a.regions.now a.list.now _ _ refl refl c.requires _ _ refl c.spared-stay.ensures (omega (arith, c.if-whole-stay.true)))).1; regions_after = (none_left a.s a.spare a.chunks.now a.regions.now a.list.now _ _ refl refl c.requires
-    (none_gone a.s a.spare a.chunks.now a.regions.now a.list.now _ _ refl refl c.requires _ _ refl c.spared-stay.ensures (omega (arith, c.if-whole-stay.true)))).2; list_after = (none_left a.s a.spare a.chunks.now a.regions.now a.list.now _ _ refl refl c.requires
-    (none_gone a.s a.spare a.chunks.now a.regions.now a.list.now _ _ refl refl c.requires _ _ refl c.spared-stay.ensures (omega (arith, c.if-whole-stay.true)))).3 }
+    (none_gone a.s a.spare a.chunks.now a.regions.now a.list.now _ _ refl refl c.requires _ _ refl c.spared-stay.ensures (omega (arith, c.if-whole-stay.true)))).1.0; regions_after = (none_left a.s a.spare a.chunks.now a.regions.now a.list.now _ _ refl refl c.requires
+    (none_gone a.s a.spare a.chunks.now a.regions.now a.list.now _ _ refl refl c.requires _ _ refl c.spared-stay.ensures (omega (arith, c.if-whole-stay.true)))).1.1.0; list_after = (none_left a.s a.spare a.chunks.now a.regions.now a.list.now _ _ refl refl c.requires
+    (none_gone a.s a.spare a.chunks.now a.regions.now a.list.now _ _ refl refl c.requires _ _ refl c.spared-stay.ensures (omega (arith, c.if-whole-stay.true)))).1.1.1 }
 
 pub drop_chunks-gone-requires : goal.drop_chunks-gone-requires
 drop_chunks-gone-requires c = let a = c.args in record { k_in_bounds = drop_fits a.s a.spare a.chunks.now a.regions.now a.list.now _ _ refl refl c.requires; releasable = drop_ready a.s a.spare a.chunks.now a.regions.now a.list.now _ _ refl refl c.requires }
@@ -61,5 +61,4 @@ bounds-regions-2-2 c =
 pub returns : goal.returns
 returns c = let a = c.args in
     let e = c.drop_chunks-gone.ensures in
-    let d = e.1.1 in
-    let l = d.1.1.1 in record { count_value = gone_count a.s a.spare a.chunks.now a.regions.now a.list.now _ _ refl refl _ e.0; bytes_value = gone_bytes a.s a.spare a.chunks.now a.regions.now a.list.now _ _ refl refl _ e.1.0; regions_after = gone_tables a.s a.spare a.chunks.now a.regions.now a.list.now _ _ refl refl _ _ _ _ _ _ _ _ _ d.0 d.1.0 refl e.0 d.1.1.0 l.0 refl refl refl; list_after = gone_list a.s a.spare a.chunks.now a.regions.now a.list.now _ _ refl refl _ l.1 }
+    record { count_value = gone_count a.s a.spare a.chunks.now a.regions.now a.list.now _ _ refl refl _ e.count_value; bytes_value = gone_bytes a.s a.spare a.chunks.now a.regions.now a.list.now _ _ refl refl _ e.bytes_value; regions_after = gone_tables a.s a.spare a.chunks.now a.regions.now a.list.now _ _ refl refl _ _ _ _ _ _ _ _ _ e.chunks_value e.regions_value refl e.count_value e.chunks_after e.regions_after refl refl refl; list_after = gone_list a.s a.spare a.chunks.now a.regions.now a.list.now _ _ refl refl _ e.list_after }

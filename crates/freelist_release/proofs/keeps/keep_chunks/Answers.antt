@@ -18,7 +18,7 @@ pub loop-i-preserved-then-is_listed : goal.loop-i-preserved-then-is_listed
 loop-i-preserved-then-is_listed c =
     let a = c.args in (
       omega arith,
-      chunk_past (take a.m a.list.now) a.chunks.now a.k c.loop-i.chunks c.loop-i.i c.loop-i.auto c.loop-i.invariant.1 (search rules) c.requires.0 c.chunk_at-c.result c.chunk_at-c.ensures _ c.is_listed.ensures c.if-is_listed.true,
+      chunk_past (take a.m a.list.now) a.chunks.now a.k c.loop-i.chunks c.loop-i.i c.loop-i.kept c.loop-i.invariant.1 (search rules) c.requires.0 c.chunk_at-c.result c.chunk_at-c.ensures _ c.is_listed.ensures c.if-is_listed.true,
     )
 
 pub overflow_add-kept : goal.overflow_add-kept
@@ -28,13 +28,13 @@ pub loop-i-preserved : goal.loop-i-preserved
 loop-i-preserved c =
     let a = c.args in (
       omega arith,
-      chunk_more (take a.m a.list.now) a.chunks.now a.k c.loop-i.chunks c.loop-i.i c.loop-i.auto c.loop-i.invariant.1 (search rules) c.requires.0 c.chunk_at-c.result c.chunk_at-c.ensures _ c.is_listed.ensures c.if-is_listed.false _ c.put_chunk.ensures,
+      chunk_more (take a.m a.list.now) a.chunks.now a.k c.loop-i.chunks c.loop-i.i c.loop-i.kept c.loop-i.invariant.1 (search rules) c.requires.0 c.chunk_at-c.result c.chunk_at-c.ensures _ c.is_listed.ensures c.if-is_listed.false _ c.put_chunk.ensures,
     )
 
 pub shape_of-chunks : goal.shape_of-chunks
 shape_of-chunks c =
     let a = c.args in
-    kept_length chunk_row (unlisted (take a.m a.list.now)) (rows chunk_row a.k a.chunks.now) a.chunks.now c.loop-i.chunks c.loop-i.i c.loop-i.auto c.loop-i.invariant.1 a.k (search rules) c.requires.0
+    kept_length chunk_row (unlisted (take a.m a.list.now)) (rows chunk_row a.k a.chunks.now) a.chunks.now c.loop-i.chunks c.loop-i.i c.loop-i.kept c.loop-i.invariant.1 a.k (search rules) c.requires.0
 
 pub returns : goal.returns
-returns c = let a = c.args in record { value = (chunks_done (take a.m a.list.now) a.chunks.now a.k c.loop-i.chunks c.loop-i.i c.loop-i.auto c.loop-i.invariant.1 (search rules)).0; chunks_after = (chunks_done (take a.m a.list.now) a.chunks.now a.k c.loop-i.chunks c.loop-i.i c.loop-i.auto c.loop-i.invariant.1 (search rules)).1 }
+returns c = let a = c.args in record { value = (chunks_done (take a.m a.list.now) a.chunks.now a.k c.loop-i.chunks c.loop-i.i c.loop-i.kept c.loop-i.invariant.1 (search rules)).0; chunks_after = (chunks_done (take a.m a.list.now) a.chunks.now a.k c.loop-i.chunks c.loop-i.i c.loop-i.kept c.loop-i.invariant.1 (search rules)).1 }

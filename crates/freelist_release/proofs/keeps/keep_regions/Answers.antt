@@ -25,7 +25,7 @@ pub loop-i-preserved-then-goes_at : goal.loop-i-preserved-then-goes_at
 loop-i-preserved-then-goes_at c =
     let a = c.args in (
       omega arith,
-      region_past (rows chunk_row a.k a.chunks.now) a.spare a.regions.now a.n c.loop-i.regions c.loop-i.i c.loop-i.auto c.loop-i.invariant.1 (search rules) c.requires.0 _ c.goes_at.ensures c.if-goes_at.true,
+      region_past (rows chunk_row a.k a.chunks.now) a.spare a.regions.now a.n c.loop-i.regions c.loop-i.i c.loop-i.kept c.loop-i.invariant.1 (search rules) c.requires.0 _ c.goes_at.ensures c.if-goes_at.true,
     )
 
 -- the table is as long as it was
@@ -33,12 +33,12 @@ loop-i-preserved-then-goes_at c =
 pub gap_at-g-requires : goal.gap_at-g-requires
 gap_at-g-requires c =
     let a = c.args in
-    omega (arith, c.requires.0, long (rows chunk_row a.k a.chunks.now) a.spare a.regions.now c.loop-i.regions a.n c.loop-i.i c.loop-i.auto c.loop-i.invariant.1 (search rules) c.requires.0)
+    omega (arith, c.requires.0, long (rows chunk_row a.k a.chunks.now) a.spare a.regions.now c.loop-i.regions a.n c.loop-i.i c.loop-i.kept c.loop-i.invariant.1 (search rules) c.requires.0)
 
 pub put_gap-requires : goal.put_gap-requires
 put_gap-requires c =
     let a = c.args in
-    omega (arith, c.requires.0, c.loop-i.invariant.1.within, long (rows chunk_row a.k a.chunks.now) a.spare a.regions.now c.loop-i.regions a.n c.loop-i.i c.loop-i.auto c.loop-i.invariant.1 (search rules) c.requires.0)
+    omega (arith, c.requires.0, c.loop-i.invariant.1.within, long (rows chunk_row a.k a.chunks.now) a.spare a.regions.now c.loop-i.regions a.n c.loop-i.i c.loop-i.kept c.loop-i.invariant.1 (search rules) c.requires.0)
 
 pub overflow_add-kept : goal.overflow_add-kept
 overflow_add-kept c = omega (arith, c.loop-i.invariant.1.within)
@@ -47,13 +47,13 @@ pub loop-i-preserved : goal.loop-i-preserved
 loop-i-preserved c =
     let a = c.args in (
       omega arith,
-      region_more (rows chunk_row a.k a.chunks.now) a.spare a.regions.now a.n c.loop-i.regions c.loop-i.i c.loop-i.auto c.loop-i.invariant.1 (search rules) c.requires.0 _ c.goes_at.ensures c.if-goes_at.false c.gap_at-g.result c.gap_at-g.ensures _ c.put_gap.ensures,
+      region_more (rows chunk_row a.k a.chunks.now) a.spare a.regions.now a.n c.loop-i.regions c.loop-i.i c.loop-i.kept c.loop-i.invariant.1 (search rules) c.requires.0 _ c.goes_at.ensures c.if-goes_at.false c.gap_at-g.result c.gap_at-g.ensures _ c.put_gap.ensures,
     )
 
 pub shape_of-regions : goal.shape_of-regions
 shape_of-regions c =
     let a = c.args in
-    long (rows chunk_row a.k a.chunks.now) a.spare a.regions.now c.loop-i.regions a.n c.loop-i.i c.loop-i.auto c.loop-i.invariant.1 (search rules) c.requires.0
+    long (rows chunk_row a.k a.chunks.now) a.spare a.regions.now c.loop-i.regions a.n c.loop-i.i c.loop-i.kept c.loop-i.invariant.1 (search rules) c.requires.0
 
 pub returns : goal.returns
-returns c = let a = c.args in record { value = (regions_done (rows chunk_row a.k a.chunks.now) a.spare a.regions.now a.n c.loop-i.regions c.loop-i.i c.loop-i.auto c.loop-i.invariant.1 (search rules)).0; regions_after = (regions_done (rows chunk_row a.k a.chunks.now) a.spare a.regions.now a.n c.loop-i.regions c.loop-i.i c.loop-i.auto c.loop-i.invariant.1 (search rules)).1 }
+returns c = let a = c.args in record { value = (regions_done (rows chunk_row a.k a.chunks.now) a.spare a.regions.now a.n c.loop-i.regions c.loop-i.i c.loop-i.kept c.loop-i.invariant.1 (search rules)).0; regions_after = (regions_done (rows chunk_row a.k a.chunks.now) a.spare a.regions.now a.n c.loop-i.regions c.loop-i.i c.loop-i.kept c.loop-i.invariant.1 (search rules)).1 }
