@@ -29,12 +29,14 @@ module _ (after before : ℕ → ℕ) where
   -- each leads on to one of them or to 0
   leads_on : (u : ℕ) (rs : List ℕ) → Leads after before u rs → (x : ℕ) → Mem x (u ∷ rs) → Mem (after x) (0 ∷ rs)
   leads_on u [] L x (inl e) = inl (ap after e ∙ L.0)
+  leads_on u [] L x (inr m) = elim m [ ]
   leads_on u (r ∷ rs) L x (inl e) = inr (inl (ap after e ∙ L.0))
   leads_on u (r ∷ rs) L x (inr m) = past (after x) r rs (leads_on r rs L.2 x m)
 
   -- and back to one of them or to the first
   leads_back : (u : ℕ) (rs : List ℕ) → Leads after before u rs → (x : ℕ) → Mem x (0 ∷ rs) → Mem (before x) (u ∷ rs)
   leads_back u [] L x (inl e) = inl (ap before e ∙ L.1)
+  leads_back u [] L x (inr m) = elim m [ ]
   leads_back u (r ∷ rs) L x (inl e) = inr (leads_back r rs L.2 x (inl e))
   leads_back u (r ∷ rs) L x (inr (inl e)) = inl (ap before e ∙ L.1)
   leads_back u (r ∷ rs) L x (inr (inr m)) = inr (leads_back r rs L.2 x (inr m))
@@ -43,7 +45,8 @@ module _ (after before : ℕ → ℕ) where
 front_in : (loans : List ℕ) (u : ℕ) (rs : List ℕ) (g : Region) → Mem (front_of loans u rs g) (u ∷ rs)
 front_in loans u [] g = inl refl
 front_in loans u (r ∷ rs) g =
-    ⊎_elim (λ e. rw e (inr (front_in loans r rs g))) (λ e. rw e (inl refl)) (told (ltb (lo (piece (loan_by loans r))) (lo g)))
+    let over = λ (b : Bool) (e : ltb (lo (piece (loan_by loans r))) (lo g) ≡ b). subst (λ (v : ℕ). Mem v (u ∷ r ∷ rs)) (sym (ap (λ (x : Bool). cond x (front_of loans r rs g) u) e)) in
+    ⊎_elim (λ e. over true e (inr (front_in loans r rs g))) (λ e. over false e (inl refl)) (told (ltb (lo (piece (loan_by loans r))) (lo g)))
 
 module _ (s : FreeListSettings) (t : Tables) (sound : SoundTables s t) where
   abbrev n : ℕ

@@ -10,7 +10,7 @@ pub carry_deliver-requires : goal.carry_deliver-requires
 carry_deliver-requires c =
     let a = c.args in
     let p = c.plan_deliver-plan in
-    deliver_ready a.s (holding a.s.store a.share a.order) a.o (tables a.head.now a.loans.now a.chunks.now a.index.now a.tree.now) p.result (sym p.ensures.0) p.ensures.1
+    deliver_ready a.s (holding a.s.store a.share a.order) a.o (tables a.head.now a.loans.now a.chunks.now a.index.now a.tree.now) p.result (sym p.ensures.result_value) p.ensures.delivers
 
 pub returns : goal.returns
 returns c =

@@ -21,7 +21,7 @@ settle-requires c =
     let a = c.args in
     let pre = c.requires in
     let r = subst (ReturnReady a.s a.share a.b (tables a.head.now a.loans.now a.chunks.now a.index.now a.tree.now)) c.in-From.is pre in
-    return_room a.s a.share a.b (tables a.head.now a.loans.now a.chunks.now a.index.now a.tree.now) a.list.now _ _ c.take_back-f.ensures.value (omega (arith, c.before.before.before.before.before.before.before.before.before.before.before.before.before.before.before.before.before.before.before.before.before.before.before.before.before.well-formed)) r.1
+    return_room a.s a.share a.b (tables a.head.now a.loans.now a.chunks.now a.index.now a.tree.now) a.list.now _ _ c.take_back-f.ensures.value (omega arith) r.1
 
 pub returns-in-Refuse : goal.returns-in-Refuse
 returns-in-Refuse c =

@@ -10,7 +10,7 @@ use Rattle.freelist.proofs.calls.clean_up.Goals as goal
 pub carry_clean_up-requires : goal.carry_clean_up-requires
 carry_clean_up-requires c =
     let a = c.args in
-    let few : a.share.objects ≤ objects_most = omega (arith, b.well-formed.1) in
+    let few : a.share.objects ≤ objects_most = omega arith in
     clean_up_ready a.s a.share (tables a.head.now a.loans.now a.chunks.now a.index.now a.regions.now) a.list.now few c.plan_clean_up-plan.result c.plan_clean_up-plan.ensures
 
 pub returns : goal.returns

@@ -10,7 +10,7 @@ use Rattle.freelist.proofs.calls.return_block.Goals as goal
 pub carry_return-requires : goal.carry_return-requires
 carry_return-requires c =
     let a = c.args in
-    let few : a.share.objects ≤ objects_most = omega (arith, b.well-formed.1) in
+    let few : a.share.objects ≤ objects_most = omega arith in
     return_ready a.s a.share (tables a.head.now a.loans.now a.chunks.now a.index.now a.regions.now) a.list.now few a.b c.plan_return-plan.result c.plan_return-plan.ensures
 
 pub returns : goal.returns

@@ -31,5 +31,5 @@ returns-in-Go c =
     let q = c.release-f.ensures in
     clean_went a.s a.share (tables a.head.now a.loans.now a.chunks.now a.index.now a.regions.now) a.list.now a.plan _ _ c.in-Go.is refl
     (beside a.s (holder a.s.store a.share) false _ _ a.chunks.now a.regions.now a.list.now _ _ _
-    (let_go_done a.s a.share false a.chunks.now a.regions.now a.list.now _ _ _ _ _ _ _ q.0 q.1.0 q.1.1.0 q.1.1.1 c.settle.ensures.0 c.settle.ensures.1)
+    (let_go_done a.s a.share false a.chunks.now a.regions.now a.list.now _ _ _ _ _ _ _ q.count_value q.bytes_value q.regions_after q.list_after c.settle.ensures.0 c.settle.ensures.1)
     a.head.now a.loans.now a.index.now)

@@ -24,4 +24,4 @@ returns c =
     let a = c.args in
     let e = c.release-f.ensures in
     taken_in a.s (holder a.s.store a.share) a.b a.at a.loans.now a.chunks.now a.regions.now a.index.now _ _ _ c.take_back.ensures a.list.now _ _ _ _ _
-    (let_go_done a.s a.share true _ _ a.list.now _ _ _ _ _ _ _ e.0 e.1.0 e.1.1.0 e.1.1.1 c.settle.ensures.0 c.settle.ensures.1)
+    (let_go_done a.s a.share true _ _ a.list.now _ _ _ _ _ _ _ e.count_value e.bytes_value e.regions_after e.list_after c.settle.ensures.0 c.settle.ensures.1)
