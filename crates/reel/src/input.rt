@@ -1,10 +1,9 @@
 // A tape read through a buffer: the bytes that are still to be taken lie in a window of it.
 ghost use Rattle.std.specs.Prelude.{◌≤◌, IfOk, length};
 
-use std::fs;
-use std::io;
 use std::io::Read;
 use std::rt::Files;
+use std::{fs, io};
 use tape::{HEADER_BYTES, Header, RECORD_BYTES_MOST, Record};
 
 // The tape that an argument names, open for reading, or none where it can't be; then that is told.

@@ -6,10 +6,9 @@ mod run;
 mod start;
 
 use reel::Settings;
-use std::env;
-use std::io;
 use std::io::{BufWriter, Read, Write};
 use std::rt::Files;
+use std::{env, io};
 use tape::Header;
 
 fn replay(input: &mut impl Read, out: &mut impl Write) -> io::Result<()> {
@@ -49,11 +48,11 @@ fn replay_named(rt: &(impl Files + Eprint), path: &str, out: &mut impl Write) ->
 
 fn main(rt: HostRuntime) -> io::Result<()> {
     let mut out = BufWriter::new(rt.alloc(), io::writer(&rt))?;
-    let paths = env::args(&rt)?.skip(1);
-    if paths.len() == 0 {
+    let args = env::args(&rt)?;
+    if args.len() < 2 {
         replay(&mut rt.reader(), &mut out)?;
     }
-    for path in paths {
+    for path in args.skip(1) {
         replay_named(&rt, path.as_str(), &mut out)?;
     }
     out.flush()

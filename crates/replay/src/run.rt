@@ -12,12 +12,7 @@ fn print_totals(out: &mut impl Write, s: Settings, a: Account) -> io::Result<()>
     text::print_totals(out, a.heap(store.heap))
 }
 
-fn print_answer(
-    out: &mut impl Write,
-    s: Settings,
-    taken: Taken,
-    list: &[u64],
-) -> io::Result<()> {
+fn print_answer(out: &mut impl Write, s: Settings, taken: Taken, list: &[u64]) -> io::Result<()> {
     let store = reel::store_of(s);
     let a = taken.account;
     let answer = taken.answer;

@@ -80,9 +80,7 @@ fn replay(
         SetUpAnswer::Ready => {
             let store = reel::store_of(s);
             let fresh = reel::fresh_account(store.heap, heap_size, objects);
-            run(
-                input, out, s, fresh, head, loans, chunks, index, own,
-            )
+            run(input, out, s, fresh, head, loans, chunks, index, own)
         }
         SetUpAnswer::Refused(_) => text::print_set_up_refused(out),
     }
