@@ -2,9 +2,8 @@
 // each of the 64 usages, `USAGE COUNT MASK T0 T1 ..`, or the one line `refused 1`.
 #![tactic(auto)]
 
-ghost use Rattle.std.specs.Prelude.{◌≡◌, min, length};
+ghost use Rattle.std.specs.Prelude.{◌≡◌, ◌≤◌, min, length, take};
 ghost use Rattle.std.proofs.Math.Seq.{paste};
-ghost use Rattle.io.specs.Counts.{IsPrefixLen};
 
 use std::io;
 use std::io::{BufWriter, Read, Write};
@@ -20,7 +19,8 @@ fn wide(byte: u8) -> u32
 
 // The bytes as words, as many as there is room for, and how many.
 fn fill(words: &mut [u32], bytes: &[u8]) -> usize
-    ensures prefix_len { IsPrefixLen result words.new }
+    ensures in_bounds { result ≤ length words.new }
+    ensures prefix_len { result ≡ length (take result words.new) }
     ensures value { result ≡ min (length words.old) (length bytes.now) }
     ensures words_after { words.new ≡ paste words.old 0 bytes.now result }
 {
