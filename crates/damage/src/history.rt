@@ -2,6 +2,11 @@
 use crate::calls::run;
 use counter::Account;
 use reel::{Settings, Window};
+use std::io;
+use std::io::Read;
+
+// a tape is read through a buffer of so many bytes
+const BUFFER_BYTES: usize = 4096;
 
 // The account that a tape's whole records lead to, how many these are, and whether they are all that is on it.
 #[derive(Clone, Copy)]
@@ -12,15 +17,20 @@ pub struct Reached {
 }
 
 // A loop has to end, and nothing says that a tape does: so records are counted, and no tape has as many as can be counted.
-pub fn replay(fd: i32, s: Settings, fresh: Account, image: &mut [u64]) -> Reached {
+pub fn replay(
+    input: &mut impl Read,
+    s: Settings,
+    fresh: Account,
+    image: &mut [u64],
+) -> io::Result<Reached> {
     let buddy = reel::is_buddy(s);
-    let mut buffer = io::buffer();
+    let mut buffer = [0u8; BUFFER_BYTES];
     let mut w = Window { from: 0, to: 0 };
     let mut a = fresh;
     let mut whole = true;
     let mut records = 0u64;
     while records < u64::MAX {
-        let turn = reel::next(fd, &mut buffer, w, buddy);
+        let turn = reel::next(input, &mut buffer, w, buddy)?;
         if turn.torn | turn.ended {
             whole = turn.ended;
             break;
@@ -35,9 +45,9 @@ pub fn replay(fd: i32, s: Settings, fresh: Account, image: &mut [u64]) -> Reache
         w = turn.window;
         records += 1;
     }
-    Reached {
+    Ok(Reached {
         account: a,
         records: records,
         whole: whole,
-    }
+    })
 }

@@ -16,8 +16,10 @@ use damage_parts::{
     ROW_MOST, Tally, fits, print_not_reached, print_not_set_up, print_too_large, print_unsound,
     print_verdict,
 };
-use libc::STDIN_FILENO;
 use reel::Settings;
+use std::io::{Read, Write};
+use std::rt::Files;
+use std::{env, io};
 use tape::Header;
 
 // what lent tables happen to hold before
@@ -33,85 +35,107 @@ fn failed(t: Tally) -> Tally {
 }
 
 // The store that a history led to, in the row and the account.
-fn try_reached(store: u64, s: Settings, a: Account, image: &[u64], t: Tally) -> Tally {
+fn try_reached(
+    out: &mut impl Write,
+    store: u64,
+    s: Settings,
+    a: Account,
+    image: &[u64],
+    t: Tally,
+) -> io::Result<Tally> {
     let c = case_of(store, s, a, image);
     if is_sound(c, image) {
-        return try_tables(c, image, t);
+        return try_tables(out, c, image, t);
     }
-    print_unsound(store);
-    failed(t)
+    print_unsound(out, store)?;
+    Ok(failed(t))
 }
 
-fn try_store(store: u64, fd: i32, s: Settings, fresh: Account, t: Tally) -> Tally {
+fn try_store(
+    input: &mut impl Read,
+    out: &mut impl Write,
+    store: u64,
+    s: Settings,
+    fresh: Account,
+    t: Tally,
+) -> io::Result<Tally> {
     if !fits(s) {
-        print_too_large(store);
-        return failed(t);
+        print_too_large(out, store)?;
+        return Ok(failed(t));
     }
     let mut image = [LEFTOVER; ROW_MOST];
     if !set_up(s, &mut image) {
-        print_not_set_up(store);
-        return failed(t);
+        print_not_set_up(out, store)?;
+        return Ok(failed(t));
     }
-    let reached = replay(fd, s, fresh, &mut image);
+    let reached = replay(input, s, fresh, &mut image)?;
     if !reached.whole {
-        print_not_reached(store, reached.records);
-        return failed(t);
+        print_not_reached(out, store, reached.records)?;
+        return Ok(failed(t));
     }
-    try_reached(store, s, reached.account, &image, t)
+    try_reached(out, store, s, reached.account, &image, t)
 }
 
-fn try_tape(store: u64, fd: i32, t: Tally) -> Tally {
-    let header = reel::read_header(fd);
+fn try_tape(
+    input: &mut impl Read,
+    out: &mut impl Write,
+    store: u64,
+    t: Tally,
+) -> io::Result<Tally> {
+    let header = reel::read_header(input)?;
     match header {
         Header::FreeList(h) => {
             let settings = h.settings;
             let own = settings.store;
             let fresh = reel::fresh_account(own.heap, h.heap_size, h.objects);
-            try_store(store, fd, Settings::FreeList(settings), fresh, t)
+            try_store(input, out, store, Settings::FreeList(settings), fresh, t)
         }
         Header::Buddy(h) => {
             let settings = h.settings;
             let own = settings.store;
             let fresh = reel::fresh_account(own.heap, h.heap_size, h.objects);
-            try_store(store, fd, Settings::Buddy(settings), fresh, t)
+            try_store(input, out, store, Settings::Buddy(settings), fresh, t)
         }
         Header::Refused => {
-            print_not_set_up(store);
-            failed(t)
+            print_not_set_up(out, store)?;
+            Ok(failed(t))
         }
     }
 }
 
 // The tape that an argument names.
-fn try_named(i: usize, t: Tally) -> Tally {
-    let fd = reel::open(i);
-    if fd < 0 {
-        return failed(t);
+fn try_named(
+    rt: &(impl Files + Eprint),
+    path: &str,
+    out: &mut impl Write,
+    store: u64,
+    t: Tally,
+) -> io::Result<Tally> {
+    match reel::open(rt, path)? {
+        None => Ok(failed(t)),
+        Some(mut tape) => try_tape(&mut tape, out, store, t),
     }
-    let after = try_tape(i as u64, fd, t);
-    libc::close(fd);
-    after
 }
 
-fn main() {
+fn main(rt: HostRuntime) -> io::Result<()> {
+    let mut out = io::writer(&rt);
     let mut t = Tally {
         stores: 0,
         words: 0,
         calls: 0,
         kept: true,
     };
-    let n = os::arg_count();
-    if n < 2 {
-        t = try_tape(0, STDIN_FILENO, t);
+    let args = env::args(&rt)?;
+    if args.len() < 2 {
+        t = try_tape(&mut rt.reader(), &mut out, 0, t)?;
     }
-    let mut i = 1;
-    while i < n {
+    for (i, path) in args.enumerate().skip(1) {
         if t.kept {
-            t = try_named(i, t);
+            t = try_named(&rt, path.as_str(), &mut out, i as u64, t)?;
         }
-        i += 1;
     }
     if t.kept {
-        print_verdict(t.stores, t.words, t.calls);
+        print_verdict(&mut out, t.stores, t.words, t.calls)?;
     }
+    Ok(())
 }

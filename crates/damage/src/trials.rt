@@ -11,6 +11,8 @@ use damage_parts::{
     print_changed, print_no_set_up, row_words, spoilt_row, stray, table_words,
 };
 use reel::Settings;
+use std::io;
+use std::io::Write;
 use tape::Record;
 
 const TABLES: u64 = 5;
@@ -72,7 +74,14 @@ fn is_left(c: Case, call: u64, refusal: u32, spoilt: &[u64], after: &[u64]) -> b
     }
 }
 
-fn try_call(c: Case, spoilt: &[u64], p: Place, call: u64, t: Tally) -> Tally {
+fn try_call(
+    out: &mut impl Write,
+    c: Case,
+    spoilt: &[u64],
+    p: Place,
+    call: u64,
+    t: Tally,
+) -> io::Result<Tally> {
     let s = c.settings;
     let a = if call < WITH_ORDER { c.free } else { c.open };
     let mut after = copy_of(s, spoilt);
@@ -81,46 +90,73 @@ fn try_call(c: Case, spoilt: &[u64], p: Place, call: u64, t: Tally) -> Tally {
     let same = is_left(c, call, done.refusal, spoilt, &after);
     let kept = (same & is_same_account(done.account, expected)) | (done.refusal == 0);
     if !kept {
-        print_changed(c.store, p.table, p.word as u64, p.value, call, done.refusal);
+        print_changed(
+            out,
+            c.store,
+            p.table,
+            p.word as u64,
+            p.value,
+            call,
+            done.refusal,
+        )?;
     }
-    counted(t, kept)
+    Ok(counted(t, kept))
 }
 
 // Set-up takes the tables whatever they hold.
-fn try_set_up(c: Case, spoilt: &[u64], t: Tally) -> Tally {
+fn try_set_up(out: &mut impl Write, c: Case, spoilt: &[u64], t: Tally) -> io::Result<Tally> {
     let s = c.settings;
     let mut after = copy_of(s, spoilt);
     let kept = set_up(s, &mut after);
     if !kept {
-        print_no_set_up(c.store);
+        print_no_set_up(out, c.store)?;
     }
-    counted(t, kept)
+    Ok(counted(t, kept))
 }
 
-fn try_calls(c: Case, spoilt: &[u64], p: Place, before: Tally) -> Tally {
+fn try_calls(
+    out: &mut impl Write,
+    c: Case,
+    spoilt: &[u64],
+    p: Place,
+    before: Tally,
+) -> io::Result<Tally> {
     let s = c.settings;
     let mut t = before;
     let mut call = 0u64;
     while call < CALLS {
         if t.kept & is_call(s, call) {
-            t = try_call(c, spoilt, p, call, t);
+            t = try_call(out, c, spoilt, p, call, t)?;
         }
         call += 1;
     }
-    t
+    Ok(t)
 }
 
-fn try_value(c: Case, image: &[u64], p: Place, before: Tally) -> Tally {
+fn try_value(
+    out: &mut impl Write,
+    c: Case,
+    image: &[u64],
+    p: Place,
+    before: Tally,
+) -> io::Result<Tally> {
     let s = c.settings;
     let spoilt = spoilt_row(s, image, p);
-    let t = try_calls(c, &spoilt, p, before);
+    let t = try_calls(out, c, &spoilt, p, before)?;
     if t.kept {
-        return try_set_up(c, &spoilt, t);
+        return try_set_up(out, c, &spoilt, t);
     }
-    t
+    Ok(t)
 }
 
-fn try_word(c: Case, image: &[u64], table: u64, word: usize, before: Tally) -> Tally {
+fn try_word(
+    out: &mut impl Write,
+    c: Case,
+    image: &[u64],
+    table: u64,
+    word: usize,
+    before: Tally,
+) -> io::Result<Tally> {
     let mut t = Tally {
         stores: before.stores,
         words: std::num::wrapping_add_u64(before.words, 1),
@@ -135,28 +171,39 @@ fn try_word(c: Case, image: &[u64], table: u64, word: usize, before: Tally) -> T
                 word: word,
                 value: value,
             };
-            t = try_value(c, image, p, t);
+            t = try_value(out, c, image, p, t)?;
         }
         value += 1;
     }
-    t
+    Ok(t)
 }
 
-fn try_table(c: Case, image: &[u64], table: u64, before: Tally) -> Tally {
+fn try_table(
+    out: &mut impl Write,
+    c: Case,
+    image: &[u64],
+    table: u64,
+    before: Tally,
+) -> io::Result<Tally> {
     let s = c.settings;
     let n = table_words(s, table);
     let mut t = before;
     let mut word = 0usize;
     while word < n {
         if t.kept & is_tried(s, image, table, word) {
-            t = try_word(c, image, table, word, t);
+            t = try_word(out, c, image, table, word, t)?;
         }
         word += 1;
     }
-    t
+    Ok(t)
 }
 
-pub fn try_tables(c: Case, image: &[u64], before: Tally) -> Tally {
+pub fn try_tables(
+    out: &mut impl Write,
+    c: Case,
+    image: &[u64],
+    before: Tally,
+) -> io::Result<Tally> {
     let mut t = Tally {
         stores: std::num::wrapping_add_u64(before.stores, 1),
         words: before.words,
@@ -166,9 +213,9 @@ pub fn try_tables(c: Case, image: &[u64], before: Tally) -> Tally {
     let mut table = 0u64;
     while table < TABLES {
         if t.kept {
-            t = try_table(c, image, table, t);
+            t = try_table(out, c, image, table, t)?;
         }
         table += 1;
     }
-    t
+    Ok(t)
 }

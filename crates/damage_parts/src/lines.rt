@@ -1,72 +1,81 @@
 // The lines that are printed: the verdict, or the first place where it fails. Stores are numbered as the program's arguments.
-use libc::STDOUT_FILENO;
+use std::io;
+use std::io::Write;
 
-fn word(text: &[u8]) {
-    io::write_all(STDOUT_FILENO, text);
+fn word(out: &mut impl Write, text: &str) -> io::Result<()> {
+    out.write_all(text.as_bytes())
 }
 
-fn number(n: u64) {
-    io::print_decimal(STDOUT_FILENO, n);
+fn number(out: &mut impl Write, n: u64) -> io::Result<()> {
+    write!(out, "{n}")
 }
 
-fn store_number(store: u64) {
-    word(b"store ");
-    number(store);
+fn store_number(out: &mut impl Write, store: u64) -> io::Result<()> {
+    word(out, "store ")?;
+    number(out, store)
 }
 
-fn print_damage(table: u64, at: u64, value: u64) {
-    word(b", table ");
-    number(table);
-    word(b", word ");
-    number(at);
-    word(b", value ");
-    number(value);
+fn print_damage(out: &mut impl Write, table: u64, at: u64, value: u64) -> io::Result<()> {
+    word(out, ", table ")?;
+    number(out, table)?;
+    word(out, ", word ")?;
+    number(out, at)?;
+    word(out, ", value ")?;
+    number(out, value)
 }
 
 // Tables are numbered as image.rt lists them, values and calls as cases.rt does.
-pub fn print_changed(store: u64, table: u64, at: u64, value: u64, call: u64, refusal: u32) {
-    store_number(store);
-    print_damage(table, at, value);
-    word(b", call ");
-    number(call);
-    word(b": refusal ");
-    number(refusal as u64);
-    word(b" changed something\n");
+pub fn print_changed(
+    out: &mut impl Write,
+    store: u64,
+    table: u64,
+    at: u64,
+    value: u64,
+    call: u64,
+    refusal: u32,
+) -> io::Result<()> {
+    store_number(out, store)?;
+    print_damage(out, table, at, value)?;
+    word(out, ", call ")?;
+    number(out, call)?;
+    word(out, ": refusal ")?;
+    number(out, refusal as u64)?;
+    word(out, " changed something\n")
 }
 
-pub fn print_too_large(store: u64) {
-    store_number(store);
-    word(b" has larger tables than are tried here\n");
+pub fn print_too_large(out: &mut impl Write, store: u64) -> io::Result<()> {
+    store_number(out, store)?;
+    word(out, " has larger tables than are tried here\n")
 }
 
-pub fn print_no_set_up(store: u64) {
-    store_number(store);
-    word(b" was refused at set-up in damaged tables\n");
+pub fn print_no_set_up(out: &mut impl Write, store: u64) -> io::Result<()> {
+    store_number(out, store)?;
+    word(out, " was refused at set-up in damaged tables\n")
 }
 
-pub fn print_not_set_up(store: u64) {
-    store_number(store);
-    word(b" was refused at set-up\n");
+pub fn print_not_set_up(out: &mut impl Write, store: u64) -> io::Result<()> {
+    store_number(out, store)?;
+    word(out, " was refused at set-up\n")
 }
 
-pub fn print_not_reached(store: u64, records: u64) {
-    store_number(store);
-    word(b" is not reached: after ");
-    number(records);
-    word(b" records one is refused or torn\n");
+pub fn print_not_reached(out: &mut impl Write, store: u64, records: u64) -> io::Result<()> {
+    store_number(out, store)?;
+    word(out, " is not reached: after ")?;
+    number(out, records)?;
+    word(out, " records one is refused or torn\n")
 }
 
-pub fn print_unsound(store: u64) {
-    store_number(store);
-    word(b" is not sound\n");
+pub fn print_unsound(out: &mut impl Write, store: u64) -> io::Result<()> {
+    store_number(out, store)?;
+    word(out, " is not sound\n")
 }
 
-pub fn print_verdict(stores: u64, words: u64, calls: u64) {
-    word(b"sound stores ");
-    number(stores);
-    word(b", words ");
-    number(words);
-    word(b", calls ");
-    number(calls);
-    word(b": every refusal left everything as 01 says\n");
+pub fn print_verdict(out: &mut impl Write, stores: u64, words: u64, calls: u64) -> io::Result<()> {
+    word(out, "sound stores ")?;
+    number(out, stores)?;
+    word(out, ", words ")?;
+    number(out, words)?;
+    word(out, ", calls ")?;
+    number(out, calls)?;
+    word(out, ": every refusal left everything as 01 says\n")
 }

@@ -1,24 +1,42 @@
 // A tape read through a buffer: the bytes that are still to be taken lie in a window of it.
-ghost use Rattle.std.specs.Prelude.{◌≤◌, length};
+ghost use Rattle.std.specs.Prelude.{◌≤◌, IfOk, length};
 
+use std::io::Read;
+use std::rt::Files;
+use std::{fs, io};
 use tape::{HEADER_BYTES, Header, RECORD_BYTES_MOST, Record};
 
-// The tape that an argument names, open for reading, or -1 where it can't be; then that is told.
-pub fn open(i: usize) -> i32 {
-    let mut path = io::buffer();
-    let n = os::arg(i, &mut path);
-    let fd = os::open_read(&path[..n]);
-    if fd < 0 {
-        os::fail(&path[..n]);
+// The tape that an argument names, open for reading, or none where it can't be; then that is told.
+pub fn open<R: Files + Eprint>(rt: &R, path: &str) -> io::Result<Option<R::File>> {
+    match fs::open(rt, path) {
+        Ok(file) => Ok(Some(file)),
+        Err(e) => {
+            eprintln!(rt; "{path}: {e}")?;
+            Ok(None)
+        }
     }
-    fd
+}
+
+// Reads until the buffer is full or the input ends, and says how many bytes that put at the buffer's front.
+fn read_full(input: &mut impl Read, buffer: &mut [u8]) -> io::Result<usize>
+    ensures { IfOk result (λ n. n ≤ length buffer.old) }
+{
+    let mut done = 0usize;
+    while done < buffer.len() {
+        let n = input.read(&mut buffer[done..])?;
+        if n == 0 {
+            break;
+        }
+        done += n;
+    }
+    Ok(done)
 }
 
 // The header at the front of a tape.
-pub fn read_header(fd: i32) -> Header {
+pub fn read_header(input: &mut impl Read) -> io::Result<Header> {
     let mut bytes = [0u8; HEADER_BYTES];
-    let n = io::read_full(fd, &mut bytes);
-    tape::read_header(&bytes[..n])
+    let n = read_full(input, &mut bytes)?;
+    Ok(tape::read_header(&bytes[..n]))
 }
 
 #[derive(Clone, Copy)]
@@ -44,21 +62,21 @@ fn settle(buffer: &mut [u8], w: Window) -> usize
 }
 
 // Room for any record is filled again from the input, as far as the input goes.
-fn refill(fd: i32, buffer: &mut [u8], w: Window) -> Window
+fn refill(input: &mut impl Read, buffer: &mut [u8], w: Window) -> io::Result<Window>
     requires from_le_to { w.from ≤ w.to }
     requires to_in_bounds { w.to ≤ length buffer.old }
-    ensures from_le_to_2 { result.from ≤ result.to }
-    ensures to_in_bounds_2 { result.to ≤ length buffer.old }
+    ensures from_le_to_2 { IfOk result (λ v. v.from ≤ v.to) }
+    ensures to_in_bounds_2 { IfOk result (λ v. v.to ≤ length buffer.old) }
 {
     if RECORD_BYTES_MOST <= w.to - w.from {
-        return w;
+        return Ok(w);
     }
     let n = settle(buffer, w);
-    let more = io::read_full(fd, &mut buffer[n..]);
-    Window {
+    let more = read_full(input, &mut buffer[n..])?;
+    Ok(Window {
         from: 0,
         to: n + more,
-    }
+    })
 }
 
 // The window after n of its bytes.
@@ -96,13 +114,18 @@ pub struct Turn {
     pub window: Window,
 }
 
-pub fn next(fd: i32, buffer: &mut [u8], before: Window, buddy: bool) -> Turn
+pub fn next(
+    input: &mut impl Read,
+    buffer: &mut [u8],
+    before: Window,
+    buddy: bool,
+) -> io::Result<Turn>
     requires from_le_to { before.from ≤ before.to }
     requires to_in_bounds { before.to ≤ length buffer.old }
-    ensures from_le_to_2 { result.window.from ≤ result.window.to }
-    ensures to_in_bounds_2 { result.window.to ≤ length buffer.old }
+    ensures from_le_to_2 { IfOk result (λ turn. turn.window.from ≤ turn.window.to) }
+    ensures to_in_bounds_2 { IfOk result (λ turn. turn.window.to ≤ length buffer.old) }
 {
-    let w = refill(fd, buffer, before);
+    let w = refill(input, buffer, before)?;
     let from = w.from;
     let to = w.to;
     let record = tape::read_record(&buffer[from..to], buddy);
@@ -111,11 +134,11 @@ pub fn next(fd: i32, buffer: &mut [u8], before: Window, buddy: bool) -> Turn
     } else {
         0
     };
-    Turn {
+    Ok(Turn {
         ended: from == to,
         torn: (from < to) & is_torn(record),
         record: record,
         length: n,
         window: past(w, n),
-    }
+    })
 }

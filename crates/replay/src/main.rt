@@ -5,43 +5,55 @@
 mod run;
 mod start;
 
-use libc::STDIN_FILENO;
 use reel::Settings;
+use std::io::{BufWriter, Read, Write};
+use std::rt::Files;
+use std::{env, io};
 use tape::Header;
 
-fn replay(fd: i32) {
-    let header = reel::read_header(fd);
+fn replay(input: &mut impl Read, out: &mut impl Write) -> io::Result<()> {
+    let header = reel::read_header(input)?;
     match header {
         Header::FreeList(s) => {
             let settings = s.settings;
-            start::begin(fd, Settings::FreeList(settings), s.heap_size, s.objects);
+            start::begin(
+                input,
+                out,
+                Settings::FreeList(settings),
+                s.heap_size,
+                s.objects,
+            )
         }
         Header::Buddy(s) => {
             let settings = s.settings;
-            start::begin(fd, Settings::Buddy(settings), s.heap_size, s.objects);
+            start::begin(
+                input,
+                out,
+                Settings::Buddy(settings),
+                s.heap_size,
+                s.objects,
+            )
         }
-        Header::Refused => text::print_set_up_refused(),
+        Header::Refused => text::print_set_up_refused(out),
     }
 }
 
 // The tape that an argument names.
-fn replay_named(i: usize) {
-    let fd = reel::open(i);
-    if fd < 0 {
-        return;
+fn replay_named(rt: &(impl Files + Eprint), path: &str, out: &mut impl Write) -> io::Result<()> {
+    match reel::open(rt, path)? {
+        None => Ok(()),
+        Some(mut tape) => replay(&mut tape, out),
     }
-    replay(fd);
-    libc::close(fd);
 }
 
-fn main() {
-    let n = os::arg_count();
-    if n < 2 {
-        replay(STDIN_FILENO);
+fn main(rt: HostRuntime) -> io::Result<()> {
+    let mut out = BufWriter::new(rt.alloc(), io::writer(&rt))?;
+    let args = env::args(&rt)?;
+    if args.len() < 2 {
+        replay(&mut rt.reader(), &mut out)?;
     }
-    let mut i = 1;
-    while i < n {
-        replay_named(i);
-        i += 1;
+    for path in args.skip(1) {
+        replay_named(&rt, path.as_str(), &mut out)?;
     }
+    out.flush()
 }

@@ -5,6 +5,8 @@ use buddy_rules::PLACE_WORDS;
 use counter::{CHUNKS_MOST, LEVELS_MOST, LOANS_MOST, PAIRS_MOST, SetUpAnswer};
 use freelist_rules::{CHUNK_WORDS, COLUMNS, HEAD_WORDS, REGION_WORDS};
 use reel::{Limits, Settings};
+use std::io;
+use std::io::{Read, Write};
 
 // each table at the greatest limits, in words, for either engine: the heads are as long, a free list's chunks and index are the longer
 const LOANS_WORDS: usize = store_rules::LOAN_WORDS + store_rules::LOAN_WORDS * LOANS_MOST;
@@ -24,7 +26,13 @@ const TREE_WORDS: usize = buddy_levels::OWN_WORDS
 
 const ROOM_WORDS: usize = TREE_WORDS + REGION_WORDS * LOANS_MOST;
 
-pub fn begin(fd: i32, s: Settings, heap_size: u64, objects: u32) {
+pub fn begin(
+    input: &mut impl Read,
+    out: &mut impl Write,
+    s: Settings,
+    heap_size: u64,
+    objects: u32,
+) -> io::Result<()> {
     let most = Limits {
         loans: LOANS_MOST,
         chunks: CHUNKS_MOST,
@@ -42,7 +50,8 @@ pub fn begin(fd: i32, s: Settings, heap_size: u64, objects: u32) {
     let mut index = [0u64; INDEX_WORDS];
     let mut own = [0u64; ROOM_WORDS];
     replay(
-        fd,
+        input,
+        out,
         s,
         heap_size,
         objects,
@@ -51,11 +60,12 @@ pub fn begin(fd: i32, s: Settings, heap_size: u64, objects: u32) {
         &mut chunks[..chunks_end],
         &mut index[..index_end],
         &mut own[..own_end],
-    );
+    )
 }
 
 fn replay(
-    fd: i32,
+    input: &mut impl Read,
+    out: &mut impl Write,
     s: Settings,
     heap_size: u64,
     objects: u32,
@@ -64,14 +74,14 @@ fn replay(
     chunks: &mut [u64],
     index: &mut [u64],
     own: &mut [u64],
-) {
+) -> io::Result<()> {
     let answer = reel_calls::set_up(s, head, loans, chunks, index, own);
     match answer {
         SetUpAnswer::Ready => {
             let store = reel::store_of(s);
             let fresh = reel::fresh_account(store.heap, heap_size, objects);
-            run(fd, s, fresh, head, loans, chunks, index, own);
+            run(input, out, s, fresh, head, loans, chunks, index, own)
         }
-        SetUpAnswer::Refused(_) => text::print_set_up_refused(),
+        SetUpAnswer::Refused(_) => text::print_set_up_refused(out),
     }
 }

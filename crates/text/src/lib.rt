@@ -1,4 +1,4 @@
-// Answers as lines of text on standard output: numbers in decimal, with single spaces.
+// Answers as lines of text: numbers in decimal, with single spaces.
 #![tactic(auto)]
 
 mod line;
@@ -6,6 +6,8 @@ mod stores;
 
 use counter::{RankAnswer, Refused, TYPES_MOST, USAGES};
 use line::{line_end, number, refused_number, spaced};
+use std::io;
+use std::io::Write;
 pub use stores::{
     print_asked, print_delivered, print_end, print_released, print_set_up_refused, print_stopped,
     print_totals,
@@ -13,38 +15,39 @@ pub use stores::{
 use usage_rules::{Ranked, Row};
 
 // `refused N`
-pub fn print_refused(r: Refused) {
-    refused_number(r);
-    line_end();
+pub fn print_refused(out: &mut impl Write, r: Refused) -> io::Result<()> {
+    refused_number(out, r)?;
+    line_end(out)
 }
 
 // `USAGE COUNT MASK T0 T1 ..`
-fn print_row(usage: u64, row: Row) {
-    number(usage);
-    spaced(row.count as u64);
-    spaced(row.mask as u64);
+fn print_row(out: &mut impl Write, usage: u64, row: Row) -> io::Result<()> {
+    number(out, usage)?;
+    spaced(out, row.count as u64)?;
+    spaced(out, row.mask as u64)?;
     let mut i = 0usize;
     while i < TYPES_MOST {
         if i < row.count as usize {
-            spaced(row.types[i] as u64);
+            spaced(out, row.types[i] as u64)?;
         }
         i += 1;
     }
-    line_end();
+    line_end(out)
 }
 
 // A line for each usage, or the refusal's.
-pub fn print_ranking(r: Ranked) {
+pub fn print_ranking(out: &mut impl Write, r: Ranked) -> io::Result<()> {
     let answer = r.answer;
     match answer {
         RankAnswer::Ranked => {
             let mut u = 0usize;
             while u < USAGES {
                 let row = r.rows[u];
-                print_row(u as u64, row);
+                print_row(out, u as u64, row)?;
                 u += 1;
             }
+            Ok(())
         }
-        RankAnswer::Refused(refused) => print_refused(refused),
+        RankAnswer::Refused(refused) => print_refused(out, refused),
     }
 }

@@ -1,27 +1,28 @@
 // Parts of a line.
 use counter::Refused;
-use libc::STDOUT_FILENO;
+use std::io;
+use std::io::Write;
 
-pub fn word(text: &[u8]) {
-    io::write_all(STDOUT_FILENO, text);
+pub fn word(out: &mut impl Write, text: &str) -> io::Result<()> {
+    out.write_all(text.as_bytes())
 }
 
-pub fn number(n: u64) {
-    io::print_decimal(STDOUT_FILENO, n);
+pub fn number(out: &mut impl Write, n: u64) -> io::Result<()> {
+    write!(out, "{n}")
 }
 
-pub fn spaced(n: u64) {
-    word(b" ");
-    number(n);
+pub fn spaced(out: &mut impl Write, n: u64) -> io::Result<()> {
+    word(out, " ")?;
+    number(out, n)
 }
 
-pub fn line_end() {
-    word(b"\n");
+pub fn line_end(out: &mut impl Write) -> io::Result<()> {
+    word(out, "\n")
 }
 
 // `refused N`
-pub fn refused_number(r: Refused) {
-    word(b"refused");
+pub fn refused_number(out: &mut impl Write, r: Refused) -> io::Result<()> {
+    word(out, "refused")?;
     let refusal = r.refusal;
-    spaced(refusal.number() as u64);
+    spaced(out, refusal.number() as u64)
 }

@@ -1,17 +1,12 @@
-use borrow.Author.Rules.{rules}
 use mathlib.Core.Path.{◌≡◌, refl, sym, ap, ◌∙◌}
 use mathlib.Core.List.{List}
-use Prim.Native.Nat.{ℕ, ◌+◌, ◌-◌, ◌≤◌}
+use Prim.Native.Nat.{ℕ, ◌+◌, ◌≤◌}
 use native.Mathlib.Nat.{zero-add}
 use native.Mathlib.Numerals.{add-one}
 use native.Mathlib.Omega.{arith}
 use lib.ListN.{length, set, get_or, length-set}
 use lib.Seq.{paste, paste-zero, paste-suc, length-take-le}
-use Rattle.io.specs.Counts.{IsPrefixLen}
 use Rattle.rank.proofs.fill.Goals as goal
-
-counted : (l : List ℕ) (n : ℕ) → n ≤ length l → IsPrefixLen n l
-counted l n h = (h, sym (length-take-le n l h))
 
 turn : (words₀ bytes words : List ℕ) (i v : ℕ) → i + 1 ≤ length words₀ → i + 1 ≤ length bytes → words ≡ paste words₀ 0 bytes i → v ≡ get_or bytes i 0
     → set words i v ≡ paste words₀ 0 bytes (i + 1)
@@ -26,7 +21,7 @@ pub shape_of-words-then-i-bytes : goal.shape_of-words-then-i-bytes
 shape_of-words-then-i-bytes c = c.loop-i.invariant.2
 
 pub returns-then-i-bytes : goal.returns-then-i-bytes
-returns-then-i-bytes c = let l = c.loop-i in record { prefix_len = counted l.words l.i (omega arith); value = omega arith; words_after = l.invariant.3 }
+returns-then-i-bytes c = let l = c.loop-i in record { in_bounds = omega arith; prefix_len = sym (length-take-le l.i l.words (omega arith)); value = omega arith; words_after = l.invariant.3 }
 
 pub loop-i-smaller : goal.loop-i-smaller
 loop-i-smaller c = omega arith
@@ -43,4 +38,4 @@ pub shape_of-words : goal.shape_of-words
 shape_of-words c = c.loop-i.invariant.2
 
 pub returns : goal.returns
-returns c = let l = c.loop-i in record { prefix_len = counted l.words l.i (omega arith); value = omega arith; words_after = l.invariant.3 }
+returns c = let l = c.loop-i in record { in_bounds = omega arith; prefix_len = sym (length-take-le l.i l.words (omega arith)); value = omega arith; words_after = l.invariant.3 }

@@ -1,9 +1,8 @@
-use borrow.Author.Rules.{rules}
 use Prim.Native.Nat.{◌-◌, ◌≤◌}
 use Rattle.text.proofs.print_ranking.Given as goal
 
 abbrev pub invariant-loop-u : goal.invariant-loop-u
-invariant-loop-u l = l.u ≤ 64
+invariant-loop-u g l = l.u ≤ 64
 
 abbrev pub decreases-loop-u : goal.decreases-loop-u
-decreases-loop-u l = 64 - l.u
+decreases-loop-u g l = 64 - l.u

@@ -1,8 +1,8 @@
-use Rattle.std.proofs.Common.{◌-◌, rules}
+use Rattle.std.proofs.Common.{◌-◌}
 use Rattle.damage.proofs.trials.try_calls.Given as goal
 
 abbrev pub invariant-loop-call : goal.invariant-loop-call
-invariant-loop-call l = Unit {0}
+invariant-loop-call g l = Unit {0}
 
 abbrev pub decreases-loop-call : goal.decreases-loop-call
-decreases-loop-call l = 10 - l.call
+decreases-loop-call g l = 10 - l.call

@@ -1,8 +1,8 @@
-use Rattle.std.proofs.Common.{◌-◌, rules}
+use Rattle.std.proofs.Common.{◌-◌}
 use Rattle.damage.proofs.trials.try_word.Given as goal
 
 abbrev pub invariant-loop-value : goal.invariant-loop-value
-invariant-loop-value l = Unit {0}
+invariant-loop-value g l = Unit {0}
 
 abbrev pub decreases-loop-value : goal.decreases-loop-value
-decreases-loop-value l = 5 - l.value
+decreases-loop-value g l = 5 - l.value
