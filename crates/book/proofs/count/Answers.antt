@@ -1,4 +1,4 @@
-use Rattle.std.proofs.Common.{refl, rules}
+use Rattle.std.proofs.Common.{refl}
 use Rattle.book_rules.specs.Book.{counted}
 use Rattle.book.proofs.count.Goals as goal
 

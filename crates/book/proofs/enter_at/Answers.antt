@@ -1,4 +1,4 @@
-use Rattle.std.proofs.Common.{length, set, ap, ◌∙◌, mod-lt, arith, rules}
+use Rattle.std.proofs.Common.{length, set, ap, ◌∙◌, mod-lt, arith}
 use Rattle.words.specs.Rows.{written}
 use Rattle.slabs.specs.Slab.{record_of}
 use Rattle.store_rules.specs.Loans.{loan_row}

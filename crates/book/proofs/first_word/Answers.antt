@@ -1,4 +1,4 @@
-use Rattle.std.proofs.Common.{ℕ, get_or, ap, mod-lt, arith, rules}
+use Rattle.std.proofs.Common.{ℕ, get_or, ap, mod-lt, arith}
 use Rattle.book_rules.specs.Book.{first_of}
 use Rattle.book.proofs.first_word.Goals as goal
 

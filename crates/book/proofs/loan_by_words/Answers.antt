@@ -1,5 +1,4 @@
 use Rattle.book_rules.proofs.Whole.{loan_read}
-use Rattle.std.proofs.Common.{rules}
 use Rattle.book.proofs.loan_by_words.Goals as goal
 
 pub returns : goal.returns

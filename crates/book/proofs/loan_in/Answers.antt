@@ -1,5 +1,4 @@
 use Rattle.book_rules.proofs.Whole.{loan_along}
-use Rattle.std.proofs.Common.{rules}
 use Rattle.book.proofs.loan_in.Goals as goal
 
 pub returns : goal.returns

@@ -1,5 +1,4 @@
 use Rattle.book.proofs.Entering.{slab_read}
-use Rattle.std.proofs.Common.{rules}
 use Rattle.book.proofs.next_place.Goals as goal
 
 pub returns : goal.returns

@@ -1,5 +1,4 @@
 use Rattle.book.proofs.Taking.{taken_last, taken_new}
-use Rattle.std.proofs.Common.{rules}
 use Rattle.book.proofs.next_place_in.Goals as goal
 
 pub returns-then-last-places : goal.returns-then-last-places

@@ -1,4 +1,4 @@
-use Rattle.std.proofs.Common.{arith, length-set, rules}
+use Rattle.std.proofs.Common.{arith, length-set}
 use Rattle.book.proofs.pass_over.Goals as goal
 
 pub bounds-index-2 : goal.bounds-index-2

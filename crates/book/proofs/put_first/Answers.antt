@@ -1,4 +1,4 @@
-use Rattle.std.proofs.Common.{set, rules}
+use Rattle.std.proofs.Common.{set}
 use Rattle.book_rules.specs.Book.{vacated_at, first_of, next_of}
 use Rattle.book.proofs.put_first.Goals as goal
 

@@ -1,5 +1,5 @@
 use Rattle.book.proofs.Striking.{struck_loans, struck_index_lem}
-use Rattle.std.proofs.Common.{refl, rules}
+use Rattle.std.proofs.Common.{refl}
 use Rattle.book.proofs.strike.Goals as goal
 
 pub returns : goal.returns

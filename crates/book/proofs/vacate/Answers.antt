@@ -1,4 +1,4 @@
-use Rattle.std.proofs.Common.{arith, length-set, rules}
+use Rattle.std.proofs.Common.{arith, length-set}
 use Rattle.book.proofs.vacate.Goals as goal
 
 pub bounds-loans-serial : goal.bounds-loans-serial

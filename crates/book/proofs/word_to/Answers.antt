@@ -1,5 +1,5 @@
-use Rattle.std.proofs.Common.{◌≡◌, ℕ, ◌<◌, ◌≤◌, sym, ap, ◌∙◌, mod-lt, arith, rules}
-use Rattle.book_rules.specs.Book.{index_words, first_of, seek_in, word_to}
+use Rattle.std.proofs.Common.{ℕ, ◌<◌, ◌≤◌, sym, ap, ◌∙◌, mod-lt, arith}
+use Rattle.book_rules.specs.Book.{first_of, seek_in}
 use Rattle.book_rules.proofs.Seeking.{seek_past, seek_here, seek_on, seek_none, word_is}
 use Rattle.book.proofs.word_to.Goals as goal
 

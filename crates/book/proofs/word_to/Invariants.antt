@@ -1,6 +1,5 @@
-use Rattle.std.proofs.Common.{◌≡◌, ℕ, ◌<◌, ◌≤◌, sym, ap, ◌∙◌, mod-lt, arith, rules}
-use Rattle.book_rules.specs.Book.{index_words, first_of, seek_in, word_to}
-use Rattle.book_rules.proofs.Seeking.{seek_past, seek_here, seek_on, seek_none, word_is}
+use Rattle.std.proofs.Common.{◌≡◌, ◌<◌}
+use Rattle.book_rules.specs.Book.{index_words, seek_in, word_to}
 use Rattle.book.proofs.word_to.Given as goal
 
 abbrev pub invariant-loop-left : goal.invariant-loop-left

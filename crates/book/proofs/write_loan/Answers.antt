@@ -1,4 +1,4 @@
-use Rattle.std.proofs.Common.{arith, length-set, rules}
+use Rattle.std.proofs.Common.{arith, length-set}
 use Rattle.book_rules.proofs.Whole.{written_along}
 use Rattle.book.proofs.write_loan.Goals as goal
 

@@ -1,5 +1,4 @@
 use Rattle.buddy_levels.proofs.Steps.{left_acquired, right_acquired}
-use Rattle.std.proofs.Common.{rules}
 use Rattle.buddy_levels.proofs.acquire.Goals as goal
 
 pub returns-then-left : goal.returns-then-left

@@ -1,4 +1,4 @@
-use Rattle.std.proofs.Common.{ℕ, List, length, sym, refl, ap, ◌∙◌, subst, arith, length-set, rules}
+use Rattle.std.proofs.Common.{ℕ, List, length, sym, refl, ap, ◌∙◌, subst, arith, length-set}
 use Rattle.buddy_rules.proofs.Added.{added_length}
 use Rattle.buddy_levels.specs.Stands.{Stands}
 use Rattle.buddy_levels.proofs.Standing.{taken_takes}

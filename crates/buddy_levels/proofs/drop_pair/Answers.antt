@@ -1,4 +1,4 @@
-use Rattle.std.proofs.Common.{refl, arith, length-set, rules}
+use Rattle.std.proofs.Common.{refl, arith, length-set}
 use Rattle.buddy_levels.proofs.Steps.{pair_dropped}
 use Rattle.buddy_levels.proofs.drop_pair.Goals as goal
 

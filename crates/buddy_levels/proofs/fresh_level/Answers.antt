@@ -1,5 +1,4 @@
 use Rattle.buddy_levels.proofs.Steps.{level_fresh}
-use Rattle.std.proofs.Common.{rules}
 use Rattle.buddy_levels.proofs.fresh_level.Goals as goal
 
 pub returns : goal.returns

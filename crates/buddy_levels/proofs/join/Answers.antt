@@ -1,4 +1,4 @@
-use Rattle.std.proofs.Common.{arith, rules}
+use Rattle.std.proofs.Common.{arith}
 use Rattle.buddy_levels.proofs.join.Goals as goal
 
 pub link-requires : goal.link-requires

@@ -1,5 +1,4 @@
 use Rattle.buddy_levels.proofs.Steps.{left_backed, right_backed}
-use Rattle.std.proofs.Common.{rules}
 use Rattle.buddy_levels.proofs.ready_pair.Goals as goal
 
 pub returns-then-left : goal.returns-then-left

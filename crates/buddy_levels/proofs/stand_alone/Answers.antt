@@ -1,4 +1,4 @@
-use Rattle.std.proofs.Common.{refl, arith, length-set, rules}
+use Rattle.std.proofs.Common.{refl, arith, length-set}
 use Rattle.buddy_levels.proofs.Steps.{alone_stood}
 use Rattle.buddy_levels.proofs.stand_alone.Goals as goal
 

@@ -1,5 +1,4 @@
 use Rattle.buddy_levels.proofs.Steps.{pair_written}
-use Rattle.std.proofs.Common.{rules}
 use Rattle.buddy_levels.proofs.write_pair.Goals as goal
 
 pub returns : goal.returns

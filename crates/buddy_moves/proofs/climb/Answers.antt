@@ -1,10 +1,6 @@
-use mathlib.Core.Path.{◌≡◌, refl, sym, ap, ◌∙◌}
-use Prim.Native.Nat.{◌+◌, ◌≤◌}
+use mathlib.Core.Path.{refl, sym, ap, ◌∙◌}
 use native.Mathlib.Omega.{arith}
-use lib.ListN.{length}
-use Rattle.counter.specs.Limits.{levels_most}
-use Rattle.buddy_rules.specs.Moves.{Climbed, climbed}
-use Rattle.buddy_moves.specs.Footing.{Footing}
+use Rattle.buddy_rules.specs.Moves.{Climbed}
 use Rattle.buddy_moves.proofs.Moved.{goes_on, climb_done, climb_on, climb_stays, foot_stands, foot_own, foot_joins, foot_leaves, foot_above}
 use borrow.Author.Rules.{rules}
 use Rattle.buddy_moves.proofs.climb.Goals as goal

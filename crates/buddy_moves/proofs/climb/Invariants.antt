@@ -1,12 +1,9 @@
-use mathlib.Core.Path.{◌≡◌, refl, sym, ap, ◌∙◌}
+use mathlib.Core.Path.{◌≡◌}
 use Prim.Native.Nat.{◌+◌, ◌≤◌}
-use native.Mathlib.Omega.{arith}
 use lib.ListN.{length}
 use Rattle.counter.specs.Limits.{levels_most}
-use Rattle.buddy_rules.specs.Moves.{Climbed, climbed}
+use Rattle.buddy_rules.specs.Moves.{climbed}
 use Rattle.buddy_moves.specs.Footing.{Footing}
-use Rattle.buddy_moves.proofs.Moved.{goes_on, climb_done, climb_on, climb_stays, foot_stands, foot_own, foot_joins, foot_leaves, foot_above}
-use borrow.Author.Rules.{rules}
 use Rattle.buddy_moves.proofs.climb.Given as goal
 
 abbrev pub invariant-loop-left : goal.invariant-loop-left

@@ -1,5 +1,4 @@
 use native.Mathlib.Omega.{arith}
-use borrow.Author.Rules.{rules}
 use Rattle.buddy_moves.proofs.Moved.{half_in, top_stands, top_place, top_roomy, top_node, top_tree}
 use Rattle.buddy_moves.proofs.split_chunk.Goals as goal
 

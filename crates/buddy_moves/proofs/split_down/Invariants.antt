@@ -1,13 +1,10 @@
-use mathlib.Core.Path.{◌≡◌, refl, sym, ap, ◌∙◌}
-use Prim.Native.Nat.{◌+◌, ◌-◌, ◌<◌}
-use native.Mathlib.Omega.{arith}
+use mathlib.Core.Path.{◌≡◌}
+use Prim.Native.Nat.{◌+◌, ◌<◌}
 use lib.ListN.{length}
 use Rattle.counter.specs.Limits.{levels_most}
 use Rattle.buddy_rules.specs.Nodes.{pair_of}
-use Rattle.buddy_rules.specs.Moves.{Cut, split_down}
+use Rattle.buddy_rules.specs.Moves.{split_down}
 use Rattle.buddy_moves.specs.Roomy.{Roomy}
-use Rattle.buddy_moves.proofs.Moved.{in_level, half_in, roomy_place, split_roomy, split_on, split_done}
-use borrow.Author.Rules.{rules}
 use Rattle.buddy_moves.proofs.split_down.Given as goal
 
 abbrev pub invariant-loop-d : goal.invariant-loop-d

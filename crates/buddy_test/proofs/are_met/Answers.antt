@@ -1,4 +1,3 @@
-use borrow.Author.Rules.{rules}
 use Rattle.buddy_test.proofs.Trees.{met_told}
 use Rattle.buddy_test.proofs.are_met.Goals as goal
 

@@ -29,11 +29,16 @@ spared-stay-requires c =
     (drop_ready a.s a.spare a.chunks.now a.regions.now a.list.now _ _ refl refl c.requires).numbers
 
 pub returns-then-whole-stay : goal.returns-then-whole-stay
-returns-then-whole-stay c = let a = c.args in record { count_value = (none_left a.s a.spare a.chunks.now a.regions.now a.list.now _ _ refl refl c.requires
-    (none_gone a.s a.spare a.chunks.now a.regions.now a.list.now _ _ refl refl c.requires _ _ refl c.spared-stay.ensures (omega (arith, c.if-whole-stay.true)))).0; bytes_value = (none_left a.s a.spare a.chunks.now a.regions.now a.list.now _ _ refl refl c.requires
-    (none_gone a.s a.spare a.chunks.now a.regions.now a.list.now _ _ refl refl c.requires _ _ refl c.spared-stay.ensures (omega (arith, c.if-whole-stay.true)))).1.0; regions_after = (none_left a.s a.spare a.chunks.now a.regions.now a.list.now _ _ refl refl c.requires
-    (none_gone a.s a.spare a.chunks.now a.regions.now a.list.now _ _ refl refl c.requires _ _ refl c.spared-stay.ensures (omega (arith, c.if-whole-stay.true)))).1.1.0; list_after = (none_left a.s a.spare a.chunks.now a.regions.now a.list.now _ _ refl refl c.requires
-    (none_gone a.s a.spare a.chunks.now a.regions.now a.list.now _ _ refl refl c.requires _ _ refl c.spared-stay.ensures (omega (arith, c.if-whole-stay.true)))).1.1.1 }
+returns-then-whole-stay c = let a = c.args in record {
+  count_value = (none_left a.s a.spare a.chunks.now a.regions.now a.list.now _ _ refl refl c.requires
+      (none_gone a.s a.spare a.chunks.now a.regions.now a.list.now _ _ refl refl c.requires _ _ refl c.spared-stay.ensures (omega (arith, c.if-whole-stay.true)))).0;
+  bytes_value = (none_left a.s a.spare a.chunks.now a.regions.now a.list.now _ _ refl refl c.requires
+      (none_gone a.s a.spare a.chunks.now a.regions.now a.list.now _ _ refl refl c.requires _ _ refl c.spared-stay.ensures (omega (arith, c.if-whole-stay.true)))).1.0;
+  regions_after = (none_left a.s a.spare a.chunks.now a.regions.now a.list.now _ _ refl refl c.requires
+      (none_gone a.s a.spare a.chunks.now a.regions.now a.list.now _ _ refl refl c.requires _ _ refl c.spared-stay.ensures (omega (arith, c.if-whole-stay.true)))).1.1.0;
+  list_after = (none_left a.s a.spare a.chunks.now a.regions.now a.list.now _ _ refl refl c.requires
+      (none_gone a.s a.spare a.chunks.now a.regions.now a.list.now _ _ refl refl c.requires _ _ refl c.spared-stay.ensures (omega (arith, c.if-whole-stay.true)))).1.1.1;
+}
 
 pub drop_chunks-gone-requires : goal.drop_chunks-gone-requires
 drop_chunks-gone-requires c = let a = c.args in record { k_in_bounds = drop_fits a.s a.spare a.chunks.now a.regions.now a.list.now _ _ refl refl c.requires; releasable = drop_ready a.s a.spare a.chunks.now a.regions.now a.list.now _ _ refl refl c.requires }

@@ -1,6 +1,4 @@
-use mathlib.Core.Bool.{not}
-use borrow.Author.Rules.{rules}
-use mathlib.Core.Path.{ap, sym, ◌∙◌}
+use mathlib.Core.Path.{sym, ◌∙◌}
 use native.Mathlib.Omega.{arith}
 use Rattle.lists.proofs.Bools.{not_yes, not_no}
 use Rattle.words.specs.Rows.{rows}
@@ -39,7 +37,8 @@ walk-requires c = let t = (tables c.args.head.now c.args.loans.now c.args.chunks
     let right = sym c.are_chunks.ensures ∙ c.if-not-are_chunks.false in
     let held = head_chunks c.args.s t c.region_count-n.result head in
     let few = lent_few c.args.s c.args.loans.now c.args.index.now (sym c.are_lent-lent.ensures.ok_value ∙ (not_no _ c.if-not-lent.false)) in
-    let live = c.are_lent-lent.ensures.live_value (not_no _ c.if-not-lent.false) in record { laid = (
+    let live = c.are_lent-lent.ensures.live_value (not_no _ c.if-not-lent.false) in record {
+      laid = (
         record {
           chunks_most_lem = omega (arith, held, c.word-k.ensures, c.requires.0.store.chunks_most_lem);
           loans_most_lem = c.requires.0.store.loans_most_lem;
@@ -50,7 +49,10 @@ walk-requires c = let t = (tables c.args.head.now c.args.loans.now c.args.chunks
           regions_long = omega (arith, long.room, head_regions c.args.s t c.region_count-n.result head);
         },
         omega (arith, live, c.word-places.ensures),
-      ); chunks_value = chunks_rise c.args.s c.word-made.result c.word-size.result (rows chunk_row c.word-k.result c.args.chunks.now) right; all = chunks_small c.args.s c.word-made.result c.word-size.result (rows chunk_row c.word-k.result c.args.chunks.now) c.requires.0 right }
+      );
+      chunks_value = chunks_rise c.args.s c.word-made.result c.word-size.result (rows chunk_row c.word-k.result c.args.chunks.now) right;
+      all = chunks_small c.args.s c.word-made.result c.word-size.result (rows chunk_row c.word-k.result c.args.chunks.now) c.requires.0 right;
+    }
 
 pub returns : goal.returns
 returns c =

@@ -1,4 +1,3 @@
-use borrow.Author.Rules.{rules}
 use Rattle.freelist_walk.proofs.Going.{done_is}
 use Rattle.freelist_walk.proofs.is_done.Goals as goal
 

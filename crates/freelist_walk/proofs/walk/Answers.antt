@@ -1,7 +1,6 @@
 use native.Mathlib.Omega.{arith}
 use borrow.Author.Tests.{not-true, not-false}
-use Rattle.freelist_walk.specs.Turn.{togo}
-use Rattle.freelist_walk.proofs.Going.{Going, going_starts, going_on, going_stops, going_ends}
+use Rattle.freelist_walk.proofs.Going.{going_starts, going_on, going_stops, going_ends}
 use Rattle.freelist_walk.proofs.walk.Goals as goal
 
 pub loop-s-init : goal.loop-s-init

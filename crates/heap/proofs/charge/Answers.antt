@@ -1,4 +1,3 @@
-use Rattle.std.proofs.Common.{rules}
 use Rattle.heap.specs.Heap.{charged_of}
 use Rattle.heap.proofs.charge.Goals as goal
 

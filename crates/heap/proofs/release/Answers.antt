@@ -1,4 +1,4 @@
-use Rattle.std.proofs.Common.{◌≡◌, ◌-◌, arith, rules}
+use Rattle.std.proofs.Common.{◌≡◌, ◌-◌, arith}
 use Rattle.heap.specs.Heap.{released_of}
 use Rattle.heap.proofs.release.Goals as goal
 

@@ -1,4 +1,3 @@
-use borrow.Author.Rules.{rules}
 use Rattle.lists.proofs.Bools.{and_left}
 use Rattle.buddy_rules.specs.Tables.{tables}
 use Rattle.linked_buddy.proofs.Branches.{settings_right, account_right, deliver_made, deliver_bad}

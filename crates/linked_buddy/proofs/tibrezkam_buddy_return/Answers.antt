@@ -1,4 +1,3 @@
-use borrow.Author.Rules.{rules}
 use Rattle.buddy_rules.specs.Tables.{tables}
 use Rattle.linked_buddy.proofs.Branches.{settings_right, account_right, return_made, return_bad}
 use Rattle.linked_buddy.proofs.tibrezkam_buddy_return.Goals as goal

@@ -1,4 +1,3 @@
-use borrow.Author.Rules.{rules}
 use mathlib.Core.Path.{sym, ◌∙◌}
 use Rattle.buddy_rules.specs.Tables.{tables}
 use Rattle.linked_buddy.proofs.Branches.{set_up_made, set_up_bad}

@@ -1,4 +1,3 @@
-use borrow.Author.Rules.{rules}
 use Rattle.freelist_rules.specs.Tables.{tables}
 use Rattle.wire_rules.specs.Wire.{list_words}
 use Rattle.wire_rules.proofs.Lent.{both_right}

@@ -1,4 +1,3 @@
-use borrow.Author.Rules.{rules}
 use mathlib.Core.Path.{sym, ◌∙◌}
 use Rattle.freelist_rules.specs.Tables.{tables}
 use Rattle.linked_list.proofs.Branches.{set_up_made, set_up_refused}

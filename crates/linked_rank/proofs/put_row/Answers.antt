@@ -1,4 +1,3 @@
-use borrow.Author.Rules.{rules}
 use Rattle.linked_rank.proofs.Rows.{row_put}
 use Rattle.linked_rank.proofs.put_row.Goals as goal
 

@@ -1,10 +1,6 @@
-use borrow.Author.Rules.{rules}
-use mathlib.Core.Path.{◌≡◌, ap, ◌∙◌}
+use mathlib.Core.Path.{◌≡◌}
 use Prim.Native.Nat.{◌-◌, ◌≤◌}
-use native.Mathlib.Omega.{arith}
-use lib.ListN.{length}
 use Rattle.linked_rank.specs.Rows.{rows_out}
-use Rattle.linked_rank.proofs.Rows.{rows_more, rows_length}
 use Rattle.linked_rank.proofs.put_rows.Given as goal
 
 abbrev pub invariant-loop-u : goal.invariant-loop-u

@@ -1,10 +1,6 @@
-use borrow.Author.Rules.{rules}
-use mathlib.Core.Path.{◌≡◌, ap, ◌∙◌}
+use mathlib.Core.Path.{◌≡◌}
 use Prim.Native.Nat.{◌-◌, ◌≤◌}
-use native.Mathlib.Omega.{arith}
-use lib.ListN.{length}
 use Rattle.linked_rank.specs.Rows.{types_out}
-use Rattle.linked_rank.proofs.Rows.{types_more, types_length}
 use Rattle.linked_rank.proofs.put_types.Given as goal
 
 abbrev pub invariant-loop-j : goal.invariant-loop-j

@@ -1,4 +1,3 @@
-use borrow.Author.Rules.{rules}
 use Rattle.usage_rules.specs.Ranking.{rank_of}
 use Rattle.linked_rank.proofs.Rows.{ranked_told}
 use Rattle.linked_rank.proofs.tibrezkam_rank.Goals as goal

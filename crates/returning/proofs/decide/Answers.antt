@@ -1,7 +1,6 @@
 use native.Mathlib.Omega.{arith}
 use Rattle.returning.proofs.Found.{word_in, loan_in_lem}
 use Rattle.returning.proofs.Stale.{return_none, return_back, return_stale}
-use borrow.Author.Rules.{rules}
 use Rattle.returning.proofs.decide.Goals as goal
 
 pub returns-then-at : goal.returns-then-at

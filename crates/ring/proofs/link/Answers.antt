@@ -6,7 +6,6 @@ use Rattle.words.specs.Words.{cell_of}
 use Rattle.slabs.specs.Slab.{link_at}
 use Rattle.ring_rules.specs.Ring.{prev, head_in_ring}
 use Rattle.ring_rules.proofs.Steps.{link_first, link_last}
-use borrow.Author.Rules.{rules}
 use Rattle.ring.proofs.link.Goals as goal
 
 pub link_in-q-requires : goal.link_in-q-requires

@@ -1,6 +1,5 @@
 use lib.ListN.{set}
 use Rattle.words.specs.Words.{cell_of}
-use borrow.Author.Rules.{rules}
 use Rattle.ring.proofs.put_link_in.Goals as goal
 
 pub returns : goal.returns

@@ -4,7 +4,6 @@ use Prim.Native.Nat.{ℕ}
 use lib.ListN.{set}
 use Rattle.words.specs.Words.{cell_of}
 use Rattle.slabs.specs.Slab.{record_of}
-use borrow.Author.Rules.{rules}
 use Rattle.ring.proofs.put_links.Goals as goal
 
 pub returns : goal.returns

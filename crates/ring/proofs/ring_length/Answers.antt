@@ -1,9 +1,5 @@
-use mathlib.Core.Path.{◌≡◌, sym, ◌∙◌}
-use Prim.Native.Nat.{◌≤◌}
+use mathlib.Core.Path.{sym, ◌∙◌}
 use native.Mathlib.Omega.{arith}
-use borrow.Author.Rules.{rules}
-use Rattle.ring_rules.specs.Ring.{next, prev}
-use Rattle.ring_rules.specs.Test.{met_after, ring_length}
 use Rattle.ring_rules.proofs.Steps.{met_done, met_far, met_torn, met_back, met_on, length_none, length_far, length_walk}
 use Rattle.ring.proofs.ring_length.Goals as goal
 

@@ -4,7 +4,6 @@ use native.Mathlib.Omega.{arith}
 use lib.ListN.{length}
 use Rattle.words.specs.Words.{cell_of}
 use Rattle.ring_rules.proofs.Steps.{unlink_alone, unlink_one}
-use borrow.Author.Rules.{rules}
 use Rattle.ring.proofs.unlink.Goals as goal
 
 pub put_link_in-requires : goal.put_link_in-requires

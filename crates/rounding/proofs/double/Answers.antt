@@ -1,5 +1,4 @@
 use native.Mathlib.Omega.{arith}
-use borrow.Author.Rules.{rules}
 use Rattle.rounding_rules.specs.Growth.{doubled}
 use Rattle.rounding.proofs.double.Goals as goal
 

@@ -1,9 +1,7 @@
 use mathlib.Core.Path.{sym}
-use Prim.Native.Nat.{◌-◌}
 use native.Mathlib.Omega.{arith}
-use borrow.Author.Rules.{rules}
 use Rattle.rounding_rules.specs.Growth.{grown}
-use Rattle.rounding_rules.proofs.Growth.{Reached, reached_first, reached_next, reached_positive, reached_done, reached_over, grown_none}
+use Rattle.rounding_rules.proofs.Growth.{reached_first, reached_next, reached_positive, reached_done, reached_over, grown_none}
 use Rattle.rounding.proofs.grow.Goals as goal
 
 -- `grow` meets its contract. The loop's invariant: c is the chunk size doubled, no more often than it takes. The measure

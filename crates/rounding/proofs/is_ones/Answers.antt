@@ -1,7 +1,6 @@
 use mathlib.Core.Path.{sym}
 use native.Mathlib.Omega.{arith}
 use lib.Pow.{pow_pos}
-use borrow.Author.Rules.{rules}
 use Rattle.rounding_rules.proofs.Masks.{ones_test, ones_over}
 use Rattle.rounding_rules.proofs.Powers.{shifted}
 use Rattle.rounding.proofs.is_ones.Goals as goal

@@ -1,6 +1,5 @@
 use mathlib.Core.Path.{sym}
 use native.Mathlib.Omega.{arith}
-use borrow.Author.Rules.{rules}
 use Rattle.rounding_rules.proofs.Masks.{power_test, power_over, power_none}
 use Rattle.rounding_rules.proofs.Powers.{shifted}
 use Rattle.rounding.proofs.is_power.Goals as goal

@@ -1,6 +1,5 @@
 use mathlib.Core.Path.{sym}
 use native.Mathlib.Omega.{arith}
-use borrow.Author.Rules.{rules}
 use Rattle.rounding_rules.proofs.Powers.{shifted}
 use Rattle.rounding_rules.proofs.Raising.{power_one, power_fits, power_past, raised_to}
 use Rattle.rounding.proofs.raise_to_power.Goals as goal

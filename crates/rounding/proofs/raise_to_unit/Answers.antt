@@ -1,7 +1,6 @@
 use mathlib.Core.Path.{sym}
 use native.Mathlib.Omega.{arith}
 use lib.Bits.{and_le_l}
-use borrow.Author.Rules.{rules}
 use Rattle.rounding_rules.proofs.Masks.{ones_more}
 use Rattle.rounding_rules.proofs.Raising.{up_masked, up_over, raised_over}
 use Rattle.rounding.proofs.raise_to_unit.Goals as goal

@@ -1,6 +1,4 @@
-use Rattle.std.proofs.Common.{◌≡◌, ◌<◌, ◌≤◌, sym, refl, ◌∙◌, arith, rules, eq-eqb, ne_eqb}
-use Rattle.slabs.specs.Slab.{vacant_at, link_at}
-use Rattle.slabs.specs.Test.{leads}
+use Rattle.std.proofs.Common.{◌<◌, ◌≤◌, sym, refl, ◌∙◌, arith, eq-eqb, ne_eqb}
 use Rattle.slabs.proofs.Steps.{leads_far, leads_used, leads_on, leads_done}
 use Rattle.slabs.proofs.chain_leads.Goals as goal
 

@@ -1,7 +1,6 @@
-use Rattle.std.proofs.Common.{◌≡◌, ◌<◌, ◌≤◌, sym, refl, ◌∙◌, arith, rules, eq-eqb, ne_eqb}
+use Rattle.std.proofs.Common.{◌≡◌}
 use Rattle.slabs.specs.Slab.{vacant_at, link_at}
 use Rattle.slabs.specs.Test.{leads}
-use Rattle.slabs.proofs.Steps.{leads_far, leads_used, leads_on, leads_done}
 use Rattle.slabs.proofs.chain_leads.Given as goal
 
 abbrev pub invariant-loop-left : goal.invariant-loop-left

@@ -1,5 +1,4 @@
-use Rattle.std.proofs.Common.{◌≡◌, ◌+◌, ◌-◌, ◌≤◌, sym, ap, ◌∙◌, ⊎_elim, arith, rules, eq-eqb, ne_eqb}
-use Rattle.slabs.specs.Slab.{vacant_at}
+use Rattle.std.proofs.Common.{◌≡◌, ◌+◌, sym, ap, ◌∙◌, arith, rules, eq-eqb, ne_eqb}
 use Rattle.slabs.specs.Test.{vacancies}
 use Rattle.slabs.proofs.Steps.{vacancies_none, vacancies_more, vacancies_same}
 use Rattle.slabs.proofs.count_vacant.Goals as goal
@@ -13,8 +12,8 @@ loop-p-preserved c =
     let i = c.loop-p.invariant.2 in
     let e = c.cell.ensures in
     elim c.if-cell-eq0.branch [
-      then-cell-eq0 w ↦ (omega arith, omega arith, w.count-is ∙ ap (λ x. x + 1) i ∙ sym (vacancies_more _ _ (eq-eqb _ _ (sym e ∙ w.if-cell-eq0.true)))) |
-      else-cell-eq0 w ↦ (omega arith, omega arith, w.count-is ∙ i ∙ sym (vacancies_same _ _ (ne_eqb _ _ (λ z. w.if-cell-eq0.false (e ∙ z)))))
+      | then-cell-eq0 w ↦ (omega arith, omega arith, w.count-is ∙ ap (λ x. x + 1) i ∙ sym (vacancies_more _ _ (eq-eqb _ _ (sym e ∙ w.if-cell-eq0.true))))
+      | else-cell-eq0 w ↦ (omega arith, omega arith, w.count-is ∙ i ∙ sym (vacancies_same _ _ (ne_eqb _ _ (λ z. w.if-cell-eq0.false (e ∙ z)))))
     ]
 
 pub returns : goal.returns

@@ -1,4 +1,4 @@
-use Rattle.std.proofs.Common.{ap, ◌∙◌, rules}
+use Rattle.std.proofs.Common.{ap, ◌∙◌}
 use Rattle.slabs.specs.Slab.{place_of}
 use Rattle.slabs.proofs.led_to.Goals as goal
 

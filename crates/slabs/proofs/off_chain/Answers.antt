@@ -1,6 +1,4 @@
-use Rattle.std.proofs.Common.{◌≡◌, ◌<◌, sym, refl, ◌∙◌, arith, rules, eq-eqb, ne_eqb}
-use Rattle.slabs.specs.Slab.{vacant_at, link_at}
-use Rattle.slabs.specs.Test.{off_chain}
+use Rattle.std.proofs.Common.{◌<◌, sym, refl, ◌∙◌, arith, rules, eq-eqb, ne_eqb}
 use Rattle.slabs.proofs.Steps.{off_done, off_past, off_below, off_more, off_used, off_on}
 use Rattle.slabs.proofs.off_chain.Goals as goal
 

@@ -1,7 +1,6 @@
-use Rattle.std.proofs.Common.{◌≡◌, ◌<◌, sym, refl, ◌∙◌, arith, rules, eq-eqb, ne_eqb}
+use Rattle.std.proofs.Common.{◌≡◌}
 use Rattle.slabs.specs.Slab.{vacant_at, link_at}
 use Rattle.slabs.specs.Test.{off_chain}
-use Rattle.slabs.proofs.Steps.{off_done, off_past, off_below, off_more, off_used, off_on}
 use Rattle.slabs.proofs.off_chain.Given as goal
 
 abbrev pub invariant-loop-cur : goal.invariant-loop-cur

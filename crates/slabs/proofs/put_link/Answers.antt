@@ -1,4 +1,4 @@
-use Rattle.std.proofs.Common.{ℕ, set, ap, ◌∙◌, rules}
+use Rattle.std.proofs.Common.{ℕ, set, ap, ◌∙◌}
 use Rattle.words.specs.Words.{cell_of}
 use Rattle.slabs.proofs.put_link.Goals as goal
 

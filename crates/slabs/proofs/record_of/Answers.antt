@@ -1,4 +1,4 @@
-use Rattle.std.proofs.Common.{arith, rules}
+use Rattle.std.proofs.Common.{arith}
 use Rattle.slabs.proofs.Links.{record_wraps}
 use Rattle.slabs.proofs.record_of.Goals as goal
 

@@ -1,4 +1,4 @@
-use Rattle.std.proofs.Common.{ℕ, ◌-◌, false, sym, refl, ap, arith, rules}
+use Rattle.std.proofs.Common.{ℕ, ◌-◌, false, sym, refl, ap, arith}
 use Rattle.lists.proofs.Bools.{true_false}
 use Rattle.slabs.specs.Slab.{vacant_at, link_at}
 use Rattle.slabs.proofs.Steps.{parted_within, parted_over}

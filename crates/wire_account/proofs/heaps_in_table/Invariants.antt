@@ -1,13 +1,8 @@
-use borrow.Author.Rules.{rules}
 use mathlib.Core.Path.{◌≡◌}
 use Prim.Native.Nat.{◌-◌, ◌≤◌}
-use native.Mathlib.Omega.{arith}
 use Rattle.counter.specs.Limits.{heaps_most}
 use Rattle.counter.specs.Table.{heaps_upto}
-use Rattle.counter.proofs.Tables.{heaps_none}
 use Rattle.wire_rules.specs.Wire.{heaps_in}
-use Rattle.wire_rules.proofs.Orders.{right_yes}
-use Rattle.wire_rules.proofs.Shares.{table_more}
 use Rattle.wire_account.proofs.heaps_in_table.Given as goal
 
 abbrev pub invariant-loop-i : goal.invariant-loop-i

@@ -1,4 +1,3 @@
-use borrow.Author.Rules.{rules}
 use Rattle.wire_rules.proofs.Orders.{account_told, account_not}
 use Rattle.wire_account.proofs.is_account.Goals as goal
 

@@ -1,6 +1,4 @@
-use borrow.Author.Rules.{rules}
 use Rattle.wire_rules.proofs.Orders.{put_told}
-use Rattle.wire_account.proofs.put_kept.Reads as put-kept-reads
 use Rattle.wire_account.proofs.put_asked.Goals as goal
 
 pub returns-in-Order : goal.returns-in-Order

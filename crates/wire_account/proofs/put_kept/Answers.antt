@@ -1,6 +1,4 @@
-use borrow.Author.Rules.{rules}
 use Rattle.wire_rules.proofs.Orders.{put_kept}
-use Rattle.words.proofs.put.Reads as put_reads
 use Rattle.wire_account.proofs.put_kept.Goals as goal
 
 pub returns : goal.returns

@@ -1,7 +1,4 @@
-use borrow.Author.Rules.{rules}
 use Rattle.wire_rules.proofs.Orders.{put_none, put_some}
-use Rattle.wire_account.proofs.put_kept.Reads as put-kept-reads
-use Rattle.words.proofs.put.Reads as put_reads
 use Rattle.wire_account.proofs.put_order.Goals as goal
 
 pub returns-in-Nothing : goal.returns-in-Nothing

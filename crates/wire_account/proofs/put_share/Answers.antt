@@ -1,8 +1,5 @@
-use borrow.Author.Rules.{rules}
-use mathlib.Core.Path.{ap, ◌∙◌}
-use mathlib.Core.Logic.{⊎_elim}
-use lib.ListN.{length}
-use Rattle.wire_rules.proofs.Shares.{put_own, put_past, put_share, share_length}
+use mathlib.Core.Path.{◌∙◌}
+use Rattle.wire_rules.proofs.Shares.{put_own, put_past, put_share}
 use Rattle.wire_account.proofs.put_share.Goals as goal
 use Rattle.wire_account.proofs.put_share.Goals.{then-i-lt-HEAPS, else-i-lt-HEAPS}
 

@@ -1,4 +1,3 @@
-use borrow.Author.Rules.{rules}
 use native.Mathlib.Omega.{arith}
 use Rattle.wire_rules.proofs.Orders.{right_yes, order_none, order_kept}
 use Rattle.wire_account.proofs.read_order.Goals as goal

@@ -1,4 +1,3 @@
-use borrow.Author.Rules.{rules}
 use native.Mathlib.Omega.{arith}
 use Rattle.wire_rules.proofs.Orders.{right_yes}
 use Rattle.wire_rules.proofs.Shares.{read_share}

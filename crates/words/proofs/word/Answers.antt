@@ -1,6 +1,5 @@
 use lib.ListN.{get_or-eq_default}
 use mathlib.Core.Path.{sym}
-use borrow.Author.Rules.{rules}
 use Rattle.words.proofs.word.Goals as goal
 
 pub returns-else-i-t : goal.returns-else-i-t

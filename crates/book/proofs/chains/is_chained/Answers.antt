@@ -1,4 +1,4 @@
-use Rattle.std.proofs.Common.{arith, rules}
+use Rattle.std.proofs.Common.{arith}
 use Rattle.slabs.specs.Slab.{vacant_at}
 use Rattle.store_rules.specs.Loans.{loan_words, size_at}
 use Rattle.book_rules.proofs.Following.{vacancies_most, chains_counted}

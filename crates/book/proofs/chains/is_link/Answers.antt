@@ -1,4 +1,4 @@
-use Rattle.std.proofs.Common.{ℕ, ◌&&◌, eqb, ltb, leb, sym, ap, ◌∙◌, rules, eq-eqb, ne_eqb}
+use Rattle.std.proofs.Common.{ℕ, ◌&&◌, eqb, ltb, leb, sym, ap, ◌∙◌, eq-eqb, ne_eqb}
 use Rattle.book_rules.proofs.Following.{link_past, link_vacant, link_read}
 use Rattle.book.proofs.chains.is_link.Goals as goal
 

@@ -1,9 +1,8 @@
-use Rattle.std.proofs.Common.{◌≡◌, ◌<◌, sym, refl, ◌∙◌, arith, rules}
+use Rattle.std.proofs.Common.{◌≡◌}
 use Rattle.slabs.specs.Slab.{vacant_at}
 use Rattle.store_rules.specs.Loans.{loan_words, size_at}
 use Rattle.book_rules.specs.Book.{serial_of, first_in, next_in}
 use Rattle.book_rules.specs.Chains.{left_after}
-use Rattle.book_rules.proofs.Following.{link_alone, link_serial, link_below, after_end, after_none, after_torn, after_on}
 use Rattle.book.proofs.chains.left_after.Given as goal
 
 abbrev pub invariant-loop-p : goal.invariant-loop-p

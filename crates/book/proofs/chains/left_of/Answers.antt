@@ -1,7 +1,4 @@
-use Rattle.std.proofs.Common.{◌≡◌, ◌-◌, ◌≤◌, sym, ap, ◌∙◌, ⊎_elim, arith, rules}
-use Rattle.slabs.specs.Slab.{vacant_at}
-use Rattle.store_rules.specs.Loans.{loan_words, size_at}
-use Rattle.book_rules.specs.Book.{serial_of, first_in, next_in}
+use Rattle.std.proofs.Common.{◌≡◌, sym, ap, ◌∙◌, arith, rules}
 use Rattle.book_rules.specs.Chains.{left_of}
 use Rattle.book_rules.proofs.Following.{of_none, of_torn, of_on}
 use Rattle.book.proofs.chains.left_of.Goals as goal
@@ -14,8 +11,8 @@ pub loop-i-preserved : goal.loop-i-preserved
 loop-i-preserved c =
     let b = c.loop-i.invariant.1 in
     elim c.if-left.branch [
-      then-left w ↦ (omega arith, w.left-is ∙ w.left_after-left.ensures ∙ sym (of_on _ _ _ _ _ _ _ _ _ _ _ b w.if-left.true w.first_of-first.ensures)) |
-      else-left w ↦ (omega arith, w.left-is ∙ w.if-left.false ∙ sym (of_torn _ _ _ _ _ _ _ _ _ (sym b ∙ w.if-left.false)))
+      | then-left w ↦ (omega arith, w.left-is ∙ w.left_after-left.ensures ∙ sym (of_on _ _ _ _ _ _ _ _ _ _ _ b w.if-left.true w.first_of-first.ensures))
+      | else-left w ↦ (omega arith, w.left-is ∙ w.if-left.false ∙ sym (of_torn _ _ _ _ _ _ _ _ _ (sym b ∙ w.if-left.false)))
     ]
 
 pub returns : goal.returns

@@ -1,9 +1,8 @@
-use Rattle.std.proofs.Common.{◌≡◌, ◌-◌, ◌≤◌, sym, ap, ◌∙◌, ⊎_elim, arith, rules}
+use Rattle.std.proofs.Common.{◌≡◌, ◌-◌, ◌≤◌}
 use Rattle.slabs.specs.Slab.{vacant_at}
 use Rattle.store_rules.specs.Loans.{loan_words, size_at}
 use Rattle.book_rules.specs.Book.{serial_of, first_in, next_in}
 use Rattle.book_rules.specs.Chains.{left_of}
-use Rattle.book_rules.proofs.Following.{of_none, of_torn, of_on}
 use Rattle.book.proofs.chains.left_of.Given as goal
 
 abbrev pub invariant-loop-i : goal.invariant-loop-i

@@ -1,4 +1,4 @@
-use Rattle.std.proofs.Common.{false, refl, arith, rules}
+use Rattle.std.proofs.Common.{false, refl, arith}
 use Rattle.lists.proofs.Bools.{true_false}
 use Rattle.slabs.specs.Slab.{vacant_at}
 use Rattle.store_rules.specs.Loans.{loan_words, size_at}

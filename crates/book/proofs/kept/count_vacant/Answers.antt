@@ -1,8 +1,6 @@
-use Rattle.std.proofs.Common.{◌≡◌, ◌+◌, ◌-◌, ◌≤◌, sym, ap, ◌∙◌, ⊎_elim, arith, rules, eq-eqb, ne_eqb}
-use Rattle.slabs.specs.Slab.{vacant_at}
+use Rattle.std.proofs.Common.{◌≡◌, ◌+◌, sym, ap, ◌∙◌, arith, rules, eq-eqb, ne_eqb}
 use Rattle.slabs.specs.Test.{vacancies}
 use Rattle.slabs.proofs.Steps.{vacancies_none, vacancies_more, vacancies_same}
-use Rattle.store_rules.specs.Loans.{loan_words, size_at}
 use Rattle.book.proofs.kept.count_vacant.Goals as goal
 use Rattle.book.proofs.kept.count_vacant.Goals.{then-loans-p-eq0, else-loans-p-eq0}
 
@@ -13,8 +11,8 @@ pub loop-p-preserved : goal.loop-p-preserved
 loop-p-preserved c =
     let i = c.loop-p.invariant.2 in
     elim c.if-loans-p-eq0.branch [
-      then-loans-p-eq0 w ↦ (omega arith, omega arith, w.count-is ∙ ap (λ x. x + 1) i ∙ sym (vacancies_more _ _ (eq-eqb _ _ w.if-loans-p-eq0.true))) |
-      else-loans-p-eq0 w ↦ (omega arith, omega arith, w.count-is ∙ i ∙ sym (vacancies_same _ _ (ne_eqb _ _ w.if-loans-p-eq0.false)))
+      | then-loans-p-eq0 w ↦ (omega arith, omega arith, w.count-is ∙ ap (λ x. x + 1) i ∙ sym (vacancies_more _ _ (eq-eqb _ _ w.if-loans-p-eq0.true)))
+      | else-loans-p-eq0 w ↦ (omega arith, omega arith, w.count-is ∙ i ∙ sym (vacancies_same _ _ (ne_eqb _ _ w.if-loans-p-eq0.false)))
     ]
 
 pub returns : goal.returns

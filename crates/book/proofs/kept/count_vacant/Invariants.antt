@@ -1,7 +1,6 @@
-use Rattle.std.proofs.Common.{◌≡◌, ◌+◌, ◌-◌, ◌≤◌, sym, ap, ◌∙◌, ⊎_elim, arith, rules, eq-eqb, ne_eqb}
+use Rattle.std.proofs.Common.{◌≡◌, ◌-◌, ◌≤◌}
 use Rattle.slabs.specs.Slab.{vacant_at}
 use Rattle.slabs.specs.Test.{vacancies}
-use Rattle.slabs.proofs.Steps.{vacancies_none, vacancies_more, vacancies_same}
 use Rattle.store_rules.specs.Loans.{loan_words, size_at}
 use Rattle.book.proofs.kept.count_vacant.Given as goal
 

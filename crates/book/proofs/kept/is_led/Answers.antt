@@ -1,5 +1,3 @@
-use Rattle.std.proofs.Common.{rules}
-use Rattle.lists.proofs.Bools.{not_yes, not_no}
 use Rattle.slabs.specs.Slab.{vacant_at, link_at}
 use Rattle.slabs.proofs.Steps.{parted_within}
 use Rattle.store_rules.specs.Loans.{loan_words, size_at}

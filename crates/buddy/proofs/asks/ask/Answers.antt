@@ -1,4 +1,3 @@
-use borrow.Author.Rules.{rules}
 use mathlib.Core.Path.{ap}
 use Rattle.counter.specs.Paper.{ask_said}
 use Rattle.buddy_rules.specs.Tables.{tables}

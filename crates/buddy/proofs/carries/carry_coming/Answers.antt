@@ -1,4 +1,3 @@
-use borrow.Author.Rules.{rules}
 use mathlib.Core.Path.{sym, ap, subst, ◌∙◌}
 use Rattle.store_rules.proofs.Holders.{holding}
 use Rattle.store.specs.Comings.{coming_of}

@@ -1,4 +1,3 @@
-use borrow.Author.Rules.{rules}
 use mathlib.Core.Path.{sym, ap, subst, ◌∙◌}
 use Rattle.counter.specs.Gate.{verdict_of}
 use Rattle.counter.specs.declared.refusal.Gate.{Gate}

@@ -1,4 +1,3 @@
-use borrow.Author.Rules.{rules}
 use mathlib.Core.Path.{◌∙◌}
 use Rattle.buddy.proofs.Carried.{serves_now, loan_now, chunk_now, kept_done}
 use Rattle.buddy.proofs.carries.keep_chunk.Goals as goal

@@ -1,4 +1,3 @@
-use borrow.Author.Rules.{rules}
 use mathlib.Core.List.{[]}
 use Rattle.buddy.proofs.Carried.{lost_done}
 use Rattle.buddy.proofs.carries.lose.Goals as goal

@@ -8,7 +8,6 @@ use Rattle.buddy_decide.specs.Plans.{TryOf}
 use Rattle.buddy_decide.proofs.Seeing.{sees}
 use Rattle.buddy_decide.proofs.Tests.{look_buys}
 use Rattle.buddy.proofs.Planned.{ask_shut, shut_number, ask_go}
-use borrow.Author.Rules.{rules}
 use Rattle.buddy.proofs.plans.plan_ask.Goals as goal
 
 pub try_held-tried-requires : goal.try_held-tried-requires

@@ -1,4 +1,3 @@
-use borrow.Author.Rules.{rules}
 use mathlib.Core.Path.{sym, ap, subst, ◌∙◌}
 use Rattle.buddy_rules.specs.Tables.{tables}
 use Rattle.buddy_gate.specs.Gates.{passing_of, PassingBuys}

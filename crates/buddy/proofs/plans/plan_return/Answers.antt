@@ -1,4 +1,3 @@
-use borrow.Author.Rules.{rules}
 use mathlib.Core.Path.{sym, ap, ◌∙◌}
 use Rattle.counter.specs.Gate.{verdict_of}
 use Rattle.store_rules.specs.Outcomes.{list_ok}

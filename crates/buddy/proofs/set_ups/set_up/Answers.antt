@@ -1,4 +1,3 @@
-use borrow.Author.Rules.{rules}
 use mathlib.Core.Path.{◌∙◌}
 use Rattle.buddy_rules.specs.Tables.{tables}
 use Rattle.buddy.proofs.Fresh.{set_up_ready, set_up_called}

@@ -2,7 +2,6 @@ use native.Mathlib.Omega.{arith}
 use mathlib.Core.Path.{refl, ap, ◌∙◌}
 use Rattle.buddy_rules.specs.Moves.{Climbed}
 use Rattle.buddy_back.proofs.Returned.{climb_is, climb_foot}
-use borrow.Author.Rules.{rules}
 use Rattle.buddy_back.proofs.backing.strike_out.Goals as goal
 
 pub climb-requires : goal.climb-requires

@@ -1,4 +1,3 @@
-use borrow.Author.Rules.{rules}
 use Rattle.buddy_back.proofs.Returned.{vacated_done}
 use Rattle.buddy_back.proofs.backing.vacate.Goals as goal
 

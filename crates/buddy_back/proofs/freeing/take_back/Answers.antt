@@ -1,4 +1,3 @@
-use borrow.Author.Rules.{rules}
 use mathlib.Core.List.{[]}
 use Rattle.buddy_rules.specs.Tables.{tables}
 use Rattle.buddy_moves.proofs.Backing.{backs_rest}

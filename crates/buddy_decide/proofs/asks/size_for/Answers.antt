@@ -1,4 +1,3 @@
-use borrow.Author.Rules.{rules}
 use Rattle.buddy_decide.proofs.Asking.{all_ones, size_to, size_over}
 use Rattle.buddy_decide.proofs.asks.size_for.Goals as goal
 

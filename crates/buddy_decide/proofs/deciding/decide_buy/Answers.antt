@@ -1,7 +1,6 @@
 use borrow.Author.Rules.{rules}
 use mathlib.Core.Path.{refl}
 use native.Mathlib.Omega.{arith}
-use Rattle.lists.proofs.Bools.{not_yes, not_no}
 use Rattle.buddy_decide.proofs.Tests.{room_is, counts_are, buy_full, buy_spent, buy_none, buy_go}
 use Rattle.buddy_decide.proofs.deciding.decide_buy.Goals as goal
 
@@ -22,10 +21,13 @@ returns-then-objects-eq0 c = let a = c.args in
 
 pub returns : goal.returns
 returns c = let a = c.args in
-    let room = room_is a.s a.n.level a.head.now a.loans.now a.chunks.now a.index.now a.tree.now _ _ _ _ c.requires.3 c.next_loan-loan.ensures c.chunk_taken-chunk.ensures c.has_room.ensures in record { result_value = buy_go a.s a.n.level a.head.now a.loans.now a.chunks.now a.index.now a.tree.now a.h a.objects _ room _ c.requires.2 c.if-not-has_room.false (counts_are a.s a.n.level a.head.now a.loans.now a.chunks.now a.index.now a.tree.now a.h a.objects _ _ _ _ c.requires.2 c.word-given.ensures c.bears.ensures c.if-not-given-bears.false) (search rules); planned_at = record {
+    let room = room_is a.s a.n.level a.head.now a.loans.now a.chunks.now a.index.now a.tree.now _ _ _ _ c.requires.3 c.next_loan-loan.ensures c.chunk_taken-chunk.ensures c.has_room.ensures in record {
+      result_value = buy_go a.s a.n.level a.head.now a.loans.now a.chunks.now a.index.now a.tree.now a.h a.objects _ room _ c.requires.2 c.if-not-has_room.false (counts_are a.s a.n.level a.head.now a.loans.now a.chunks.now a.index.now a.tree.now a.h a.objects _ _ _ _ c.requires.2 c.word-given.ensures c.bears.ensures c.if-not-given-bears.false) (search rules);
+      planned_at = record {
         size = refl;
         level = refl;
         levels = c.requires.3;
         loan = c.next_loan-loan.ensures;
         chunk = c.chunk_taken-chunk.ensures;
-      } }
+      };
+    }

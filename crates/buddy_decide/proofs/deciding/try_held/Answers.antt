@@ -1,7 +1,6 @@
 use borrow.Author.Rules.{rules}
 use Rattle.buddy_rules.specs.Tables.{tables}
 use mathlib.Core.Path.{refl, sym, ◌∙◌}
-use Rattle.lists.proofs.Bools.{not_yes, not_no}
 use Rattle.counter.proofs.Tables.{alignment_yes}
 use Rattle.buddy_decide.proofs.Tests.{decide_mask, decide_zero, decide_over, size_is, level_below, look_sized}
 use Rattle.buddy_decide.proofs.deciding.try_held.Goals as goal

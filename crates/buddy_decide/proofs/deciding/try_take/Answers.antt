@@ -1,5 +1,4 @@
 use mathlib.Core.Path.{refl, sym, ◌∙◌}
-use Rattle.lists.proofs.Bools.{not_yes, not_no}
 use Rattle.buddy_decide.proofs.Tests.{left_no, left_yes, pairs_are, take_full, take_none, take_spent, take_go}
 use borrow.Author.Rules.{rules}
 use Rattle.buddy_decide.proofs.deciding.try_take.Goals as goal

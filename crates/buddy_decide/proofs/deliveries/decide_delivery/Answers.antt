@@ -1,4 +1,3 @@
-use borrow.Author.Rules.{rules}
 use mathlib.Core.List.{[]}
 use lib.ListN.{get_or}
 use Rattle.buddy_levels.specs.Seen.{level_part}

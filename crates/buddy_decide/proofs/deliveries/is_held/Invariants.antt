@@ -1,10 +1,8 @@
-use borrow.Author.Rules.{rules}
-use mathlib.Core.Path.{◌≡◌, refl, ap, ◌∙◌}
-use Prim.Native.Nat.{ℕ, ◌-◌, ◌≤◌}
-use native.Mathlib.Omega.{arith}
+use mathlib.Core.Path.{◌≡◌}
+use Prim.Native.Nat.{◌-◌, ◌≤◌}
 use Rattle.store_rules.specs.Delivery.{holds}
 use Rattle.buddy_rules.specs.Tables.{memories}
-use Rattle.buddy_decide.proofs.Known.{seen, held_next}
+use Rattle.buddy_decide.proofs.Known.{seen}
 use Rattle.buddy_decide.proofs.deliveries.is_held.Given as goal
 
 abbrev pub invariant-loop-c : goal.invariant-loop-c

@@ -1,4 +1,3 @@
-use borrow.Author.Rules.{rules}
 use Rattle.buddy_decide.proofs.Known.{known_made}
 use Rattle.buddy_decide.proofs.deliveries.is_known.Goals as goal
 

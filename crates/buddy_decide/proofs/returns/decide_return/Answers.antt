@@ -1,6 +1,5 @@
 use mathlib.Core.Path.{refl}
 use Rattle.buddy_decide.proofs.Shows.{return_is}
-use borrow.Author.Rules.{rules}
 use Rattle.buddy_decide.proofs.returns.decide_return.Goals as goal
 
 pub returns : goal.returns

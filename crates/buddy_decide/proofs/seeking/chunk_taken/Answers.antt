@@ -1,4 +1,3 @@
-use borrow.Author.Rules.{rules}
 use Rattle.buddy_decide.proofs.Shows.{taken_is}
 use Rattle.buddy_decide.proofs.seeking.chunk_taken.Goals as goal
 

@@ -1,12 +1,10 @@
-use mathlib.Core.Path.{◌≡◌, refl, sym, subst, ◌∙◌}
-use mathlib.Core.Logic.{⊎_elim}
+use mathlib.Core.Path.{refl, sym, subst, ◌∙◌}
 use mathlib.Core.List.{[]}
-use Prim.Native.Nat.{ℕ, ◌+◌, ◌-◌, ◌≤◌}
+use Prim.Native.Nat.{ℕ, ◌+◌}
 use native.Mathlib.Numerals.{unary_clauses}
 use native.Mathlib.Omega.{arith}
 use Rattle.buddy_levels.specs.Seen.{part_settings, level_part}
 use Rattle.buddy_levels.specs.Stands.{Takes}
-use Rattle.buddy_outcomes.specs.Ask.{pairs_room}
 use Rattle.buddy_decide.proofs.Shows.{pairs_done, pairs_past, pairs_none, pairs_on}
 use borrow.Author.Rules.{rules}
 use Rattle.buddy_decide.proofs.seeking.has_pairs.Goals as goal
@@ -30,8 +28,8 @@ loop-i-preserved c =
     let more = c.loop-i-test.true in (
       omega (arith, more),
       c.loop-i.invariant.1 ∙ elim c.if-l-levels.branch [
-        then-l-levels+else-pairs-taken w ↦ pairs_on a.pairs a.level a.n a.levels a.tree.now c.loop-i.i more w.if-l-levels.true _ _ w.level_from.ensures.value w.pair_taken-taken.ensures w.if-pairs-taken.false |
-        else-l-levels w ↦ pairs_past a.pairs a.level a.n a.levels a.tree.now c.loop-i.i more w.if-l-levels.false
+        | then-l-levels+else-pairs-taken w ↦ pairs_on a.pairs a.level a.n a.levels a.tree.now c.loop-i.i more w.if-l-levels.true _ _ w.level_from.ensures.value w.pair_taken-taken.ensures w.if-pairs-taken.false
+        | else-l-levels w ↦ pairs_past a.pairs a.level a.n a.levels a.tree.now c.loop-i.i more w.if-l-levels.false
       ],
     )
 

@@ -1,14 +1,8 @@
-use mathlib.Core.Path.{◌≡◌, refl, sym, subst, ◌∙◌}
-use mathlib.Core.Logic.{⊎_elim}
+use mathlib.Core.Path.{◌≡◌}
 use mathlib.Core.List.{[]}
-use Prim.Native.Nat.{ℕ, ◌+◌, ◌-◌, ◌≤◌}
-use native.Mathlib.Numerals.{unary_clauses}
-use native.Mathlib.Omega.{arith}
+use Prim.Native.Nat.{◌+◌, ◌-◌, ◌≤◌}
 use Rattle.buddy_levels.specs.Seen.{part_settings, level_part}
-use Rattle.buddy_levels.specs.Stands.{Takes}
 use Rattle.buddy_outcomes.specs.Ask.{pairs_room}
-use Rattle.buddy_decide.proofs.Shows.{pairs_done, pairs_past, pairs_none, pairs_on}
-use borrow.Author.Rules.{rules}
 use Rattle.buddy_decide.proofs.seeking.has_pairs.Given as goal
 
 abbrev pub invariant-loop-i : goal.invariant-loop-i

@@ -1,11 +1,10 @@
-use mathlib.Core.Path.{◌≡◌, ◌∙◌}
-use Prim.Native.Nat.{◌-◌, ◌≤◌, ◌<◌}
+use mathlib.Core.Path.{◌∙◌}
+use Prim.Native.Nat.{◌<◌}
 use native.Mathlib.Omega.{arith}
 use Rattle.counter.specs.Limits.{levels_most}
 use Rattle.buddy_levels.specs.Seen.{part_settings}
 use Rattle.buddy_rules.proofs.Abstract.{levels_in_lem}
-use Rattle.buddy_decide.proofs.Shows.{Onward, seek_on, seek_at, seek_none}
-use borrow.Author.Rules.{rules}
+use Rattle.buddy_decide.proofs.Shows.{seek_on, seek_at, seek_none}
 use Rattle.buddy_decide.proofs.seeking.seek.Goals as goal
 
 pub node_bytes-requires : goal.node_bytes-requires

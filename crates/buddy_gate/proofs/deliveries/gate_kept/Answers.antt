@@ -1,6 +1,4 @@
-use borrow.Author.Rules.{rules}
 use mathlib.Core.Path.{sym, ap, subst, ◌∙◌}
-use Rattle.lists.proofs.Bools.{not_yes, not_no}
 use Rattle.buddy_rules.specs.Tables.{tables}
 use Rattle.buddy_rules.proofs.Decides.{tables_yes}
 use Rattle.buddy_decide.proofs.Seeing.{sees}

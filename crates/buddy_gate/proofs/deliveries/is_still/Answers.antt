@@ -1,4 +1,3 @@
-use borrow.Author.Rules.{rules}
 use mathlib.Core.Path.{sym, ap, subst, ◌∙◌}
 use Rattle.buddy_rules.specs.Tables.{tables}
 use Rattle.buddy_decide.specs.Plans.{plan_of, Planned}

@@ -1,10 +1,7 @@
-use borrow.Author.Rules.{rules}
-use mathlib.Core.Path.{◌≡◌, refl, ap, ◌∙◌}
-use Prim.Native.Nat.{◌+◌, ◌-◌, ◌≤◌}
-use native.Mathlib.Omega.{arith}
+use mathlib.Core.Path.{◌≡◌}
+use Prim.Native.Nat.{◌-◌, ◌≤◌}
 use Rattle.buddy_outcomes.specs.Gate.{held_bytes}
 use Rattle.buddy_decide.proofs.Known.{seen}
-use Rattle.buddy_gate.proofs.Held.{bytes_next, bytes_low}
 use Rattle.buddy_gate.proofs.gating.held_bytes.Given as goal
 
 abbrev pub invariant-loop-c : goal.invariant-loop-c

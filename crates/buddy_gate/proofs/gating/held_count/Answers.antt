@@ -1,7 +1,4 @@
-use borrow.Author.Rules.{rules}
 use mathlib.Core.Path.{◌≡◌, refl, ap, ◌∙◌}
-use mathlib.Core.Logic.{⊎_elim}
-use Prim.Native.Nat.{◌-◌, ◌≤◌}
 use native.Mathlib.Omega.{arith}
 use Rattle.buddy_outcomes.specs.Gate.{held_count}
 use Rattle.buddy_decide.proofs.Known.{seen}
@@ -24,8 +21,8 @@ loop-c-preserved c =
     let read = c.cell.ensures in (
       omega arith,
       elim c.if-cell-ne0.branch [
-        then-cell-ne0 w ↦ w.count-is ∙ count_more a.chunks.now _ _ (omega (arith, c.requires)) read _ c.loop-c.invariant.1 w.if-cell-ne0.true |
-        else-cell-ne0 w ↦ w.count-is ∙ count_none a.chunks.now _ _ (omega (arith, c.requires)) read _ c.loop-c.invariant.1 w.if-cell-ne0.false
+        | then-cell-ne0 w ↦ w.count-is ∙ count_more a.chunks.now _ _ (omega (arith, c.requires)) read _ c.loop-c.invariant.1 w.if-cell-ne0.true
+        | else-cell-ne0 w ↦ w.count-is ∙ count_none a.chunks.now _ _ (omega (arith, c.requires)) read _ c.loop-c.invariant.1 w.if-cell-ne0.false
       ],
     )
 

@@ -1,11 +1,7 @@
-use borrow.Author.Rules.{rules}
-use mathlib.Core.Path.{◌≡◌, refl, ap, ◌∙◌}
-use mathlib.Core.Logic.{⊎_elim}
+use mathlib.Core.Path.{◌≡◌}
 use Prim.Native.Nat.{◌-◌, ◌≤◌}
-use native.Mathlib.Omega.{arith}
 use Rattle.buddy_outcomes.specs.Gate.{held_count}
 use Rattle.buddy_decide.proofs.Known.{seen}
-use Rattle.buddy_gate.proofs.Held.{count_more, count_none, count_low}
 use Rattle.buddy_gate.proofs.gating.held_count.Given as goal
 
 abbrev pub invariant-loop-c : goal.invariant-loop-c

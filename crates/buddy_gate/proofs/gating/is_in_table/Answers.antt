@@ -1,4 +1,3 @@
-use borrow.Author.Rules.{rules}
 use mathlib.Core.Path.{sym, ◌∙◌}
 use Rattle.counter.proofs.Tables.{buddy_yes}
 use Rattle.store_rules.proofs.Holders.{holder}

@@ -1,4 +1,3 @@
-use borrow.Author.Rules.{rules}
 use Rattle.buddy_rules.specs.Tables.{tables}
 use Rattle.buddy_gate.proofs.Gates.{lengths_is}
 use Rattle.buddy_gate.proofs.gating.lengths_fit.Goals as goal

@@ -1,9 +1,6 @@
 use borrow.Author.Rules.{rules}
-use mathlib.Core.Path.{◌≡◌, refl, sym, ◌∙◌}
-use Prim.Native.Nat.{◌+◌, ◌-◌, ◌≤◌}
+use mathlib.Core.Path.{refl, sym, ◌∙◌}
 use native.Mathlib.Omega.{arith}
-use lib.ListN.{length}
-use Rattle.buddy_outcomes.specs.Ask.{fresh_levels}
 use Rattle.buddy_grow.proofs.Grown.{fresh_none, fresh_next, fresh_all}
 use Rattle.buddy_grow.proofs.growing.fresh_levels.Goals as goal
 

@@ -1,10 +1,7 @@
-use borrow.Author.Rules.{rules}
-use mathlib.Core.Path.{◌≡◌, refl, sym, ◌∙◌}
+use mathlib.Core.Path.{◌≡◌}
 use Prim.Native.Nat.{◌+◌, ◌-◌, ◌≤◌}
-use native.Mathlib.Omega.{arith}
 use lib.ListN.{length}
 use Rattle.buddy_outcomes.specs.Ask.{fresh_levels}
-use Rattle.buddy_grow.proofs.Grown.{fresh_none, fresh_next, fresh_all}
 use Rattle.buddy_grow.proofs.growing.fresh_levels.Given as goal
 
 abbrev pub invariant-loop-i : goal.invariant-loop-i

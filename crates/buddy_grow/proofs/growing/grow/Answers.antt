@@ -1,4 +1,3 @@
-use borrow.Author.Rules.{rules}
 use Rattle.buddy_grow.proofs.Grown.{grown_done}
 use Rattle.buddy_grow.proofs.growing.grow.Goals as goal
 

@@ -1,4 +1,3 @@
-use borrow.Author.Rules.{rules}
 use mathlib.Core.Path.{refl, sym, subst}
 use mathlib.Core.List.{[]}
 use lib.ListN.{length}

@@ -1,4 +1,3 @@
-use borrow.Author.Rules.{rules}
 use Rattle.rounding_rules.proofs.Masks.{power_top}
 use Rattle.buddy_lend.proofs.Lent.{left_from, right_from}
 use Rattle.buddy_lend.proofs.lending.side_from.Goals as goal

@@ -1,4 +1,3 @@
-use borrow.Author.Rules.{rules}
 use native.Mathlib.Omega.{arith}
 use Rattle.buddy_lend.proofs.Served.{top_takes, top_low, chunk_done}
 use Rattle.buddy_lend.proofs.serving.add_chunk.Goals as goal

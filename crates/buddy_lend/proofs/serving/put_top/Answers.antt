@@ -1,4 +1,3 @@
-use borrow.Author.Rules.{rules}
 use Rattle.buddy_lend.proofs.Served.{top_done}
 use Rattle.buddy_lend.proofs.serving.put_top.Goals as goal
 

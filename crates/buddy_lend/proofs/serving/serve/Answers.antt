@@ -1,4 +1,3 @@
-use borrow.Author.Rules.{rules}
 use mathlib.Core.Path.{sym, ap, subst}
 use mathlib.Core.List.{List}
 use Prim.Native.Nat.{ℕ, ◌+◌, ◌-◌, ◌<◌}
@@ -34,13 +33,16 @@ overflow_sub-above-2 c =
 pub split_chunk-n-requires : goal.split_chunk-n-requires
 split_chunk-n-requires c = let a = c.args in
     let place = place_in a.s a.loans.now a.index.now _ c.requires.1 c.requires.0.enters.opens.place in
-    let now = still a.s a.memory a.bytes a.head.now a.loans.now a.chunks.now a.index.now a.tree.now _ _ c.add_chunk.ensures _ c.word-levels.ensures _ (ap (λ (x : Taken). x.place) c.requires.2) a.level in record { pairs_le_pairs_most = (
+    let now = still a.s a.memory a.bytes a.head.now a.loans.now a.chunks.now a.index.now a.tree.now _ _ c.add_chunk.ensures _ c.word-levels.ensures _ (ap (λ (x : Taken). x.place) c.requires.2) a.level in record {
+      pairs_le_pairs_most = (
         c.requires.0.enters.fit.pairs_most_lem,
         omega (arith, c.word-levels.ensures, c.requires.0.below, c.requires.0.low),
         omega (arith, place, c.requires.0.enters.fit.store.loans_most_lem),
         now (λ (x n : ℕ) (t : List ℕ). (pair_taken (level_from a.s (up (n - a.level - 1) a.level)) t).place < a.s.pairs) c.requires.0.own,
         omega (arith, c.requires.0.long),
-      ); roomy = now (λ (x n : ℕ) (t : List ℕ). Roomy a.s.pairs a.level x 0 (left_next a.s.pairs (up (n - a.level - 1) a.level) t) (n - a.level - 1) (added (level_from a.s (up (n - a.level - 1) a.level)) x 0 nowhere free_word t)) c.requires.0.roomy }
+      );
+      roomy = now (λ (x n : ℕ) (t : List ℕ). Roomy a.s.pairs a.level x 0 (left_next a.s.pairs (up (n - a.level - 1) a.level) t) (n - a.level - 1) (added (level_from a.s (up (n - a.level - 1) a.level)) x 0 nowhere free_word t)) c.requires.0.roomy;
+    }
 
 pub enter_at-requires : goal.enter_at-requires
 enter_at-requires c =

@@ -1,6 +1,6 @@
-use Rattle.std.proofs.Common.{◌≡◌, ltb, sym, refl, ap, ◌∙◌, rules, le-ltb, lt-ltb}
+use Rattle.std.proofs.Common.{ltb, sym, refl, ap, ◌∙◌, le-ltb, lt-ltb}
 use Rattle.buddy_rules.specs.Nodes.{exhausted}
-use Rattle.buddy_rules.specs.LevelTest.{along, ready_in, ready_after}
+use Rattle.buddy_rules.specs.LevelTest.{ready_in, ready_after}
 use Rattle.buddy_levels.proofs.Turns.{along_none, along_on, along_done}
 use Rattle.buddy_levels.proofs.good.all_ready.Goals as goal
 

@@ -1,7 +1,5 @@
-use Rattle.std.proofs.Common.{◌≡◌, ltb, sym, refl, ap, ◌∙◌, rules, le-ltb, lt-ltb}
-use Rattle.buddy_rules.specs.Nodes.{exhausted}
+use Rattle.std.proofs.Common.{◌≡◌}
 use Rattle.buddy_rules.specs.LevelTest.{along, ready_in, ready_after}
-use Rattle.buddy_levels.proofs.Turns.{along_none, along_on, along_done}
 use Rattle.buddy_levels.proofs.good.all_ready.Given as goal
 
 abbrev pub invariant-loop-left : goal.invariant-loop-left

@@ -1,4 +1,3 @@
-use Rattle.std.proofs.Common.{rules}
 use Rattle.buddy_levels.proofs.Turns.{used_is}
 use Rattle.buddy_levels.proofs.good.count_used.Goals as goal
 

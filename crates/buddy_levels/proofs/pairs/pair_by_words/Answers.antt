@@ -1,5 +1,4 @@
 use Rattle.buddy_levels.proofs.Reading.{pair_read}
-use Rattle.std.proofs.Common.{rules}
 use Rattle.buddy_levels.proofs.pairs.pair_by_words.Goals as goal
 
 pub returns : goal.returns

@@ -1,5 +1,4 @@
 use Rattle.buddy_levels.proofs.Reading.{row_read}
-use Rattle.std.proofs.Common.{rules}
 use Rattle.buddy_levels.proofs.pairs.standing_pair.Goals as goal
 
 pub returns : goal.returns

@@ -1,4 +1,4 @@
-use Rattle.std.proofs.Common.{refl, arith, rules}
+use Rattle.std.proofs.Common.{refl, arith}
 use Rattle.buddy_levels.proofs.Bounds.{level_low}
 use Rattle.buddy_levels.proofs.shape.level_from.Goals as goal
 

@@ -1,4 +1,4 @@
-use Rattle.std.proofs.Common.{ℕ, ◌+◌, ◌^◌, ◌≤◌, sym, subst, rules}
+use Rattle.std.proofs.Common.{ℕ, ◌+◌, ◌^◌, ◌≤◌, sym, subst}
 use Rattle.counter.specs.Limits.{levels_most, minimal_bits}
 use Rattle.buddy_levels.proofs.Bounds.{node_bytes_is, node_bytes_most}
 use Rattle.buddy_levels.proofs.shape.node_bytes.Goals as goal

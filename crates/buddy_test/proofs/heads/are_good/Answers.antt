@@ -1,12 +1,11 @@
 use mathlib.Core.Path.{◌≡◌, refl, sym, ap, ◌∙◌}
-use mathlib.Core.Bool.{not, Bool, true, false}
+use mathlib.Core.Bool.{Bool, true, false}
 use mathlib.Core.List.{[]}
-use Prim.Native.Nat.{ℕ, ◌*◌, ◌-◌, ◌≤◌, ◌<◌}
+use Prim.Native.Nat.{ℕ, ◌<◌}
 use native.Mathlib.Omega.{arith}
 use lib.ListN.{length}
-use borrow.Author.Rules.{rules}
 use Rattle.lists.proofs.Bools.{true_false, not_yes, not_no}
-use Rattle.counter.specs.Limits.{levels_most, pairs_most}
+use Rattle.counter.specs.Limits.{levels_most}
 use Rattle.buddy_rules.specs.LevelTest.{level_ok}
 use Rattle.buddy_rules.specs.Level.{level_start}
 use Rattle.buddy_rules.specs.Test.{every, pairs_in_use, pairs_ready}
@@ -55,9 +54,12 @@ loop-l-preserved c =
 
 pub returns : goal.returns
 returns c = let a = c.args in
-    let e : c.loop-l.l ≡ a.levels = omega arith in record { ok_value = sym c.loop-l.invariant.1 ∙ ap (every (λ (i : ℕ). level_ok (level_start a.pairs i) a.pairs a.tree.now)) e; used_value = (
+    let e : c.loop-l.l ≡ a.levels = omega arith in record {
+      ok_value = sym c.loop-l.invariant.1 ∙ ap (every (λ (i : ℕ). level_ok (level_start a.pairs i) a.pairs a.tree.now)) e;
+      used_value = (
         (λ z.
             (c.loop-l.invariant.2 ∙ ap (pairs_in_use (part_settings 0 a.pairs 0) (level_part 0 [] a.tree.now)) e, c.loop-l.invariant.3 ∙ ap (pairs_ready (part_settings 0 a.pairs 0) (level_part 0 [] a.tree.now)) e)),
         omega (arith, c.loop-l.invariant.4),
         omega (arith, c.loop-l.invariant.5),
-      ) }
+      );
+    }

@@ -1,18 +1,12 @@
-use mathlib.Core.Path.{◌≡◌, refl, sym, ap, ◌∙◌}
-use mathlib.Core.Bool.{Bool, true, false}
+use mathlib.Core.Path.{◌≡◌}
+use mathlib.Core.Bool.{true}
 use mathlib.Core.List.{[]}
-use Prim.Native.Nat.{ℕ, ◌*◌, ◌-◌, ◌≤◌, ◌<◌}
-use native.Mathlib.Omega.{arith}
-use lib.ListN.{length}
-use borrow.Author.Rules.{rules}
-use Rattle.lists.proofs.Bools.{true_false, not_yes, not_no}
-use Rattle.counter.specs.Limits.{levels_most, pairs_most}
+use Prim.Native.Nat.{ℕ, ◌*◌, ◌-◌, ◌≤◌}
+use Rattle.counter.specs.Limits.{pairs_most}
 use Rattle.buddy_rules.specs.LevelTest.{level_ok}
 use Rattle.buddy_rules.specs.Level.{level_start}
 use Rattle.buddy_rules.specs.Test.{every, pairs_in_use, pairs_ready}
-use Rattle.buddy_rules.proofs.Tests.{every_stop, every_next}
 use Rattle.buddy_levels.specs.Seen.{part_settings, level_part}
-use Rattle.buddy_test.proofs.Parts.{level_fits, good_told, pairs_none, pairs_next, ready_none, ready_next}
 use Rattle.buddy_test.proofs.heads.are_good.Given as goal
 
 abbrev pub invariant-loop-l : goal.invariant-loop-l

@@ -1,4 +1,3 @@
-use borrow.Author.Rules.{rules}
 use Rattle.buddy_test.proofs.Parts.{places_told, held_told}
 use Rattle.buddy_test.proofs.heads.are_places.Goals as goal
 

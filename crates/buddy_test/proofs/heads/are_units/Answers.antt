@@ -1,10 +1,7 @@
 use mathlib.Core.Path.{◌≡◌, refl, sym, ap, ◌∙◌}
 use mathlib.Core.Bool.{true}
 use mathlib.Core.List.{[]}
-use Prim.Native.Nat.{◌-◌, ◌≤◌}
 use native.Mathlib.Omega.{arith}
-use borrow.Author.Rules.{rules}
-use Rattle.lists.proofs.Bools.{not_yes, not_no}
 use Rattle.buddy_levels.specs.Seen.{part_tables}
 use Rattle.buddy_rules.specs.Test.{every, units_ok}
 use Rattle.buddy_rules.proofs.Tests.{every_stop, every_next}

@@ -1,4 +1,3 @@
-use borrow.Author.Rules.{rules}
 use Rattle.buddy_rules.specs.Tables.{tables}
 use Rattle.buddy_test.proofs.Parts.{head_told}
 use Rattle.buddy_test.proofs.heads.is_head.Goals as goal

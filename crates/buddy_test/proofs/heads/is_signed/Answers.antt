@@ -1,4 +1,3 @@
-use borrow.Author.Rules.{rules}
 use Rattle.buddy_rules.specs.Tables.{tables, marks}
 use Rattle.store_rules.proofs.Signed.{signed_told}
 use Rattle.buddy_test.proofs.heads.is_signed.Goals as goal

@@ -1,4 +1,3 @@
-use borrow.Author.Rules.{rules}
 use native.Mathlib.Omega.{arith}
 use Rattle.buddy_test.proofs.Apart.{memories_told}
 use Rattle.buddy_test.proofs.memories.are_apart.Goals as goal

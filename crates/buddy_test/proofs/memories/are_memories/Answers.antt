@@ -1,4 +1,3 @@
-use borrow.Author.Rules.{rules}
 use Rattle.counter.specs.Limits.{chunks_most}
 use Rattle.distinct.proofs.Filling.{new_room}
 use Rattle.buddy_test.proofs.memories.are_memories.Goals as goal

@@ -1,10 +1,8 @@
 use mathlib.Core.Path.{◌≡◌, refl, ap, ◌∙◌}
-use mathlib.Core.Logic.{⊎_elim}
 use mathlib.Core.List.{[]}
-use Prim.Native.Nat.{◌-◌, ◌≤◌, ◌<◌}
+use Prim.Native.Nat.{◌<◌}
 use native.Mathlib.Omega.{arith}
-use borrow.Author.Rules.{rules}
-use lib.ListN.{length, take, get_or, length-set}
+use lib.ListN.{length, get_or, length-set}
 use Rattle.buddy_levels.specs.Seen.{level_part}
 use Rattle.buddy_rules.specs.Tables.{chunk_places_at, memories}
 use Rattle.buddy_test.proofs.Apart.{gather_none, gather_put, gather_pass}
@@ -23,13 +21,13 @@ loop-c-preserved c =
     let room = c.requires.0 in
     let low : c.loop-c.c < get_or a.chunks.now chunk_places_at 0 = omega (arith, c.loop-c-test.true, c.requires.1) in
     elim c.if-cell-ne0.branch [
-      then-cell-ne0 w ↦ (
+      | then-cell-ne0 w ↦ (
         omega (arith, w.k-is),
         omega arith,
         ap length w.found-is ∙ simp length-set i.2,
         rw (w.found-is, w.k-is) (gather_put c.loop-c.c c.loop-c.k a.chunks.now c.loop-c.found c.cell.result low c.cell.ensures i.3 w.cell-then-cell-ne0.result w.if-cell-ne0.true w.cell-then-cell-ne0.ensures (omega arith)),
-      ) |
-      else-cell-ne0 w ↦ (
+      )
+      | else-cell-ne0 w ↦ (
         omega (arith, w.k-is),
         omega arith,
         ap length w.found-is ∙ i.2,

@@ -1,13 +1,9 @@
-use mathlib.Core.Path.{◌≡◌, refl, ap, ◌∙◌}
-use mathlib.Core.Logic.{⊎_elim}
+use mathlib.Core.Path.{◌≡◌}
 use mathlib.Core.List.{[]}
-use Prim.Native.Nat.{◌-◌, ◌≤◌, ◌<◌}
-use native.Mathlib.Omega.{arith}
-use borrow.Author.Rules.{rules}
-use lib.ListN.{length, take, get_or, length-set}
+use Prim.Native.Nat.{◌-◌, ◌≤◌}
+use lib.ListN.{length, take}
 use Rattle.buddy_levels.specs.Seen.{level_part}
-use Rattle.buddy_rules.specs.Tables.{chunk_places_at, memories}
-use Rattle.buddy_test.proofs.Apart.{gather_none, gather_put, gather_pass}
+use Rattle.buddy_rules.specs.Tables.{memories}
 use Rattle.buddy_test.proofs.memories.gather_held.Given as goal
 
 abbrev pub invariant-loop-c : goal.invariant-loop-c

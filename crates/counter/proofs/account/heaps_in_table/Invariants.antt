@@ -1,9 +1,6 @@
-use borrow.Author.Rules.{rules}
 use mathlib.Core.Path.{◌≡◌}
 use Prim.Native.Nat.{◌-◌, ◌≤◌}
-use native.Mathlib.Omega.{arith}
 use Rattle.counter.specs.Table.{heaps_upto}
-use Rattle.counter.proofs.Tables.{heaps_none, heaps_more}
 use Rattle.counter.proofs.account.heaps_in_table.Given as goal
 
 abbrev pub invariant-loop-i : goal.invariant-loop-i

@@ -1,4 +1,3 @@
-use borrow.Author.Rules.{rules}
 use Rattle.counter.specs.Table.{alignment_ok}
 use Rattle.counter.proofs.settings.is_alignment.Goals as goal
 

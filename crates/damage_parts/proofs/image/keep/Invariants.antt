@@ -1,4 +1,4 @@
-use Rattle.std.proofs.Common.{◌≡◌, ◌-◌, length, rules}
+use Rattle.std.proofs.Common.{◌≡◌, ◌-◌, length}
 use Rattle.damage_parts.proofs.image.keep.Given as goal
 
 abbrev pub invariant-loop-i : goal.invariant-loop-i

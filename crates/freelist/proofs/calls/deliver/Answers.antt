@@ -1,4 +1,3 @@
-use borrow.Author.Rules.{rules}
 use mathlib.Core.Path.{◌∙◌}
 use Rattle.store_rules.proofs.Holders.{holding}
 use Rattle.freelist_rules.specs.Tables.{tables}

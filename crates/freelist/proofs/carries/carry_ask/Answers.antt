@@ -1,4 +1,3 @@
-use borrow.Author.Rules.{rules}
 use mathlib.Core.Path.{ap, subst}
 use Rattle.freelist_rules.specs.Tables.{tables}
 use Rattle.freelist_decide.specs.Plans.{plan_of, Planned}

@@ -1,4 +1,3 @@
-use borrow.Author.Rules.{rules}
 use Rattle.freelist.proofs.Arriving.{lends_now, kept_done}
 use Rattle.freelist.proofs.carries.keep_chunk.Goals as goal
 

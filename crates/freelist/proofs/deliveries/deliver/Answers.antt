@@ -1,4 +1,3 @@
-use borrow.Author.Rules.{rules}
 use Rattle.freelist_rules.specs.Tables.{tables}
 use Rattle.freelist.proofs.Wholes.{delivered_whole}
 use Rattle.freelist.proofs.deliveries.deliver.Goals as goal

@@ -1,4 +1,3 @@
-use borrow.Author.Rules.{rules}
 use mathlib.Core.Path.{sym, ◌∙◌}
 use Rattle.freelist_rules.specs.Tables.{tables}
 use Rattle.freelist.proofs.Fresh.{plan_fit, plan_unfit}

@@ -1,4 +1,3 @@
-use borrow.Author.Rules.{rules}
 use Rattle.freelist_rules.specs.Tables.{tables}
 use Rattle.freelist.proofs.Wholes.{returned_whole}
 use Rattle.freelist.proofs.returns.return_block.Goals as goal

@@ -1,7 +1,5 @@
-use borrow.Author.Rules.{rules}
 use mathlib.Core.Path.{sym, ap, ◌∙◌}
 use native.Mathlib.Omega.{arith}
-use Rattle.lists.proofs.Bools.{not_yes, not_no}
 use Rattle.counter.proofs.Tables.{alignment_yes}
 use Rattle.freelist_regions.specs.Found.{found_of}
 use Rattle.freelist_regions.proofs.Asking.{both_ones}

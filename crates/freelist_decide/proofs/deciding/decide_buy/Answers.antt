@@ -1,7 +1,6 @@
 use borrow.Author.Rules.{rules}
 use native.Mathlib.Omega.{arith}
 use mathlib.Core.Path.{refl, ap, ◌∙◌}
-use Rattle.lists.proofs.Bools.{not_yes, not_no}
 use Rattle.store_rules.specs.Orders as Orders
 use Rattle.freelist_decide.proofs.Tests.{left_is, room_is, counts_is, raised_is, buy_full, buy_spent, buy_none, buy_go}
 use Rattle.freelist_decide.proofs.deciding.decide_buy.Goals as goal
@@ -34,6 +33,9 @@ returns-then-objects-eq0 c = let a = c.args in
 
 pub returns : goal.returns
 returns c = let a = c.args in
-    let room = room_is a.s a.head.now a.loans.now a.chunks.now a.index.now _ _ (left_is a.s a.loans.now a.index.now _ c.next_place_in-loan.ensures _ c.is_place.ensures) c.if-not-is_place-vacant.false in record { by_index = λ asked e.
+    let room = room_is a.s a.head.now a.loans.now a.chunks.now a.index.now _ _ (left_is a.s a.loans.now a.index.now _ c.next_place_in-loan.ensures _ c.is_place.ensures) c.if-not-is_place-vacant.false in record {
+      by_index = λ asked e.
           ap Orders.buy (raised_is a.s a.head.now a.loans.now a.chunks.now a.index.now a.h a.objects asked _ _ _ e c.word.ensures c.grow-z.ensures)
-          ∙ buy_go a.s a.head.now a.loans.now a.chunks.now a.index.now a.h a.objects asked room (counts_is a.s a.head.now a.loans.now a.chunks.now a.index.now a.h a.objects asked _ _ _ _ _ e c.word.ensures c.grow-z.ensures c.bears.ensures c.if-not-given-bears.false) (search rules); by_index_2 = λ from. (refl, refl, c.next_place_in-loan.ensures) }
+          ∙ buy_go a.s a.head.now a.loans.now a.chunks.now a.index.now a.h a.objects asked room (counts_is a.s a.head.now a.loans.now a.chunks.now a.index.now a.h a.objects asked _ _ _ _ _ e c.word.ensures c.grow-z.ensures c.bears.ensures c.if-not-given-bears.false) (search rules);
+      by_index_2 = λ from. (refl, refl, c.next_place_in-loan.ensures);
+    }

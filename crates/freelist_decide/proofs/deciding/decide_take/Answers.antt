@@ -1,6 +1,5 @@
 use borrow.Author.Rules.{rules}
 use native.Mathlib.Omega.{arith}
-use Rattle.lists.proofs.Bools.{not_yes, not_no}
 use mathlib.Core.Path.{sym, ◌∙◌}
 use Rattle.freelist_decide.proofs.Tests.{left_is, take_full, take_spent, take_go}
 use Rattle.freelist_decide.proofs.deciding.decide_take.Goals as goal

@@ -1,12 +1,9 @@
-use borrow.Author.Rules.{rules}
-use mathlib.Core.Path.{◌≡◌, refl, ap, ◌∙◌}
-use Prim.Native.Nat.{ℕ, ◌-◌, ◌≤◌}
-use native.Mathlib.Omega.{arith}
+use mathlib.Core.Path.{◌≡◌}
+use Prim.Native.Nat.{◌-◌, ◌≤◌}
 use Rattle.words.specs.Rows.{rows}
 use Rattle.store_rules.specs.Delivery.{holds}
 use Rattle.freelist_rules.specs.Records.{chunk_row}
 use Rattle.freelist_rules.specs.Walk.{memories}
-use Rattle.freelist_decide.proofs.Holding.{held_next}
 use Rattle.freelist_decide.proofs.deliveries.is_held.Given as goal
 
 abbrev pub invariant-loop-i : goal.invariant-loop-i

@@ -1,4 +1,3 @@
-use borrow.Author.Rules.{rules}
 use Rattle.freelist_decide.proofs.Holding.{known_made}
 use Rattle.freelist_decide.proofs.deliveries.is_known.Goals as goal
 

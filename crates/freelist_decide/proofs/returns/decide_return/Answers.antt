@@ -2,7 +2,6 @@ use mathlib.Core.Path.{refl}
 use mathlib.Core.List.{[]}
 use Rattle.freelist_rules.specs.Tables.{tables}
 use Rattle.freelist_decide.proofs.Few.{return_is}
-use borrow.Author.Rules.{rules}
 use Rattle.freelist_decide.proofs.returns.decide_return.Goals as goal
 
 pub returns : goal.returns

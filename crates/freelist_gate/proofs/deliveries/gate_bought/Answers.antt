@@ -1,6 +1,4 @@
-use borrow.Author.Rules.{rules}
 use mathlib.Core.Path.{refl, sym, ◌∙◌}
-use Rattle.lists.proofs.Bools.{not_yes, not_no}
 use Rattle.freelist_gate.proofs.Arrivals.{bought_other, bought_short, bought_go, ordered_size}
 use Rattle.freelist_gate.proofs.deliveries.gate_bought.Goals as goal
 

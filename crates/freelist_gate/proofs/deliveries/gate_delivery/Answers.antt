@@ -1,6 +1,4 @@
-use borrow.Author.Rules.{rules}
 use mathlib.Core.Path.{sym, ◌∙◌}
-use Rattle.lists.proofs.Bools.{not_yes, not_no}
 use Rattle.store_rules.proofs.Holders.{holder}
 use Rattle.freelist_rules.specs.Tables.{tables}
 use Rattle.freelist_outcomes.proofs.Passing.{lent_in_lem}

@@ -1,7 +1,5 @@
-use borrow.Author.Rules.{rules}
 use mathlib.Core.Path.{sym, ap, ◌∙◌}
 use native.Mathlib.Omega.{arith}
-use Rattle.lists.proofs.Bools.{not_yes, not_no}
 use Rattle.freelist_rules.specs.Tables.{tables}
 use Rattle.freelist_rules.proofs.Tested.{tables_yes}
 use Rattle.freelist_rules.proofs.Summing.{chunks_low}

@@ -1,4 +1,3 @@
-use borrow.Author.Rules.{rules}
 use mathlib.Core.Path.{ap, ◌∙◌}
 use Rattle.store_rules.specs.Orders.{same_order}
 use Rattle.freelist_gate.proofs.deliveries.is_still.Goals as goal

@@ -1,8 +1,6 @@
-use borrow.Author.Rules.{rules}
-use mathlib.Core.Path.{◌≡◌, refl, ap, ◌∙◌}
-use Prim.Native.Nat.{ℕ, ◌+◌, ◌-◌, ◌≤◌}
-use native.Mathlib.Omega.{arith}
-use Rattle.freelist_gate.proofs.Gates.{bytes, bytes_next}
+use mathlib.Core.Path.{◌≡◌}
+use Prim.Native.Nat.{◌-◌, ◌≤◌}
+use Rattle.freelist_gate.proofs.Gates.{bytes}
 use Rattle.freelist_gate.proofs.gating.chunk_bytes.Given as goal
 
 abbrev pub invariant-loop-i : goal.invariant-loop-i

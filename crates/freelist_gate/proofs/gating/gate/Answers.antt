@@ -1,6 +1,5 @@
-use borrow.Author.Rules.{rules}
 use mathlib.Core.Path.{sym, ap, ◌∙◌}
-use mathlib.Core.Bool.{not, Bool, ◌&&◌}
+use mathlib.Core.Bool.{Bool, ◌&&◌}
 use Rattle.lists.proofs.Bools.{not_yes, not_no, and_left}
 use Rattle.store_rules.proofs.Holders.{holder}
 use Rattle.freelist_rules.specs.Tables.{tables}

@@ -1,4 +1,3 @@
-use borrow.Author.Rules.{rules}
 use native.Mathlib.Omega.{arith}
 use Rattle.freelist_gate.proofs.Gates.{covered_is}
 use Rattle.freelist_gate.proofs.gating.is_covered.Goals as goal

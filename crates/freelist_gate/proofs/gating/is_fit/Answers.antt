@@ -1,4 +1,3 @@
-use borrow.Author.Rules.{rules}
 use mathlib.Core.Path.{sym, ◌∙◌}
 use Rattle.counter.proofs.Tables.{free_list_yes}
 use Rattle.freelist_rules.specs.Tables.{tables}

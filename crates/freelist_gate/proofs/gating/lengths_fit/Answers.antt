@@ -1,4 +1,3 @@
-use borrow.Author.Rules.{rules}
 use Rattle.freelist_rules.specs.Tables.{tables}
 use Rattle.freelist_gate.proofs.Gates.{lengths_is}
 use Rattle.freelist_gate.proofs.gating.lengths_fit.Goals as goal

@@ -1,4 +1,3 @@
-use borrow.Author.Rules.{rules}
 use Rattle.freelist_marks.proofs.Finding.{numbers_part, there, nowhere}
 use Rattle.freelist_marks.proofs.chunks.find_chunk.Goals as goal
 

@@ -1,4 +1,3 @@
-use borrow.Author.Rules.{rules}
 use Rattle.freelist_marks.proofs.Finding.{goes_whole, goes_not}
 use Rattle.freelist_marks.proofs.marks.goes_at.Goals as goal
 

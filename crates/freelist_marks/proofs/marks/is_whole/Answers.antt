@@ -1,4 +1,3 @@
-use borrow.Author.Rules.{rules}
 use Rattle.freelist_marks.proofs.Finding.{whole_by, not_whole}
 use Rattle.freelist_marks.proofs.marks.is_whole.Goals as goal
 

@@ -1,8 +1,7 @@
 use borrow.Author.Rules.{rules}
 use mathlib.Core.Path.{ap, ◌∙◌}
 use mathlib.Core.Bool.{◌&&◌}
-use mathlib.Core.Logic.{⊎_elim}
-use Prim.Native.Nat.{◌+◌, ◌-◌, ◌≤◌}
+use Prim.Native.Nat.{◌+◌}
 use native.Mathlib.Omega.{arith}
 use lib.Dec.{eqb}
 use Rattle.words.specs.Rows.{rows}
@@ -12,7 +11,7 @@ use Rattle.freelist_rules.specs.Threads.{free_of}
 use Rattle.freelist_rules.proofs.GapLists.{free_length}
 use Rattle.store_rules.specs.declared.Chunk.{Chunk}
 use Rattle.freelist_marks.proofs.Finding.{goes_not, memory_numbered}
-use Rattle.freelist_marks.proofs.Marking.{Marking, marking_none, marking_done, marking_length, marking_room, marking_turns, marking_stays, marking_goes}
+use Rattle.freelist_marks.proofs.Marking.{marking_none, marking_done, marking_length, marking_room, marking_turns, marking_stays, marking_goes}
 use Rattle.freelist_marks.proofs.marks.mark.Goals as goal
 use Rattle.freelist_marks.proofs.marks.mark.Goals.{then-start-eq0, else-start-eq0}
 

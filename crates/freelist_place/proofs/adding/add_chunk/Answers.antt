@@ -1,4 +1,3 @@
-use borrow.Author.Rules.{rules}
 use Rattle.freelist_place.proofs.Writing.{added_done}
 use Rattle.freelist_place.proofs.adding.add_chunk.Goals as goal
 

@@ -1,4 +1,3 @@
-use borrow.Author.Rules.{rules}
 use Rattle.freelist_place.proofs.Writing.{twice_set}
 use Rattle.freelist_rules.specs.Tables.{made_at, chunks_at}
 use Rattle.freelist_place.proofs.adding.count_chunk.Goals as goal

@@ -1,4 +1,3 @@
-use borrow.Author.Rules.{rules}
 use mathlib.Core.Path.{refl}
 use Rattle.freelist_place.proofs.lending.loan_of.Goals as goal
 

@@ -1,4 +1,3 @@
-use borrow.Author.Rules.{rules}
 use Rattle.freelist_place.proofs.SettingUp.{fresh_done}
 use Rattle.freelist_rules.specs.Tables.{tables}
 use Rattle.freelist_place.proofs.setting.fresh.Goals as goal

@@ -1,4 +1,3 @@
-use borrow.Author.Rules.{rules}
 use Rattle.freelist_place.proofs.SettingUp.{head_fresh}
 use Rattle.freelist_place.proofs.setting.fresh_head.Goals as goal
 

@@ -1,4 +1,3 @@
-use borrow.Author.Rules.{rules}
 use Rattle.freelist_rules.specs.Threads.{unthreaded}
 use mathlib.Core.Path.{refl}
 use lib.ListN.{length-set}

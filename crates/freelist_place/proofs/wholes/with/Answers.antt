@@ -1,4 +1,3 @@
-use borrow.Author.Rules.{rules}
 use mathlib.Core.Path.{refl}
 use Rattle.freelist_place.proofs.Counting.{one_more_whole, no_more_whole}
 use Rattle.freelist_place.proofs.wholes.with.Goals as goal

@@ -1,4 +1,3 @@
-use borrow.Author.Rules.{rules}
 use mathlib.Core.Path.{refl}
 use Rattle.freelist_place.proofs.Counting.{one_less_whole, no_less_whole}
 use Rattle.freelist_place.proofs.wholes.without.Goals as goal

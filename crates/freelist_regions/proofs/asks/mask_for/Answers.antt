@@ -1,4 +1,3 @@
-use Rattle.std.proofs.Common.{rules}
 use Rattle.freelist_regions.proofs.Asking.{unit_ones, mask_ones}
 use Rattle.freelist_regions.proofs.asks.mask_for.Goals as goal
 

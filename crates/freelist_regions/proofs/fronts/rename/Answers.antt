@@ -1,5 +1,5 @@
-use Rattle.std.proofs.Common.{◌≡◌, ◌-◌, ◌≤◌, length, sym, refl, ◌∙◌, arith, rules}
-use Rattle.freelist_regions.proofs.Renaming.{rest, rest_next, rest_stop, rest_end}
+use Rattle.std.proofs.Common.{sym, refl, ◌∙◌, arith, rules}
+use Rattle.freelist_regions.proofs.Renaming.{rest_next, rest_stop, rest_end}
 use Rattle.freelist_regions.proofs.fronts.rename.Goals as goal
 
 pub loop-i-init : goal.loop-i-init

@@ -1,5 +1,5 @@
-use Rattle.std.proofs.Common.{◌≡◌, ◌-◌, ◌≤◌, length, sym, refl, ◌∙◌, arith, rules}
-use Rattle.freelist_regions.proofs.Renaming.{rest, rest_next, rest_stop, rest_end}
+use Rattle.std.proofs.Common.{◌≡◌, ◌-◌, ◌≤◌, length}
+use Rattle.freelist_regions.proofs.Renaming.{rest}
 use Rattle.freelist_regions.proofs.fronts.rename.Given as goal
 
 abbrev pub invariant-loop-i : goal.invariant-loop-i

@@ -1,4 +1,3 @@
-use Rattle.std.proofs.Common.{rules}
 use Rattle.freelist_regions.proofs.Settling.{behind_yes, behind_not}
 use Rattle.freelist_regions.proofs.joins.past.Goals as goal
 

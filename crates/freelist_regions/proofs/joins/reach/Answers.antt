@@ -1,4 +1,3 @@
-use Rattle.std.proofs.Common.{rules}
 use Rattle.freelist_rules.specs.Records.{region}
 use Rattle.freelist_regions.specs.Settled.{reached}
 use Rattle.freelist_regions.proofs.joins.reach.Goals as goal

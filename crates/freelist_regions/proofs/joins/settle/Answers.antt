@@ -1,4 +1,4 @@
-use Rattle.std.proofs.Common.{ℕ, ◌<◌, ◌≤◌, arith, rules}
+use Rattle.std.proofs.Common.{ℕ, ◌<◌, ◌≤◌, arith}
 use Rattle.freelist_regions.proofs.Settling.{settles_both, settles_before, settles_next, settles_between}
 use Rattle.freelist_regions.proofs.joins.settle.Goals as goal
 

@@ -1,4 +1,4 @@
-use Rattle.std.proofs.Common.{◌&&◌, eqb, ◌∙◌, rules, le-ltb, lt-ltb}
+use Rattle.std.proofs.Common.{◌&&◌, eqb, ◌∙◌, le-ltb, lt-ltb}
 use Rattle.words.proofs.Records.{cell_row}
 use Rattle.freelist_rules.specs.Records.{region_words, region_chunk_at, region_start_at}
 use Rattle.freelist_regions.proofs.joins.touches_next.Goals as goal

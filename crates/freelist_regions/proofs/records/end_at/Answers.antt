@@ -1,4 +1,3 @@
-use Rattle.std.proofs.Common.{rules}
 use Rattle.freelist_regions.specs.Ended.{ended_at}
 use Rattle.freelist_regions.proofs.Whole.{end_written}
 use Rattle.freelist_regions.proofs.records.end_at.Goals as goal

@@ -1,4 +1,3 @@
-use Rattle.std.proofs.Common.{rules}
 use Rattle.freelist_regions.proofs.Whole.{gap_read}
 use Rattle.freelist_regions.proofs.records.gap_at.Goals as goal
 

@@ -1,4 +1,3 @@
-use Rattle.std.proofs.Common.{rules}
 use Rattle.freelist_regions.proofs.Whole.{three_written}
 use Rattle.freelist_regions.proofs.records.put_chunk.Goals as goal
 

@@ -1,4 +1,3 @@
-use Rattle.std.proofs.Common.{rules}
 use Rattle.freelist_rules.specs.Records.{region}
 use Rattle.freelist_regions.proofs.Whole.{three_read}
 use Rattle.freelist_regions.proofs.records.region_at.Goals as goal

@@ -1,4 +1,4 @@
-use Rattle.std.proofs.Common.{◌+◌, false, refl, arith, rules}
+use Rattle.std.proofs.Common.{◌+◌, false, refl, arith}
 use Rattle.lists.proofs.Bools.{true_false}
 use Rattle.freelist_regions.proofs.Passing.{both_passed}
 use Rattle.freelist_regions.proofs.search.are_short.Goals as goal

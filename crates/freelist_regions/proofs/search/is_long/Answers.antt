@@ -1,4 +1,4 @@
-use Rattle.std.proofs.Common.{◌≡◌, ℕ, ◌+◌, ◌-◌, ◌%◌, ◌^◌, ◌<◌, ◌≤◌, false, ⊎_elim, arith, rules, le-leb, leb-false}
+use Rattle.std.proofs.Common.{◌≡◌, ℕ, ◌+◌, ◌-◌, ◌%◌, ◌^◌, ◌<◌, ◌≤◌, false, ⊎_elim, arith, le-leb, leb-false}
 use borrow.Author.Tests.{lt-leb}
 use Rattle.lists.proofs.Bools.{lt_or_le}
 use Rattle.rounding_rules.proofs.Raising.{down_enough}

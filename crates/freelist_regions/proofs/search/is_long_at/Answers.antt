@@ -1,4 +1,3 @@
-use Rattle.std.proofs.Common.{rules}
 use Rattle.freelist_regions.proofs.Passing.{one_passed}
 use Rattle.freelist_regions.proofs.search.is_long_at.Goals as goal
 

@@ -1,6 +1,4 @@
-use Rattle.std.proofs.Common.{◌≤◌, arith}
-use Rattle.lists.proofs.Bools.{not_no}
-use Rattle.freelist_regions.specs.Found.{NoneFits}
+use Rattle.std.proofs.Common.{arith}
 use Rattle.freelist_regions.proofs.Passing.{more_passed}
 use Rattle.freelist_regions.proofs.search.without_short.Goals as goal
 

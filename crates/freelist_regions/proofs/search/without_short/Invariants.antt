@@ -1,7 +1,5 @@
-use Rattle.std.proofs.Common.{◌≤◌, arith}
-use Rattle.lists.proofs.Bools.{not_no}
+use Rattle.std.proofs.Common.{◌≤◌}
 use Rattle.freelist_regions.specs.Found.{NoneFits}
-use Rattle.freelist_regions.proofs.Passing.{more_passed}
 use Rattle.freelist_regions.proofs.search.without_short.Given as goal
 
 abbrev pub invariant-loop-k : goal.invariant-loop-k

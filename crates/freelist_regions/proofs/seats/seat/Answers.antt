@@ -1,4 +1,4 @@
-use Rattle.std.proofs.Common.{◌≡◌, ℕ, ◌+◌, ◌-◌, ◌/◌, ◌<◌, ◌≤◌, true, false, arith, rules}
+use Rattle.std.proofs.Common.{◌≡◌, ◌+◌, ◌-◌, ◌/◌, true, false, arith}
 use Rattle.freelist_regions.proofs.Halves.{lowered, raised}
 use Rattle.freelist_regions.specs.Seat.{reaches}
 use Rattle.freelist_regions.proofs.Seating.{reach_yes, reach_not}

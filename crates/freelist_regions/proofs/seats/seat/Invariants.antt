@@ -1,7 +1,5 @@
-use Rattle.std.proofs.Common.{◌≡◌, ℕ, ◌+◌, ◌-◌, ◌/◌, ◌<◌, ◌≤◌, true, false, arith, rules}
-use Rattle.freelist_regions.proofs.Halves.{lowered, raised}
+use Rattle.std.proofs.Common.{◌≡◌, ℕ, ◌-◌, ◌<◌, ◌≤◌, true, false}
 use Rattle.freelist_regions.specs.Seat.{reaches}
-use Rattle.freelist_regions.proofs.Seating.{reach_yes, reach_not}
 use Rattle.freelist_regions.proofs.seats.seat.Given as goal
 
 abbrev pub invariant-loop-lo : goal.invariant-loop-lo

@@ -1,4 +1,3 @@
-use Rattle.std.proofs.Common.{rules}
 use Rattle.freelist_regions.proofs.stands.is_after.Goals as goal
 
 pub returns : goal.returns

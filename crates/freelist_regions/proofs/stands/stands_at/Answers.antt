@@ -1,7 +1,7 @@
-use Rattle.std.proofs.Common.{◌≡◌, ◌/◌, sym, ◌∙◌, ⊎_elim, arith}
+use Rattle.std.proofs.Common.{◌≡◌, ◌/◌, sym, ◌∙◌, arith}
 use Rattle.freelist_rules.specs.Records.{region_words, region_chunk_at}
 use Rattle.freelist_regions.specs.Stand.{after}
-use Rattle.freelist_regions.proofs.Halves.{Between, stays, moves}
+use Rattle.freelist_regions.proofs.Halves.{stays, moves}
 use Rattle.freelist_regions.proofs.stands.stands_at.Goals as goal
 use Rattle.freelist_regions.proofs.stands.stands_at.Goals.{then-is_after, else-is_after}
 
@@ -14,8 +14,8 @@ loop-left-preserved c =
     let a = c.args in
     let f = after a.t.now region_chunk_at region_words a.chunk a.place in
     elim c.if-is_after.branch [
-      then-is_after w ↦ rw w.lo-is (stays f a.n l.lo l.left (l.left / 2) c.requires.parting l.invariant (omega arith) (omega arith) (sym c.is_after.ensures ∙ w.if-is_after.true)) |
-      else-is_after w ↦ rw w.lo-is (moves f a.n l.lo l.left (l.left / 2) c.requires.parting l.invariant (omega arith) (omega arith) (sym c.is_after.ensures ∙ w.if-is_after.false))
+      | then-is_after w ↦ rw w.lo-is (stays f a.n l.lo l.left (l.left / 2) c.requires.parting l.invariant (omega arith) (omega arith) (sym c.is_after.ensures ∙ w.if-is_after.true))
+      | else-is_after w ↦ rw w.lo-is (moves f a.n l.lo l.left (l.left / 2) c.requires.parting l.invariant (omega arith) (omega arith) (sym c.is_after.ensures ∙ w.if-is_after.false))
     ]
 
 pub returns : goal.returns

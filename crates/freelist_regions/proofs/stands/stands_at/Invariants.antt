@@ -1,7 +1,6 @@
-use Rattle.std.proofs.Common.{◌≡◌, ◌/◌, sym, ◌∙◌, ⊎_elim, arith}
 use Rattle.freelist_rules.specs.Records.{region_words, region_chunk_at}
 use Rattle.freelist_regions.specs.Stand.{after}
-use Rattle.freelist_regions.proofs.Halves.{Between, stays, moves}
+use Rattle.freelist_regions.proofs.Halves.{Between}
 use Rattle.freelist_regions.proofs.stands.stands_at.Given as goal
 
 abbrev pub invariant-loop-left : goal.invariant-loop-left

@@ -1,4 +1,3 @@
-use borrow.Author.Rules.{rules}
 use Rattle.freelist_release.proofs.Releasing.{count_fits, released_some}
 use Rattle.freelist_release.proofs.dropping.drop_chunks.Goals as goal
 

@@ -1,9 +1,6 @@
 use borrow.Author.Rules.{rules}
-use mathlib.Core.Path.{◌≡◌, refl, sym, ◌∙◌}
-use Prim.Native.Nat.{◌-◌, ◌≤◌}
+use mathlib.Core.Path.{refl, sym, ◌∙◌}
 use native.Mathlib.Omega.{arith}
-use lib.ListN.{take, drop}
-use Rattle.freelist_release.specs.Listed.{among}
 use Rattle.freelist_release.proofs.Listing.{among_here, among_past, among_end}
 -- x is none of the first i words
 use Rattle.freelist_release.proofs.keeps.is_listed.Goals as goal

@@ -1,16 +1,7 @@
-use borrow.Author.Rules.{rules}
-use mathlib.Core.Path.{◌≡◌}
-use mathlib.Core.Bool.{Bool}
-use mathlib.Core.List.{List}
-use Prim.Native.Nat.{ℕ, ◌+◌, ◌*◌, ◌-◌, ◌≤◌}
-use native.Mathlib.Omega.{arith}
-use lib.ListN.{length}
+use Prim.Native.Nat.{◌-◌, ◌≤◌}
 use Rattle.words.specs.Rows.{rows}
-use Rattle.freelist_rules.specs.Records.{chunk_row, gap_row, region_words}
-use Rattle.store_rules.specs.declared.Chunk.{Chunk}
-use Rattle.freelist_rules.specs.Threads.{staying_gaps}
-use Rattle.freelist_release.proofs.Keeping.{kept_none, kept_length}
-use Rattle.freelist_release.proofs.Turns.{KeptRegions, region_past, region_more, regions_done}
+use Rattle.freelist_rules.specs.Records.{chunk_row}
+use Rattle.freelist_release.proofs.Turns.{KeptRegions}
 use Rattle.freelist_release.proofs.keeps.keep_regions.Given as goal
 
 abbrev pub invariant-loop-i : goal.invariant-loop-i

@@ -1,9 +1,8 @@
-use borrow.Author.Rules.{rules}
 use mathlib.Core.Bool.{true, false}
 use native.Mathlib.Omega.{arith}
 use lib.Dec.{ltb}
 use borrow.Author.Tests.{ltb-true}
-use Rattle.lists.proofs.Bools.{and_right, not_yes, not_no}
+use Rattle.lists.proofs.Bools.{and_right}
 use Rattle.words.specs.Rows.{rows}
 use Rattle.freelist_rules.specs.Records.{chunk_row}
 use Rattle.freelist_release.proofs.Sparing.{spared_off, spared_on}

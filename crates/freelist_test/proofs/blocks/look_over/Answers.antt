@@ -1,16 +1,14 @@
-use borrow.Author.Rules.{rules}
 use mathlib.Core.Path.{◌≡◌, sym, ap, ◌∙◌}
-use mathlib.Core.Bool.{◌&&◌}
-use Prim.Native.Nat.{◌+◌, ◌-◌, ◌≤◌}
+use Prim.Native.Nat.{◌+◌}
 use native.Mathlib.Omega.{arith}
 use Rattle.slabs.specs.Slab.{vacant_at}
 use Rattle.slabs.specs.Test.{vacancies}
 use Rattle.slabs.proofs.Steps.{vacancies_none}
-use Rattle.store_rules.specs.Loans.{loan_words, size_at, loans_of}
+use Rattle.store_rules.specs.Loans.{loan_words, size_at}
 use Rattle.book_rules.proofs.Following.{vacancies_most}
-use Rattle.freelist_rules.specs.Walk.{all_ok, loan_ok}
+use Rattle.freelist_rules.specs.Walk.{loan_ok}
 use Rattle.freelist_test.specs.Parts.{counted}
-use Rattle.freelist_test.proofs.Turns.{loans_from, loans_start, loan_next, loans_end, vacant_next}
+use Rattle.freelist_test.proofs.Turns.{loans_start, loan_next, loans_end, vacant_next}
 use Rattle.freelist_test.proofs.blocks.look_over.Goals as goal
 
 pub loop-p-init : goal.loop-p-init

@@ -1,5 +1,3 @@
-use borrow.Author.Rules.{rules}
-use Rattle.lists.proofs.Bools.{not_yes, not_no}
 use Rattle.words.specs.Rows.{rows}
 use Rattle.freelist_rules.specs.Records.{chunk_row}
 use Rattle.freelist_test.proofs.Groups.{apart_told, size_fails, each_fails, memories_left}

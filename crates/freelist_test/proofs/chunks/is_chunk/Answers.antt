@@ -1,4 +1,3 @@
-use borrow.Author.Rules.{rules}
 use Rattle.freelist_test.proofs.Groups.{chunk_told}
 use Rattle.freelist_test.proofs.chunks.is_chunk.Goals as goal
 

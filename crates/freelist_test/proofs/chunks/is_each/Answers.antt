@@ -1,12 +1,6 @@
-use borrow.Author.Rules.{rules}
-use mathlib.Core.Path.{◌≡◌, sym, ◌∙◌}
-use Prim.Native.Nat.{◌-◌, ◌≤◌}
+use mathlib.Core.Path.{sym, ◌∙◌}
 use native.Mathlib.Omega.{arith}
-use Rattle.lists.proofs.Bools.{not_yes, not_no}
-use Rattle.words.specs.Rows.{rows}
-use Rattle.freelist_rules.specs.Records.{chunk_row}
-use Rattle.freelist_test.specs.Parts.{each_ok}
-use Rattle.freelist_test.proofs.Turns.{each_from, each_starts, each_on, each_not, each_ends}
+use Rattle.freelist_test.proofs.Turns.{each_starts, each_on, each_not, each_ends}
 use Rattle.freelist_test.proofs.chunks.is_each.Goals as goal
 
 pub loop-i-init : goal.loop-i-init

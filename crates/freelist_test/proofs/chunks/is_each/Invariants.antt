@@ -1,12 +1,9 @@
-use borrow.Author.Rules.{rules}
-use mathlib.Core.Path.{◌≡◌, sym, ◌∙◌}
+use mathlib.Core.Path.{◌≡◌}
 use Prim.Native.Nat.{◌-◌, ◌≤◌}
-use native.Mathlib.Omega.{arith}
-use Rattle.lists.proofs.Bools.{not_yes, not_no}
 use Rattle.words.specs.Rows.{rows}
 use Rattle.freelist_rules.specs.Records.{chunk_row}
 use Rattle.freelist_test.specs.Parts.{each_ok}
-use Rattle.freelist_test.proofs.Turns.{each_from, each_starts, each_on, each_not, each_ends}
+use Rattle.freelist_test.proofs.Turns.{each_from}
 use Rattle.freelist_test.proofs.chunks.is_each.Given as goal
 
 abbrev pub invariant-loop-i : goal.invariant-loop-i

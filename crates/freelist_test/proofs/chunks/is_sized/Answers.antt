@@ -1,6 +1,5 @@
-use Prim.Native.Nat.{◌-◌}
 use native.Mathlib.Omega.{arith}
-use Rattle.freelist_test.proofs.Sizes.{Doubling, doubling_starts, doubling_next, sized_past, sized_below}
+use Rattle.freelist_test.proofs.Sizes.{doubling_starts, doubling_next, sized_past, sized_below}
 use Rattle.freelist_test.proofs.chunks.is_sized.Goals as goal
 
 pub returns-then-s-z : goal.returns-then-s-z

@@ -1,6 +1,5 @@
 use Prim.Native.Nat.{◌-◌}
-use native.Mathlib.Omega.{arith}
-use Rattle.freelist_test.proofs.Sizes.{Doubling, doubling_starts, doubling_next, sized_past, sized_below}
+use Rattle.freelist_test.proofs.Sizes.{Doubling}
 use Rattle.freelist_test.proofs.chunks.is_sized.Given as goal
 
 abbrev pub invariant-loop-p : goal.invariant-loop-p

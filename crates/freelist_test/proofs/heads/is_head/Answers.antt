@@ -1,4 +1,3 @@
-use borrow.Author.Rules.{rules}
 use Rattle.freelist_rules.specs.Tables.{tables}
 use Rattle.freelist_test.proofs.Groups.{head_told}
 use Rattle.freelist_test.proofs.heads.is_head.Goals as goal

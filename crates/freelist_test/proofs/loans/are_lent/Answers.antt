@@ -1,6 +1,5 @@
-use borrow.Author.Rules.{rules}
-use mathlib.Core.Path.{ap, refl}
-use mathlib.Core.Bool.{not, false}
+use mathlib.Core.Path.{refl}
+use mathlib.Core.Bool.{false}
 use native.Mathlib.Omega.{arith}
 use Rattle.lists.proofs.Bools.{not_yes, not_no, true_false}
 use Rattle.slabs.specs.Slab.{vacant_at}

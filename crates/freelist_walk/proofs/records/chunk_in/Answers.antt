@@ -1,4 +1,3 @@
-use borrow.Author.Rules.{rules}
 use Rattle.freelist_walk.proofs.Reading.{chunk_read}
 use Rattle.freelist_walk.proofs.records.chunk_in.Goals as goal
 

@@ -1,4 +1,3 @@
-use Rattle.std.proofs.Common.{rules}
 use Rattle.slabs.proofs.Places.{insert_first, insert_next}
 use Rattle.slabs.proofs.Slab.insert.Goals as goal
 

@@ -1,4 +1,3 @@
-use borrow.Author.Rules.{rules}
 use mathlib.Core.Path.{ap}
 use Rattle.counter.specs.Paper as Paper
 use Rattle.store.proofs.answers.answer_order.Goals as goal

@@ -1,6 +1,4 @@
-use borrow.Author.Rules.{rules}
 use mathlib.Core.Path.{sym, ap, ◌∙◌}
-use Rattle.lists.proofs.Bools.{not_yes, not_no}
 use Rattle.store.specs.Fates.{engine_of, fate_from}
 use Rattle.store.proofs.Comes.{arrive_not, arrive_go}
 use Rattle.store.proofs.comings.arrive.Goals as goal

@@ -1,4 +1,3 @@
-use borrow.Author.Rules.{rules}
 use Rattle.store.specs.Fates.{engine_of}
 use Rattle.store.proofs.Comes.{come_none, come_kept}
 use Rattle.store.proofs.comings.come.Goals as goal

@@ -1,4 +1,3 @@
-use borrow.Author.Rules.{rules}
 use mathlib.Core.Path.{sym, ap, ◌∙◌}
 use Rattle.store_rules.specs.Delivery.{fate_of}
 use Rattle.store.specs.Fates.{engine_of}

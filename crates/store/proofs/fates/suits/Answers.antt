@@ -1,4 +1,3 @@
-use borrow.Author.Rules.{rules}
 use mathlib.Core.Path.{refl}
 use Rattle.store.proofs.Leading.{suits_not_wanted, suits_wanted}
 use Rattle.store.proofs.fates.suits.Goals as goal

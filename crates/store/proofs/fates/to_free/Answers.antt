@@ -1,4 +1,3 @@
-use borrow.Author.Rules.{rules}
 use mathlib.Core.Path.{sym, ◌∙◌}
 use Rattle.store.specs.Fates.{engine_of}
 use Rattle.store.proofs.Leading.{back_some, back_none}

@@ -1,4 +1,3 @@
-use borrow.Author.Rules.{rules}
 use mathlib.Core.Path.{sym, ap, ◌∙◌}
 use Rattle.counter.specs.Paper.{ask_said}
 use Rattle.counter.specs.declared.answers.AskAnswer.{AskAnswer}

@@ -1,4 +1,3 @@
-use borrow.Author.Rules.{rules}
 use mathlib.Core.Bool.{true}
 use Rattle.store_accounts.proofs.accounts.charged.Goals as goal
 

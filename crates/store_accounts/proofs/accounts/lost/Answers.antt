@@ -1,4 +1,3 @@
-use borrow.Author.Rules.{rules}
 use Rattle.store_accounts.proofs.Settling.{lost_kept, lost_back, lost_refused}
 use Rattle.store_accounts.proofs.accounts.lost.Goals as goal
 

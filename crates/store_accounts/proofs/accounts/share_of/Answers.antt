@@ -1,4 +1,3 @@
-use borrow.Author.Rules.{rules}
 use Rattle.store_accounts.proofs.accounts.share_of.Goals as goal
 
 pub returns : goal.returns

@@ -1,4 +1,3 @@
-use borrow.Author.Rules.{rules}
 use mathlib.Core.Path.{sym, ap}
 use Rattle.store_rules.specs.Tests.{open_for}
 use Rattle.store_accounts.proofs.orders.is_open_for.Goals as goal

@@ -1,4 +1,3 @@
-use borrow.Author.Rules.{rules}
 use Rattle.store_accounts.proofs.Ordering.{order_is}
 use Rattle.store_accounts.proofs.orders.order_from.Goals as goal
 

@@ -1,4 +1,3 @@
-use borrow.Author.Rules.{rules}
 use Rattle.store_accounts.proofs.Ordering.{same_is}
 use Rattle.store_accounts.proofs.orders.same_order.Goals as goal
 

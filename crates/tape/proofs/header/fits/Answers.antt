@@ -1,4 +1,3 @@
-use borrow.Author.Rules.{rules}
 use Rattle.tape.specs.Header.{fits_ok}
 use Rattle.tape.proofs.header.fits.Goals as goal
 

@@ -1,4 +1,3 @@
-use borrow.Author.Rules.{rules}
 use mathlib.Core.Path.{sym, ◌∙◌}
 use Rattle.tape.proofs.Headers.{header_list, header_buddy, header_other, header_unfit}
 use Rattle.tape.proofs.header.read_header.Goals as goal

@@ -1,4 +1,3 @@
-use borrow.Author.Rules.{rules}
 use native.Mathlib.Omega.{arith}
 use Rattle.tape.proofs.Headers.{fits_yes}
 use Rattle.tape.proofs.header.store.Goals as goal

@@ -1,4 +1,3 @@
-use borrow.Author.Rules.{rules}
 use Rattle.tape.proofs.record.block.Goals as goal
 
 pub returns : goal.returns

@@ -1,4 +1,3 @@
-use borrow.Author.Rules.{rules}
 use borrow.Author.Tests.{le-leb, lt-leb}
 use Rattle.tape.specs.Record.{delivery_in}
 use Rattle.tape.proofs.record.delivery.Goals as goal

@@ -1,4 +1,3 @@
-use borrow.Author.Rules.{rules}
 use mathlib.Core.Path.{◌∙◌}
 use Rattle.tape.proofs.Records.{record_short, record_whole, body_ask, body_deliver, body_return, body_last, body_torn}
 use Rattle.tape.proofs.record.read_record.Goals as goal

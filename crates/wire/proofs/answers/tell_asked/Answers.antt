@@ -1,4 +1,3 @@
-use borrow.Author.Rules.{rules}
 use Rattle.counter.specs.Paper.{ask_said}
 use Rattle.counter.specs.declared.answers.AskAnswer.{AskAnswer}
 use Rattle.wire_rules.proofs.Told.{told_as, told_order}

@@ -1,4 +1,3 @@
-use borrow.Author.Rules.{rules}
 use Rattle.wire_rules.specs.Wire.{said_out}
 use Rattle.wire.proofs.answers.tell_block.Goals as goal
 

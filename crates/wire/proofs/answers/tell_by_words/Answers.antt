@@ -1,4 +1,3 @@
-use borrow.Author.Rules.{rules}
 use Rattle.wire_rules.proofs.Told.{six_set}
 use Rattle.wire.proofs.answers.tell_by_words.Goals as goal
 

@@ -1,4 +1,3 @@
-use borrow.Author.Rules.{rules}
 use Rattle.counter.specs.Paper.{deliver_said}
 use Rattle.counter.specs.declared.answers.DeliverAnswer.{DeliverAnswer}
 use Rattle.wire_rules.proofs.Told.{told_as}

@@ -1,4 +1,3 @@
-use borrow.Author.Rules.{rules}
 use Rattle.counter.specs.Paper.{rank_said}
 use Rattle.counter.specs.declared.answers.RankAnswer.{RankAnswer}
 use Rattle.wire_rules.specs.Wire.{said_out}

@@ -1,4 +1,3 @@
-use borrow.Author.Rules.{rules}
 use Rattle.wire_rules.proofs.Told.{refused_nothing, refused_memory}
 use Rattle.wire.proofs.answers.tell_refused.Goals as goal
 

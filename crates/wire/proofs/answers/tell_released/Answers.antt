@@ -1,4 +1,3 @@
-use borrow.Author.Rules.{rules}
 use Rattle.counter.specs.Paper.{release_said}
 use Rattle.counter.specs.declared.answers.ReleaseAnswer.{ReleaseAnswer}
 use Rattle.wire_rules.specs.Wire.{said_out}

@@ -1,4 +1,3 @@
-use borrow.Author.Rules.{rules}
 use Rattle.counter.specs.Paper.{set_up_said}
 use Rattle.counter.specs.declared.answers.SetUpAnswer.{SetUpAnswer}
 use Rattle.wire_rules.specs.Wire.{said_out}

@@ -1,4 +1,3 @@
-use borrow.Author.Rules.{rules}
 use borrow.Author.Tests.{eq-eqb, ne_eqb}
 use Rattle.wire_rules.specs.Wire.{outcome_in}
 use Rattle.wire.proofs.outcomes.read_outcome.Goals as goal

@@ -1,4 +1,3 @@
-use borrow.Author.Rules.{rules}
 use Rattle.wire.proofs.settings.is_narrow.Goals as goal
 
 pub returns : goal.returns

@@ -1,7 +1,5 @@
-use Prim.Native.Nat.{◌≤◌}
 use native.Mathlib.Omega.{arith}
-use lib.ListN.{length}
-use Rattle.wire_rules.proofs.Settled.{Narrow, settings_whole, settings_narrow}
+use Rattle.wire_rules.proofs.Settled.{settings_whole, settings_narrow}
 -- there are at least as many words as are read
 use Rattle.wire.proofs.settings.read_store.Goals as goal
 

@@ -1,4 +1,3 @@
-use borrow.Author.Rules.{rules}
 use Rattle.words.proofs.Filled.{blank_put}
 use Rattle.words.proofs.filling.put_blank.Goals as goal
 

@@ -1,8 +1,8 @@
 use native.Mathlib.Omega.{arith}
 use mathlib.Core.Path.{◌≡◌, refl}
-use Prim.Native.Nat.{◌+◌, ◌-◌, ◌≤◌}
-use lib.ListN.{length, length-set}
-use Rattle.words.proofs.Moved.{run, run_none, turn_one, down_join}
+use Prim.Native.Nat.{◌+◌}
+use lib.ListN.{length-set}
+use Rattle.words.proofs.Moved.{run_none, turn_one, down_join}
 use Rattle.words.proofs.moves.down_by_ones.Goals as goal
 
 pub loop-j-init : goal.loop-j-init

@@ -1,8 +1,7 @@
-use native.Mathlib.Omega.{arith}
-use mathlib.Core.Path.{◌≡◌, refl}
-use Prim.Native.Nat.{◌+◌, ◌-◌, ◌≤◌}
-use lib.ListN.{length, length-set}
-use Rattle.words.proofs.Moved.{run, run_none, turn_one, down_join}
+use mathlib.Core.Path.{◌≡◌}
+use Prim.Native.Nat.{◌-◌, ◌≤◌}
+use lib.ListN.{length}
+use Rattle.words.proofs.Moved.{run}
 use Rattle.words.proofs.moves.down_by_ones.Given as goal
 
 abbrev pub invariant-loop-j : goal.invariant-loop-j

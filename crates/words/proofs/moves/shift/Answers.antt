@@ -3,7 +3,6 @@ use mathlib.Core.Path.{sym}
 use Prim.Native.Nat.{◌-◌}
 use lib.ListN.{length}
 use Rattle.words.proofs.Moved.{moved_in, moved_out, both_fit, one_leaves}
-use borrow.Author.Rules.{rules}
 use Rattle.words.proofs.moves.shift.Goals as goal
 
 pub shift_down-requires : goal.shift_down-requires

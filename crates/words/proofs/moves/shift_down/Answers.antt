@@ -1,7 +1,6 @@
 use native.Mathlib.Omega.{arith}
 use Prim.Native.Nat.{ℕ, ◌-◌, ◌*◌, ◌/◌}
 use Rattle.words.proofs.Moved.{down_join}
-use borrow.Author.Rules.{rules}
 use Rattle.words.proofs.moves.shift_down.Goals as goal
 
 pub returns : goal.returns

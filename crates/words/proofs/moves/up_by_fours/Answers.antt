@@ -1,8 +1,8 @@
 use native.Mathlib.Omega.{arith}
 use mathlib.Core.Path.{◌≡◌, refl, ◌∙◌}
-use Prim.Native.Nat.{◌+◌, ◌-◌, ◌*◌, ◌≤◌}
-use lib.ListN.{length, length-set}
-use Rattle.words.proofs.Moved.{rising, turn_four, up_none, up_turn, up_done}
+use Prim.Native.Nat.{◌+◌, ◌-◌, ◌*◌}
+use lib.ListN.{length-set}
+use Rattle.words.proofs.Moved.{turn_four, up_none, up_turn, up_done}
 use Rattle.words.proofs.moves.up_by_fours.Goals as goal
 
 pub loop-j-init : goal.loop-j-init

@@ -1,8 +1,7 @@
-use native.Mathlib.Omega.{arith}
-use mathlib.Core.Path.{◌≡◌, refl, ◌∙◌}
-use Prim.Native.Nat.{◌+◌, ◌-◌, ◌≤◌}
-use lib.ListN.{length, length-set}
-use Rattle.words.proofs.Moved.{rising, turn_one, up_none, up_turn, up_done}
+use mathlib.Core.Path.{◌≡◌}
+use Prim.Native.Nat.{◌≤◌}
+use lib.ListN.{length}
+use Rattle.words.proofs.Moved.{rising}
 use Rattle.words.proofs.moves.up_by_ones.Given as goal
 
 abbrev pub invariant-loop-j : goal.invariant-loop-j

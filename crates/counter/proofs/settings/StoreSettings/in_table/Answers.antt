@@ -1,4 +1,3 @@
-use borrow.Author.Rules.{rules}
 use Rattle.counter.specs.Table.{store_ok}
 use Rattle.counter.proofs.settings.StoreSettings.in_table.Goals as goal
 
