@@ -21,7 +21,8 @@ bounds-regions-2 c =
     search rules
 
 pub returns-then-whole-eq0 : goal.returns-then-whole-eq0
-returns-then-whole-eq0 c = let a = c.args in record { count_value = (none_left a.s a.spare a.chunks.now a.regions.now a.list.now _ _ refl refl c.requires (none_whole a.s a.spare a.chunks.now a.regions.now a.list.now _ _ refl refl c.requires _ refl c.if-whole-eq0.true)).0; bytes_value = (none_left a.s a.spare a.chunks.now a.regions.now a.list.now _ _ refl refl c.requires (none_whole a.s a.spare a.chunks.now a.regions.now a.list.now _ _ refl refl c.requires _ refl c.if-whole-eq0.true)).1.0; regions_after = (none_left a.s a.spare a.chunks.now a.regions.now a.list.now _ _ refl refl c.requires (none_whole a.s a.spare a.chunks.now a.regions.now a.list.now _ _ refl refl c.requires _ refl c.if-whole-eq0.true)).1.1.0; list_after = (none_left a.s a.spare a.chunks.now a.regions.now a.list.now _ _ refl refl c.requires (none_whole a.s a.spare a.chunks.now a.regions.now a.list.now _ _ refl refl c.requires _ refl c.if-whole-eq0.true)).1.1.1 }
+returns-then-whole-eq0 c = let a = c.args in let all = none_left a.s a.spare a.chunks.now a.regions.now a.list.now _ _ refl refl c.requires (none_whole a.s a.spare a.chunks.now a.regions.now a.list.now _ _ refl refl c.requires _ refl c.if-whole-eq0.true) in
+    record { count_value = all.0; bytes_value = all.1.0; regions_after = all.1.1.0; list_after = all.1.1.1 }
 
 pub spared-stay-requires : goal.spared-stay-requires
 spared-stay-requires c =

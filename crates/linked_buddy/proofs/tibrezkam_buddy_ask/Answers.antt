@@ -18,7 +18,9 @@ read_share-share-requires c =
     (account_right a.settings.now a.account.now _ _ c.is_settings.ensures c.is_account.ensures c.if-is_settings-is_account.true, c.heaps_in_table-table.ensures)
 
 pub returns-then-is_settings-is_account : goal.returns-then-is_settings-is_account
-returns-then-is_settings-is_account c = let a = c.args in record { account_after = (ask_made a.settings.now a.account.now _ _ c.is_settings.ensures c.is_account.ensures a.size a.mask (tables a.head.now a.loans.now a.chunks.now a.index.now a.tree.now) _ a.answer.now _ (tables _ _ _ _ _) _ _ _ c.if-is_settings-is_account.true c.read_buddy-s.ensures c.read_share-share.ensures c.ask-said.ensures c.put_asked.ensures c.tell_asked.ensures).0; tree_after = (ask_made a.settings.now a.account.now _ _ c.is_settings.ensures c.is_account.ensures a.size a.mask (tables a.head.now a.loans.now a.chunks.now a.index.now a.tree.now) _ a.answer.now _ (tables _ _ _ _ _) _ _ _ c.if-is_settings-is_account.true c.read_buddy-s.ensures c.read_share-share.ensures c.ask-said.ensures c.put_asked.ensures c.tell_asked.ensures).1.0; answer_after = (ask_made a.settings.now a.account.now _ _ c.is_settings.ensures c.is_account.ensures a.size a.mask (tables a.head.now a.loans.now a.chunks.now a.index.now a.tree.now) _ a.answer.now _ (tables _ _ _ _ _) _ _ _ c.if-is_settings-is_account.true c.read_buddy-s.ensures c.read_share-share.ensures c.ask-said.ensures c.put_asked.ensures c.tell_asked.ensures).1.1 }
+returns-then-is_settings-is_account c = let a = c.args in let all = ask_made a.settings.now a.account.now _ _ c.is_settings.ensures c.is_account.ensures a.size a.mask (tables a.head.now a.loans.now a.chunks.now a.index.now a.tree.now) _ a.answer.now _ (tables _ _ _ _ _) _ _ _ c.if-is_settings-is_account.true c.read_buddy-s.ensures c.read_share-share.ensures c.ask-said.ensures c.put_asked.ensures c.tell_asked.ensures in
+    record { account_after = all.0; tree_after = all.1.0; answer_after = all.1.1 }
 
 pub returns-else-is_settings-is_account : goal.returns-else-is_settings-is_account
-returns-else-is_settings-is_account c = let a = c.args in record { account_after = (ask_bad a.settings.now a.account.now _ _ c.is_settings.ensures c.is_account.ensures a.size a.mask (tables a.head.now a.loans.now a.chunks.now a.index.now a.tree.now) a.answer.now _ c.if-is_settings-is_account.false c.tell_bad.ensures).0; tree_after = (ask_bad a.settings.now a.account.now _ _ c.is_settings.ensures c.is_account.ensures a.size a.mask (tables a.head.now a.loans.now a.chunks.now a.index.now a.tree.now) a.answer.now _ c.if-is_settings-is_account.false c.tell_bad.ensures).1.0; answer_after = (ask_bad a.settings.now a.account.now _ _ c.is_settings.ensures c.is_account.ensures a.size a.mask (tables a.head.now a.loans.now a.chunks.now a.index.now a.tree.now) a.answer.now _ c.if-is_settings-is_account.false c.tell_bad.ensures).1.1 }
+returns-else-is_settings-is_account c = let a = c.args in let all = ask_bad a.settings.now a.account.now _ _ c.is_settings.ensures c.is_account.ensures a.size a.mask (tables a.head.now a.loans.now a.chunks.now a.index.now a.tree.now) a.answer.now _ c.if-is_settings-is_account.false c.tell_bad.ensures in
+    record { account_after = all.0; tree_after = all.1.0; answer_after = all.1.1 }

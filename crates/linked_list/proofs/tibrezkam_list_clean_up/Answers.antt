@@ -25,7 +25,9 @@ put_share-requires c =
     (both_right list_words a.settings.now a.account.now _ _ c.is_settings.ensures c.is_account.ensures c.if-is_settings-is_account.true).1
 
 pub returns-then-is_settings-is_account : goal.returns-then-is_settings-is_account
-returns-then-is_settings-is_account c = let a = c.args in record { account_after = (clean_made a.settings.now a.account.now _ _ a.answer.now _ c.is_settings.ensures c.is_account.ensures _ _ _ (tables a.head.now a.loans.now a.chunks.now a.index.now a.regions.now) _ _ c.read_free_list-s.ensures c.read_share-share.ensures a.list.now _ _ c.if-is_settings-is_account.true c.clean_up-r.ensures c.put_share.ensures c.tell_released.ensures).0; list_after = (clean_made a.settings.now a.account.now _ _ a.answer.now _ c.is_settings.ensures c.is_account.ensures _ _ _ (tables a.head.now a.loans.now a.chunks.now a.index.now a.regions.now) _ _ c.read_free_list-s.ensures c.read_share-share.ensures a.list.now _ _ c.if-is_settings-is_account.true c.clean_up-r.ensures c.put_share.ensures c.tell_released.ensures).1.0; answer_after = (clean_made a.settings.now a.account.now _ _ a.answer.now _ c.is_settings.ensures c.is_account.ensures _ _ _ (tables a.head.now a.loans.now a.chunks.now a.index.now a.regions.now) _ _ c.read_free_list-s.ensures c.read_share-share.ensures a.list.now _ _ c.if-is_settings-is_account.true c.clean_up-r.ensures c.put_share.ensures c.tell_released.ensures).1.1 }
+returns-then-is_settings-is_account c = let a = c.args in let all = clean_made a.settings.now a.account.now _ _ a.answer.now _ c.is_settings.ensures c.is_account.ensures _ _ _ (tables a.head.now a.loans.now a.chunks.now a.index.now a.regions.now) _ _ c.read_free_list-s.ensures c.read_share-share.ensures a.list.now _ _ c.if-is_settings-is_account.true c.clean_up-r.ensures c.put_share.ensures c.tell_released.ensures in
+    record { account_after = all.0; list_after = all.1.0; answer_after = all.1.1 }
 
 pub returns-else-is_settings-is_account : goal.returns-else-is_settings-is_account
-returns-else-is_settings-is_account c = let a = c.args in record { account_after = (clean_refused a.settings.now a.account.now _ _ a.answer.now _ c.is_settings.ensures c.is_account.ensures (tables a.head.now a.loans.now a.chunks.now a.index.now a.regions.now) a.list.now c.if-is_settings-is_account.false c.tell_bad.ensures).0; list_after = (clean_refused a.settings.now a.account.now _ _ a.answer.now _ c.is_settings.ensures c.is_account.ensures (tables a.head.now a.loans.now a.chunks.now a.index.now a.regions.now) a.list.now c.if-is_settings-is_account.false c.tell_bad.ensures).1.0; answer_after = (clean_refused a.settings.now a.account.now _ _ a.answer.now _ c.is_settings.ensures c.is_account.ensures (tables a.head.now a.loans.now a.chunks.now a.index.now a.regions.now) a.list.now c.if-is_settings-is_account.false c.tell_bad.ensures).1.1 }
+returns-else-is_settings-is_account c = let a = c.args in let all = clean_refused a.settings.now a.account.now _ _ a.answer.now _ c.is_settings.ensures c.is_account.ensures (tables a.head.now a.loans.now a.chunks.now a.index.now a.regions.now) a.list.now c.if-is_settings-is_account.false c.tell_bad.ensures in
+    record { account_after = all.0; list_after = all.1.0; answer_after = all.1.1 }

@@ -30,7 +30,9 @@ put_share-requires c =
     (all_right list_words a.settings.now a.account.now _ _ _ c.is_settings.ensures c.is_account.ensures c.if-is_settings-is_account.true).1
 
 pub returns-then-is_settings-is_account : goal.returns-then-is_settings-is_account
-returns-then-is_settings-is_account c = let a = c.args in record { account_after = (deliver_made a.settings.now a.account.now _ _ a.answer.now _ c.is_settings.ensures c.is_account.ensures _ _ _ (tables a.head.now a.loans.now a.chunks.now a.index.now a.regions.now) _ _ c.read_free_list-s.ensures c.read_share-share.ensures a.what a.memory a.mapping _ _ _ _ _ _ c.is_outcome.ensures c.if-is_settings-is_account.true c.read_outcome-o.ensures c.read_order-order.ensures c.deliver-r.ensures c.put_share.ensures c.put_order.ensures c.tell_delivered.ensures).0; regions_after = (deliver_made a.settings.now a.account.now _ _ a.answer.now _ c.is_settings.ensures c.is_account.ensures _ _ _ (tables a.head.now a.loans.now a.chunks.now a.index.now a.regions.now) _ _ c.read_free_list-s.ensures c.read_share-share.ensures a.what a.memory a.mapping _ _ _ _ _ _ c.is_outcome.ensures c.if-is_settings-is_account.true c.read_outcome-o.ensures c.read_order-order.ensures c.deliver-r.ensures c.put_share.ensures c.put_order.ensures c.tell_delivered.ensures).1.0; answer_after = (deliver_made a.settings.now a.account.now _ _ a.answer.now _ c.is_settings.ensures c.is_account.ensures _ _ _ (tables a.head.now a.loans.now a.chunks.now a.index.now a.regions.now) _ _ c.read_free_list-s.ensures c.read_share-share.ensures a.what a.memory a.mapping _ _ _ _ _ _ c.is_outcome.ensures c.if-is_settings-is_account.true c.read_outcome-o.ensures c.read_order-order.ensures c.deliver-r.ensures c.put_share.ensures c.put_order.ensures c.tell_delivered.ensures).1.1 }
+returns-then-is_settings-is_account c = let a = c.args in let all = deliver_made a.settings.now a.account.now _ _ a.answer.now _ c.is_settings.ensures c.is_account.ensures _ _ _ (tables a.head.now a.loans.now a.chunks.now a.index.now a.regions.now) _ _ c.read_free_list-s.ensures c.read_share-share.ensures a.what a.memory a.mapping _ _ _ _ _ _ c.is_outcome.ensures c.if-is_settings-is_account.true c.read_outcome-o.ensures c.read_order-order.ensures c.deliver-r.ensures c.put_share.ensures c.put_order.ensures c.tell_delivered.ensures in
+    record { account_after = all.0; regions_after = all.1.0; answer_after = all.1.1 }
 
 pub returns-else-is_settings-is_account : goal.returns-else-is_settings-is_account
-returns-else-is_settings-is_account c = let a = c.args in record { account_after = (deliver_refused a.settings.now a.account.now _ _ a.answer.now _ c.is_settings.ensures c.is_account.ensures (tables a.head.now a.loans.now a.chunks.now a.index.now a.regions.now) a.what a.memory a.mapping _ c.is_outcome.ensures c.if-is_settings-is_account.false c.tell_bad.ensures).0; regions_after = (deliver_refused a.settings.now a.account.now _ _ a.answer.now _ c.is_settings.ensures c.is_account.ensures (tables a.head.now a.loans.now a.chunks.now a.index.now a.regions.now) a.what a.memory a.mapping _ c.is_outcome.ensures c.if-is_settings-is_account.false c.tell_bad.ensures).1.0; answer_after = (deliver_refused a.settings.now a.account.now _ _ a.answer.now _ c.is_settings.ensures c.is_account.ensures (tables a.head.now a.loans.now a.chunks.now a.index.now a.regions.now) a.what a.memory a.mapping _ c.is_outcome.ensures c.if-is_settings-is_account.false c.tell_bad.ensures).1.1 }
+returns-else-is_settings-is_account c = let a = c.args in let all = deliver_refused a.settings.now a.account.now _ _ a.answer.now _ c.is_settings.ensures c.is_account.ensures (tables a.head.now a.loans.now a.chunks.now a.index.now a.regions.now) a.what a.memory a.mapping _ c.is_outcome.ensures c.if-is_settings-is_account.false c.tell_bad.ensures in
+    record { account_after = all.0; regions_after = all.1.0; answer_after = all.1.1 }

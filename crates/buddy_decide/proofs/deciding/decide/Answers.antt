@@ -20,4 +20,5 @@ returns-in-Take c = let a = c.args in
 
 pub returns-in-Need : goal.returns-in-Need
 returns-in-Need c = let a = c.args in
-    let f = subst (TryOf a.s a.size a.mask (tables a.head.now a.loans.now a.chunks.now a.index.now a.tree.now)) c.in-Need.is (c.try_held-tried.ensures a.chunks.now) in record { result_value = (look_buys a.s a.size a.mask (tables a.head.now a.loans.now a.chunks.now a.index.now a.tree.now) _ a.h a.objects c.decide_buy.result f c.decide_buy.ensures.result_value c.decide_buy.ensures.planned_at).0; planned = (look_buys a.s a.size a.mask (tables a.head.now a.loans.now a.chunks.now a.index.now a.tree.now) _ a.h a.objects c.decide_buy.result f c.decide_buy.ensures.result_value c.decide_buy.ensures.planned_at).1 }
+    let f = subst (TryOf a.s a.size a.mask (tables a.head.now a.loans.now a.chunks.now a.index.now a.tree.now)) c.in-Need.is (c.try_held-tried.ensures a.chunks.now) in let all = look_buys a.s a.size a.mask (tables a.head.now a.loans.now a.chunks.now a.index.now a.tree.now) _ a.h a.objects c.decide_buy.result f c.decide_buy.ensures.result_value c.decide_buy.ensures.planned_at in
+    record { result_value = all.0; planned = all.1 }

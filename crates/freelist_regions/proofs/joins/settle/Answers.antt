@@ -17,7 +17,8 @@ pub overflow_sub-result : goal.overflow_sub-result
 overflow_sub-result c = some _ _ (c.requires.under c.if-next.true)
 
 pub returns-then-next : goal.returns-then-next
-returns-then-next c = let a = c.args in record { value = (settles_both a.before a.next a.n a.k a.t.now c.requires a.g c.if-before.true c.if-next.true _ _ c.close_row.ensures c.put_gap.ensures).0; t_after = (settles_both a.before a.next a.n a.k a.t.now c.requires a.g c.if-before.true c.if-next.true _ _ c.close_row.ensures c.put_gap.ensures).1 }
+returns-then-next c = let a = c.args in let all = settles_both a.before a.next a.n a.k a.t.now c.requires a.g c.if-before.true c.if-next.true _ _ c.close_row.ensures c.put_gap.ensures in
+    record { value = all.0; t_after = all.1 }
 
 pub overflow_sub-k-then-before : goal.overflow_sub-k-then-before
 overflow_sub-k-then-before c = c.requires.some c.if-before.true
@@ -28,7 +29,8 @@ put_gap-requires-then-before c =
     omega (arith, h, c.requires.most, c.requires.room)
 
 pub returns-then-before : goal.returns-then-before
-returns-then-before c = let a = c.args in record { value = (settles_before a.before a.next a.n a.k a.t.now c.requires a.g c.if-before.true c.if-next.false _ c.put_gap-then-before.ensures).0; t_after = (settles_before a.before a.next a.n a.k a.t.now c.requires a.g c.if-before.true c.if-next.false _ c.put_gap-then-before.ensures).1 }
+returns-then-before c = let a = c.args in let all = settles_before a.before a.next a.n a.k a.t.now c.requires a.g c.if-before.true c.if-next.false _ c.put_gap-then-before.ensures in
+    record { value = all.0; t_after = all.1 }
 
 pub put_gap-requires-then-next-2 : goal.put_gap-requires-then-next-2
 put_gap-requires-then-next-2 c =
@@ -36,7 +38,8 @@ put_gap-requires-then-next-2 c =
     omega (arith, h, c.requires.room)
 
 pub returns-then-next-2 : goal.returns-then-next-2
-returns-then-next-2 c = let a = c.args in record { value = (settles_next a.before a.next a.n a.k a.t.now c.requires a.g c.if-before.false c.if-next-2.true _ c.put_gap-then-next-2.ensures).0; t_after = (settles_next a.before a.next a.n a.k a.t.now c.requires a.g c.if-before.false c.if-next-2.true _ c.put_gap-then-next-2.ensures).1 }
+returns-then-next-2 c = let a = c.args in let all = settles_next a.before a.next a.n a.k a.t.now c.requires a.g c.if-before.false c.if-next-2.true _ c.put_gap-then-next-2.ensures in
+    record { value = all.0; t_after = all.1 }
 
 pub put_gap-requires-2 : goal.put_gap-requires-2
 put_gap-requires-2 c =
@@ -44,4 +47,5 @@ put_gap-requires-2 c =
     omega (arith, h, c.requires.most)
 
 pub returns : goal.returns
-returns c = let a = c.args in record { value = (settles_between a.before a.next a.n a.k a.t.now c.requires a.g c.if-before.false c.if-next-2.false _ _ c.open_row.ensures c.put_gap-2.ensures).0; t_after = (settles_between a.before a.next a.n a.k a.t.now c.requires a.g c.if-before.false c.if-next-2.false _ _ c.open_row.ensures c.put_gap-2.ensures).1 }
+returns c = let a = c.args in let all = settles_between a.before a.next a.n a.k a.t.now c.requires a.g c.if-before.false c.if-next-2.false _ _ c.open_row.ensures c.put_gap-2.ensures in
+    record { value = all.0; t_after = all.1 }

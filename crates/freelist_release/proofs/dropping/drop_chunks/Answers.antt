@@ -7,4 +7,5 @@ keep_chunks-held-requires c =
     (c.requires.k_in_bounds.0, count_fits a.chunks.now a.k a.regions.now a.n a.spare a.list.now c.requires.releasable c.mark-m.result.count _ c.mark-m.ensures.count_value c.mark-m.ensures.list_after c.requires.k_in_bounds.2)
 
 pub returns : goal.returns
-returns c = let a = c.args in record { count_value = (released_some a.chunks.now a.k a.regions.now a.n a.spare a.list.now c.requires.releasable c.mark-m.result.count _ c.mark-m.ensures.count_value c.mark-m.ensures.list_after c.requires.k_in_bounds.2 _ _ _ _ _ c.mark-m.ensures.bytes_value (c.keep_regions-left.ensures.value, c.keep_regions-left.ensures.regions_after) (c.keep_chunks-held.ensures.value, c.keep_chunks-held.ensures.chunks_after)).0; bytes_value = (released_some a.chunks.now a.k a.regions.now a.n a.spare a.list.now c.requires.releasable c.mark-m.result.count _ c.mark-m.ensures.count_value c.mark-m.ensures.list_after c.requires.k_in_bounds.2 _ _ _ _ _ c.mark-m.ensures.bytes_value (c.keep_regions-left.ensures.value, c.keep_regions-left.ensures.regions_after) (c.keep_chunks-held.ensures.value, c.keep_chunks-held.ensures.chunks_after)).1.0; chunks_value = (released_some a.chunks.now a.k a.regions.now a.n a.spare a.list.now c.requires.releasable c.mark-m.result.count _ c.mark-m.ensures.count_value c.mark-m.ensures.list_after c.requires.k_in_bounds.2 _ _ _ _ _ c.mark-m.ensures.bytes_value (c.keep_regions-left.ensures.value, c.keep_regions-left.ensures.regions_after) (c.keep_chunks-held.ensures.value, c.keep_chunks-held.ensures.chunks_after)).1.1.0; regions_value = (released_some a.chunks.now a.k a.regions.now a.n a.spare a.list.now c.requires.releasable c.mark-m.result.count _ c.mark-m.ensures.count_value c.mark-m.ensures.list_after c.requires.k_in_bounds.2 _ _ _ _ _ c.mark-m.ensures.bytes_value (c.keep_regions-left.ensures.value, c.keep_regions-left.ensures.regions_after) (c.keep_chunks-held.ensures.value, c.keep_chunks-held.ensures.chunks_after)).1.1.1.0; chunks_after = (released_some a.chunks.now a.k a.regions.now a.n a.spare a.list.now c.requires.releasable c.mark-m.result.count _ c.mark-m.ensures.count_value c.mark-m.ensures.list_after c.requires.k_in_bounds.2 _ _ _ _ _ c.mark-m.ensures.bytes_value (c.keep_regions-left.ensures.value, c.keep_regions-left.ensures.regions_after) (c.keep_chunks-held.ensures.value, c.keep_chunks-held.ensures.chunks_after)).1.1.1.1.0; regions_after = (released_some a.chunks.now a.k a.regions.now a.n a.spare a.list.now c.requires.releasable c.mark-m.result.count _ c.mark-m.ensures.count_value c.mark-m.ensures.list_after c.requires.k_in_bounds.2 _ _ _ _ _ c.mark-m.ensures.bytes_value (c.keep_regions-left.ensures.value, c.keep_regions-left.ensures.regions_after) (c.keep_chunks-held.ensures.value, c.keep_chunks-held.ensures.chunks_after)).1.1.1.1.1.0; list_after = (released_some a.chunks.now a.k a.regions.now a.n a.spare a.list.now c.requires.releasable c.mark-m.result.count _ c.mark-m.ensures.count_value c.mark-m.ensures.list_after c.requires.k_in_bounds.2 _ _ _ _ _ c.mark-m.ensures.bytes_value (c.keep_regions-left.ensures.value, c.keep_regions-left.ensures.regions_after) (c.keep_chunks-held.ensures.value, c.keep_chunks-held.ensures.chunks_after)).1.1.1.1.1.1 }
+returns c = let a = c.args in let all = released_some a.chunks.now a.k a.regions.now a.n a.spare a.list.now c.requires.releasable c.mark-m.result.count _ c.mark-m.ensures.count_value c.mark-m.ensures.list_after c.requires.k_in_bounds.2 _ _ _ _ _ c.mark-m.ensures.bytes_value (c.keep_regions-left.ensures.value, c.keep_regions-left.ensures.regions_after) (c.keep_chunks-held.ensures.value, c.keep_chunks-held.ensures.chunks_after) in
+    record { count_value = all.0; bytes_value = all.1.0; chunks_value = all.1.1.0; regions_value = all.1.1.1.0; chunks_after = all.1.1.1.1.0; regions_after = all.1.1.1.1.1.0; list_after = all.1.1.1.1.1.1 }

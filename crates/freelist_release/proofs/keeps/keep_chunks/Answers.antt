@@ -36,4 +36,5 @@ shape_of-chunks c =
     kept_length chunk_row (unlisted (take a.m a.list.now)) (rows chunk_row a.k a.chunks.now) a.chunks.now c.loop-i.chunks c.loop-i.i c.loop-i.kept c.loop-i.invariant.1 a.k (search rules) c.requires.0
 
 pub returns : goal.returns
-returns c = let a = c.args in record { value = (chunks_done (take a.m a.list.now) a.chunks.now a.k c.loop-i.chunks c.loop-i.i c.loop-i.kept c.loop-i.invariant.1 (search rules)).0; chunks_after = (chunks_done (take a.m a.list.now) a.chunks.now a.k c.loop-i.chunks c.loop-i.i c.loop-i.kept c.loop-i.invariant.1 (search rules)).1 }
+returns c = let a = c.args in let all = chunks_done (take a.m a.list.now) a.chunks.now a.k c.loop-i.chunks c.loop-i.i c.loop-i.kept c.loop-i.invariant.1 (search rules) in
+    record { value = all.0; chunks_after = all.1 }

@@ -56,4 +56,5 @@ shape_of-regions c =
     long (rows chunk_row a.k a.chunks.now) a.spare a.regions.now c.loop-i.regions a.n c.loop-i.i c.loop-i.kept c.loop-i.invariant.1 (search rules) c.requires.0
 
 pub returns : goal.returns
-returns c = let a = c.args in record { value = (regions_done (rows chunk_row a.k a.chunks.now) a.spare a.regions.now a.n c.loop-i.regions c.loop-i.i c.loop-i.kept c.loop-i.invariant.1 (search rules)).0; regions_after = (regions_done (rows chunk_row a.k a.chunks.now) a.spare a.regions.now a.n c.loop-i.regions c.loop-i.i c.loop-i.kept c.loop-i.invariant.1 (search rules)).1 }
+returns c = let a = c.args in let all = regions_done (rows chunk_row a.k a.chunks.now) a.spare a.regions.now a.n c.loop-i.regions c.loop-i.i c.loop-i.kept c.loop-i.invariant.1 (search rules) in
+    record { value = all.0; regions_after = all.1 }
