@@ -1,5 +1,5 @@
-//! Links the project's archives, from where `rt staticlib` writes them or from the folder that
-//! the variable ARCHIVES names. With the feature `timing` it links copies of them too, which do
+//! Links the project's archives, from where `build` puts those that `rt lib` makes or from the
+//! folder that the variable ARCHIVES names. With the feature `timing` it links copies of them too, which do
 //! without the test of soundness, or without all tests of the gate.
 
 use std::{
@@ -11,7 +11,7 @@ mod untested;
 
 use untested::{Says, Test};
 
-const WRITTEN: &str = "../../target/staticlib";
+const WRITTEN: &str = "target/archives";
 const ARCHIVES: [&str; 3] = ["linked_list", "linked_buddy", "linked_rank"];
 /// Whether every heap is in 01's table is a part of test 1, which the exported calls ask ahead of the
 /// gate.
