@@ -2,7 +2,6 @@
 use crate::calls::run;
 use counter::Account;
 use reel::{Settings, Window};
-use std::io;
 use std::io::Read;
 
 // a tape is read through a buffer of so many bytes
@@ -17,12 +16,7 @@ pub struct Reached {
 }
 
 // A loop has to end, and nothing says that a tape does: so records are counted, and no tape has as many as can be counted.
-pub fn replay(
-    input: &mut impl Read,
-    s: Settings,
-    fresh: Account,
-    image: &mut [u64],
-) -> io::Result<Reached> {
+pub fn replay(input: &mut impl Read, s: Settings, fresh: Account, image: &mut [u64]) -> Reached {
     let buddy = reel::is_buddy(s);
     let mut buffer = [0u8; BUFFER_BYTES];
     let mut w = Window { from: 0, to: 0 };
@@ -30,7 +24,7 @@ pub fn replay(
     let mut whole = true;
     let mut records = 0u64;
     while records < u64::MAX {
-        let turn = reel::next(input, &mut buffer, w, buddy)?;
+        let turn = reel::next(input, &mut buffer, w, buddy);
         if turn.torn | turn.ended {
             whole = turn.ended;
             break;
@@ -45,9 +39,9 @@ pub fn replay(
         w = turn.window;
         records += 1;
     }
-    Ok(Reached {
+    Reached {
         account: a,
         records: records,
         whole: whole,
-    })
+    }
 }

@@ -68,7 +68,7 @@ fn try_store(
         print_not_set_up(out, store)?;
         return Ok(failed(t));
     }
-    let reached = replay(input, s, fresh, &mut image)?;
+    let reached = replay(input, s, fresh, &mut image);
     if !reached.whole {
         print_not_reached(out, store, reached.records)?;
         return Ok(failed(t));
@@ -82,7 +82,7 @@ fn try_tape(
     store: u64,
     t: Tally,
 ) -> io::Result<Tally> {
-    let header = reel::read_header(input)?;
+    let header = reel::read_header(input);
     match header {
         Header::FreeList(h) => {
             let settings = h.settings;

@@ -1,5 +1,5 @@
 // A tape read through a buffer: the bytes that are still to be taken lie in a window of it.
-ghost use Rattle.std.specs.Prelude.{◌≤◌, IfOk, length};
+ghost use Rattle.std.specs.Prelude.{◌≤◌, length};
 
 use std::io::Read;
 use std::rt::Files;
@@ -17,26 +17,29 @@ pub fn open<R: Files + Eprint>(rt: &R, path: &str) -> io::Result<Option<R::File>
     }
 }
 
-// Reads until the buffer is full or the input ends, and says how many bytes that put at the buffer's front.
-fn read_full(input: &mut impl Read, buffer: &mut [u8]) -> io::Result<usize>
-    ensures { IfOk result (λ n. n ≤ length buffer.old) }
+// Reads until the buffer is full, the input ends or a read fails, and says how many bytes that put at the buffer's front.
+fn read_full(input: &mut impl Read, buffer: &mut [u8]) -> usize
+    ensures { result ≤ length buffer.old }
 {
     let mut done = 0usize;
     while done < buffer.len() {
-        let n = input.read(&mut buffer[done..])?;
+        let n = match input.read(&mut buffer[done..]) {
+            Ok(count) => count,
+            Err(_) => 0,
+        };
         if n == 0 {
             break;
         }
         done += n;
     }
-    Ok(done)
+    done
 }
 
 // The header at the front of a tape.
-pub fn read_header(input: &mut impl Read) -> io::Result<Header> {
+pub fn read_header(input: &mut impl Read) -> Header {
     let mut bytes = [0u8; HEADER_BYTES];
-    let n = read_full(input, &mut bytes)?;
-    Ok(tape::read_header(&bytes[..n]))
+    let n = read_full(input, &mut bytes);
+    tape::read_header(&bytes[..n])
 }
 
 #[derive(Clone, Copy)]
@@ -62,21 +65,21 @@ fn settle(buffer: &mut [u8], w: Window) -> usize
 }
 
 // Room for any record is filled again from the input, as far as the input goes.
-fn refill(input: &mut impl Read, buffer: &mut [u8], w: Window) -> io::Result<Window>
+fn refill(input: &mut impl Read, buffer: &mut [u8], w: Window) -> Window
     requires from_le_to { w.from ≤ w.to }
     requires to_in_bounds { w.to ≤ length buffer.old }
-    ensures from_le_to_2 { IfOk result (λ v. v.from ≤ v.to) }
-    ensures to_in_bounds_2 { IfOk result (λ v. v.to ≤ length buffer.old) }
+    ensures from_le_to_2 { result.from ≤ result.to }
+    ensures to_in_bounds_2 { result.to ≤ length buffer.old }
 {
     if RECORD_BYTES_MOST <= w.to - w.from {
-        return Ok(w);
+        return w;
     }
     let n = settle(buffer, w);
-    let more = read_full(input, &mut buffer[n..])?;
-    Ok(Window {
+    let more = read_full(input, &mut buffer[n..]);
+    Window {
         from: 0,
         to: n + more,
-    })
+    }
 }
 
 // The window after n of its bytes.
@@ -114,18 +117,13 @@ pub struct Turn {
     pub window: Window,
 }
 
-pub fn next(
-    input: &mut impl Read,
-    buffer: &mut [u8],
-    before: Window,
-    buddy: bool,
-) -> io::Result<Turn>
+pub fn next(input: &mut impl Read, buffer: &mut [u8], before: Window, buddy: bool) -> Turn
     requires from_le_to { before.from ≤ before.to }
     requires to_in_bounds { before.to ≤ length buffer.old }
-    ensures from_le_to_2 { IfOk result (λ turn. turn.window.from ≤ turn.window.to) }
-    ensures to_in_bounds_2 { IfOk result (λ turn. turn.window.to ≤ length buffer.old) }
+    ensures from_le_to_2 { result.window.from ≤ result.window.to }
+    ensures to_in_bounds_2 { result.window.to ≤ length buffer.old }
 {
-    let w = refill(input, buffer, before)?;
+    let w = refill(input, buffer, before);
     let from = w.from;
     let to = w.to;
     let record = tape::read_record(&buffer[from..to], buddy);
@@ -134,11 +132,11 @@ pub fn next(
     } else {
         0
     };
-    Ok(Turn {
+    Turn {
         ended: from == to,
         torn: (from < to) & is_torn(record),
         record: record,
         length: n,
         window: past(w, n),
-    })
+    }
 }

@@ -12,7 +12,7 @@ use std::{env, io};
 use tape::Header;
 
 fn replay(input: &mut impl Read, out: &mut impl Write) -> io::Result<()> {
-    let header = reel::read_header(input)?;
+    let header = reel::read_header(input);
     match header {
         Header::FreeList(s) => {
             let settings = s.settings;

@@ -56,7 +56,7 @@ pub fn run(
     let mut position = 0u64;
     let mut records = 0u64;
     while records < u64::MAX {
-        let turn = reel::next(input, &mut buffer, w, buddy)?;
+        let turn = reel::next(input, &mut buffer, w, buddy);
         torn = turn.torn;
         if torn | turn.ended {
             break;
