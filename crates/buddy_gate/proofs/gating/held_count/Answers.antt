@@ -4,7 +4,6 @@ use Rattle.buddy_outcomes.specs.Gate.{held_count}
 use Rattle.buddy_decide.proofs.Known.{seen}
 use Rattle.buddy_gate.proofs.Held.{count_more, count_none, count_low}
 use Rattle.buddy_gate.proofs.gating.held_count.Goals as goal
-use Rattle.buddy_gate.proofs.gating.held_count.Goals.{then-cell-ne0, else-cell-ne0}
 
 pub loop-c-init : goal.loop-c-init
 unfolding held_count
@@ -18,13 +17,10 @@ overflow_add-count c =
 pub loop-c-preserved : goal.loop-c-preserved
 loop-c-preserved c =
     let a = c.args in
-    let read = c.cell.ensures in (
-      omega arith,
-      elim c.if-cell-ne0.branch [
-        | then-cell-ne0 w ↦ w.count-is ∙ count_more a.chunks.now _ _ (omega (arith, c.requires)) read _ c.loop-c.invariant.1 w.if-cell-ne0.true
-        | else-cell-ne0 w ↦ w.count-is ∙ count_none a.chunks.now _ _ (omega (arith, c.requires)) read _ c.loop-c.invariant.1 w.if-cell-ne0.false
-      ],
-    )
+    let read = c.cell.ensures in
+    let more = count_more a.chunks.now _ _ (omega (arith, c.requires)) read c.loop-c.count c.loop-c.invariant.1 in
+    let none = count_none a.chunks.now _ _ (omega (arith, c.requires)) read c.loop-c.count c.loop-c.invariant.1 in
+    (omega arith, grind (arith, more, none))
 
 pub returns : goal.returns
 returns c =

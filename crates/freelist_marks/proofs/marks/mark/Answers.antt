@@ -13,7 +13,6 @@ use Rattle.store_rules.specs.declared.Chunk.{Chunk}
 use Rattle.freelist_marks.proofs.Finding.{goes_not, memory_numbered}
 use Rattle.freelist_marks.proofs.Marking.{marking_none, marking_done, marking_length, marking_room, marking_turns, marking_stays, marking_goes}
 use Rattle.freelist_marks.proofs.marks.mark.Goals as goal
-use Rattle.freelist_marks.proofs.marks.mark.Goals.{then-start-eq0, else-start-eq0}
 
 pub loop-i-init : goal.loop-i-init
 loop-i-init c =
@@ -39,7 +38,7 @@ loop-i-preserved-then-goes c =
     let a = c.args in (
       omega arith,
       marking_goes (rows chunk_row a.k a.chunks.now) a.spare a.regions.now a.n c.loop-i.i (search rules) a.list.now c.requires.releasable
-          (omega (arith, length_rows chunk_row a.k a.chunks.now, c.requires.k_in_bounds)) c.loop-i.list c.loop-i.m c.loop-i.bytes c.loop-i.invariant.1 _ (elim c.if-start-eq0.branch [ then-start-eq0 w ↦ w.goes-is ∙ w.goes_at-goes.ensures | else-start-eq0 w ↦ w.goes-is ∙ goes_not a.chunks.now a.regions.now a.k c.loop-i.i c.requires.releasable.numbers (a.spare && eqb (c.loop-i.i + 1) a.n) _ c.cell-start.ensures w.if-start-eq0.false ]) c.if-goes.true c.region_at-r.result c.region_at-r.ensures
+          (omega (arith, length_rows chunk_row a.k a.chunks.now, c.requires.k_in_bounds)) c.loop-i.list c.loop-i.m c.loop-i.bytes c.loop-i.invariant.1 _ (grind (arith, goes_not a.chunks.now a.regions.now a.k c.loop-i.i c.requires.releasable.numbers (a.spare && eqb (c.loop-i.i + 1) a.n) _ c.cell-start.ensures)) c.if-goes.true c.region_at-r.result c.region_at-r.ensures
           _
           (ap (λ (z : Chunk). z.memory) c.find_chunk-c.ensures ∙ memory_numbered c.region_at-r.result (rows chunk_row a.k a.chunks.now))
           _
@@ -57,7 +56,7 @@ loop-i-preserved c =
     let a = c.args in (
       omega arith,
       marking_stays (rows chunk_row a.k a.chunks.now) a.spare a.regions.now a.n c.loop-i.i (search rules) a.list.now c.requires.releasable
-          (omega (arith, length_rows chunk_row a.k a.chunks.now, c.requires.k_in_bounds)) c.loop-i.list c.loop-i.m c.loop-i.bytes c.loop-i.invariant.1 _ (elim c.if-start-eq0.branch [ then-start-eq0 w ↦ w.goes-is ∙ w.goes_at-goes.ensures | else-start-eq0 w ↦ w.goes-is ∙ goes_not a.chunks.now a.regions.now a.k c.loop-i.i c.requires.releasable.numbers (a.spare && eqb (c.loop-i.i + 1) a.n) _ c.cell-start.ensures w.if-start-eq0.false ]) c.if-goes.false _ c.turn.ensures,
+          (omega (arith, length_rows chunk_row a.k a.chunks.now, c.requires.k_in_bounds)) c.loop-i.list c.loop-i.m c.loop-i.bytes c.loop-i.invariant.1 _ (grind (arith, goes_not a.chunks.now a.regions.now a.k c.loop-i.i c.requires.releasable.numbers (a.spare && eqb (c.loop-i.i + 1) a.n) _ c.cell-start.ensures)) c.if-goes.false _ c.turn.ensures,
     )
 
 pub shape_of-list : goal.shape_of-list

@@ -1,0 +1,3 @@
+-- What the worked days come to.
+pub mod SplitWorked
+pub mod Worked
