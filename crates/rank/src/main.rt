@@ -6,7 +6,7 @@ ghost use Rattle.std.specs.Prelude.{◌≡◌, ◌≤◌, min, length, take};
 ghost use Rattle.std.proofs.Math.Seq.{paste};
 
 use std::io;
-use std::io::{BufWriter, Read, Write};
+use std::io::Read;
 
 // one word more than a stand may have, so that one too many is seen
 const WORDS_MOST: usize = 33;
@@ -35,12 +35,28 @@ fn fill(words: &mut [u32], bytes: &[u8]) -> usize
     i
 }
 
+// Reads until the buffer is full, the input ends or a read fails, and says how many bytes that put at the buffer's front.
+fn read_full(input: &mut impl Read, buffer: &mut [u8]) -> usize
+    ensures { result ≤ length buffer.old }
+{
+    let mut done = 0usize;
+    while done < buffer.len() {
+        let n = match input.read(&mut buffer[done..]) {
+            Ok(count) => count,
+            Err(_) => 0,
+        };
+        if n == 0 {
+            break;
+        }
+        done += n;
+    }
+    done
+}
+
 fn main(rt: HostRuntime) -> io::Result<()> {
     let mut words = [0u32; WORDS_MOST];
-    let mut bytes = Vec::new(rt.alloc());
-    rt.reader().take(WORDS_MOST as u64).read_to_end(&mut bytes)?;
-    let k = fill(&mut words, &bytes);
-    let mut out = BufWriter::new(rt.alloc(), io::writer(&rt))?;
-    text::print_ranking(&mut out, usage::rank(&words[..k]))?;
-    out.flush()
+    let mut bytes = [0u8; WORDS_MOST];
+    let n = read_full(&mut rt.reader(), &mut bytes);
+    let k = fill(&mut words, &bytes[..n]);
+    text::print_ranking(&mut io::writer(&rt), usage::rank(&words[..k]))
 }

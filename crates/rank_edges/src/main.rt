@@ -2,7 +2,6 @@
 #![tactic(auto)]
 
 use std::io;
-use std::io::{BufWriter, Write};
 
 fn main(rt: HostRuntime) -> io::Result<()> {
     let mut words = [
@@ -10,11 +9,10 @@ fn main(rt: HostRuntime) -> io::Result<()> {
         18u32, 29u32, 40u32, 51u32, 62u32, 9u32, 20u32, 31u32, 42u32, 53u32, 0u32, 11u32, 22u32,
         33u32, 44u32, 55u32, 2u32, 13u32, 24u32, 35u32,
     ];
-    let mut out = BufWriter::new(rt.alloc(), io::writer(&rt))?;
+    let mut out = io::writer(&rt);
     text::print_ranking(&mut out, usage::rank(&words[..0]))?;
     text::print_ranking(&mut out, usage::rank(&words[..32]))?;
     text::print_ranking(&mut out, usage::rank(&words))?;
     words[31] = 64;
-    text::print_ranking(&mut out, usage::rank(&words[..32]))?;
-    out.flush()
+    text::print_ranking(&mut out, usage::rank(&words[..32]))
 }

@@ -6,7 +6,7 @@ mod run;
 mod start;
 
 use reel::Settings;
-use std::io::{BufWriter, Read, Write};
+use std::io::{Read, Write};
 use std::rt::Files;
 use std::{env, io};
 use tape::Header;
@@ -47,7 +47,7 @@ fn replay_named(rt: &(impl Files + Eprint), path: &str, out: &mut impl Write) ->
 }
 
 fn main(rt: HostRuntime) -> io::Result<()> {
-    let mut out = BufWriter::new(rt.alloc(), io::writer(&rt))?;
+    let mut out = io::writer(&rt);
     let args = env::args(&rt)?;
     if args.len() < 2 {
         replay(&mut rt.reader(), &mut out)?;
@@ -55,5 +55,5 @@ fn main(rt: HostRuntime) -> io::Result<()> {
     for path in args.skip(1) {
         replay_named(&rt, path.as_str(), &mut out)?;
     }
-    out.flush()
+    Ok(())
 }
