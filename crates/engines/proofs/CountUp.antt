@@ -19,7 +19,7 @@ use Rattle.engines.proofs.Visits.{set_up?, set_up_refused, stores_stay, store_he
 
 -- ---- numbers that count up
 
-up_append : (g m n : ℕ) → up_from g (m + n) ≡ up_from g m ++ up_from (g + m) n
+pub up_append : (g m n : ℕ) → up_from g (m + n) ≡ up_from g m ++ up_from (g + m) n
 up_append g zero n = let e : g ≡ g + 0 = omega arith in let f : 0 + n ≡ n = omega arith in ap (up_from g) f ∙ ap (λ (x : ℕ). up_from x n) e
 up_append g (suc m) n =
     let e : g + 1 + m ≡ g + suc m = omega arith in
@@ -31,7 +31,7 @@ up_not : (x g n : ℕ) → x ≤ g → NotIn x (up_from g n)
 up_not x g zero h = tt
 up_not x g (suc n) h = ((λ e. omega arith), up_not x (g + 1) n (omega arith))
 
-up_distinct : (g n : ℕ) → Distinct (up_from g n)
+pub up_distinct : (g n : ℕ) → Distinct (up_from g n)
 up_distinct g zero = tt
 up_distinct g (suc n) = (up_not (g + 1) (g + 1) n (omega arith), up_distinct (g + 1) n)
 

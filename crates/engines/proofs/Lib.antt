@@ -17,3 +17,6 @@ pub mod Unique
 pub mod HandedBack
 pub mod AnyOrder
 pub mod Signs
+pub mod MixedCounts
+pub mod Answering
+pub mod Passing

@@ -10,3 +10,4 @@ pub mod Engines
 pub mod Histories
 pub mod Ledger
 pub mod Pools
+pub mod Handable

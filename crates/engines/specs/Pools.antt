@@ -10,6 +10,7 @@ use Rattle.store_rules.specs.Views.{All}
 use Rattle.store_rules.specs.declared.Loan.{Loan}
 use Rattle.engines.specs.Engines.{Engine}
 use Rattle.engines.specs.Ledger.{Note, note_of}
+use Rattle.engines.specs.Serials.{serial_said}
 use Rattle.engines.specs.Shapes.{Tables, Call, sets_up, returns, Shape, does, lent_list}
 
 -- which of a store's five tables
@@ -108,6 +109,11 @@ module _ (K : Type 0) (E : K → Engine) where
   abbrev pub heard_with : ℕ → Pool → List Turn → List Note
   heard_with i p [] = []
   heard_with i p (v ∷ vs) = cond (eqb (v.places of_loans) i) (note_of v.call (did p v).said) [] ++ heard_with i (turned p v) vs
+
+  -- the serials given with table i for the loans, in order. 01: "Serials count up from 1 in a store and are never used twice"
+  abbrev pub serials_with : ℕ → Pool → List Turn → List ℕ
+  serials_with i p [] = []
+  serials_with i p (v ∷ vs) = cond (eqb (v.places of_loans) i) (serial_said (did p v).said) [] ++ serials_with i (turned p v) vs
 
   -- a set-up
   abbrev pub setting_up : (e : K) → (E e).shape.Settings → Account → (at : Slot → ℕ) → Different at → Turn

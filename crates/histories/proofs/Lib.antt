@@ -7,3 +7,4 @@ pub mod HeapAndObjects
 pub mod AnyOrder
 pub mod Marks
 pub mod Mixed
+pub mod Answers

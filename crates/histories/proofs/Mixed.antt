@@ -1,17 +1,20 @@
--- However the tables of free-list and buddy stores are mixed, an old slip is never taken. 01, demand 1: "A block returned to its
--- store again .. is never taken".
+-- However the tables of free-list and buddy stores are mixed, an old slip is never taken, and no serial is given twice. 01, demand 1:
+-- "A block returned to its store again .. is never taken"; "Serials count up from 1 in a store and are never used twice".
 use mathlib.Core.Path.{◌≡◌}
 use mathlib.Core.Logic.{◌⊎◌}
 use mathlib.Core.List.{List, []}
-use Prim.Native.Nat.{ℕ, ◌≤◌, ◌<◌}
+use Prim.Native.Nat.{ℕ, ◌+◌, ◌≤◌, ◌<◌}
 use lib.ListN.{length, get_or}
+use Rattle.lists.specs.Members.{Distinct}
 use Rattle.counter.specs.Paper as Paper
 use Rattle.counter.specs.declared.account.Account.{Account}
 use Rattle.counter.specs.declared.answers.Block.{Block}
 use Rattle.store_rules.specs.Outcomes.{listed}
 use Rattle.engines.specs.Ledger.{ledger, Exactly, Fine}
-use Rattle.engines.specs.Pools.{Slot, of_loans, Pool, lent_from, Different, Sealed, seal, Turn, did, turned, course, NoNewLoans, heard_with, handing, setting_up}
+use Rattle.engines.specs.Pools.{Slot, of_loans, Pool, lent_from, Different, Sealed, seal, Turn, did, turned, course, NoNewLoans, heard_with, serials_with, handing, setting_up}
+use Rattle.engines.specs.Serials.{up_from}
 use Rattle.engines.proofs.Mixing as Mixing
+use Rattle.engines.proofs.MixedCounts as MixedCounts
 use Rattle.engines.proofs.MixedTold as MixedTold
 use Rattle.freelist_engine.proofs.Signing.{list_sealed}
 use Rattle.buddy_engine.proofs.Signing.{buddy_sealed}
@@ -69,3 +72,25 @@ module _ (p : Pool) (e : Which) (s : (both e).shape.Settings) (a : Account) (at 
   -- each of them once, and no two different ones share a byte
   pub mixed_fine : Fine told_with
   mixed_fine = MixedTold.mixed_fine Which both sealed signs_differ p e s a at d here ready vs f
+
+  -- and the serials given with it are 1, 2, 3 and so on
+  pub mixed_from_one : let q = turned Which both p (setting_up Which both e s a at d) in
+      serials_with Which both (at of_loans) q vs ≡ up_from 0 (length (serials_with Which both (at of_loans) q vs))
+  mixed_from_one = MixedCounts.mixed_from_one Which both sealed signs_differ p e s a at d here ready vs f
+
+-- ---- with a loans table of either engine
+
+module _ (e : Which) (i : ℕ) (p : Pool) (mine : seal (get_or p i []) ≡ (sealed e).marking.sign of_loans) (here : i < length p) (vs : List (Turn Which both)) (f : NoNewLoans Which both i p vs) where
+  -- over any calls, of either engine, each with any account and lent any five different tables, but no accepted set-up of this loans
+  -- table: the serials given with it are the next ones after those given from it, in order
+  pub mixed_counts : serials_with Which both i p vs ≡ up_from ((sealed e).given_in (get_or p i [])) (length (serials_with Which both i p vs))
+  mixed_counts = MixedCounts.mixed_counts Which both sealed signs_differ e i p mine here vs f
+
+  -- none is given twice
+  pub mixed_never_twice : Distinct (serials_with Which both i p vs)
+  mixed_never_twice = MixedCounts.mixed_never_twice Which both sealed signs_differ e i p mine here vs f
+
+  -- and while its first word still says that it is a loans table, it says how many were given
+  pub mixed_given : seal (get_or (course Which both p vs) i []) ≡ (sealed e).marking.sign of_loans
+      → (sealed e).given_in (get_or (course Which both p vs) i []) ≡ (sealed e).given_in (get_or p i []) + length (serials_with Which both i p vs)
+  mixed_given = MixedCounts.mixed_given Which both sealed signs_differ e i p mine here vs f
