@@ -11,4 +11,6 @@ pub mod Keeping
 pub mod Ending
 pub mod Telling
 pub mod Delivering
+pub mod Furthering
+pub mod Granting
 pub mod Engine

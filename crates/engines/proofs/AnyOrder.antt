@@ -12,9 +12,11 @@ use Rattle.counter.specs.Account.{Typed}
 use Rattle.counter.specs.Gate.{pass}
 use Rattle.counter.specs.Paper.{Said}
 use Rattle.counter.specs.Paper as Paper
+use Rattle.counter.specs.declared.answers.Block.{Block}
 use Rattle.store_rules.specs.Outcomes.{released_account}
-use Rattle.store_rules.specs.Views.{View, All, sizes}
+use Rattle.store_rules.specs.Views.{View, Matches, All, sizes}
 use Rattle.store_rules.specs.declared.Chunk.{Chunk}
+use Rattle.store_rules.specs.declared.Loan.{Loan}
 use Rattle.store_rules.proofs.Going.{told_once}
 use Rattle.store_rules.proofs.Permuted.{perm_mem, perm_apart}
 use Rattle.engines.specs.Ends.{Lot}
@@ -35,6 +37,11 @@ module _ (K : Type 0) (E : K → Engine) (w : State) (i : ℕ) (e : K) (s : (E e
   -- no return is refused
   pub none_refused : All (λ (x : Said). (n : ℕ) × (x ≡ Paper.released n)) (saids K E w (handing K E i e s ps))
   none_refused = all.taken
+
+  -- the loans at the end are those that are none of the blocks
+  pub end_loans : (l : Loan) → Memᴰ l ((E e).shape.loans (store_at (run K E w (handing K E i e s ps)) i))
+      ↔ (Memᴰ l ((E e).shape.loans (store_at w i)) × ((b : Block) → Memᴰ b (blocks_of ps) → Matches b l → ⊥))
+  end_loans = all.loans
 
   -- the end is the one that the set of blocks decides: loans with their whole records, free pieces, held chunks
   pub end_view : (E e).shape.view s (store_at (run K E w (handing K E i e s ps)) i) ≡ (E e).shape.at_once s (blocks_of ps) (store_at w i)
@@ -86,6 +93,10 @@ module _ (K : Type 0) (E : K → Engine) (w : State) (i : ℕ) (e : K) (s : (E e
     -- with the same loans, free pieces and held chunks
     pub same_view_end : (E e).shape.view s (store_at (run K E w (handing K E i e s ps)) i) ≡ (E e).shape.view s (store_at (run K E w (handing K E i e s qs)) i)
     same_view_end = end_view ∙ at_once_lem ∙ sym other.view
+
+    -- the same counts
+    pub same_rest_end : (E e).shape.rest s (store_at (run K E w (handing K E i e s ps)) i) ≡ (E e).shape.rest s (store_at (run K E w (handing K E i e s qs)) i)
+    same_rest_end = end_rest ∙ sym other.rest
 
     -- the same heap totals and object count
     pub same_account_end : (run K E w (handing K E i e s ps)).account ≡ (run K E w (handing K E i e s qs)).account

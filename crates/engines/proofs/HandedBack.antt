@@ -15,8 +15,9 @@ use Rattle.counter.specs.declared.account.Account.{Account}
 use Rattle.counter.specs.declared.answers.Block.{Block}
 use Rattle.heap.proofs.Bounds.{agrees_yes}
 use Rattle.store_rules.specs.Outcomes.{Listed, to_free, released_account}
-use Rattle.store_rules.specs.Views.{View, All, sizes, Go}
+use Rattle.store_rules.specs.Views.{View, Matches, All, sizes, Go}
 use Rattle.store_rules.specs.declared.Chunk.{Chunk}
+use Rattle.store_rules.specs.declared.Loan.{Loan}
 use Rattle.store_rules.proofs.Going.{none_go, both_go}
 use Rattle.store_rules.proofs.Permuted.{other_not}
 use Rattle.store_rules.proofs.Releasing.{released_twice, released_none}
@@ -62,6 +63,7 @@ module _ (K : Type 0) (E : K → Engine) (i : ℕ) (e : K) (s : (E e).shape.Sett
   -- what the returns come to
   pub record Handed (w : State) (ps : List Slip) : Type 0 where
     pub taken : All (λ (x : Said). (n : ℕ) × (x ≡ Paper.released n)) (saids K E w (handing K E i e s ps))
+    pub loans : (l : Loan) → Memᴰ l ((E e).shape.loans (store_at (after w ps) i)) ↔ (Memᴰ l ((E e).shape.loans (store_at w i)) × ((b : Block) → Memᴰ b (blocks_of ps) → Matches b l → ⊥))
     pub view : held (after w ps) ≡ (E e).shape.at_once s (blocks_of ps) (store_at w i)
     pub goes : Go (held w).chunks (held (after w ps)).chunks (told_in K E w (handing K E i e s ps))
     pub account : (after w ps).account ≡ less w (held (after w ps))
@@ -133,6 +135,9 @@ module _ (K : Type 0) (E : K → Engine) (i : ℕ) (e : K) (s : (E e).shape.Sett
         ap ((E e).shape.rest s) now
         ∙ (E e).ends.rest_stays s w.account p.0 (store_at w i) p.1 r.passes (lot.lent p.0 (Memᴰ.head refl)) long
 
+    next_loans : (l : Loan) → Memᴰ l ((E e).shape.loans (store_at (step K E w v) i)) ↔ (Memᴰ l ((E e).shape.loans (store_at w i)) × (Matches p.0 l → ⊥))
+    next_loans l = subst (λ (t : Tables). Memᴰ l ((E e).shape.loans t) ↔ (Memᴰ l ((E e).shape.loans (store_at w i)) × (Matches p.0 l → ⊥))) (sym now) (one.loans l)
+
     -- its release and those after it are one
     both_accounts : Handed (step K E w v) ps → (after (step K E w v) ps).account ≡ less w (held (after (step K E w v) ps))
     both_accounts h =
@@ -155,6 +160,7 @@ module _ (K : Type 0) (E : K → Engine) (i : ℕ) (e : K) (s : (E e).shape.Sett
   hand w [] r lot l =
       record {
         taken = λ x m. absurd (Memᴰ.not-nil m);
+        loans = λ l. ((λ m. (m, λ b k. absurd (Memᴰ.not-nil k))), (λ m. m.0));
         view = sym ((E e).ends.none s w.account (store_at w i) r.passes);
         goes = none_go (held w).chunks;
         account = unchanged w r;
@@ -166,6 +172,11 @@ module _ (K : Type 0) (E : K → Engine) (i : ℕ) (e : K) (s : (E e).shape.Sett
       let later = hand (step K E w (hand_back K E i e s p)) ps (next_ready w r p ps lot long) (next_lot w r p ps lot long) (λ q m. l q (Memᴰ.tail m)) in
       record {
         taken = λ x m. ⊎_elim (λ q. (first.said.0, q ∙ first.said.1)) (later.taken x) (Memᴰ.cases_cons m);
+        loans = λ l. (
+          (λ m. let x = (later.loans l).0 m in let y = (next_loans w r p ps lot long l).0 x.0 in
+              (y.0, λ b k q. ⊎_elim (λ z. y.1 (subst (λ (c : Block). Matches c l) z q)) (λ z. x.1 b z q) (Memᴰ.cases_cons k))),
+          (λ m. (later.loans l).1 ((next_loans w r p ps lot long l).1 (m.0, m.1 p.0 (Memᴰ.head refl)), λ b k. m.1 b (Memᴰ.tail k))),
+        );
         view = later.view ∙ next_end w r p ps lot long;
         goes = both_go _ _ _ _ _ (next_goes w r p ps lot long) later.goes;
         account = both_accounts w r p ps lot long later;

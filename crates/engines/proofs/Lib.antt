@@ -1,5 +1,6 @@
 -- What an engine's laws rest on, what holds of every family of engines, and of every history of their calls.
 pub mod Shutting
+pub mod Naming
 pub mod Booking
 pub mod Visits
 pub mod Taking
@@ -10,6 +11,9 @@ pub mod NeverAgain
 pub mod CountUp
 pub mod HeapAndObjects
 pub mod Told
+pub mod Sizes
+pub mod Stocking
+pub mod Stocked
 pub mod Mixing
 pub mod MixedTold
 pub mod Delivering
@@ -19,4 +23,7 @@ pub mod AnyOrder
 pub mod Signs
 pub mod MixedCounts
 pub mod Answering
+pub mod Granting
+pub mod Sparing
 pub mod Passing
+pub mod SetsReturned

@@ -6,8 +6,11 @@ pub mod Books
 pub mod Ends
 pub mod Tells
 pub mod Delivers
+pub mod Further
+pub mod Grants
 pub mod Engines
 pub mod Histories
 pub mod Ledger
 pub mod Pools
 pub mod Handable
+pub mod Stock

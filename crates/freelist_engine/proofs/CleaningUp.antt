@@ -152,6 +152,9 @@ module _ (s : FreeListSettings) (a : Account) (t : Tables) (list : List ℕ) (n 
       (λ w. (tells.numbers m).1 (w.0, w.1, w.2, λ k. w.3 ((chunks w.0).0 k).1)),
     )
 
+    listed_gone : (length (take n r.list) ≡ n) × Go v.chunks after.chunks (take n r.list)
+    listed_gone = (each, went)
+
     cleaned : Cleaned s a t list n r
     cleaned =
         let lost : bytes_of (gone_from s false t) ≡ sizes v.chunks - sizes after.chunks = omega (arith, bytes_gone) in
@@ -173,6 +176,22 @@ module _ (s : FreeListSettings) (a : Account) (t : Tables) (list : List ℕ) (n 
   unfolding release_of
   comes _ (CleanUpComes.denied k) e tells = absurd (refused_not k n [] e)
   comes _ (cleans p) e tells = cleaned p (ap to_free e) (release_of s a false t list) refl refl tells
+
+  goes_by : (r : Listed Tables) → CleanUpComes s a t list r → r.said ≡ Paper.released n → Told s t r.tables list r.list n
+      → (length (take n r.list) ≡ n) × Go (store_of s t).chunks (store_of s r.tables).chunks (take n r.list)
+  unfolding release_of
+  goes_by _ (CleanUpComes.denied k) e tells = absurd (refused_not k n [] e)
+  goes_by _ (cleans p) e tells = listed_gone p (ap to_free e) (release_of s a false t list) refl refl tells
+
+-- chunks go, and their memory numbers are told, as many as it says
+pub clean_up_goes : (s : FreeListSettings) (a : Account) (t : Tables) (list : List ℕ) (n : ℕ) → (clean_up_of s a t list).said ≡ Paper.released n
+    → (length (take n (clean_up_of s a t list).list) ≡ n) × Go (store_of s t).chunks (store_of s (clean_up_of s a t list).tables).chunks (take n (clean_up_of s a t list).list)
+clean_up_goes s a t list n e = goes_by s a t list n (clean_up_of s a t list) (clean_up_comes s a t list) e (clean_up_told s a t list n e)
+
+-- and the account gives back what they had
+pub clean_up_account : (s : FreeListSettings) (a : Account) (t : Tables) (list : List ℕ) (n : ℕ) → (clean_up_of s a t list).said ≡ Paper.released n
+    → (clean_up_of s a t list).account ≡ released_account s.store a n (sizes (store_of s t).chunks - sizes (store_of s (clean_up_of s a t list).tables).chunks)
+clean_up_account s a t list n e = (comes s a t list n (clean_up_of s a t list) (clean_up_comes s a t list) e (clean_up_told s a t list n e)).account
 
 -- a clean-up that is not refused says how many chunks go, and they are the wholly free ones
 pub clean_up_lem : (s : FreeListSettings) (a : Account) (t : Tables) (list : List ℕ) → ((k : ℕ) (back : List ℕ) → (list_shape.other s a cleans_up t list).said ≡ Paper.refusal k back → ⊥)

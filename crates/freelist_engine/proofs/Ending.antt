@@ -44,7 +44,7 @@ loan_here : (s : FreeListSettings) (t : Tables) (l : Loan) → Memᴰ l (store_o
 unfolding store_of
 loan_here s t l m = ordered_out l (loans_of (places_in t) t.loans) m
 
-block_there : (s : FreeListSettings) (t : Tables) (b : Block) → OnLoan b (loans_of (places_in t) t.loans) → OnLoan b (store_of s t).loans
+pub block_there : (s : FreeListSettings) (t : Tables) (b : Block) → OnLoan b (loans_of (places_in t) t.loans) → OnLoan b (store_of s t).loans
 block_there s t b w = (w.0, loan_there s t w.0 w.1, w.2)
 
 lot_there : (s : FreeListSettings) (bs : List Block) (t : Tables) → Lot list_shape bs t → AllOnLoan bs (store_of s t)

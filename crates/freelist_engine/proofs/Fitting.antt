@@ -32,7 +32,7 @@ use Rattle.freelist_engine.specs.Shape.{OwnCall, cleans_up, list_shape}
 
 -- ---- set-up
 
-fresh_lengths : (s : FreeListSettings) → Lengths s (fresh_tables s)
+pub fresh_lengths : (s : FreeListSettings) → Lengths s (fresh_tables s)
 unfolding fresh_tables
 fresh_lengths s =
     record {

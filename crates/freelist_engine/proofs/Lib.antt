@@ -7,8 +7,11 @@ pub mod Booking
 pub mod Fitting
 pub mod Keeping
 pub mod Handing
+pub mod Idle
 pub mod Ending
 pub mod Telling
 pub mod CleaningUp
 pub mod Delivering
+pub mod Furthering
+pub mod Granting
 pub mod Engine

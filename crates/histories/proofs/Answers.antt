@@ -1,9 +1,11 @@
--- What either engine answers where no row of 01's table turns a call away. Demand 2: "On
+-- What either engine answers where no row of 01's table turns a call away, and which memory a refused delivery names. Demand 2: "On
 -- an ask that isn't refused, a new chunk is ordered exactly when no held chunk has a fitting free place."
 use mathlib.Core.Path.{◌≡◌}
+use mathlib.Core.Bool.{cond, ◌||◌}
 use mathlib.Core.Logic.{◌⊎◌, ◌↔◌}
 use mathlib.Core.List.{List, []}
 use Prim.Native.Nat.{ℕ}
+use lib.Dec.{eqb}
 use Rattle.counter.specs.Paper as Paper
 use Rattle.counter.specs.Reasons.{Clear}
 use Rattle.counter.specs.declared.account.Account.{Account}
@@ -13,11 +15,13 @@ use Rattle.counter.specs.declared.answers.Outcome.{Outcome}
 use Rattle.store_rules.specs.Orders.{order_from, kept_from}
 use Rattle.store_rules.specs.Outcomes.{with_order}
 use Rattle.store_rules.specs.Rows.{set_up_rows, ask_rows, deliver_rows, return_rows}
+use Rattle.engines.specs.Further.{named_by}
 use Rattle.engines.specs.Shapes.{Tables, words_of}
 use Rattle.engines.specs.Tells.{Blocked, Released}
 use Rattle.engines.proofs.Answering as Of
+use Rattle.engines.proofs.Naming as Naming
 use Rattle.histories.specs.Which.{Which}
-use Rattle.histories.proofs.Both.{both}
+use Rattle.histories.proofs.Both.{both, both_further}
 
 module _ (e : Which) (s : (both e).shape.Settings) where
   -- a set-up is accepted exactly when no row's words hold
@@ -53,6 +57,11 @@ module _ (e : Which) (s : (both e).shape.Settings) where
     -- it lends a block exactly when no row's words hold
     pub deliver_tells : (o : Outcome) (t : Tables) → Blocked ((both e).shape.deliver s a o t).said ↔ Clear (deliver_rows (words_of (both e).shape) s a o t)
     deliver_tells = Of.deliver_tells (both e) s a
+
+    -- and its refusal names what the outcome names where the memory is lost, by 11 or 12, and else nothing
+    pub deliver_names : (o : Outcome) (t : Tables) (n : ℕ) (back : List ℕ) → ((both e).shape.deliver s a o t).said ≡ Paper.refusal n back
+        → back ≡ cond (eqb n 11 || eqb n 12) (named_by (both e).shape.engine o) []
+    deliver_names = Naming.deliver_names (both e) (both_further e) s a
 
     -- ---- a return, and a free list's clean-up
 
