@@ -1,26 +1,34 @@
--- The rings of a buddy store's levels over an order and a delivery, and what a user sees after a delivery: one loan and one chunk more.
-use mathlib.Core.Path.{◌≡◌, sym, ap, subst}
-use mathlib.Core.Logic.{⊎_elim}
-use mathlib.Core.List.{List}
+-- The rings of a buddy store's levels over an order, a delivery and a refusal that leaves the levels grown, and what a user sees after
+-- a delivery: one loan and one chunk more.
+use mathlib.Core.Path.{◌≡◌, refl, sym, ap, subst, ◌∙◌}
+use mathlib.Core.Bool.{true, ◌&&◌}
+use mathlib.Core.Logic.{◌⊎◌, ⊎_elim}
+use mathlib.Core.List.{List, []}
 use Prim.Native.Nat.{ℕ, suc, ◌-◌, ◌≤◌, ◌<◌}
 use native.Mathlib.Omega.{arith}
 use borrow.Author.Tests.{lt-ltb, le-ltb}
 use Rattle.lists.proofs.Bools.{lt_or_le}
 use Rattle.counter.specs.Account.{heap_at}
+use Rattle.counter.specs.Gate.{Verdict, refuse, pass, gated}
 use Rattle.counter.specs.InTable.{BuddyIn}
 use Rattle.counter.specs.Limits.{levels_most}
 use Rattle.counter.specs.Paper as Paper
 use Rattle.counter.specs.declared.account.Account.{Account}
 use Rattle.counter.specs.declared.account.KeptOrder.{KeptOrder}
-use Rattle.counter.specs.declared.account.OpenOrder.TheVariants.{Kept}
+use Rattle.counter.specs.declared.account.OpenOrder.{OpenOrder}
+use Rattle.counter.specs.declared.account.OpenOrder.TheVariants.{Nothing, Kept}
 use Rattle.counter.specs.declared.account.Order.{Order}
 use Rattle.counter.specs.declared.answers.Outcome.{Outcome}
 use Rattle.counter.specs.declared.settings.BuddySettings.{BuddySettings}
 use Rattle.store_rules.specs.Delivery.{kept, buddy, fate_of}
+use Rattle.store_rules.specs.Orders.{Plan, deny, take, buy}
 use Rattle.store_rules.specs.Outcomes.{Out}
+use Rattle.store_rules.specs.Tests.{no_order, open_for}
 use Rattle.store_rules.specs.Views.{chunk, block, Matches}
 use Rattle.store_rules.specs.declared.Loan.{Loan}
 use Rattle.store_rules.proofs.Amid.{Amid}
+use Rattle.store_rules.proofs.Said.{not_refused, said_number}
+use Rattle.store_rules.proofs.Tested.{gate_low}
 use Rattle.book_rules.specs.Book.{taken_of}
 use Rattle.buddy_trees.specs.Trees.{up}
 use Rattle.buddy_rules.proofs.Fitting.{up_add}
@@ -29,19 +37,25 @@ use Rattle.buddy_rules.specs.Ringed.{Ringed}
 use Rattle.buddy_rules.proofs.Ringed.{part_ringed, ringed_part}
 use Rattle.buddy_rules.specs.Rings.{Rings, rings_lent, rings_grown}
 use Rattle.buddy_rules.specs.Sound.{Sound}
-use Rattle.buddy_rules.specs.Tables.{Tables, Lengths, levels_in, places_in, level_from}
+use Rattle.buddy_rules.specs.Tables.{Tables, Lengths, levels_in, places_in, chunk_places_in, memories, level_from}
+use Rattle.buddy_rules.specs.Test.{sound_ok}
 use Rattle.buddy_rules.specs.Views.{loans_in, chunks_in, view_of}
 use Rattle.buddy_rules.proofs.Ringing.{served_rings}
 use Rattle.buddy_outcomes.specs.Ask as Ask
-use Rattle.buddy_outcomes.specs.Ask.{size_for, level_for, grown_to, chunk_taken, grown_tables, ask_of}
-use Rattle.buddy_outcomes.specs.Deliver.{loan_in, as_ordered, chunk_tables, served_tables, deliver_of}
+use Rattle.buddy_outcomes.specs.Ask.{size_for, level_for, grown_to, size_ok, chunk_taken, decide_ask, grown_tables, carry_ask, plan_ask, ask_of}
+use Rattle.buddy_outcomes.specs.Deliver as Deliver
+use Rattle.buddy_outcomes.specs.Deliver.{loan_in, still_ok, deliver_gate_of, as_ordered, chunk_tables, served_tables, decide_deliver, plan_deliver, carry_deliver, deliver_of}
+use Rattle.buddy_outcomes.specs.Gate.{in_table_ok, account_ok, gate_of}
 use Rattle.buddy_outcomes.proofs.Arrives.{deliver_came}
 use Rattle.buddy_outcomes.proofs.Changed.{few_pairs, grown_lengths, grown_count, grown_head}
 use Rattle.buddy_outcomes.proofs.Chunked.{chunked, chunked_lengths, chunked_level}
 use Rattle.buddy_outcomes.proofs.Comes.{served_amid, served_chunks}
 use Rattle.buddy_outcomes.proofs.Deliverable.{order_buying}
 use Rattle.buddy_outcomes.proofs.Delivered as Delivered
-use Rattle.buddy_outcomes.proofs.Plans.{Buys, buys}
+use Rattle.buddy_outcomes.proofs.Denied.{deliver_lost}
+use Rattle.buddy_outcomes.proofs.Passing.{Passed, gate_passed}
+use Rattle.buddy_outcomes.proofs.Plans.{Buys, buys, nine}
+use Rattle.buddy_outcomes.proofs.Refused.{ask_leaves_grown}
 use Rattle.buddy_outcomes.proofs.Ringing.{booked_rings}
 use Rattle.buddy_outcomes.proofs.Rounds.{level_low}
 use Rattle.buddy_outcomes.proofs.Same.{freshened}
@@ -78,6 +92,67 @@ order_rings s a size mask t o q W rings =
     let w = buys s (heap_at a s.store.heap) a.objects size mask t (Ask.order_bytes s (level_for s size mask) t) b.buys_it in
     subst (λ (u : Tables). Rings s u (rings_grown (levels_in t) W)) (sym (ap (λ (r : Out Tables). r.tables) b.leaves))
     (grown_rings s t fit p.lent.lengths p.sound (grown_to (level_for s size mask) t) (omega arith) (omega (arith, level_low s fit size mask w.sized, p.sound.levels_most_lem)) W rings)
+
+-- an ask refused as 9 passed the gate and the test of its size
+nine_passed : (s : BuddySettings) (a : Account) (size mask : ℕ) (t : Tables) (back : List ℕ) → (ask_of s a size mask t).said ≡ Paper.refusal 9 back
+    → Passed s a t true × (size_ok s size mask ≡ true)
+unfolding ask_of plan_ask carry_ask gate_of
+nine_passed s a size mask t back = by (gate_of s a t true) refl (decide_ask s (heap_at a s.store.heap) a.objects size mask t) refl
+  where
+    by : (v : Verdict) → gate_of s a t true ≡ v → (p : Plan ℕ) → decide_ask s (heap_at a s.store.heap) a.objects size mask t ≡ p
+        → (carry_ask s a size mask t (gated Ask.deny v p)).said ≡ Paper.refusal 9 back → Passed s a t true × (size_ok s size mask ≡ true)
+    by (refuse m) g p d q =
+        absurd (omega (arith, said_number m 9 [] back q, gate_low (in_table_ok s a t && true) (no_order a.order) (sound_ok s t) (account_ok s a t) m g))
+    by pass g (deny m) d q =
+        (gate_passed s a t true (sym g), (nine s (heap_at a s.store.heap) a.objects size mask t (d ∙ ap (λ (x : ℕ). deny x) (said_number m 9 [] back q))).1)
+    by pass g (take i) d q = absurd (not_refused (carry_ask s a size mask t (take i)).said 9 back refl q)
+    by pass g (buy z) d q = absurd (not_refused (carry_ask s a size mask t (buy z)).said 9 back refl q)
+
+-- and so does an ask refused as 9: it "leaves the levels grown as the ask needs"
+pub nine_rings : (s : BuddySettings) (a : Account) (size mask : ℕ) (t : Tables) (back : List ℕ) → (ask_of s a size mask t).said ≡ Paper.refusal 9 back
+    → (W : ℕ → List ℕ) → Rings s t W → Rings s (ask_of s a size mask t).tables (rings_grown (levels_in t) W)
+nine_rings s a size mask t back q W rings =
+    let v = nine_passed s a size mask t back q in
+    let p = v.0 in
+    let fit = p.lent.settings in
+    subst (λ (u : Tables). Rings s u (rings_grown (levels_in t) W)) (sym (ap (λ (r : Out Tables). r.tables) (ask_leaves_grown s a size mask t back q)))
+    (grown_rings s t fit p.lent.lengths p.sound (grown_to (level_for s size mask) t) (omega arith) (omega (arith, level_low s fit size mask v.1, p.sound.levels_most_lem)) W rings)
+
+-- ---- the memory is lost
+
+-- a delivery refused as 11 or 12 passed the gate, and an order was open
+lost_passed : (s : BuddySettings) (a : Account) (o : Outcome) (t : Tables) (n : ℕ) (back : List ℕ) → (deliver_of s a o t).said ≡ Paper.refusal n back → (n ≡ 11) ⊎ (n ≡ 12)
+    → (k : KeptOrder) × (a.order ≡ Kept k) × (deliver_gate_of s a t ≡ pass)
+unfolding deliver_of plan_deliver carry_deliver deliver_gate_of
+lost_passed s a o t n back e number = by (deliver_gate_of s a t) refl a.order refl e
+  where
+    other : (m : ℕ) → m ≤ 4 → m ≡ n → ⊥
+    other m h z = ⊎_elim (λ x. omega (arith, z)) (λ x. omega (arith, z)) number
+
+    by : (v : Verdict) → deliver_gate_of s a t ≡ v → (x : OpenOrder) → a.order ≡ x
+        → (carry_deliver s a t (gated Deliver.deny v (decide_deliver o (memories t (chunk_places_in t)) x))).said ≡ Paper.refusal n back
+        → (k : KeptOrder) × (a.order ≡ Kept k) × (deliver_gate_of s a t ≡ pass)
+    by (refuse m) g x y q =
+        let low = gate_low (in_table_ok s a t) (open_for s.store.number a.order) (sound_ok s t && still_ok s a t a.order) (account_ok s a t) m g in
+        absurd (other m low (said_number m n [] back q))
+    by pass g Nothing y q = absurd (other 2 (omega arith) (said_number 2 n [] back q))
+    by pass g (Kept k) y q = (k, y, g)
+
+-- "11 and 12 close the order and leave the levels .. as the order raised them": the rings of the levels that were there stay, and
+-- new levels have none
+pub lost_rings : (s : BuddySettings) (a : Account) (o : Outcome) (t : Tables) (n : ℕ) (back : List ℕ) → (deliver_of s a o t).said ≡ Paper.refusal n back → (n ≡ 11) ⊎ (n ≡ 12)
+    → (W : ℕ → List ℕ) → Rings s t W → Rings s (deliver_of s a o t).tables (rings_grown (levels_in t) W)
+lost_rings s a o t n back e number W rings =
+    let v = lost_passed s a o t n back e number in
+    let k = v.0 in
+    let sound = Delivered.gate_sound s a t v.2 in
+    let p = Delivered.opened s a o t sound k v.1 v.2 in
+    let fit = p.lent.settings in
+    let len_of_lem = p.lent.lengths in
+    let more = Delivered.more s t fit len_of_lem sound k.ask.size k.ask.mask k.order.size p.buys_it in
+    let most = Delivered.most s t fit len_of_lem sound k.ask.size k.ask.mask k.order.size p.buys_it in
+    subst (λ (u : Tables). Rings s u (rings_grown (levels_in t) W)) (sym (ap (λ (r : Out Tables). r.tables) (deliver_lost s a o t k n back v.1 e number)))
+    (grown_rings s t fit len_of_lem sound (grown_to (level_for s k.ask.size k.ask.mask) t) more most W rings)
 
 -- ---- a chunk arrives
 

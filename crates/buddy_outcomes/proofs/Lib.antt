@@ -24,6 +24,7 @@ pub mod Gated
 pub mod Refused
 pub mod Fitted
 pub mod Asked
+pub mod PairsSeen
 pub mod Roomed
 pub mod Heads
 pub mod Gone

@@ -1,9 +1,14 @@
 -- 01's table, "When the counter says no", for each call of a buddy store, in the paper's words and in the order of its tests.
-use Rattle.std.specs.Prelude.{◌≡◌, cond, ◌⊎◌, ℕ, zero, suc, ◌+◌, ◌≤◌, ◌<◌, ltb}
+use Rattle.std.specs.Prelude.{◌≡◌, cond, ◌⊎◌, ℕ, zero, suc, ◌+◌, ◌*◌, ◌%◌, ◌≤◌, ◌<◌, ltb}
+use mathlib.Core.List.{Memᴰ}
 use Rattle.counter.specs.InTable.{BuddyIn}
 use Rattle.counter.specs.Limits.{levels_most}
 use Rattle.counter.specs.declared.settings.BuddySettings.{BuddySettings}
+use Rattle.store_rules.specs.Views.{View}
 use Rattle.store_rules.specs.Words.{Words}
+use Rattle.store_rules.specs.declared.Chunk.{Chunk}
+use Rattle.store_rules.specs.declared.Loan.{Loan}
+use Rattle.store_rules.specs.declared.Region.{Region}
 use Rattle.buddy_trees.specs.Trees.{bytes}
 use Rattle.buddy_trees.specs.Chunks.{Fitting}
 use Rattle.buddy_rules.specs.Nodes.{vacant, exhausted}
@@ -44,6 +49,43 @@ pub record Splits (s : BuddySettings) (size mask : ℕ) (t : Tables) (l : ℕ) :
 -- "a level that needs a new pair has none", by how many are in use
 abbrev pub PairsOut : BuddySettings → ℕ → ℕ → Tables → Type 0
 PairsOut s size mask t = (l : ℕ) × Splits s size mask t l × (s.pairs ≤ pair_count s t l s.pairs)
+
+-- ---- 8 again, by the loans, chunks and free pieces that a user sees
+
+-- level l needs a new pair: no free piece is a node of a level from the asked one up to it
+pub record SplitsSeen (s : BuddySettings) (size mask : ℕ) (v : View) (l : ℕ) : Type 0 where
+  pub from : level_for s size mask ≤ l
+  pub none : (j : ℕ) → level_for s size mask ≤ j → j ≤ l → (r : Region) → Memᴰ r v.free → r.end ≡ r.start + bytes s.minimal j → ⊥
+
+-- 01, "buddy.rs": "a pair is its two nodes": how long a pair of level l is
+abbrev pub pair_bytes : ℕ → ℕ → ℕ
+pair_bytes u l = 2 * bytes u l
+
+-- r is a pair of level l in use: it lies in a held chunk at a multiple of its length, and a loan no longer than one of its nodes
+-- lies in it
+pub record PairInUse (u l : ℕ) (v : View) (r : Region) : Type 0 where
+  pub chunk : Chunk
+  pub held : Memᴰ chunk v.chunks
+  pub number : r.chunk ≡ chunk.number
+  pub aligned : r.start % pair_bytes u l ≡ 0
+  pub long : r.end ≡ r.start + pair_bytes u l
+  pub inside : r.end ≤ chunk.size
+  pub loan : Loan
+  pub lent : Memᴰ loan v.loans
+  pub there : loan.chunk ≡ r.chunk
+  pub short : loan.size ≤ bytes u l
+  pub low : r.start ≤ loan.offset
+  pub high : loan.offset + loan.size ≤ r.end
+
+-- level l has none left: there is a pair in use for each of its places, and no two of them are one
+pub record NoneLeft (s : BuddySettings) (v : View) (l : ℕ) : Type 0 where
+  pub pair : ℕ → Region
+  pub used : (i : ℕ) → i < s.pairs → PairInUse s.minimal l v (pair i)
+  pub differ : (i j : ℕ) → i < s.pairs → j < s.pairs → pair i ≡ pair j → i ≡ j
+
+-- "a level that needs a new pair has none", as a user sees it
+abbrev pub PairsOutSeen : BuddySettings → ℕ → ℕ → View → Type 0
+PairsOutSeen s size mask v = (l : ℕ) × SplitsSeen s size mask v l × NoneLeft s v l
 
 -- ---- all of its words: 01's rows, said once for every engine, are told of these
 
