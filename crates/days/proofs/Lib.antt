@@ -1,3 +1,4 @@
 -- What the worked days come to.
 pub mod SplitWorked
+pub mod SplitTabled
 pub mod Worked

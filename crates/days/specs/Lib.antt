@@ -1,3 +1,4 @@
 pub mod Facts
 pub mod Splitting
+pub mod SplitTables
 pub mod Days
