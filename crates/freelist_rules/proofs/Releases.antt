@@ -106,7 +106,7 @@ where_left (d ∷ rs) c r m e = go (where_left rs c r) (mathlib.Core.List.Memᴰ
 
 goes_wholly : (cs : List Chunk) (spare : Bool) (r : Region) (rs : List Region) → goes cs spare r rs ≡ true → wholly cs r ≡ true
 goes_wholly cs spare r [] e = and_right (not spare) (wholly cs r) e
-goes_wholly cs spare r (d ∷ rs) e = e
+goes_wholly cs spare r (d ∷ rs) e = grind (arith, e)
 
 -- ---- the regions that stay, and those that go
 
