@@ -2,7 +2,8 @@
 // list of L loans and C chunks at most has 18 + 13 L + 7 C words in its tables (head 2, loans 4 (L + 1), chunks 3 (C + 1), index
 // 5 (L + 1), regions 4 (L + C + 1)): the six of data/ have 91 + 84 + 104 + 117 + 84 + 97 = 577. A buddy store has 12 + 8 L + 2 C beside
 // its tree, of which damage_parts says what is tried: of the six of data/ 152 + 144 + 168 + 128 + 176 + 144 = 912 words in all. With 5
-// values for each word that makes 5 x (11 x 577 + 10 x 912) = 77,335 calls.
+// values for each word that makes 5 x (11 x 577 + 10 x 912) = 77,335 calls. A failed write ends the trials with its
+// I/O error, and no error of another kind comes: none of the lent tables is written, since each call is made on a copy.
 use crate::calls::{run, set_up};
 use counter::{Account, OpenOrder};
 use damage_parts::{

@@ -1,4 +1,5 @@
-// The lines that are printed: the verdict, or the first place where it fails. Stores are numbered as the program's arguments.
+// The lines that are printed: the verdict, or the first place where it fails. Stores are numbered as the program's arguments. A failed
+// write ends a line with its I/O error, and no error of another kind comes: what the writer took of it stays written, and nothing else is lent.
 use std::io;
 use std::io::Write;
 

@@ -1,4 +1,5 @@
-// The records of a tape, in turn.
+// The records of a tape, in turn. A failed write ends them with its I/O error, and no error of another kind
+// comes: the records before are done, and the one whose line it is.
 use counter::{Account, CHUNKS_MOST};
 use reel::{Answer, Settings, Taken, Window};
 use std::io;

@@ -1,4 +1,5 @@
-// Answers as lines of text: numbers in decimal, with single spaces.
+// Answers as lines of text: numbers in decimal, with single spaces. A failed write ends a line with its I/O
+// error, and no error of another kind comes: what the writer took of the line stays written, and nothing else that is lent is written to.
 #![tactic(auto)]
 
 mod line;
