@@ -4,6 +4,8 @@
 // Each argument names a tape; without arguments the tape is standard input.
 #![tactic(auto)]
 
+ghost use Rattle.text.specs.Written.{Stays};
+
 mod calls;
 mod history;
 mod trials;
@@ -35,14 +37,16 @@ fn failed(t: Tally) -> Tally {
 }
 
 // The store that a history led to, in the row and the account.
-fn try_reached(
-    out: &mut impl Write,
+fn try_reached<W: Write>(
+    out: &mut W,
     store: u64,
     s: Settings,
     a: Account,
     image: &[u64],
     t: Tally,
-) -> io::Result<Tally> {
+) -> io::Result<Tally>
+    ensures kept { Stays (W.contents out.old) (W.contents out.new) }
+{
     let c = case_of(store, s, a, image);
     if is_sound(c, image) {
         return try_tables(out, c, image, t);
@@ -51,14 +55,16 @@ fn try_reached(
     Ok(failed(t))
 }
 
-fn try_store(
+fn try_store<W: Write>(
     input: &mut impl Read,
-    out: &mut impl Write,
+    out: &mut W,
     store: u64,
     s: Settings,
     fresh: Account,
     t: Tally,
-) -> io::Result<Tally> {
+) -> io::Result<Tally>
+    ensures kept { Stays (W.contents out.old) (W.contents out.new) }
+{
     if !fits(s) {
         print_too_large(out, store)?;
         return Ok(failed(t));
@@ -76,12 +82,9 @@ fn try_store(
     try_reached(out, store, s, reached.account, &image, t)
 }
 
-fn try_tape(
-    input: &mut impl Read,
-    out: &mut impl Write,
-    store: u64,
-    t: Tally,
-) -> io::Result<Tally> {
+fn try_tape<W: Write>(input: &mut impl Read, out: &mut W, store: u64, t: Tally) -> io::Result<Tally>
+    ensures kept { Stays (W.contents out.old) (W.contents out.new) }
+{
     let header = reel::read_header(input);
     match header {
         Header::FreeList(h) => {
@@ -104,13 +107,15 @@ fn try_tape(
 }
 
 // The tape that an argument names.
-fn try_named(
+fn try_named<W: Write>(
     rt: &(impl Files + Eprint),
     path: &str,
-    out: &mut impl Write,
+    out: &mut W,
     store: u64,
     t: Tally,
-) -> io::Result<Tally> {
+) -> io::Result<Tally>
+    ensures kept { Stays (W.contents out.old) (W.contents out.new) }
+{
     match reel::open(rt, path)? {
         None => Ok(failed(t)),
         Some(mut tape) => try_tape(&mut tape, out, store, t),

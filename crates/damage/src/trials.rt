@@ -2,8 +2,10 @@
 // list of L loans and C chunks at most has 18 + 13 L + 7 C words in its tables (head 2, loans 4 (L + 1), chunks 3 (C + 1), index
 // 5 (L + 1), regions 4 (L + C + 1)): the six of data/ have 91 + 84 + 104 + 117 + 84 + 97 = 577. A buddy store has 12 + 8 L + 2 C beside
 // its tree, of which damage_parts says what is tried: of the six of data/ 152 + 144 + 168 + 128 + 176 + 144 = 912 words in all. With 5
-// values for each word that makes 5 x (11 x 577 + 10 x 912) = 77,335 calls. A failed write ends the trials with its
-// I/O error, and no error of another kind comes: none of the lent tables is written, since each call is made on a copy.
+// values for each word that makes 5 x (11 x 577 + 10 x 912) = 77,335 calls. A failed write ends the trials with an
+// I/O error, and no error of another kind comes; what was written before stays.
+ghost use Rattle.text.specs.Written.{Stays};
+
 use crate::calls::{run, set_up};
 use counter::{Account, OpenOrder};
 use damage_parts::{
@@ -75,14 +77,16 @@ fn is_left(c: Case, call: u64, refusal: u32, spoilt: &[u64], after: &[u64]) -> b
     }
 }
 
-fn try_call(
-    out: &mut impl Write,
+fn try_call<W: Write>(
+    out: &mut W,
     c: Case,
     spoilt: &[u64],
     p: Place,
     call: u64,
     t: Tally,
-) -> io::Result<Tally> {
+) -> io::Result<Tally>
+    ensures kept { Stays (W.contents out.old) (W.contents out.new) }
+{
     let s = c.settings;
     let a = if call < WITH_ORDER { c.free } else { c.open };
     let mut after = copy_of(s, spoilt);
@@ -105,7 +109,9 @@ fn try_call(
 }
 
 // Set-up takes the tables whatever they hold.
-fn try_set_up(out: &mut impl Write, c: Case, spoilt: &[u64], t: Tally) -> io::Result<Tally> {
+fn try_set_up<W: Write>(out: &mut W, c: Case, spoilt: &[u64], t: Tally) -> io::Result<Tally>
+    ensures kept { Stays (W.contents out.old) (W.contents out.new) }
+{
     let s = c.settings;
     let mut after = copy_of(s, spoilt);
     let kept = set_up(s, &mut after);
@@ -115,13 +121,15 @@ fn try_set_up(out: &mut impl Write, c: Case, spoilt: &[u64], t: Tally) -> io::Re
     Ok(counted(t, kept))
 }
 
-fn try_calls(
-    out: &mut impl Write,
+fn try_calls<W: Write>(
+    out: &mut W,
     c: Case,
     spoilt: &[u64],
     p: Place,
     before: Tally,
-) -> io::Result<Tally> {
+) -> io::Result<Tally>
+    ensures kept { Stays (W.contents out.old) (W.contents out.new) }
+{
     let s = c.settings;
     let mut t = before;
     let mut call = 0u64;
@@ -134,13 +142,15 @@ fn try_calls(
     Ok(t)
 }
 
-fn try_value(
-    out: &mut impl Write,
+fn try_value<W: Write>(
+    out: &mut W,
     c: Case,
     image: &[u64],
     p: Place,
     before: Tally,
-) -> io::Result<Tally> {
+) -> io::Result<Tally>
+    ensures kept { Stays (W.contents out.old) (W.contents out.new) }
+{
     let s = c.settings;
     let spoilt = spoilt_row(s, image, p);
     let t = try_calls(out, c, &spoilt, p, before)?;
@@ -150,14 +160,16 @@ fn try_value(
     Ok(t)
 }
 
-fn try_word(
-    out: &mut impl Write,
+fn try_word<W: Write>(
+    out: &mut W,
     c: Case,
     image: &[u64],
     table: u64,
     word: usize,
     before: Tally,
-) -> io::Result<Tally> {
+) -> io::Result<Tally>
+    ensures kept { Stays (W.contents out.old) (W.contents out.new) }
+{
     let mut t = Tally {
         stores: before.stores,
         words: std::num::wrapping_add_u64(before.words, 1),
@@ -179,13 +191,15 @@ fn try_word(
     Ok(t)
 }
 
-fn try_table(
-    out: &mut impl Write,
+fn try_table<W: Write>(
+    out: &mut W,
     c: Case,
     image: &[u64],
     table: u64,
     before: Tally,
-) -> io::Result<Tally> {
+) -> io::Result<Tally>
+    ensures kept { Stays (W.contents out.old) (W.contents out.new) }
+{
     let s = c.settings;
     let n = table_words(s, table);
     let mut t = before;
@@ -199,12 +213,9 @@ fn try_table(
     Ok(t)
 }
 
-pub fn try_tables(
-    out: &mut impl Write,
-    c: Case,
-    image: &[u64],
-    before: Tally,
-) -> io::Result<Tally> {
+pub fn try_tables<W: Write>(out: &mut W, c: Case, image: &[u64], before: Tally) -> io::Result<Tally>
+    ensures kept { Stays (W.contents out.old) (W.contents out.new) }
+{
     let mut t = Tally {
         stores: std::num::wrapping_add_u64(before.stores, 1),
         words: before.words,

@@ -2,6 +2,8 @@
 // Without arguments the tape is standard input; else each argument names one, and they are replayed in turn.
 #![tactic(auto)]
 
+ghost use Rattle.text.specs.Written.{Stays};
+
 mod run;
 mod start;
 
@@ -11,7 +13,9 @@ use std::rt::Files;
 use std::{env, io};
 use tape::Header;
 
-fn replay(input: &mut impl Read, out: &mut impl Write) -> io::Result<()> {
+fn replay<W: Write>(input: &mut impl Read, out: &mut W) -> io::Result<()>
+    ensures kept { Stays (W.contents out.old) (W.contents out.new) }
+{
     let header = reel::read_header(input);
     match header {
         Header::FreeList(s) => {
@@ -39,7 +43,9 @@ fn replay(input: &mut impl Read, out: &mut impl Write) -> io::Result<()> {
 }
 
 // The tape that an argument names.
-fn replay_named(rt: &(impl Files + Eprint), path: &str, out: &mut impl Write) -> io::Result<()> {
+fn replay_named<W: Write>(rt: &(impl Files + Eprint), path: &str, out: &mut W) -> io::Result<()>
+    ensures kept { Stays (W.contents out.old) (W.contents out.new) }
+{
     match reel::open(rt, path)? {
         None => Ok(()),
         Some(mut tape) => replay(&mut tape, out),

@@ -1,5 +1,7 @@
-// The records of a tape, in turn. A failed write ends them with its I/O error, and no error of another kind
-// comes: the records before are done, and the one whose line it is.
+// The records of a tape, in turn. A failed write ends them with an I/O error: the records before are done, and
+// the one whose line it is. No error of another kind comes, and what was written before stays.
+ghost use Rattle.text.specs.Written.{Stays};
+
 use counter::{Account, CHUNKS_MOST};
 use reel::{Answer, Settings, Taken, Window};
 use std::io;
@@ -8,12 +10,16 @@ use std::io::{Read, Write};
 // a tape is read through a buffer of so many bytes
 const BUFFER_BYTES: usize = 65_536;
 
-fn print_totals(out: &mut impl Write, s: Settings, a: Account) -> io::Result<()> {
+fn print_totals<W: Write>(out: &mut W, s: Settings, a: Account) -> io::Result<()>
+    ensures kept { Stays (W.contents out.old) (W.contents out.new) }
+{
     let store = reel::store_of(s);
     text::print_totals(out, a.heap(store.heap))
 }
 
-fn print_answer(out: &mut impl Write, s: Settings, taken: Taken, list: &[u64]) -> io::Result<()> {
+fn print_answer<W: Write>(out: &mut W, s: Settings, taken: Taken, list: &[u64]) -> io::Result<()>
+    ensures kept { Stays (W.contents out.old) (W.contents out.new) }
+{
     let store = reel::store_of(s);
     let a = taken.account;
     let answer = taken.answer;
@@ -27,7 +33,9 @@ fn print_answer(out: &mut impl Write, s: Settings, taken: Taken, list: &[u64]) -
 }
 
 // How the tape ended, after so many whole records: it stopped at a position, or was read to its end.
-fn print_last(out: &mut impl Write, torn: bool, position: u64, records: u64) -> io::Result<()> {
+fn print_last<W: Write>(out: &mut W, torn: bool, position: u64, records: u64) -> io::Result<()>
+    ensures kept { Stays (W.contents out.old) (W.contents out.new) }
+{
     if torn {
         text::print_stopped(out, position)
     } else {
@@ -37,9 +45,9 @@ fn print_last(out: &mut impl Write, torn: bool, position: u64, records: u64) -> 
 
 // A loop has to end, and nothing says that a tape does: so records are counted, and no tape has as many as can be counted.
 // Nor does a position pass 64 bits.
-pub fn run(
+pub fn run<W: Write>(
     input: &mut impl Read,
-    out: &mut impl Write,
+    out: &mut W,
     s: Settings,
     fresh: Account,
     head: &mut [u64],
@@ -47,7 +55,9 @@ pub fn run(
     chunks: &mut [u64],
     index: &mut [u64],
     own: &mut [u64],
-) -> io::Result<()> {
+) -> io::Result<()>
+    ensures kept { Stays (W.contents out.old) (W.contents out.new) }
+{
     let buddy = reel::is_buddy(s);
     let mut list = [0u64; CHUNKS_MOST];
     let mut buffer = [0u8; BUFFER_BYTES];

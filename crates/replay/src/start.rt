@@ -1,4 +1,6 @@
 // A fresh store's tables, lent at the lengths that its settings ask for.
+ghost use Rattle.text.specs.Written.{Stays};
+
 use crate::run::run;
 use buddy_levels::{HEADER_WORDS, PAIR_WORDS};
 use buddy_rules::PLACE_WORDS;
@@ -26,13 +28,15 @@ const TREE_WORDS: usize = buddy_levels::OWN_WORDS
 
 const ROOM_WORDS: usize = TREE_WORDS + REGION_WORDS * LOANS_MOST;
 
-pub fn begin(
+pub fn begin<W: Write>(
     input: &mut impl Read,
-    out: &mut impl Write,
+    out: &mut W,
     s: Settings,
     heap_size: u64,
     objects: u32,
-) -> io::Result<()> {
+) -> io::Result<()>
+    ensures kept { Stays (W.contents out.old) (W.contents out.new) }
+{
     let most = Limits {
         loans: LOANS_MOST,
         chunks: CHUNKS_MOST,
@@ -63,9 +67,9 @@ pub fn begin(
     )
 }
 
-fn replay(
+fn replay<W: Write>(
     input: &mut impl Read,
-    out: &mut impl Write,
+    out: &mut W,
     s: Settings,
     heap_size: u64,
     objects: u32,
@@ -74,7 +78,9 @@ fn replay(
     chunks: &mut [u64],
     index: &mut [u64],
     own: &mut [u64],
-) -> io::Result<()> {
+) -> io::Result<()>
+    ensures kept { Stays (W.contents out.old) (W.contents out.new) }
+{
     let answer = reel_calls::set_up(s, head, loans, chunks, index, own);
     match answer {
         SetUpAnswer::Ready => {

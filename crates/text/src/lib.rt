@@ -1,12 +1,15 @@
-// Answers as lines of text: numbers in decimal, with single spaces. A failed write ends a line with its I/O
-// error, and no error of another kind comes: what the writer took of the line stays written, and nothing else that is lent is written to.
+// Answers as lines of text: numbers in decimal, with single spaces. A failed write ends a line with an I/O
+// error, and no error of another kind comes; what was written before stays.
 #![tactic(auto)]
+
+ghost use Rattle.text.specs.Written.{Stays};
 
 mod line;
 mod stores;
 
 use counter::{RankAnswer, Refused, TYPES_MOST, USAGES};
-use line::{line_end, number, refused_number, spaced};
+use line::{line_end, refused_number, spaced};
+pub use line::{number, word};
 use std::io;
 use std::io::Write;
 pub use stores::{
@@ -16,13 +19,17 @@ pub use stores::{
 use usage_rules::{Ranked, Row};
 
 // `refused N`
-pub fn print_refused(out: &mut impl Write, r: Refused) -> io::Result<()> {
+pub fn print_refused<W: Write>(out: &mut W, r: Refused) -> io::Result<()>
+    ensures kept { Stays (W.contents out.old) (W.contents out.new) }
+{
     refused_number(out, r)?;
     line_end(out)
 }
 
 // `USAGE COUNT MASK T0 T1 ..`
-fn print_row(out: &mut impl Write, usage: u64, row: Row) -> io::Result<()> {
+fn print_row<W: Write>(out: &mut W, usage: u64, row: Row) -> io::Result<()>
+    ensures kept { Stays (W.contents out.old) (W.contents out.new) }
+{
     number(out, usage)?;
     spaced(out, row.count as u64)?;
     spaced(out, row.mask as u64)?;
@@ -37,7 +44,9 @@ fn print_row(out: &mut impl Write, usage: u64, row: Row) -> io::Result<()> {
 }
 
 // A line for each usage, or the refusal's.
-pub fn print_ranking(out: &mut impl Write, r: Ranked) -> io::Result<()> {
+pub fn print_ranking<W: Write>(out: &mut W, r: Ranked) -> io::Result<()>
+    ensures kept { Stays (W.contents out.old) (W.contents out.new) }
+{
     let answer = r.answer;
     match answer {
         RankAnswer::Ranked => {

@@ -1,0 +1,2 @@
+-- What is written stays.
+pub mod Growing
