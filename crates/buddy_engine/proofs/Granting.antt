@@ -94,8 +94,8 @@ some_used s t l (suc n) h = ⊎_elim (λ k. (n, k)) (λ k. some_used s t l n (mo
         omega (arith, h, e)
 
 -- a pair in use lies in a held chunk
-roomy : (s : BuddySettings) (t : Tables) → BuddyIn s → Sound s t → chunks_in t ≡ [] → (size mask : ℕ) → PairsOut s size mask t → ⊥
-roomy s t fit sound none size mask (l, splits, out) =
+pairs_left : (s : BuddySettings) (t : Tables) → BuddyIn s → Sound s t → chunks_in t ≡ [] → (size mask : ℕ) → PairsOut s size mask t → ⊥
+pairs_left s t fit sound none size mask (l, splits, out) =
     let w = some_used s t l s.pairs (omega (arith, out, fit.pairs_some)) in
     let c = (pairs_in s t l w.0).chunk in
     Memᴰ.not-nil (subst (Memᴰ (chunk_at t c)) none (held_seen t c (sound.standing.owned l w.0 splits.there w.1).0))
@@ -120,7 +120,7 @@ grants =
       allowed = λ s t fits. fits.0.store;
       smallest = λ s t fits. ((λ x. x), one_byte s fits.0);
       size_none = λ s mask. inl refl;
-      empty_room = λ s size mask t fits sound none. roomy s t fits.0 sound none size mask;
+      empty_room = λ s size mask t fits sound none. pairs_left s t fits.0 sound none size mask;
       new_numbers = λ s t e x. x;
       idle_serves = λ s size mask t fits sound c x h needed.
           let w = (lies_mem (loans_in t) c).0 (has_loan s t fits.0 sound c x.held) in

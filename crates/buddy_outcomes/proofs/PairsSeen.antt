@@ -5,7 +5,7 @@ use mathlib.Core.Bool.{Bool, true, false, cond}
 use mathlib.Core.Logic.{◌⊎◌, inl, inr, ⊎_elim, ◌↔◌}
 use mathlib.Core.List.{List, [], ◌∷◌, Memᴰ}
 use Prim.Native.Nat.{ℕ, zero, suc, ◌+◌, ◌*◌, ◌/◌, ◌≤◌, ◌<◌}
-use native.Mathlib.Nat.{mul-add, add-mul, suc-mul, mul-le-mul_right, mul-mod_left, zero-mul}
+use native.Mathlib.Nat.{add-mul, suc-mul, mul-le-mul_right, mul-mod_left, zero-mul}
 use native.Mathlib.Omega.{arith}
 use lib.Dec.{ltb}
 use lib.ListN.{length}
@@ -28,7 +28,7 @@ use Rattle.store_rules.specs.declared.Loan.{Loan}
 use Rattle.store_rules.specs.declared.Region.{Region}
 use Rattle.buddy_trees.specs.Trees.{Tree, free, loan, split, Wf, Piece, Has, bytes}
 use Rattle.buddy_trees.proofs.Bytes.{bytes_suc, bytes_pos, bytes_mono, bytes_lower}
-use Rattle.buddy_trees.proofs.Fills.{has_in}
+use Rattle.buddy_trees.proofs.Fills.{has_in, half}
 use Rattle.buddy_trees.proofs.Canon.{taken_loan}
 use Rattle.buddy_rules.specs.Nodes.{vacant, exhausted, Ent, L, R, node_of, pair_said, is_free, tag_of, Inside, Rep}
 use Rattle.buddy_rules.specs.Nodes as Nodes
@@ -37,7 +37,7 @@ use Rattle.buddy_rules.specs.Stores.{piece}
 use Rattle.buddy_rules.specs.Tables.{Tables, levels_in, level_from, chunk_size_in, pairs_in, loan_cell, loan_in, live_in, held_in, high_in, top_in}
 use Rattle.buddy_rules.specs.Views.{view_of, ready_stretch}
 use Rattle.buddy_rules.proofs.Cells.{tagged_used}
-use Rattle.buddy_rules.proofs.Frames.{inside_cases}
+use Rattle.buddy_rules.proofs.Frames.{inside_cases, tag_pos}
 use Rattle.buddy_rules.proofs.Frees.{free_seen}
 use Rattle.buddy_rules.proofs.Named.{owner}
 use Rattle.buddy_rules.proofs.Viewed.{loan_at, live_loan, loan_live, chunk_at, held_seen, seen_held}
@@ -45,11 +45,6 @@ use Rattle.buddy_rules.proofs.Walks.{minimal_pos}
 use Rattle.buddy_outcomes.specs.Refusals.{pair_count, PairsOut, pair_bytes, PairInUse, NoneLeft, PairsOutSeen}
 
 -- ---- a tree
-
-tag_some : (x y : Bool) → 0 < tag_of x y
-tag_some true y = omega arith
-tag_some false true = omega arith
-tag_some false false = omega arith
 
 module _ (u : ℕ) (E : ℕ → ℕ → Ent) (K : ℕ → Nodes.Loan) where
   -- a pair of level i in the node of level l at o: it lies at a multiple of its length, and a loan of at most level i lies in it
@@ -63,18 +58,15 @@ module _ (u : ℕ) (E : ℕ → ℕ → Ent) (K : ℕ → Nodes.Loan) where
     multiple : (E i p).off ≡ times * bytes u (suc i)
     inside : (E i p).off + bytes u (suc i) ≤ o + bytes u l
 
-  halved : (l q : ℕ) → q * bytes u (suc l) ≡ (q + q) * bytes u l
-  halved l q = omega (arith, ap (λ (n : ℕ). q * n) (bytes_suc u l), mul-add q (bytes u l) (bytes u l), add-mul q q (bytes u l))
-
   pair_short : (c l o n w i p q : ℕ) (t : Tree) → Wf l t → Rep u E K c l o n w t → o ≡ q * bytes u l → i < l → 0 < (E i p).tag → Inside u (E i p) c o l → ShortLoan l o t i p
   pair_short c l o n w i p q free v r e h g j = absurd (r.1 i p h g j)
   pair_short c l o n w i p q (loan k) v r e h g j = absurd (r.2 i p h g j)
   pair_short c zero o n w i p q (split a b) v r e h g j = absurd r
   pair_short c (suc l) o n w i p q (split a b) v r e h g j =
       go (same? i l)
-      (λ k z. pair_short c l o (node_of (pair_said w) L) (E l (pair_said w)).left i p (q + q) a v.1 r.this (e ∙ halved l q) k g z)
+      (λ k z. pair_short c l o (node_of (pair_said w) L) (E l (pair_said w)).left i p (q + q) a v.1 r.this (e ∙ half u l q) k g z)
       (λ k z.
-      let d : o + bytes u l ≡ (q + q + 1) * bytes u l = omega (arith, e, halved l q, add-mul (q + q) 1 (bytes u l)) in
+      let d : o + bytes u l ≡ (q + q + 1) * bytes u l = omega (arith, e, half u l q, add-mul (q + q) 1 (bytes u l)) in
       pair_short c l (o + bytes u l) (node_of (pair_said w) R) (E l (pair_said w)).right i p (q + q + 1) b v.2 r.twin d k g z)
     where
       -- a loan of either half is no longer than a half
@@ -155,7 +147,7 @@ module _ (u : ℕ) (E : ℕ → ℕ → Ent) (K : ℕ → Nodes.Loan) where
       own =
           record {
             p = pair_said w;
-            used = omega (arith, r.tag, tag_some (is_free a) (is_free b));
+            used = omega (arith, r.tag, tag_pos (is_free a) (is_free b));
             chunk = r.chunk;
             low = omega (arith, r.off, m.0);
             high = omega (arith, r.off, m.1);
@@ -218,7 +210,6 @@ picked_long c f z more (suc n) = go (f n) refl (picked_long c f z more n)
     go true e ih = let a : c (suc n) ≡ c n + 1 = more n ∙ ap (λ (b : Bool). c n + cond b 1 0) e in omega (arith, a, ih)
     go false e ih = let a : c (suc n) ≡ c n + 0 = more n ∙ ap (λ (b : Bool). c n + cond b 1 0) e in omega (arith, a, ih)
 
--- what g gives below n, the last first
 last_below : (n : ℕ) → n < suc n
 last_below n = omega arith
 
@@ -228,6 +219,7 @@ below_last n i h = omega arith
 abbrev earlier : (n : ℕ) → ((i : ℕ) → i < suc n → ℕ) → (i : ℕ) → i < n → ℕ
 earlier n g i h = g i (below_last n i h)
 
+-- what g gives below n, the last first
 abbrev values_of : (n : ℕ) → ((i : ℕ) → i < n → ℕ) → List ℕ
 values_of zero g = []
 values_of (suc n) g = g n (last_below n) ∷ values_of n (earlier n g)
@@ -271,16 +263,16 @@ module _ (s : BuddySettings) (t : Tables) (fit : BuddyIn s) (sound : Sound s t) 
   stretch_of l p = region (E l p).chunk (E l p).off ((E l p).off + pair_bytes u l)
 
   -- a pair in use lies in its chunk
-  pair_in_lem : (l p : ℕ) → l < levels_in t → 0 < (E l p).tag
+  pair_lies : (l p : ℕ) → l < levels_in t → 0 < (E l p).tag
       → (held_in t (E l p).chunk ≡ true) × (l < high_in s t (E l p).chunk) × Inside u (E l p) (E l p).chunk 0 (high_in s t (E l p).chunk)
-  pair_in_lem l p h g =
+  pair_lies l p h g =
       let o = sound.standing.owned l p h g in
       (o.0, o.1, (refl, omega arith, omega (arith, (sound.standing.sized (E l p).chunk o.0).0, o.2)))
 
   -- it is seen
   pair_seen : (l p : ℕ) → l < levels_in t → 0 < (E l p).tag → PairInUse u l (view_of s t) (stretch_of l p)
   pair_seen l p h g =
-      let w = pair_in_lem l p h g in
+      let w = pair_lies l p h g in
       let c = (E l p).chunk in
       let e = sym (zero-mul (bytes u (high_in s t c))) in
       let y = pair_short u E (loan_in s t) c (high_in s t c) 0 nowhere (top_in s t c) l p 0 (T c) (sound.standing.wf c w.0) (sound.standing.rep c w.0) e w.1 g w.2 in
@@ -307,7 +299,7 @@ module _ (s : BuddySettings) (t : Tables) (fit : BuddyIn s) (sound : Sound s t) 
   -- no two have one stretch
   stretch_once : (l p q : ℕ) → l < levels_in t → 0 < (E l p).tag → 0 < (E l q).tag → stretch_of l p ≡ stretch_of l q → p ≡ q
   stretch_once l p q h g k e =
-      let w = pair_in_lem l p h g in
+      let w = pair_lies l p h g in
       let c = (E l p).chunk in
       one_pair u E (loan_in s t) c (high_in s t c) 0 nowhere (top_in s t c) l p q (T c) (sound.standing.rep c w.0) w.1 g k (sym (ap (λ (r : Region). r.chunk) e))
       (sym (ap (λ (r : Region). r.start) e)) w.2
@@ -325,7 +317,7 @@ module _ (s : BuddySettings) (t : Tables) (fit : BuddyIn s) (sound : Sound s t) 
   stretch_is : (l p x : ℕ) (r : Region) → PairInUse u l (view_of s t) r → 0 < (E l p).tag → (E l p).chunk ≡ r.chunk → (E l p).off ≤ x → x < (E l p).off + pair_bytes u l → r.start ≤ x → x < r.end
       → stretch_of l p ≡ r
   stretch_is l p x r v used is a b c d =
-      let w = pair_in_lem l p (seen_below l r v).2 used in
+      let w = pair_lies l p (seen_below l r v).2 used in
       let k = (E l p).chunk in
       let e = sym (zero-mul (bytes u (high_in s t k))) in
       let y = pair_short u E (loan_in s t) k (high_in s t k) 0 nowhere (top_in s t k) l p 0 (T k) (sound.standing.wf k w.0) (sound.standing.rep k w.0) e w.1 used w.2 in

@@ -41,7 +41,7 @@ module _ (s : BuddySettings) (a b : Account) (alike : Alike s.store a b) where
   unfolding account_ok
   covered_alike t = λ j. covers_ok (alike.heap j) (alike.objects j) (held_count t (chunk_places_in t)) (held_bytes t (chunk_places_in t))
 
-  pub gate_alike : (t : Tables) (list : Bool) → gate_of s a t list ≡ gate_of s b t list
+  gate_alike : (t : Tables) (list : Bool) → gate_of s a t list ≡ gate_of s b t list
   unfolding gate_of
   gate_alike t list = λ j. first (gate_row (lent_alike t j && list) (alike.free j) (sound_ok s t) (covered_alike t j))
 

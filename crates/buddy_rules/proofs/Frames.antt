@@ -14,7 +14,7 @@ use Rattle.buddy_trees.proofs.Canon.{canon}
 use Rattle.buddy_trees.proofs.Prunes.{prune_wf, prune_has}
 use Rattle.buddy_rules.specs.Nodes.{Ent, Loan, Side, L, R, other, node_of, pair_said, is_free, tag_of, base, Inside, None, Rep, Keep, Loc, Local}
 
-tag_pos : (a b : Bool) → 0 < tag_of a b
+pub tag_pos : (a b : Bool) → 0 < tag_of a b
 tag_pos true b = omega arith
 tag_pos false true = omega arith
 tag_pos false false = omega arith

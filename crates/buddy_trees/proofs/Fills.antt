@@ -60,7 +60,7 @@ module _ (u : ℕ) where
   has_apart (suc l) o (split a b) y z (inl h) (inr i) ne = inl (omega (arith, (has_in l o a y h).1, (has_in l (o + bytes u l) b z i).0))
   has_apart (suc l) o (split a b) y z (inr h) (inl i) ne = inr (omega (arith, (has_in l o a z i).1, (has_in l (o + bytes u l) b y h).0))
 
-  half : (l q : ℕ) → q * bytes u (suc l) ≡ (q + q) * bytes u l
+  pub half : (l q : ℕ) → q * bytes u (suc l) ≡ (q + q) * bytes u l
   half l q = omega (arith, ap (λ (n : ℕ). q * n) (bytes_suc u l), mul-add q (bytes u l) (bytes u l), add-mul q q (bytes u l))
 
   -- a free node stands at a multiple of its size, as the node that it is in does

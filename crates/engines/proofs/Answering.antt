@@ -1,11 +1,12 @@
 -- A call that no row of 01's table turns away is answered: an ask by a block, or by the order for the chunk that is needed, a
 -- delivery by a block, a return and an own call by a release; and no other call is so answered.
-use mathlib.Core.Path.{◌≡◌, refl, sym, ap, ◌∙◌}
+use mathlib.Core.Path.{◌≡◌, sym, ap, ◌∙◌}
 use mathlib.Core.Logic.{◌⊎◌, inl, inr, ⊎_elim, ◌↔◌}
-use mathlib.Core.List.{List, [], ◌∷◌}
+use mathlib.Core.List.{List, []}
 use Prim.Native.Nat.{ℕ, ◌+◌}
 use native.Mathlib.Omega.{arith}
 use lib.ListN.{length}
+use Rattle.std.proofs.lemmas.List.{nil_from_length}
 use Rattle.lists.proofs.Bools.{same?}
 use Rattle.counter.specs.Paper as Paper
 use Rattle.counter.specs.Reasons.{Clear}
@@ -22,10 +23,6 @@ use Rattle.engines.specs.Shapes.{Tables, Begun, asks, words_of}
 use Rattle.engines.specs.Tells.{Blocked, Ordered, Released}
 use Rattle.engines.proofs.Delivering.{clear_unsaid}
 use Rattle.engines.proofs.Taking.{none_given}
-
-none_long : (xs : List ℕ) → length xs ≡ 0 → xs ≡ []
-none_long [] e = refl
-none_long (x ∷ xs) e = absurd (omega (arith, e))
 
 module _ (E : Engine) (s : E.shape.Settings) where
   -- ---- a set-up
@@ -65,7 +62,7 @@ module _ (E : Engine) (s : E.shape.Settings) where
               let o : (E.shape.ask s a size mask t).account.objects + 0 ≡ a.objects + to_free (E.shape.ask s a size mask t).said = (E.books.booked s a t (asks size mask)).objects in
               let f : to_free (E.shape.ask s a size mask t).said ≡ length back = ap to_free e in
               let k : (E.shape.ask s a size mask t).account.objects ≡ a.objects = ap (λ (b : Account). b.objects) stays in
-              none_long back (omega (arith, o, f, k))
+              nil_from_length back (omega (arith, o, f, k))
 
       module _ (clear : Clear (ask_rows (words_of E.shape) s a size mask t)) where
         -- it is not refused

@@ -33,7 +33,7 @@ use Rattle.engines.specs.Shapes.{Tables}
 
 module _ (e : D.Engine) (o : Outcome) where
   -- an order that is lost names what the outcome names
-  pub loss_names : (n : ℕ) (c : Bool) (back : List ℕ) → fate_of e o ≡ lost n c back → back ≡ named_by e o
+  loss_names : (n : ℕ) (c : Bool) (back : List ℕ) → fate_of e o ≡ lost n c back → back ≡ named_by e o
   loss_names n c back = by o
     where
       by : (x : Outcome) → fate_of e x ≡ lost n c back → back ≡ named_by e x

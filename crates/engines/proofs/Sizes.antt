@@ -44,7 +44,7 @@ abbrev memory : Chunk → ℕ
 memory c = c.memory
 
 -- where no memory number stands twice, that of a chunk tells its size
-pub size_found : (cs : List Chunk) → NoMemoryTwice cs → (c : Chunk) → Memᴰ c cs → size_of cs c.memory ≡ c.size
+size_found : (cs : List Chunk) → NoMemoryTwice cs → (c : Chunk) → Memᴰ c cs → size_of cs c.memory ≡ c.size
 size_found [] d c m = absurd (Memᴰ.not-nil m)
 size_found (b ∷ cs) d c m = ⊎_elim first (λ k. later k (size_found cs d.1 c k)) (Memᴰ.cases_cons m)
   where

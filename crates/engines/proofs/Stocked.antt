@@ -76,7 +76,7 @@ module _ (E : Engine) (F : Further E.shape) (s : E.shape.Settings) (a : Account)
       (omega (arith, o, k, f, g.count), g)
 
   -- no other call is answered so
-  pub released_goes : (c : Call E.shape.Own) → (does E.shape s a t c).said ≡ Paper.released n
+  released_goes : (c : Call E.shape.Own) → (does E.shape s a t c).said ≡ Paper.released n
       → (length (take n (does E.shape s a t c).list) ≡ n)
       × ((cs : List Chunk) → Holding E F t cs → books E.shape s a t c (does E.shape s a t c) ≡ release (total (size_of cs) (take n (does E.shape s a t c).list)) ∷ [])
   released_goes sets_up e =

@@ -7,12 +7,10 @@ use mathlib.Core.List.Memᴰ
 use mathlib.Core.List.{List, [], ◌∷◌, map, Memᴰ}
 use Prim.Native.Nat.{ℕ}
 use native.Mathlib.Omega.{arith}
-use lib.Dec.{eqb}
 use lib.ListN.{take}
 use lib.Seq.{take-nil}
-use borrow.Author.Tests.{eq-eqb, eqb-true}
 use Rattle.lists.specs.Members.{NotIn, Distinct}
-use Rattle.lists.proofs.Bools.{same?, told, true_false, not_yes, or_cases, or_left, or_right}
+use Rattle.lists.proofs.Bools.{same?, told, true_false, not_yes}
 use Rattle.counter.specs.Paper as Paper
 use Rattle.counter.specs.Reasons.{Clear}
 use Rattle.counter.specs.declared.account.Account.{Account}
@@ -30,6 +28,7 @@ use Rattle.store_rules.specs.Views.{View, chunk, Go}
 use Rattle.store_rules.specs.declared.Chunk.{Chunk}
 use Rattle.store_rules.proofs.Keyed.{key_not, not_key, distinct_differ}
 use Rattle.store_rules.proofs.Lessening.{those, those_mem, those_yes, mem_those}
+use Rattle.store_rules.proofs.Refused.{holds_in, in_holds}
 use Rattle.store_rules.proofs.Said.{refuses}
 use Rattle.engines.specs.Books.{order_size}
 use Rattle.engines.specs.Engines.{Engine}
@@ -46,18 +45,6 @@ abbrev memory : Chunk → ℕ
 memory c = c.memory
 
 -- ---- chunks less those of some memory numbers
-
-holds_in : (m : ℕ) (l : List ℕ) → holds m l ≡ true → Memᴰ m l
-holds_in m [] e = absurd (true_false false e refl)
-holds_in m (x ∷ l) e =
-    ⊎_elim (λ (p : eqb x m ≡ true). Memᴰ.head (sym (eqb-true x m p))) (λ (p : holds m l ≡ true). Memᴰ.tail (holds_in m l p))
-    (or_cases (eqb x m) (holds m l) e)
-
-in_holds : (m : ℕ) (l : List ℕ) → Memᴰ m l → holds m l ≡ true
-in_holds m [] w = absurd (Memᴰ.not-nil w)
-in_holds m (x ∷ l) w =
-    ⊎_elim (λ (p : m ≡ x). or_left (eqb x m) (holds m l) (eq-eqb x m (sym p))) (λ (p : Memᴰ m l). or_right (eqb x m) (holds m l) (in_holds m l p))
-    (Memᴰ.cases_cons w)
 
 less_those : (ms : List ℕ) (cs : List Chunk) → chunks_less ms cs ≡ those (λ (c : Chunk). not (holds c.memory ms)) cs
 less_those ms [] = refl
@@ -112,10 +99,6 @@ not_in_stable x (y ∷ l) f = ((λ e. f (λ n. n.0 e)), not_in_stable x l (λ g.
 distinct_stable : (l : List ℕ) → ((Distinct l → ⊥) → ⊥) → Distinct l
 distinct_stable [] f = tt
 distinct_stable (x ∷ l) f = (not_in_stable x l (λ g. f (λ d. g d.0)), distinct_stable l (λ g. f (λ d. g d.1)))
-
-mem_map : (c : Chunk) (cs : List Chunk) → Memᴰ c cs → Memᴰ c.memory (map memory cs)
-mem_map c [] m = absurd (Memᴰ.not-nil m)
-mem_map c (d ∷ cs) m = ⊎_elim (λ e. Memᴰ.head (ap memory e)) (λ k. Memᴰ.tail (mem_map c cs k)) (Memᴰ.cases_cons m)
 
 nothing_kept : (k : KeptOrder) → Nothing ≡ Kept k → ⊥
 nothing_kept k e = let z : ◌≡◌ {A = ℕ} 0 1 = cc in omega arith
@@ -198,7 +181,7 @@ module _ (E : Engine) (F : Further E.shape) (s : E.shape.Settings) (a : Account)
             (subst (λ (cs : List Chunk). Memᴰ y (E.shape.view s after).chunks ↔ (Memᴰ y cs ⊎ (y ≡ x))) (F.chunks_seen s t) (d.4 y)))
             (after_once c)
             (λ y i q. c.1.1.1.1.0
-            (k, d.2, (m, d.3, inl (subst (λ (z : ℕ). Memᴰ z (map memory (E.shape.view s t).chunks)) (sym q) (mem_map y (E.shape.view s t).chunks (subst (Memᴰ y) (sym (F.chunks_seen s t)) i))))))
+            (k, d.2, (m, d.3, inl (subst (λ (z : ℕ). Memᴰ z (map memory (E.shape.view s t).chunks)) (sym q) (Memᴰ.map memory (subst (Memᴰ y) (sym (F.chunks_seen s t)) i))))))
 
   -- ---- a return and a call that only this engine has
 

@@ -1,10 +1,10 @@
 -- The free list grants: settings and tables for every store that 01's table allows, and the smallest ask.
 use mathlib.Core.Path.{◌≡◌, refl, ap}
 use mathlib.Core.Logic.{inl, inr}
-use Prim.Native.Nat.{ℕ, ◌+◌, ◌%◌, ◌≤◌, ◌<◌}
-use native.Mathlib.Nat.{mod-eq_of_lt}
+use Prim.Native.Nat.{ℕ, ◌+◌, ◌%◌, ◌≤◌}
 use native.Mathlib.Omega.{arith}
 use lib.Pow.{pow_mono}
+use Rattle.std.proofs.Math.Nat.{zero-mod}
 use Rattle.rounding_rules.proofs.Growth.{grown_most}
 use Rattle.rounding_rules.proofs.Masks.{ones_size}
 use Rattle.rounding_rules.proofs.Powers.{power_multiple}
@@ -56,9 +56,6 @@ numbers : (s : FreeListSettings) (t : Tables) (r : Begun) → SetUpComes s t r �
 numbers s t _ SetUpComes.denied e h = let z : ◌≡◌ {A = ℕ} 5 0 = ap kind_of e in omega arith
 numbers s t _ (readies fit lengths) e h = omega (arith, h, ap (λ (v : Store). v.made) (fresh_store s t fit lengths))
 
-zero_aligned : (mask : ℕ) → 0 % (mask + 1) ≡ 0
-zero_aligned mask = let h : 0 < mask + 1 = omega arith in mod-eq_of_lt h
-
 -- a chunk in which no block is on loan is one region
 whole_serves : (s : FreeListSettings) (size mask : ℕ) (v : Store) → FreeListIn s → Sound s v → (c : Chunk) → Unlent (seen v) c → size ≤ c.size → Fitting size mask v
 whole_serves s size mask v fit sound c x h =
@@ -70,7 +67,7 @@ whole_serves s size mask v fit sound c x h =
       free = w.1;
       its = w.2;
       start = 0;
-      aligned = zero_aligned mask;
+      aligned = zero-mod (mask + 1);
       from = omega (arith, w.3);
       to = omega (arith, w.4);
     }

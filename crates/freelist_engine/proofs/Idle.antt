@@ -1,9 +1,10 @@
 -- Of the chunks that a return leaves at most one has no block on loan: that of the last region.
-use mathlib.Core.Path.{◌≡◌, refl, sym, ap, subst, ◌∙◌}
+use mathlib.Core.Path.{◌≡◌, sym, ap, subst, ◌∙◌}
 use mathlib.Core.Bool.{true}
-use mathlib.Core.List.{List, [], ◌∷◌, ◌++◌}
+use mathlib.Core.List.{List}
 use Prim.Native.Nat.{ℕ, ◌≤◌}
 use lib.ListN.{length}
+use Rattle.std.proofs.lemmas.List.{same_from_push}
 use Rattle.counter.specs.Gate.{pass}
 use Rattle.counter.specs.InTable.{FreeListIn}
 use Rattle.counter.specs.declared.account.Account.{Account}
@@ -14,7 +15,7 @@ use Rattle.store_rules.specs.declared.Region.{Region}
 use Rattle.engines.specs.Further.{Unlent, AtMostOne}
 use Rattle.freelist_rules.specs.Records.{Store}
 use Rattle.freelist_rules.specs.Sound.{Sound}
-use Rattle.freelist_rules.specs.Steps.{no_region, released}
+use Rattle.freelist_rules.specs.Steps.{released}
 use Rattle.freelist_rules.specs.Tables.{Tables, store_of}
 use Rattle.freelist_rules.proofs.Blocks.{returned_is}
 use Rattle.freelist_rules.proofs.Giving.{give_sound}
@@ -26,19 +27,9 @@ use Rattle.freelist_outcomes.proofs.Passing.{gate_passed}
 use Rattle.freelist_engine.specs.Shape.{seen}
 use Rattle.freelist_engine.proofs.Handing.{return_handed}
 
--- ---- the last of a list is one
-
-abbrev final : Region → List Region → Region
-final d [] = d
-final d (r ∷ rs) = final r rs
-
-final_is : (d r : Region) (before : List Region) → final d (before ++ (r ∷ [])) ≡ r
-final_is d r [] = refl
-final_is d r (q ∷ before) = final_is q r before
-
+-- the last of a list is one
 last_one : (r q : Region) (rs : List Region) → Last r rs → Last q rs → r ≡ q
-last_one r q rs x y =
-    sym (final_is no_region r x.0) ∙ ap (final no_region) (sym x.1 ∙ y.1) ∙ final_is no_region q y.0
+last_one r q rs x y = (same_from_push x.0 y.0 r q (sym x.1 ∙ y.1)).1
 
 -- ---- a release that spares the last region's chunk
 

@@ -43,7 +43,7 @@ module _ (s : FreeListSettings) (a b : Account) (alike : Alike s.store a b) wher
   unfolding account_ok
   covered_alike t = λ j. covers_ok (alike.heap j) (alike.objects j) (chunks_in t) (total (λ (c : Chunk). c.size) (store_of s t).chunks)
 
-  pub gate_alike : (t : Tables) (list : Bool) → gate_of s a t list ≡ gate_of s b t list
+  gate_alike : (t : Tables) (list : Bool) → gate_of s a t list ≡ gate_of s b t list
   unfolding gate_of
   gate_alike t list = λ j. first (gate_row (lent_alike t j && list) (alike.free j) (sound_ok s t) (covered_alike t j))
 

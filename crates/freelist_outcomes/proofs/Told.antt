@@ -32,7 +32,6 @@ use Rattle.freelist_outcomes.proofs.Given.{given_store, given_lengths, given_sou
 use Rattle.freelist_outcomes.proofs.Passing.{Passed}
 use Rattle.freelist_outcomes.specs.Told.{to_free, Told}
 
--- a list whose sets-front is written over
 -- no refusal is a release
 refused_not : (k n : ℕ) (back : List ℕ) → Paper.refusal k back ≡ Paper.released n → ⊥
 refused_not k n back e = let z : ◌≡◌ {A = ℕ} 5 3 = ap kind_of e in omega arith

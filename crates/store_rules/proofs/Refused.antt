@@ -103,7 +103,7 @@ mask_off mask = (there, back)
 
 -- ---- 13
 
-holds_in : (m : ℕ) (l : List ℕ) → holds m l ≡ true → Memᴰ m l
+pub holds_in : (m : ℕ) (l : List ℕ) → holds m l ≡ true → Memᴰ m l
 holds_in m [] e = absurd (true_false false e refl)
 holds_in m (x ∷ l) e =
     ⊎_elim
@@ -111,7 +111,7 @@ holds_in m (x ∷ l) e =
     (λ (p : holds m l ≡ true). Memᴰ.tail (holds_in m l p))
     (or_cases (eqb x m) (holds m l) e)
 
-in_holds : (m : ℕ) (l : List ℕ) → Memᴰ m l → holds m l ≡ true
+pub in_holds : (m : ℕ) (l : List ℕ) → Memᴰ m l → holds m l ≡ true
 in_holds m [] w = absurd (Memᴰ.not-nil w)
 in_holds m (x ∷ l) w =
     ⊎_elim
