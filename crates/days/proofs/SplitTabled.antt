@@ -34,7 +34,7 @@ use Rattle.buddy_outcomes.specs.SetUp.{fresh_tables, fit_ok, plan_set_up, carry_
 use Rattle.store_rules.specs.Outcomes.{out, listed}
 use Rattle.days.specs.Facts.{row, left, back, Day, account, open_for, made}
 use Rattle.days.specs.Splitting.{halves}
-use Rattle.days.specs.SplitTables.{lent, idle, holding, slip, empty, with_one, with_two, with_three, less_one, less_two, less_three, split_tables}
+use Rattle.days.specs.SplitTables.{lent, idle, holding, slip, none_lent, one_lent, two_lent, three_lent, one_returned, two_returned, all_returned, split_tables}
 
 -- each of its calls, computed
 pub tables_worked : map (λ (d : Day). d.gives) split_tables ≡ map (λ (d : Day). d.says) split_tables
@@ -51,32 +51,32 @@ unfolding split_tables count_trailing_zeros ones_ok power_ok up_to bits power_up
 tables_worked =
     λ j. begun j ∷ order_300 j ∷ block_300 j ∷ block_512 j ∷ next_512 j ∷ one_back j ∷ two_back j ∷ three_back j ∷ level_31 j ∷ past_31 j ∷ []
   where
-    begun : left (out (set_up_of halves lent).said idle (set_up_of halves lent).tables) ≡ left (out Paper.ready idle empty)
+    begun : left (out (set_up_of halves lent).said idle (set_up_of halves lent).tables) ≡ left (out Paper.ready idle none_lent)
     begun = refl
 
-    order_300 : left (ask_of halves idle 300 0 empty) ≡ left (out (Paper.order 7 4096 0 false) (account 0 0 0 10 (open_for 300 4096)) empty)
+    order_300 : left (ask_of halves idle 300 0 none_lent) ≡ left (out (Paper.order 7 4096 0 false) (account 0 0 0 10 (open_for 300 4096)) none_lent)
     order_300 = refl
 
-    block_300 : left (deliver_of halves (account 0 0 0 10 (open_for 300 4096)) (made 50) empty) ≡ left (out (Paper.block 1 0 0 512) holding with_one)
+    block_300 : left (deliver_of halves (account 0 0 0 10 (open_for 300 4096)) (made 50) none_lent) ≡ left (out (Paper.block 1 0 0 512) holding one_lent)
     block_300 = refl
 
-    block_512 : left (ask_of halves holding 512 0 with_one) ≡ left (out (Paper.block 2 0 512 512) holding with_two)
+    block_512 : left (ask_of halves holding 512 0 one_lent) ≡ left (out (Paper.block 2 0 512 512) holding two_lent)
     block_512 = refl
 
-    next_512 : left (ask_of halves holding 512 0 with_two) ≡ left (out (Paper.block 3 0 1024 512) holding with_three)
+    next_512 : left (ask_of halves holding 512 0 two_lent) ≡ left (out (Paper.block 3 0 1024 512) holding three_lent)
     next_512 = refl
 
-    one_back : back (return_of halves holding (slip 1 0) with_three (replicate 2 0)) ≡ back (listed (Paper.released 0) holding less_one (replicate 2 0))
+    one_back : back (return_of halves holding (slip 1 0) three_lent (replicate 2 0)) ≡ back (listed (Paper.released 0) holding one_returned (replicate 2 0))
     one_back = refl
 
-    two_back : back (return_of halves holding (slip 2 512) less_one (replicate 2 0)) ≡ back (listed (Paper.released 0) holding less_two (replicate 2 0))
+    two_back : back (return_of halves holding (slip 2 512) one_returned (replicate 2 0)) ≡ back (listed (Paper.released 0) holding two_returned (replicate 2 0))
     two_back = refl
 
-    three_back : back (return_of halves holding (slip 3 1024) less_two (replicate 2 0)) ≡ back (listed (Paper.released 1) (account 0 4096 4096 10 Nothing) less_three (50 ∷ 0 ∷ []))
+    three_back : back (return_of halves holding (slip 3 1024) two_returned (replicate 2 0)) ≡ back (listed (Paper.released 1) (account 0 4096 4096 10 Nothing) all_returned (50 ∷ 0 ∷ []))
     three_back = refl
 
     level_31 : row (level_for halves (2 ^ 39) 0 ∷ []) ≡ row (31 ∷ [])
     level_31 = refl
 
-    past_31 : left (ask_of halves idle (2 ^ 39 + 1) 0 empty) ≡ left (out (Paper.refusal 6 []) idle empty)
+    past_31 : left (ask_of halves idle (2 ^ 39 + 1) 0 none_lent) ≡ left (out (Paper.refusal 6 []) idle none_lent)
     past_31 = refl

@@ -58,12 +58,12 @@ abbrev pub entry : ℕ → ℕ → List ℕ
 entry first after = first ∷ 0 ∷ after ∷ []
 
 -- four levels, and nothing else: as set-up leaves it, whatever stood in its tables; the first order raises nothing
-abbrev pub empty : Tables
-empty = tables (marks.head ∷ 4 ∷ []) (marks.loans ∷ replicate 19 0) (marks.chunks ∷ replicate 5 0) (marks.index ∷ replicate 19 0) (marks.room ∷ replicate 799 0)
+abbrev pub none_lent : Tables
+none_lent = tables (marks.head ∷ 4 ∷ []) (marks.loans ∷ replicate 19 0) (marks.chunks ∷ replicate 5 0) (marks.index ∷ replicate 19 0) (marks.room ∷ replicate 799 0)
 
 -- the chunk is split down to 512 bytes, whose left node is lent
-abbrev pub with_one : Tables
-with_one =
+abbrev pub one_lent : Tables
+one_lent =
     tables
     (marks.head ∷ 4 ∷ [])
     (loans 1 (record4 1 0 512) (record4 0 0 0) (record4 0 0 0))
@@ -72,8 +72,8 @@ with_one =
     (tree (level 1 1 0 (pair 3 0 1 0 1 1 0) unused) (level 1 1 0 (pair 3 0 2 0 1 1 0) unused) (level 1 1 0 (pair 3 0 2 0 1 1 nowhere) unused) 0 2)
 
 -- and its right one
-abbrev pub with_two : Tables
-with_two =
+abbrev pub two_lent : Tables
+two_lent =
     tables
     (marks.head ∷ 4 ∷ [])
     (loans 2 (record4 1 0 512) (record4 2 512 512) (record4 0 0 0))
@@ -82,8 +82,8 @@ with_two =
     (tree (level 0 1 0 (pair 1 0 1 3 1 1 0) unused) (level 1 1 0 (pair 3 0 2 0 1 1 0) unused) (level 1 1 0 (pair 3 0 2 0 1 1 nowhere) unused) 0 2)
 
 -- and the left one of the second pair, which the free node of 1,024 bytes is split into
-abbrev pub with_three : Tables
-with_three =
+abbrev pub three_lent : Tables
+three_lent =
     tables
     (marks.head ∷ 4 ∷ [])
     (loans 3 (record4 1 0 512) (record4 2 512 512) (record4 3 1024 512))
@@ -92,8 +92,8 @@ with_three =
     (tree (level 2 2 0 (pair 1 0 1 3 1 1 0) (pair 3 1024 5 0 2 2 1)) (level 0 1 0 (pair 1 0 2 4 1 1 0) unused) (level 1 1 0 (pair 3 0 2 0 1 1 nowhere) unused) 0 2)
 
 -- the first block is back: its pair joins the ring before the head
-abbrev pub less_one : Tables
-less_one =
+abbrev pub one_returned : Tables
+one_returned =
     tables
     (marks.head ∷ 4 ∷ [])
     (loans 3 (record4 0 0 0) (record4 2 512 512) (record4 3 1024 512))
@@ -102,8 +102,8 @@ less_one =
     (tree (level 2 2 0 (pair 2 0 0 3 2 2 0) (pair 3 1024 5 0 1 1 1)) (level 0 1 0 (pair 1 0 2 4 1 1 0) unused) (level 1 1 0 (pair 3 0 2 0 1 1 nowhere) unused) 0 2)
 
 -- and the second: their pair is gone, and the node above it free
-abbrev pub less_two : Tables
-less_two =
+abbrev pub two_returned : Tables
+two_returned =
     tables
     (marks.head ∷ 4 ∷ [])
     (loans 3 (record4 0 0 0) (record4 0 512 0) (record4 3 1024 512))
@@ -112,8 +112,8 @@ less_two =
     (tree (level 2 2 1 (pair 0 0 0 3 2 2 0) (pair 3 1024 5 0 2 2 1)) (level 1 1 0 (pair 2 0 0 4 1 1 0) unused) (level 1 1 0 (pair 3 0 2 0 1 1 nowhere) unused) 0 2)
 
 -- and the third: all pairs are gone, and the chunk
-abbrev pub less_three : Tables
-less_three =
+abbrev pub all_returned : Tables
+all_returned =
     tables
     (marks.head ∷ 4 ∷ [])
     (loans 3 (record4 0 0 0) (record4 0 512 0) (record4 0 1024 0))
@@ -134,18 +134,18 @@ slip serial offset = record { serial = serial; chunk = 0; offset = offset; size 
 
 unfoldable pub split_tables : List Day
 split_tables =
-    day (left (out (set_up_of halves lent).said idle (set_up_of halves lent).tables)) (left (out Paper.ready idle empty))
+    day (left (out (set_up_of halves lent).said idle (set_up_of halves lent).tables)) (left (out Paper.ready idle none_lent))
     -- "Ask 300: order 4,096; block offset 0, size 512."
-    ∷ day (left (ask_of halves idle 300 0 empty)) (left (out (Paper.order 7 4096 0 false) (account 0 0 0 10 (open_for 300 4096)) empty))
-    ∷ day (left (deliver_of halves (account 0 0 0 10 (open_for 300 4096)) (made 50) empty)) (left (out (Paper.block 1 0 0 512) holding with_one))
+    ∷ day (left (ask_of halves idle 300 0 none_lent)) (left (out (Paper.order 7 4096 0 false) (account 0 0 0 10 (open_for 300 4096)) none_lent))
+    ∷ day (left (deliver_of halves (account 0 0 0 10 (open_for 300 4096)) (made 50) none_lent)) (left (out (Paper.block 1 0 0 512) holding one_lent))
     -- "Ask 512: offset 512." "Ask 512: offset 1,024."
-    ∷ day (left (ask_of halves holding 512 0 with_one)) (left (out (Paper.block 2 0 512 512) holding with_two))
-    ∷ day (left (ask_of halves holding 512 0 with_two)) (left (out (Paper.block 3 0 1024 512) holding with_three))
+    ∷ day (left (ask_of halves holding 512 0 one_lent)) (left (out (Paper.block 2 0 512 512) holding two_lent))
+    ∷ day (left (ask_of halves holding 512 0 two_lent)) (left (out (Paper.block 3 0 1024 512) holding three_lent))
     -- "Return all three in that order: only the last releases the chunk."
-    ∷ day (back (return_of halves holding (slip 1 0) with_three (replicate 2 0))) (back (listed (Paper.released 0) holding less_one (replicate 2 0)))
-    ∷ day (back (return_of halves holding (slip 2 512) less_one (replicate 2 0))) (back (listed (Paper.released 0) holding less_two (replicate 2 0)))
-    ∷ day (back (return_of halves holding (slip 3 1024) less_two (replicate 2 0))) (back (listed (Paper.released 1) (account 0 4096 4096 10 Nothing) less_three (50 ∷ 0 ∷ [])))
+    ∷ day (back (return_of halves holding (slip 1 0) three_lent (replicate 2 0))) (back (listed (Paper.released 0) holding one_returned (replicate 2 0)))
+    ∷ day (back (return_of halves holding (slip 2 512) one_returned (replicate 2 0))) (back (listed (Paper.released 0) holding two_returned (replicate 2 0)))
+    ∷ day (back (return_of halves holding (slip 3 1024) two_returned (replicate 2 0))) (back (listed (Paper.released 1) (account 0 4096 4096 10 Nothing) all_returned (50 ∷ 0 ∷ [])))
     -- "Ask 2^39 is level 31." "Ask 2^39 + 1: refusal 6."
     ∷ day (row (level_for halves (2 ^ 39) 0 ∷ [])) (row (31 ∷ []))
-    ∷ day (left (ask_of halves idle (2 ^ 39 + 1) 0 empty)) (left (out (Paper.refusal 6 []) idle empty))
+    ∷ day (left (ask_of halves idle (2 ^ 39 + 1) 0 none_lent)) (left (out (Paper.refusal 6 []) idle none_lent))
     ∷ []
