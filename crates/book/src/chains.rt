@@ -33,13 +33,11 @@ fn left_of(loans: &[u64], index: &[u64], n: usize, places: u64, given: u64, k: u
     ensures { result ≡ left_of (vacant_at loans.now size_at loan_words) (first_in index.now) (next_in index.now) (serial_of loans.now) n places given k n }
 {
     let mut left = k;
-    let mut i = 0;
-    while i < n {
+    for i in 0..n {
         if left != NOWHERE {
             let first = first_of(index, i);
             left = left_after(loans, index, n, places, i as u64, given, first, left);
         }
-        i += 1;
     }
     left
 }
@@ -83,20 +81,17 @@ fn left_after(
 {
     let mut p = h;
     let mut most = given;
-    let mut left = k;
-    while p != NOWHERE {
-        if left == 0 {
+    for met in 0..k {
+        if p == NOWHERE {
+            return k - met;
+        }
+        if !is_link(loans, n as u64, places, i, most, p) {
             return NOWHERE;
         }
-        if is_link(loans, n as u64, places, i, most, p) {
-            most = serial_of(loans, p as usize) - 1;
-            p = next_of(index, p as usize);
-            left -= 1;
-        } else {
-            return NOWHERE;
-        }
+        most = serial_of(loans, p as usize) - 1;
+        p = next_of(index, p as usize);
     }
-    left
+    if p == NOWHERE { 0 } else { NOWHERE }
 }
 
 // Whether p is a loan of chain i, with a serial from 1 to most. No link is asked, so that any may stand in the contract.

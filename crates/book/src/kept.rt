@@ -1,5 +1,5 @@
 // The test of a book.
-ghost use Rattle.std.specs.Prelude.{◌≡◌, ◌+◌, ◌-◌, ◌*◌, ◌<◌, ◌≤◌, true, length};
+ghost use Rattle.std.specs.Prelude.{◌≡◌, ◌+◌, ◌-◌, ◌*◌, ◌<◌, ◌≤◌, true, SomeIff, IfSome, length};
 ghost use Rattle.counter.specs.Limits.{loans_most};
 ghost use Rattle.slabs.specs.Slab.{vacant_at};
 ghost use Rattle.slabs.specs.Test.{vacancies};
@@ -11,28 +11,19 @@ ghost use Rattle.book_rules.specs.Ready.{Reads};
 use crate::{ENTRY_WORDS, VACANT_AFTER_AT, VACATED_AT};
 use store_rules::{LOAN_WORDS, SIZE_AT};
 
-// Whether a book is right, and how many loans it has where it is.
-#[derive(Clone, Copy)]
-pub struct Kept {
-    pub ok: bool,
-    pub live: u64,
-}
-
-// Whether the places of the loans are parted into used and vacant ones, and the chains lead to each loan; the vacant ones are
-// counted once.
-pub fn are_kept(loans: &[u64], index: &[u64], n: usize, places: u64, given: u64) -> Kept
+// How many loans a book has, where it is right: the places of the loans are parted into used and vacant ones, and the chains lead to
+// each loan. The vacant ones are counted once.
+pub fn are_kept(loans: &[u64], index: &[u64], n: usize, places: u64, given: u64) -> Option<u64>
     requires { (0 < n) × (n ≤ loans_most) × (length loans.now ≡ loan_words + loan_words * n) × (index_words n ≤ length index.now) }
-    ensures ok_value { result.ok ≡ kept_ok loans.now index.now n places given }
-    ensures live_value { (result.ok ≡ true → result.live ≡ places - vacancies (vacant_at loans.now size_at loan_words) places) × (result.live ≤ places) }
+    ensures live { SomeIff result (kept_ok loans.now index.now n places given ≡ true) (places - vacancies (vacant_at loans.now size_at loan_words) places) }
+    ensures within { IfSome result (λ live. live ≤ places) }
 {
     if (n as u64) < places {
-        return Kept { ok: false, live: 0 };
+        return None;
     }
-    let vacant = count_vacant(loans, places);
-    Kept {
-        ok: is_led(loans, index, n, places, given, vacant),
-        live: places - vacant,
-    }
+    let vacant = slabs::count_vacant(loans, SIZE_AT, LOAN_WORDS, places);
+    let led = is_led(loans, index, n, places, given, vacant);
+    if led { Some(places - vacant) } else { None }
 }
 
 // The same of places that are not too many, of which so many are vacant.
@@ -56,20 +47,4 @@ pub fn is_led(loans: &[u64], index: &[u64], n: usize, places: u64, given: u64, v
         return false;
     }
     crate::chains::is_chained(loans, index, n, places, given, vacant)
-}
-
-// How many of the first n places are vacant, of a table that has them all.
-fn count_vacant(loans: &[u64], n: u64) -> u64
-    requires { loan_words + loan_words * n ≤ length loans.now }
-    ensures { result ≡ vacancies (vacant_at loans.now size_at loan_words) n }
-{
-    let mut count = 0;
-    let mut p = 0;
-    while p < n {
-        if loans[SIZE_AT + LOAN_WORDS * p as usize] == 0 {
-            count += 1;
-        }
-        p += 1;
-    }
-    count
 }

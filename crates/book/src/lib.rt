@@ -13,7 +13,7 @@ ghost use Rattle.store_rules.specs.Loans.{places_at, loan_words, serial_at, size
 ghost use Rattle.book_rules.specs.Ready.{Reads, Opens, Strikes};
 ghost use Rattle.book_rules.specs.Book.{entry_words, vacated_at, vacant_after_at, index_words, first_of, next_of, taken_of, counted, word_to, struck, struck_index};
 
-pub use kept::{Kept, are_kept, is_led};
+pub use kept::{are_kept, is_led};
 use slabs::{NOWHERE, Slab, Taken};
 use store_rules::{CHUNK_AT, GIVEN_AT, LOAN_WORDS, Loan, OFFSET_AT, PLACES_AT, SERIAL_AT, SIZE_AT};
 
@@ -28,54 +28,16 @@ const NEXT_AT: usize = 4;
 
 pub const VACANT_AFTER_AT: usize = 5;
 
-// The place that the next loan takes, and the slab from then on.
-pub fn next_place(places: u64, index: &[u64]) -> Taken
-    ensures { result ≡ taken_of places index.now }
-{
-    let s = Slab {
-        places: places,
-        vacant: slabs::led_to(index, VACATED_AT),
-    };
-    s.insert(index, VACANT_AFTER_AT, ENTRY_WORDS)
-}
-
-// The same of an index that has an entry for each of these places.
+// The place that the next loan takes, and the slab from then on, of an index that has an entry for each of these places.
 pub fn next_place_in(places: u64, index: &[u64]) -> Taken
     requires { index_words places ≤ length index.now }
     ensures { result ≡ taken_of places index.now }
 {
-    let last = slabs::place_of(index[VACATED_AT]);
-    if last < places {
-        let after = VACANT_AFTER_AT + ENTRY_WORDS * last as usize;
-        let next = slabs::place_of(index[after]);
-        return Taken {
-            place: last,
-            slab: Slab {
-                places: places,
-                vacant: next,
-            },
-        };
-    }
-    let more = std::num::wrapping_add_u64(places, 1);
-    Taken {
-        place: places,
-        slab: Slab {
-            places: more,
-            vacant: last,
-        },
-    }
-}
-
-// The loan at a place. One test serves for its four words.
-pub fn loan_at(loans: &[u64], p: usize) -> Loan
-    ensures { result ≡ row loan_row p loans.now }
-{
-    if p < loans.len() {
-        if LOAN_WORDS * p + SIZE_AT < loans.len() {
-            return loan_in(loans, p);
-        }
-    }
-    loan_by_words(loans, p)
+    let s = Slab {
+        places,
+        vacant: slabs::place_of(index[VACATED_AT]),
+    };
+    s.insert(index, VACANT_AFTER_AT, ENTRY_WORDS)
 }
 
 // The loan at a place that the table has.
@@ -89,18 +51,6 @@ pub fn loan_in(loans: &[u64], p: usize) -> Loan
         chunk: loans[at + CHUNK_AT],
         offset: loans[at + OFFSET_AT],
         size: loans[at + SIZE_AT],
-    }
-}
-
-// The loan at any place, each word by itself.
-fn loan_by_words(loans: &[u64], p: usize) -> Loan
-    ensures { result ≡ row loan_row p loans.now }
-{
-    Loan {
-        serial: words::cell(loans, SERIAL_AT, LOAN_WORDS, p),
-        chunk: words::cell(loans, CHUNK_AT, LOAN_WORDS, p),
-        offset: words::cell(loans, OFFSET_AT, LOAN_WORDS, p),
-        size: words::cell(loans, SIZE_AT, LOAN_WORDS, p),
     }
 }
 
@@ -169,8 +119,7 @@ pub fn word_to(loans: &[u64], index: &[u64], n: usize, places: u64, serial: u64)
 {
     let i = rounding::remainder(serial, n as u64);
     let mut at = FIRST_AT + ENTRY_WORDS * i as usize;
-    let mut left = places;
-    while 0 < left {
+    for _ in 0..places {
         let p = slabs::place_of(index[at]);
         if places <= p {
             return NOWHERE;
@@ -179,7 +128,6 @@ pub fn word_to(loans: &[u64], index: &[u64], n: usize, places: u64, serial: u64)
             return at as u64;
         }
         at = NEXT_AT + ENTRY_WORDS * p as usize;
-        left -= 1;
     }
     NOWHERE
 }

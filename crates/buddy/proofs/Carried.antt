@@ -11,8 +11,8 @@ use Rattle.counter.specs.Paper.{Said}
 use Rattle.counter.specs.Paper as Paper
 use Rattle.counter.specs.declared.account.Account.{Account}
 use Rattle.counter.specs.declared.account.KeptOrder.{KeptOrder}
-use Rattle.counter.specs.declared.account.OpenOrder.{OpenOrder}
-use Rattle.counter.specs.declared.account.OpenOrder.TheVariants.{Nothing}
+use Rattle.counter.specs.Open.{OpenOrder}
+use Rattle.std.specs.Prelude.{None}
 use Rattle.counter.specs.declared.answers.Block.{Block}
 use Rattle.counter.specs.declared.answers.Outcome.{Outcome}
 use Rattle.counter.specs.declared.settings.BuddySettings.{BuddySettings}
@@ -90,7 +90,7 @@ module _ (s : BuddySettings) (head loans chunks index tree : List ℕ) where
           → paid ≡ charged_share share k.order.size
           → l ≡ loan (get_or loans given_at 0 + 1) (chunk_taken s (tables h₁ [] chunks [] r₁)).place 0 z
           → t' ≡ served_tables s z lev memory k.order.size (tables h₁ loans chunks index r₁)
-          → share' ≡ paid → order ≡ Nothing → said ≡ block_said l → out said (holding s.store share' order) t' ≡ carry_fate s (holding s.store share o) k start (kept memory)
+          → share' ≡ paid → order ≡ None → said ≡ block_said l → out said (holding s.store share' order) t' ≡ carry_fate s (holding s.store share o) k start (kept memory)
       unfolding carry_fate served_tables
       kept_done memory z lev t' share' paid order l said p q c m g y v w =
           let mid = grown_rest n h₁ r₁ e ∙ (λ j. grown_tables s (d j) start) in
@@ -102,7 +102,7 @@ module _ (s : BuddySettings) (head loans chunks index tree : List ℕ) where
           ∙ (λ j. out (block_said (loan (get_or (mid j).loans given_at 0 + 1) (chunk_taken s (mid j)).place 0 (p j))) (charged_account s.store a k.order.size) (served_tables s (p j) (q j) memory k.order.size (grown_tables s (grown_to (level_for s k.ask.size k.ask.mask) start) start)))
 
       pub lost_done : (c : ℕ) (charged : Bool) (back : List ℕ) (share' : Share) (order : OpenOrder) (said : Said)
-          → share' ≡ lost_share share k.order.size charged back → order ≡ Nothing → said ≡ Paper.refusal c back
+          → share' ≡ lost_share share k.order.size charged back → order ≡ None → said ≡ Paper.refusal c back
           → out said (holding s.store share' order) (tables h₁ loans chunks index r₁) ≡ carry_fate s (holding s.store share o) k start (lost c charged back)
       unfolding carry_fate
       lost_done c charged back share' order said f v g =

@@ -8,8 +8,8 @@ use Rattle.counter.specs.Gate.{Verdict, pass, refuse, verdict_of}
 use Rattle.counter.specs.InTable.{BuddyIn}
 use Rattle.counter.specs.Paper as Paper
 use Rattle.counter.specs.Table.{buddy_ok}
-use Rattle.counter.specs.declared.refusal.Gate.{Gate}
-use Rattle.counter.specs.declared.refusal.Gate.TheVariants as Gate
+use Rattle.counter.specs.Gate.{Gate}
+use Rattle.std.specs.Prelude.{Ok, Err}
 use Rattle.counter.specs.declared.settings.BuddySettings.{BuddySettings}
 use Rattle.counter.proofs.Gates.{passed, first_held, first_failed}
 use Rattle.counter.proofs.Tables.{buddy_yes}
@@ -36,8 +36,8 @@ module _ (s : BuddySettings) (t : Tables) where
       (buddy_yes s (and_left (buddy_ok s) (lengths_ok s t) fit), lengths_are s t (and_right (buddy_ok s) (lengths_ok s t) fit))
 
   pub set_up_ready : (g : Gate) → verdict_of g ≡ plan_set_up s t → SetUpReady s t g
-  set_up_ready (Gate.Shut r) e = tt
-  set_up_ready Gate.Go e = passed_ready e
+  set_up_ready (Err r) e = tt
+  set_up_ready (Ok _) e = passed_ready e
 
   -- ---- carried out
 

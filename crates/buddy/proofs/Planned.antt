@@ -9,8 +9,8 @@ use Rattle.counter.specs.Gate.{Verdict, pass, refuse, gated}
 use Rattle.counter.specs.declared.account.Account.{Account}
 use Rattle.counter.specs.declared.account.Heap.{Heap}
 use Rattle.counter.specs.declared.account.KeptOrder.{KeptOrder}
-use Rattle.counter.specs.declared.account.OpenOrder.{OpenOrder}
-use Rattle.counter.specs.declared.account.OpenOrder.TheVariants.{Nothing, Kept}
+use Rattle.counter.specs.Open.{OpenOrder}
+use Rattle.std.specs.Prelude.{Ok, None, Some}
 use Rattle.counter.specs.declared.answers.Block.{Block}
 use Rattle.counter.specs.declared.answers.Outcome.{Outcome}
 use Rattle.counter.specs.declared.settings.BuddySettings.{BuddySettings}
@@ -23,7 +23,6 @@ use Rattle.store_rules.specs.declared.Share.{Share}
 use Rattle.store_rules.proofs.Shares.{held_heap}
 use Rattle.store.specs.Comings.{coming_of}
 use Rattle.store.specs.declared.comings.Coming.{Coming}
-use Rattle.store.specs.declared.comings.Coming.TheVariants as Coming
 use Rattle.book_rules.specs.Returns as Returns
 use Rattle.buddy_rules.specs.Tables.{Tables, tables, chunk_places_in, memories}
 use Rattle.buddy_rules.specs.Test.{sound_ok}
@@ -88,18 +87,17 @@ pub gated_go : (v : Verdict) (p : Arrivals.Arrival) (k : KeptOrder) (f : Fate) �
 gated_go pass p k f e = (refl, e)
 gated_go (refuse n) p k f e = deny_go n k f e
 
-pub decided_go : (o : Outcome) (held : List ℕ) (order : OpenOrder) (k : KeptOrder) (f : Fate) → decide_deliver o held order ≡ Arrivals.go k f → order ≡ Kept k
-decided_go o held Nothing k f e = deny_go 2 k f e
-decided_go o held (Kept j) k f e = by (delivery_ok j.order.map held o) e
+pub decided_go : (o : Outcome) (held : List ℕ) (order : OpenOrder) (k : KeptOrder) (f : Fate) → decide_deliver o held order ≡ Arrivals.go k f → order ≡ Some k
+decided_go o held None k f e = deny_go 2 k f e
+decided_go o held (Some j) k f e = by (delivery_ok j.order.map held o) e
   where
-    by : (b : Bool) → cond b (Arrivals.go j (fate_of buddy o)) (Arrivals.deny 13) ≡ Arrivals.go k f → Kept j ≡ Kept k
-    by true p = ap Kept (same_go j k (fate_of buddy o) f p)
+    by : (b : Bool) → cond b (Arrivals.go j (fate_of buddy o)) (Arrivals.deny 13) ≡ Arrivals.go k f → Some j ≡ Some k
+    by true p = ap Some (same_go j k (fate_of buddy o) f p)
     by false p = deny_go 13 k f p
 
 -- the order that the outcome came to is the one that was open
-pub coming_buys : (s : BuddySettings) (order : OpenOrder) (t : Tables) (b : Buying) (c : Coming) → ((k : KeptOrder) (f : Fate) → coming_of c ≡ Arrivals.go k f → order ≡ Kept k)
-    → ((k : KeptOrder) → order ≡ Kept k → KeptBuys s k t b) → ComingBuys s t b c
-coming_buys s order t b (Coming.Refuse r) is has = tt
+pub coming_buys : (s : BuddySettings) (order : OpenOrder) (t : Tables) (b : Buying) (c : Coming) → ((k : KeptOrder) (f : Fate) → coming_of (Ok c) ≡ Arrivals.go k f → order ≡ Some k)
+    → ((k : KeptOrder) → order ≡ Some k → KeptBuys s k t b) → ComingBuys s t b c
 coming_buys s order t b (Coming.Keep c) is has = has c.kept (is c.kept _ refl)
 coming_buys s order t b (Coming.Lose c) is has = has c.kept (is c.kept _ refl)
 

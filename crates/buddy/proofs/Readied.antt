@@ -13,7 +13,7 @@ use Rattle.counter.specs.Gate.{Verdict, pass, refuse, gated}
 use Rattle.counter.specs.Limits.{objects_most}
 use Rattle.counter.specs.declared.account.Account.{Account}
 use Rattle.counter.specs.declared.account.KeptOrder.{KeptOrder}
-use Rattle.counter.specs.declared.account.OpenOrder.TheVariants.{Kept}
+use Rattle.std.specs.Prelude.{Some}
 use Rattle.counter.specs.declared.answers.Block.{Block}
 use Rattle.counter.specs.declared.answers.Outcome.{Outcome}
 use Rattle.counter.specs.declared.settings.BuddySettings.{BuddySettings}
@@ -39,12 +39,11 @@ use Rattle.buddy_outcomes.specs.Return.{word_for, on_loan_ok, climb_for, decide_
 use Rattle.buddy_outcomes.proofs.Passing.{Passed, gate_passed, lent_in_lem}
 use Rattle.store.specs.Comings.{coming_of}
 use Rattle.store.specs.declared.comings.Coming.{Coming}
-use Rattle.store.specs.declared.comings.Coming.TheVariants as Coming
 use Rattle.returning.specs.Backs.{back_of}
-use Rattle.returning.specs.declared.Back.{Back}
-use Rattle.returning.specs.declared.Back.TheVariants as Back
 use Rattle.buddy_decide.specs.Plans.{plan_of, Planned}
 use Rattle.buddy_decide.specs.declared.plans.Buying.{Buying}
+use Rattle.std.specs.Prelude.{Result, Ok, Err}
+use Rattle.counter.specs.declared.refusal.Refusal.{Refusal}
 use Rattle.buddy_decide.specs.declared.plans.Plan as Decided
 use Rattle.buddy_decide.specs.declared.plans.Plan.TheVariants as Decides
 use Rattle.buddy_gate.specs.Gates.{KeptBuys}
@@ -56,8 +55,6 @@ use Rattle.buddy_moves.proofs.Sizing.{Late, grows_ready}
 use Rattle.buddy_grow.specs.Grows.{Grows}
 use Rattle.buddy.specs.Deliveries.{delivery_of}
 use Rattle.buddy.specs.Ready.{AskReady, ComingBuys, Delivers, KeepReady, LoseReady, ComingReady, DeliverReady, ReturnReady}
-use Rattle.buddy.specs.declared.plans.Delivery.{Delivery}
-use Rattle.buddy.specs.declared.plans.Delivery.TheVariants as Delivery
 use Rattle.buddy.proofs.Planned.{shut_number, gated_go, decided_go}
 
 -- ---- an ask
@@ -110,11 +107,11 @@ module _ (s : BuddySettings) (a : Account) (size mask : ℕ) (t : Tables) where
       subst (λ (x : ℕ). Lends s x lev i (tables [] t.loans [] t.index t.room)) (sym p)
       (subst (λ (x : ℕ). Lends s (size_for s size mask) x i (tables [] t.loans [] t.index t.room)) (sym q) (ask_lends i e))
 
-  pub ask_ready : (p : Decided.Plan) → plan_of p ≡ plan_ask s a size mask t → Planned s size mask t p → AskReady s (tables t.head t.loans [] t.index t.room) p
-  ask_ready (Decides.Refuse r) e k = tt
-  ask_ready (Decides.Lack n) e k = ask_grows (deny 9) refl (sym e) n k
-  ask_ready (Decides.Take q) e k = (ask_serves q.from q.size q.level (sym e) k.size k.level, k.pair, k.loan)
-  ask_ready (Decides.Buy b) e k = ask_grows (buy b.order) tt (sym e) b.levels k.levels
+  pub ask_ready : (p : Result Decided.Plan Refusal) → plan_of p ≡ plan_ask s a size mask t → Planned s size mask t p → AskReady s (tables t.head t.loans [] t.index t.room) p
+  ask_ready (Err r) e k = tt
+  ask_ready (Ok (Decides.Lack n)) e k = ask_grows (deny 9) refl (sym e) n k
+  ask_ready (Ok (Decides.Take q)) e k = (ask_serves q.from q.size q.level (sym e) k.size k.level, k.pair, k.loan)
+  ask_ready (Ok (Decides.Buy b)) e k = ask_grows (buy b.order) tt (sym e) b.levels k.levels
 
 -- ---- a delivery
 
@@ -123,7 +120,7 @@ module _ (s : BuddySettings) (a : Account) (o : Outcome) (t : Tables) (k : KeptO
   unfolding plan_deliver
   arrived = gated_go (deliver_gate_of s a t) (decide_deliver o (memories t (chunk_places_in t)) a.order) k f plan
 
-  open_order : a.order ≡ Kept k
+  open_order : a.order ≡ Some k
   open_order = decided_go o (memories t (chunk_places_in t)) a.order k f arrived.1
 
   held : (in_table_ok s a t ≡ true) × ((sound_ok s t && still_ok s a t a.order) ≡ true)
@@ -135,7 +132,7 @@ module _ (s : BuddySettings) (a : Account) (o : Outcome) (t : Tables) (k : KeptO
   -- the kept ask leads to an order of the kept size
   bought : decide_ask s (heap_at a s.store.heap) a.objects k.ask.size k.ask.mask t ≡ buy k.order.size
   bought =
-      let still : still_ok s a t (Kept k) ≡ true = ap (still_ok s a t) (sym open_order) ∙ and_right (sound_ok s t) (still_ok s a t a.order) held.1 in
+      let still : still_ok s a t (Some k) ≡ true = ap (still_ok s a t) (sym open_order) ∙ and_right (sound_ok s t) (still_ok s a t a.order) held.1 in
       let l = leads_buy s.store k.order (decide_ask s (heap_at a s.store.heap) a.objects k.ask.size k.ask.mask t) still in
       l.1 ∙ ap buy (sym (ap (λ (x : Order). x.size) l.2))
 
@@ -163,14 +160,13 @@ module _ (s : BuddySettings) (a : Account) (o : Outcome) (t : Tables) (k : KeptO
   arrived_loses : (b : Buying) → KeptBuys s k t b → LoseReady s k t b.levels
   arrived_loses b h = (h.levels, arrived_grows b.levels h.levels)
 
-coming_ready : (s : BuddySettings) (a : Account) (o : Outcome) (t : Tables) (b : Buying) (c : Coming) → plan_deliver s a o t ≡ coming_of c → ComingBuys s t b c → ComingReady s t b c
-coming_ready s a o t b (Coming.Refuse r) e h = tt
+coming_ready : (s : BuddySettings) (a : Account) (o : Outcome) (t : Tables) (b : Buying) (c : Coming) → plan_deliver s a o t ≡ coming_of (Ok c) → ComingBuys s t b c → ComingReady s t b c
 coming_ready s a o t b (Coming.Keep c) e h = arrived_keeps s a o t c.kept _ e b c.memory h
 coming_ready s a o t b (Coming.Lose c) e h = arrived_loses s a o t c.kept _ e b h
 
-pub deliver_ready : (s : BuddySettings) (a : Account) (o : Outcome) (t : Tables) (d : Delivery) → plan_deliver s a o t ≡ delivery_of d → Delivers s t d → DeliverReady s t d
-deliver_ready s a o t (Delivery.Shut r) e h = tt
-deliver_ready s a o t (Delivery.Come c b) e h = coming_ready s a o t b c e h
+pub deliver_ready : (s : BuddySettings) (a : Account) (o : Outcome) (t : Tables) (d : Result (Coming × Buying) Refusal) → plan_deliver s a o t ≡ delivery_of d → Delivers s t d → DeliverReady s t d
+deliver_ready s a o t (Err r) e h = tt
+deliver_ready s a o t (Ok p) e h = coming_ready s a o t p.1 p.0 e h
 
 -- ---- a return
 
@@ -224,6 +220,6 @@ returned_held : (s : BuddySettings) (share : Share) (b : Block) (t : Tables) (li
 unfolding holding
 returned_held s share b t list w e f = returned_object s (holder s.store share) b t list w e f
 
-pub return_ready : (s : BuddySettings) (share : Share) (b : Block) (t : Tables) (list : List ℕ) (p : Back) → back_of p ≡ plan_return s (holder s.store share) b t (list_ok s.store list) → ReturnReady s share b t p
-return_ready s share b t list (Back.Refuse r) e = tt
-return_ready s share b t list (Back.From w) e = (returned_backs s (holder s.store share) b t list w e, returned_held s share b t list w e)
+pub return_ready : (s : BuddySettings) (share : Share) (b : Block) (t : Tables) (list : List ℕ) (p : Result ℕ Refusal) → back_of p ≡ plan_return s (holder s.store share) b t (list_ok s.store list) → ReturnReady s share b t p
+return_ready s share b t list (Err r) e = tt
+return_ready s share b t list (Ok w) e = (returned_backs s (holder s.store share) b t list w e, returned_held s share b t list w e)

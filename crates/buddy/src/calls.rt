@@ -9,7 +9,7 @@ ghost use Rattle.buddy_outcomes.specs.Ask.{ask_of};
 ghost use Rattle.buddy_outcomes.specs.Deliver.{deliver_of};
 ghost use Rattle.buddy_outcomes.specs.Return.{return_of};
 
-use counter::{AskAnswer, Block, BuddySettings, OpenOrder, Outcome};
+use counter::{Block, BuddySettings, Granted, OpenOrder, Outcome, Refused};
 use store_rules::{DeliveredShare, ReleasedShare, Share};
 
 pub fn ask(
@@ -22,7 +22,7 @@ pub fn ask(
     chunks: &[u64],
     index: &mut [u64],
     tree: &mut [u64],
-) -> AskAnswer
+) -> Result<Granted, Refused>
     ensures { out (ask_said result) (ask_left (holder s.store share) size mask (ask_said result)) (tables head.new loans.new chunks.now index.new tree.new) ≡ ask_of s (holder s.store share) size mask (tables head.old loans.old chunks.now index.old tree.old) }
 {
     let plan = crate::plans::plan_ask(s, share, size, mask, head, loans, chunks, index, tree);

@@ -1,9 +1,9 @@
 // What was planned, carried out: the tables written, and answered.
-ghost use Rattle.std.specs.Prelude.{◌≡◌, List, [], ℕ};
+ghost use Rattle.std.specs.Prelude.{◌≡◌, List, [], ℕ, Ok};
 ghost use Rattle.counter.specs.Gate.{verdict_of};
 ghost use Rattle.counter.specs.Paper.{number_of, free_of, set_up_said, ask_said, deliver_said, release_said};
 ghost use Rattle.counter.specs.declared.account.Account.{Account};
-ghost use Rattle.counter.specs.declared.account.OpenOrder as Open;
+ghost use Rattle.counter.specs.Open as Open;
 ghost use Rattle.store_rules.specs.Delivery.{kept, lost};
 ghost use Rattle.store_rules.specs.Outcomes.{out, listed};
 ghost use Rattle.store_rules.specs.Shares.{ask_left};
@@ -19,36 +19,31 @@ ghost use Rattle.buddy_decide.specs.Plans.{plan_of, Planned};
 ghost use Rattle.buddy.specs.Deliveries.{delivery_of};
 ghost use Rattle.buddy.specs.Ready.{SetUpReady, AskReady, KeepReady, LoseReady, ComingReady, DeliverReady, ReturnReady};
 
-use crate::plans::Delivery;
 use buddy_decide::{Buying, Plan};
-use counter::{
-    AskAnswer, Block, BuddySettings, Gate, KeptOrder, OpenOrder, Refusal, Refused, SetUpAnswer,
-    ToFree,
-};
-use returning::Back;
+use counter::{Block, BuddySettings, Granted, KeptOrder, OpenOrder, Refusal, Refused};
 use store::{Coming, Loss};
 use store_rules::{DeliveredShare, ReleasedShare, Share};
 
 pub fn carry_set_up(
     s: BuddySettings,
-    plan: Gate,
+    plan: Result<(), Refusal>,
     head: &mut [u64],
     loans: &mut [u64],
     chunks: &mut [u64],
     index: &mut [u64],
     tree: &mut [u64],
-) -> SetUpAnswer
+) -> Result<(), Refused>
     requires { SetUpReady s (tables head.old loans.old chunks.old index.old tree.old) plan }
     ensures { begun (set_up_said result) (tables head.new loans.new chunks.new index.new tree.new) ≡ carry_set_up s (tables head.old loans.old chunks.old index.old tree.old) (verdict_of plan) }
 {
     match plan {
-        Gate::Shut(refusal) => SetUpAnswer::Refused(Refused {
+        Err(refusal) => Err(Refused {
             refusal: refusal,
-            free: ToFree::Nothing,
+            free: None,
         }),
-        Gate::Go => {
+        Ok(()) => {
             buddy_grow::fresh(s, head, loans, chunks, index, tree);
-            SetUpAnswer::Ready
+            Ok(())
         }
     }
 }
@@ -56,40 +51,35 @@ pub fn carry_set_up(
 // Whatever the account, the chunks, and the size and mask that this is the plan of.
 pub fn carry_ask(
     s: BuddySettings,
-    plan: Plan,
+    plan: Result<Plan, Refusal>,
     head: &mut [u64],
     loans: &mut [u64],
     index: &mut [u64],
     tree: &mut [u64],
-) -> AskAnswer
+) -> Result<Granted, Refused>
     requires { AskReady s (tables head.old loans.old [] index.old tree.old) plan }
     ensures { (a : Account) (size mask : ℕ) (chunks : List ℕ) → Planned s size mask (tables head.old loans.old chunks index.old tree.old) plan → out (ask_said result) (ask_left a size mask (ask_said result)) (tables head.new loans.new chunks index.new tree.new) ≡ carry_ask s a size mask (tables head.old loans.old chunks index.old tree.old) (plan_of plan) }
 {
     match plan {
-        Plan::Refuse(refusal) => store::refuse_ask(refusal),
-        Plan::Lack(levels) => {
-            buddy_grow::grow(s, levels, head, tree);
-            store::refuse_ask(Refusal::Objects)
-        }
-        Plan::Take(t) => {
-            let loan = t.loan;
-            let l = buddy_lend::lend(
-                s,
-                t.size,
-                t.level as usize,
-                t.from as usize,
-                t.pair,
-                loan,
-                loans,
-                index,
-                tree,
-            );
-            store::answer_block(l)
-        }
-        Plan::Buy(b) => {
-            buddy_grow::grow(s, b.levels, head, tree);
-            store::answer_order(s.store, b.order)
-        }
+        Err(refusal) => store::refuse_ask(refusal),
+        Ok(found) => match found {
+            Plan::Lack(levels) => {
+                buddy_grow::grow(s, levels, head, tree);
+                store::refuse_ask(Refusal::Objects)
+            }
+            Plan::Take(t) => {
+                let level = t.level as usize;
+                let from = t.from as usize;
+                let l = buddy_lend::lend(
+                    s, t.size, level, from, t.pair, t.loan, loans, index, tree,
+                );
+                store::answer_block(l)
+            }
+            Plan::Buy(b) => {
+                buddy_grow::grow(s, b.levels, head, tree);
+                store::answer_order(s.store, b.order)
+            }
+        },
     }
 }
 
@@ -162,19 +152,13 @@ fn carry_coming(
     tree: &mut [u64],
 ) -> DeliveredShare
     requires { ComingReady s (tables head.old loans.old chunks.old index.old tree.old) b coming }
-    ensures { out (deliver_said result.answer) (holding s.store result.share result.order) (tables head.new loans.new chunks.new index.new tree.new) ≡ carry_deliver s (holding s.store share order) (tables head.old loans.old chunks.old index.old tree.old) (coming_of coming) }
+    ensures { out (deliver_said result.answer) (holding s.store result.share result.order) (tables head.new loans.new chunks.new index.new tree.new) ≡ carry_deliver s (holding s.store share order) (tables head.old loans.old chunks.old index.old tree.old) (coming_of (Ok coming)) }
 {
     match coming {
-        Coming::Refuse(r) => store::refuse_delivery(share, order, r),
-        Coming::Keep(c) => {
-            let k = c.kept;
-            keep_chunk(s, share, k, c.memory, b, head, loans, chunks, index, tree)
-        }
-        Coming::Lose(c) => {
-            let k = c.kept;
-            let l = c.loss;
-            lose(s, share, k, l, b.levels, head, tree)
-        }
+        Coming::Keep(c) => keep_chunk(
+            s, share, c.kept, c.memory, b, head, loans, chunks, index, tree,
+        ),
+        Coming::Lose(c) => lose(s, share, c.kept, c.loss, b.levels, head, tree),
     }
 }
 
@@ -182,7 +166,7 @@ pub fn carry_deliver(
     s: BuddySettings,
     share: Share,
     order: OpenOrder,
-    plan: Delivery,
+    plan: Result<(Coming, Buying), Refusal>,
     head: &mut [u64],
     loans: &mut [u64],
     chunks: &mut [u64],
@@ -193,8 +177,8 @@ pub fn carry_deliver(
     ensures { out (deliver_said result.answer) (holding s.store result.share result.order) (tables head.new loans.new chunks.new index.new tree.new) ≡ carry_deliver s (holding s.store share order) (tables head.old loans.old chunks.old index.old tree.old) (delivery_of plan) }
 {
     match plan {
-        Delivery::Shut(r) => store::refuse_delivery(share, order, r),
-        Delivery::Come(coming, b) => {
+        Err(r) => store::refuse_delivery(share, order, r),
+        Ok((coming, b)) => {
             carry_coming(s, share, order, coming, b, head, loans, chunks, index, tree)
         }
     }
@@ -205,7 +189,7 @@ pub fn carry_return(
     s: BuddySettings,
     share: Share,
     b: Block,
-    plan: Back,
+    plan: Result<usize, Refusal>,
     head: &[u64],
     loans: &mut [u64],
     chunks: &mut [u64],
@@ -217,8 +201,8 @@ pub fn carry_return(
     ensures { listed (release_said result.answer) (holder s.store result.share) (tables head.now loans.new chunks.new index.new tree.new) list.new ≡ carry_return s (holder s.store share) b (tables head.now loans.old chunks.old index.old tree.old) list.old (back_of plan) }
 {
     match plan {
-        Back::Refuse(refusal) => store::refuse_return(share, refusal),
-        Back::From(at) => {
+        Err(refusal) => store::refuse_return(share, refusal),
+        Ok(at) => {
             let f = buddy_back::take_back(s, b, at, head, loans, chunks, index, tree, list);
             store::settle(share, f.count, f.bytes)
         }

@@ -13,6 +13,6 @@ mod set_ups;
 pub use asks::ask;
 pub use carries::{carry_ask, carry_deliver, carry_return, carry_set_up};
 pub use deliveries::deliver;
-pub use plans::{Delivery, plan_ask, plan_deliver, plan_return, plan_set_up};
+pub use plans::{plan_ask, plan_deliver, plan_return, plan_set_up};
 pub use returns::return_block;
 pub use set_ups::set_up;

@@ -13,19 +13,11 @@ ghost use Rattle.buddy_decide.specs.Plans.{plan_of, Planned};
 ghost use Rattle.buddy.specs.Deliveries.{delivery_of};
 ghost use Rattle.buddy.specs.Ready.{Delivers};
 
-use buddy_decide::{Buying, Plan, Tried, decide_buy};
-use buddy_gate::Passing;
-use counter::{Block, BuddySettings, Gate, OpenOrder, Outcome, Refusal};
-use returning::Back;
+use buddy_decide::{Buying, Plan};
+use buddy_rules::BuddyView;
+use counter::{Block, BuddySettings, OpenOrder, Outcome, Refusal};
 use store::Coming;
 use store_rules::Share;
-
-// What a delivery comes to, with what its kept ask needs. A shut gate has no buying.
-#[derive(Clone, Copy)]
-pub enum Delivery {
-    Shut(Refusal),
-    Come(Coming, Buying),
-}
 
 pub fn plan_set_up(
     s: BuddySettings,
@@ -34,16 +26,16 @@ pub fn plan_set_up(
     chunks: &[u64],
     index: &[u64],
     tree: &[u64],
-) -> Gate
+) -> Result<(), Refusal>
     ensures { verdict_of result ≡ plan_set_up s (tables head.now loans.now chunks.now index.now tree.now) }
 {
     if buddy_gate::is_fit(s, head, loans, chunks, index, tree) {
-        return Gate::Go;
+        return Ok(());
     }
-    Gate::Shut(Refusal::Setup)
+    Err(Refusal::Setup)
 }
 
-// Heap, objects and chunks are looked at only where a chunk is needed.
+// The gate, and then the tests behind it.
 pub fn plan_ask(
     s: BuddySettings,
     share: Share,
@@ -54,27 +46,23 @@ pub fn plan_ask(
     chunks: &[u64],
     index: &[u64],
     tree: &[u64],
-) -> Plan
+) -> Result<Plan, Refusal>
     ensures result_value { plan_of result ≡ plan_ask s (holder s.store share) size mask (tables head.now loans.now chunks.now index.now tree.now) }
     ensures planned { Planned s size mask (tables head.now loans.now chunks.now index.now tree.now) result }
 {
-    let g = buddy_gate::gate(s, share, true, head, loans, chunks, index, tree);
-    match g {
-        Gate::Shut(refusal) => Plan::Refuse(refusal),
-        Gate::Go => {
-            let tried = buddy_decide::try_held(s, size, mask, head, loans, index, tree);
-            match tried {
-                Tried::Refuse(refusal) => Plan::Refuse(refusal),
-                Tried::Take(t) => Plan::Take(t),
-                Tried::Need(n) => {
-                    let heap = share.heap;
-                    decide_buy(s, heap, share.objects, n, head, loans, chunks, index, tree)
-                }
-            }
-        }
-    }
+    buddy_gate::gate(s, share, true, head, loans, chunks, index, tree)?;
+    let v = BuddyView {
+        settings: s,
+        head,
+        loans,
+        chunks,
+        index,
+        tree,
+    };
+    buddy_decide::decide(&v, share.heap, share.objects, size, mask)
 }
 
+// What a delivery comes to, with what its kept ask needs; a shut gate has no buying.
 pub fn plan_deliver(
     s: BuddySettings,
     share: Share,
@@ -85,18 +73,13 @@ pub fn plan_deliver(
     chunks: &[u64],
     index: &[u64],
     tree: &[u64],
-) -> Delivery
+) -> Result<(Coming, Buying), Refusal>
     ensures result_value { delivery_of result ≡ plan_deliver s (holding s.store share order) o (tables head.now loans.now chunks.now index.now tree.now) }
     ensures delivers { Delivers s (tables head.now loans.now chunks.now index.now tree.now) result }
 {
-    let g = buddy_gate::gate_delivery(s, share, order, head, loans, chunks, index, tree);
-    match g {
-        Passing::Shut(refusal) => Delivery::Shut(refusal),
-        Passing::Go(b) => {
-            let coming = buddy_decide::decide_delivery(order, o, chunks);
-            Delivery::Come(coming, b)
-        }
-    }
+    let b = buddy_gate::gate_delivery(s, share, order, head, loans, chunks, index, tree)?;
+    let coming = buddy_decide::decide_delivery(order, o, chunks)?;
+    Ok((coming, b))
 }
 
 // The release list has to hold the chunk limit.
@@ -110,14 +93,10 @@ pub fn plan_return(
     index: &[u64],
     tree: &[u64],
     list: &[u64],
-) -> Back
+) -> Result<usize, Refusal>
     ensures { back_of result ≡ plan_return s (holder s.store share) b (tables head.now loans.now chunks.now index.now tree.now) (list_ok s.store list.now) }
 {
-    let own = s.store;
-    let long = own.chunks <= list.len();
-    let g = buddy_gate::gate(s, share, long, head, loans, chunks, index, tree);
-    match g {
-        Gate::Shut(refusal) => Back::Refuse(refusal),
-        Gate::Go => buddy_decide::decide_return(s, b, loans, index),
-    }
+    let long = s.store.chunks <= list.len();
+    buddy_gate::gate(s, share, long, head, loans, chunks, index, tree)?;
+    buddy_decide::decide_return(s, b, loans, index)
 }

@@ -4,7 +4,7 @@ ghost use Rattle.counter.specs.Paper.{set_up_said};
 ghost use Rattle.buddy_rules.specs.Tables.{tables};
 ghost use Rattle.buddy_outcomes.specs.SetUp.{begun, set_up_of};
 
-use counter::{BuddySettings, SetUpAnswer};
+use counter::{BuddySettings, Refused};
 
 pub fn set_up(
     s: BuddySettings,
@@ -13,7 +13,7 @@ pub fn set_up(
     chunks: &mut [u64],
     index: &mut [u64],
     tree: &mut [u64],
-) -> SetUpAnswer
+) -> Result<(), Refused>
     ensures { begun (set_up_said result) (tables head.new loans.new chunks.new index.new tree.new) ≡ set_up_of s (tables head.old loans.old chunks.old index.old tree.old) }
 {
     let plan = crate::plans::plan_set_up(s, head, loans, chunks, index, tree);

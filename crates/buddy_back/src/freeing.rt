@@ -38,10 +38,7 @@ pub fn take_back(
         let bytes = words::cell(chunks, CHUNK_SIZE_AT, CHUNK_WORDS, b.chunk as usize);
         crate::backing::vacate(s, b.chunk, chunks, tree);
         words::put(list, 0, memory);
-        return Freed {
-            count: 1,
-            bytes: bytes,
-        };
+        return Freed { count: 1, bytes };
     }
     Freed { count: 0, bytes: 0 }
 }

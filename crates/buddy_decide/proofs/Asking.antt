@@ -7,8 +7,7 @@ use lib.Pow.{pow_mono}
 use Rattle.lists.proofs.Bools.{lt_or_le}
 use Rattle.rounding_rules.specs.Masks.{Ones}
 use Rattle.rounding_rules.specs.Raising.{up_to, bits, power_up, raised}
-use Rattle.rounding_rules.specs.declared.Raised.{Raised}
-use Rattle.rounding_rules.specs.declared.Raised.TheVariants.{To, Overflow}
+use Rattle.std.specs.Prelude.{Option, Some, None}
 use Rattle.rounding_rules.proofs.Masks.{ones_more, power_ones, join_ones}
 use Rattle.rounding_rules.proofs.Raising.{raised_is, raised_not, power_past}
 use Rattle.counter.specs.InTable.{BuddyIn}
@@ -45,14 +44,14 @@ past x h = ⊎_elim
     (λ l. l)
     (lt_or_le (bits 64 (x - 1)) 64)
 
-module _ (s : BuddySettings) (size mask m : ℕ) (e : m ≡ mask_for s mask) (u : Raised) (f : u ≡ raised (up_to size m)) where
+module _ (s : BuddySettings) (size mask m : ℕ) (e : m ≡ mask_for s mask) (u : Option ℕ) (f : u ≡ raised (up_to size m)) where
   abbrev lifted : raised (up_to size (mask_for s mask)) ≡ u
   lifted = sym (f ∙ ap (λ (x : ℕ). raised (up_to size x)) e)
 
-  pub size_to : (x : ℕ) → u ≡ To x → (r : Raised) → r ≡ raised (power_up x) → r ≡ raised (size_for s size mask)
+  pub size_to : (x : ℕ) → u ≡ Some x → (r : Option ℕ) → r ≡ raised (power_up x) → r ≡ raised (size_for s size mask)
   unfolding size_for
   size_to x g r h = h ∙ ap (λ (y : ℕ). raised (power_up y)) (sym (raised_is (lifted ∙ g)).0)
 
-  pub size_over : u ≡ Overflow → Overflow ≡ raised (size_for s size mask)
+  pub size_over : u ≡ None → None ≡ raised (size_for s size mask)
   unfolding size_for
   size_over g = let n = up_to size (mask_for s mask) in sym (power_past n refl (past n (raised_not (lifted ∙ g))))

@@ -23,7 +23,6 @@ use Rattle.buddy_outcomes.specs.Ask.{at, pair_room, pairs_room, chunk_taken, sea
 use Rattle.buddy_outcomes.specs.Ask as Ask
 use Rattle.buddy_outcomes.specs.Return.{on_loan_ok, decide_return}
 use Rattle.buddy_decide.specs.Sought.{yielded, sought}
-use Rattle.buddy_decide.specs.declared.seeking.Found.{Found}
 use Rattle.buddy_decide.specs.declared.seeking.Found.TheVariants.{At, Order}
 
 -- ---- the chunk place that is taken next

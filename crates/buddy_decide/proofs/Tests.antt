@@ -2,6 +2,8 @@
 use mathlib.Core.Path.{◌≡◌, refl, sym, ap, ◌∙◌, subst}
 use mathlib.Core.Bool.{Bool, true, false, ◌&&◌}
 use mathlib.Core.List.{List, [], ◌∷◌}
+use Rattle.std.specs.Prelude.{Result, Ok, Err}
+use Rattle.counter.specs.declared.refusal.Refusal.{Refusal}
 use Prim.Native.Nat.{ℕ, ◌+◌, ◌-◌, ◌^◌, ◌≤◌, ◌<◌}
 use native.Mathlib.Omega.{arith}
 use lib.Dec.{ltb}
@@ -9,8 +11,7 @@ use lib.ListN.{get_or}
 use borrow.Author.Tests.{lt-ltb, le-ltb}
 use Rattle.lists.proofs.Bools.{and_both}
 use Rattle.rounding_rules.specs.Raising.{level_of, raised}
-use Rattle.rounding_rules.specs.declared.Raised.{Raised}
-use Rattle.rounding_rules.specs.declared.Raised.TheVariants.{To, Overflow}
+use Rattle.std.specs.Prelude.{Option, Some, None}
 use Rattle.rounding_rules.proofs.Masks.{power_top}
 use Rattle.rounding_rules.proofs.Raising.{raised_is, raised_not}
 use Rattle.counter.specs.Gate.{first}
@@ -39,10 +40,10 @@ use Rattle.buddy_decide.specs.declared.plans.Plan as Decided
 use Rattle.buddy_decide.proofs.Reading.{pairs_read}
 
 -- what tells of one plan tells of its equal
-tells_same : (s : BuddySettings) (z l : ℕ) (t : Tables) (p q : Heap → ℕ → Plan ℕ) (r : Tried) → ((h : Heap) (objects : ℕ) → p h objects ≡ q h objects) → Tells s z l t p r → Tells s z l t q r
-tells_same s z l t p q (L.Refuse k) e f = (λ h objects. f.0 h objects ∙ e h objects, f.1)
-tells_same s z l t p q (L.Take k) e f = (λ h objects. f.0 h objects ∙ e h objects, f.1)
-tells_same s z l t p q (L.Need n) e f = (f.0, f.1, f.2, f.3, f.4, λ h objects. f.5 h objects ∙ e h objects)
+tells_same : (s : BuddySettings) (z l : ℕ) (t : Tables) (p q : Heap → ℕ → Plan ℕ) (r : Result Tried Refusal) → ((h : Heap) (objects : ℕ) → p h objects ≡ q h objects) → Tells s z l t p r → Tells s z l t q r
+tells_same s z l t p q (Err k) e f = (λ h objects. f.0 h objects ∙ e h objects, f.1)
+tells_same s z l t p q (Ok (L.Take k)) e f = (λ h objects. f.0 h objects ∙ e h objects, f.1)
+tells_same s z l t p q (Ok (L.Need n)) e f = (f.0, f.1, f.2, f.3, f.4, λ h objects. f.5 h objects ∙ e h objects)
 
 -- the size is below that of level 32
 module _ (s : BuddySettings) (size b : ℕ) (e : b ≡ bytes s.minimal levels_most) where
@@ -157,7 +158,7 @@ module _ (s : BuddySettings) (level : ℕ) (head loans chunks index tree : List 
 
   -- the code's level is that of the size, l
   module _ (size l : ℕ) (d : level ≡ l) (fits : fits_at levels_most s size ≡ true) where
-    pub look_at : (i : ℕ) (r : Tried) → found_from s level now ≡ at i → TryTake s size level i now r → TrySized s size l now r
+    pub look_at : (i : ℕ) (r : Result Tried Refusal) → found_from s level now ≡ at i → TryTake s size level i now r → TrySized s size l now r
     look_at i r g f =
         subst (λ (x : ℕ). TrySized s size x now r) d
         (tells_same s size level now (λ h objects. Taking i) (λ h objects. Sizing h objects size (found_from s level now)) r (λ h objects. sized_at h objects size i (found_from s level now) fits g) f)
@@ -189,7 +190,7 @@ module _ (s : BuddySettings) (size mask : ℕ) where
       let b : bytes s.minimal levels_most ≤ 2 ^ (minimal_bits + levels_most) = node_bytes_most s.minimal levels_most (power_top fit.minimal) (omega arith) in
       rw (lt-ltb 0 size some, le-ltb (size_for s size mask) (bytes s.minimal levels_most) (omega arith)) refl
 
-  pub size_is : (r : Raised) → r ≡ raised (size_for s size mask) → (z : ℕ) → r ≡ To z → z ≡ size_for s size mask
+  pub size_is : (r : Option ℕ) → r ≡ raised (size_for s size mask) → (z : ℕ) → r ≡ Some z → z ≡ size_for s size mask
   size_is r d z f = sym (raised_is (sym d ∙ f)).0
 
   module _ (z : ℕ) (d : z ≡ size_for s size mask) where
@@ -212,7 +213,7 @@ module _ (s : BuddySettings) (h : Heap) (objects size mask : ℕ) (t : Tables) w
   pub decide_zero : alignment_ok mask ≡ true → size ≡ 0 → deny 6 ≡ decide_ask s h objects size mask t
   decide_zero e z = unsized e (zero_size s size mask z)
 
-  pub decide_over : (r : Raised) → r ≡ raised (size_for s size mask) → BuddyIn s → alignment_ok mask ≡ true → 0 < size → r ≡ Overflow → deny 6 ≡ decide_ask s h objects size mask t
+  pub decide_over : (r : Option ℕ) → r ≡ raised (size_for s size mask) → BuddyIn s → alignment_ok mask ≡ true → 0 < size → r ≡ None → deny 6 ≡ decide_ask s h objects size mask t
   decide_over r d fit e some f = unsized e (over_size s size mask fit some (raised_not (sym d ∙ f)))
 
   abbrev Then : ℕ → Plan ℕ
@@ -223,7 +224,7 @@ module _ (s : BuddySettings) (h : Heap) (objects size mask : ℕ) (t : Tables) w
   sized e some = rw (e, lt-ltb 0 size some) refl
 
 -- z is the size looked for
-pub look_sized : (s : BuddySettings) (size mask : ℕ) (t : Tables) (z : ℕ) (r : Tried) → z ≡ size_for s size mask → alignment_ok mask ≡ true → 0 < size
+pub look_sized : (s : BuddySettings) (size mask : ℕ) (t : Tables) (z : ℕ) (r : Result Tried Refusal) → z ≡ size_for s size mask → alignment_ok mask ≡ true → 0 < size
     → TrySized s z (level_of z s.minimal) t r → TryOf s size mask t r
 unfolding level_for
 look_sized s size mask t z r d e some f =
@@ -232,7 +233,7 @@ look_sized s size mask t z r d e some f =
     (subst (λ (x : ℕ). TrySized s x (level_of x s.minimal) t r) d f)
 
 -- where a chunk is needed, what its tests come to is the plan
-pub look_buys : (s : BuddySettings) (size mask : ℕ) (t : Tables) (n : Needing) (h : Heap) (objects : ℕ) (p : Decided.Plan) → TryOf s size mask t (L.Need n)
+pub look_buys : (s : BuddySettings) (size mask : ℕ) (t : Tables) (n : Needing) (h : Heap) (objects : ℕ) (p : Result Decided.Plan Refusal) → TryOf s size mask t (Ok (L.Need n))
     → plan_of p ≡ planned s n.level t nowhere (first (late_row s h objects n.level t nowhere)) → PlannedAt s n.size n.level t p
     → (plan_of p ≡ decide_ask s h objects size mask t) × Planned s size mask t p
 look_buys s size mask t n h objects p f e g =

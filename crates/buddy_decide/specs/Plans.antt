@@ -1,9 +1,10 @@
 -- The code's plan, and its look before it, in the definitions' words; and what the numbers are that it carries.
-use Rattle.std.specs.Prelude.{◌≡◌, Bool, false, ◌&&◌, [], ◌∷◌, ℕ, ◌-◌, ◌<◌, eqb, ltb}
+use Rattle.std.specs.Prelude.{◌≡◌, Bool, false, ◌&&◌, Result, Ok, Err, [], ◌∷◌, ℕ, ◌-◌, ◌<◌, eqb, ltb}
 use Rattle.counter.specs.Gate.{first}
 use Rattle.counter.specs.Limits.{levels_most, spent}
 use Rattle.counter.specs.Paper.{number_of}
 use Rattle.counter.specs.declared.account.Heap.{Heap}
+use Rattle.counter.specs.declared.refusal.Refusal.{Refusal}
 use Rattle.counter.specs.declared.settings.BuddySettings.{BuddySettings}
 use Rattle.slabs.specs.declared.Taken.{Taken}
 use Rattle.store_rules.specs.Orders as Orders
@@ -13,17 +14,17 @@ use Rattle.buddy_rules.specs.Tables.{Tables, given_in, places_in, level_from}
 use Rattle.buddy_outcomes.specs.Ask.{nowhere, at, size_for, level_for, grown_to, found_from, fits_at, pairs_room, chunk_taken, room_ok, order_bytes, late_row, planned, decide_ask}
 use Rattle.buddy_decide.specs.declared.plans.Buying.{Buying}
 use Rattle.buddy_decide.specs.declared.plans.Plan.{Plan}
-use Rattle.buddy_decide.specs.declared.plans.Plan.TheVariants.{Refuse, Lack, Take, Buy}
+use Rattle.buddy_decide.specs.declared.plans.Plan.TheVariants.{Lack, Take, Buy}
 use Rattle.buddy_decide.specs.declared.plans.Taking.{Taking}
 use Rattle.buddy_decide.specs.declared.plans.Tried.{Tried}
 use Rattle.buddy_decide.specs.declared.plans.Tried.TheVariants as L
 
 -- a lack of objects is refusal 9
-abbrev pub plan_of : Plan → Orders.Plan ℕ
-plan_of (Refuse r) = Orders.deny (number_of r)
-plan_of (Lack n) = Orders.deny 9
-plan_of (Take t) = Orders.take t.from
-plan_of (Buy b) = Orders.buy b.order
+abbrev pub plan_of : Result Plan Refusal → Orders.Plan ℕ
+plan_of (Err r) = Orders.deny (number_of r)
+plan_of (Ok (Lack n)) = Orders.deny 9
+plan_of (Ok (Take t)) = Orders.take t.from
+plan_of (Ok (Buy b)) = Orders.buy b.order
 
 -- ---- what the carried numbers are, for an ask of z bytes and level l
 
@@ -45,13 +46,13 @@ pub record Buys (s : BuddySettings) (z l : ℕ) (t : Tables) (b : Buying) : Type
   pub chunk : b.chunk ≡ chunk_taken s t
 
 -- 9 is told by Lack alone, with the levels that the ask needs
-abbrev pub PlannedAt : BuddySettings → ℕ → ℕ → Tables → Plan → Type 0
-PlannedAt s z l t (Refuse r) = eqb (number_of r) 9 ≡ false
-PlannedAt s z l t (Lack n) = n ≡ grown_to l t
-PlannedAt s z l t (Take k) = Takes s z l t k
-PlannedAt s z l t (Buy b) = Buys s z l t b
+abbrev pub PlannedAt : BuddySettings → ℕ → ℕ → Tables → Result Plan Refusal → Type 0
+PlannedAt s z l t (Err r) = eqb (number_of r) 9 ≡ false
+PlannedAt s z l t (Ok (Lack n)) = n ≡ grown_to l t
+PlannedAt s z l t (Ok (Take k)) = Takes s z l t k
+PlannedAt s z l t (Ok (Buy b)) = Buys s z l t b
 
-abbrev pub Planned : BuddySettings → ℕ → ℕ → Tables → Plan → Type 0
+abbrev pub Planned : BuddySettings → ℕ → ℕ → Tables → Result Plan Refusal → Type 0
 Planned s size mask t p = PlannedAt s (size_for s size mask) (level_for s size mask) t p
 
 -- ---- a look, which knows neither heap nor objects
@@ -62,10 +63,10 @@ places_room s l top loan chunk t = ltb loan s.store.loans && (ltb chunk s.store.
 
 -- it tells the plan p, whatever heap and objects there are: a refusal, a block of z bytes and level l, or the chunk whose tests
 -- come to p
-abbrev pub Tells : BuddySettings → ℕ → ℕ → Tables → (Heap → ℕ → Orders.Plan ℕ) → Tried → Type 0
-Tells s z l t p (L.Refuse r) = ((h : Heap) (objects : ℕ) → Orders.deny (number_of r) ≡ p h objects) × (eqb (number_of r) 9 ≡ false)
-Tells s z l t p (L.Take k) = ((h : Heap) (objects : ℕ) → Orders.take k.from ≡ p h objects) × Takes s z l t k
-Tells s z l t p (L.Need n) =
+abbrev pub Tells : BuddySettings → ℕ → ℕ → Tables → (Heap → ℕ → Orders.Plan ℕ) → Result Tried Refusal → Type 0
+Tells s z l t p (Err r) = ((h : Heap) (objects : ℕ) → Orders.deny (number_of r) ≡ p h objects) × (eqb (number_of r) 9 ≡ false)
+Tells s z l t p (Ok (L.Take k)) = ((h : Heap) (objects : ℕ) → Orders.take k.from ≡ p h objects) × Takes s z l t k
+Tells s z l t p (Ok (L.Need n)) =
     (n.size ≡ z)
     × (n.level ≡ l)
     × (n.level < levels_most)
@@ -74,15 +75,15 @@ Tells s z l t p (L.Need n) =
     × ((h : Heap) (objects : ℕ) → planned s n.level t nowhere (first (late_row s h objects n.level t nowhere)) ≡ p h objects)
 
 -- at an ask of z bytes and level l that level i can serve
-abbrev pub TryTake : BuddySettings → ℕ → ℕ → ℕ → Tables → Tried → Type 0
+abbrev pub TryTake : BuddySettings → ℕ → ℕ → ℕ → Tables → Result Tried Refusal → Type 0
 TryTake s z l i t r =
     Tells s z l t (λ (h : Heap) (objects : ℕ). planned s l t (at i) (first ((room_ok s l t (at i), 8) ∷ (ltb (given_in t) spent, 10) ∷ []))) r
 
 -- at one of z bytes and level l
-abbrev pub TrySized : BuddySettings → ℕ → ℕ → Tables → Tried → Type 0
+abbrev pub TrySized : BuddySettings → ℕ → ℕ → Tables → Result Tried Refusal → Type 0
 TrySized s z l t r =
     Tells s z l t (λ (h : Heap) (objects : ℕ). planned s l t (found_from s l t) (first ((fits_at levels_most s z, 6) ∷ late_row s h objects l t (found_from s l t)))) r
 
 -- at any
-abbrev pub TryOf : BuddySettings → ℕ → ℕ → Tables → Tried → Type 0
+abbrev pub TryOf : BuddySettings → ℕ → ℕ → Tables → Result Tried Refusal → Type 0
 TryOf s size mask t r = Tells s (size_for s size mask) (level_for s size mask) t (λ (h : Heap) (objects : ℕ). decide_ask s h objects size mask t) r

@@ -7,7 +7,6 @@ ghost use Rattle.counter.specs.Limits.{align_bits};
 ghost use Rattle.buddy_outcomes.specs.Ask.{mask_for, size_for};
 
 use counter::BuddySettings;
-use rounding_rules::Raised;
 
 // The mask that a block is aligned to.
 fn mask_for(s: BuddySettings, mask: u64) -> u64
@@ -20,13 +19,9 @@ fn mask_for(s: BuddySettings, mask: u64) -> u64
 }
 
 // The size raised to a multiple of its unit and to a power of two, where a word holds it.
-pub fn size_for(s: BuddySettings, size: u64, mask: u64) -> Raised
+pub fn size_for(s: BuddySettings, size: u64, mask: u64) -> Option<u64>
     requires { BuddyIn s × Ones align_bits mask }
     ensures { result ≡ raised (size_for s size mask) }
 {
-    let unit = rounding::raise_to_unit(size, mask_for(s, mask));
-    match unit {
-        Raised::To(x) => rounding::raise_to_power(x),
-        Raised::Overflow => Raised::Overflow,
-    }
+    rounding::raise_to_power(rounding::raise_to_unit(size, mask_for(s, mask))?)
 }

@@ -1,5 +1,4 @@
 // What an ask comes to, with the numbers that its tests worked out: what carries it out works none of them out again.
-use counter::Refusal;
 use slabs::Taken;
 
 // A block of this size and level, from the head pair of the level `from`; its loan takes this place of the book.
@@ -23,9 +22,9 @@ pub struct Buying {
     pub chunk: Taken,
 }
 
+// Of an ask that is not refused by its tests 5 to 10, but for that of its objects.
 #[derive(Clone, Copy)]
 pub enum Plan {
-    Refuse(Refusal),
     // no object remains: the levels grow to so many
     Lack(u64),
     Take(Taking),
@@ -41,10 +40,9 @@ pub struct Needing {
     pub levels: u64,
 }
 
-// What an ask comes to short of what a new chunk asks of heap and objects.
+// The same short of what a new chunk asks of heap and objects.
 #[derive(Clone, Copy)]
 pub enum Tried {
-    Refuse(Refusal),
     Take(Taking),
     Need(Needing),
 }

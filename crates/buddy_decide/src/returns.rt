@@ -6,15 +6,17 @@ ghost use Rattle.book_rules.specs.Ready.{Reads};
 ghost use Rattle.buddy_rules.specs.Tables.{tables};
 ghost use Rattle.buddy_outcomes.specs.Return.{decide_return};
 
-use counter::{Block, BuddySettings};
-use returning::Back;
+use counter::{Block, BuddySettings, Refusal};
 use store_rules::PLACES_AT;
 
-pub fn decide_return(s: BuddySettings, b: Block, loans: &[u64], index: &[u64]) -> Back
+pub fn decide_return(
+    s: BuddySettings,
+    b: Block,
+    loans: &[u64],
+    index: &[u64],
+) -> Result<usize, Refusal>
     requires { Reads s.store.loans (get_or loans.now places_at 0) loans.now index.now }
     ensures { back_of result ≡ decide_return s b (tables [] loans.now [] index.now []) }
 {
-    let own = s.store;
-    let places = loans[PLACES_AT];
-    returning::decide(b, own.loans, places, loans, index)
+    returning::decide(b, s.store.loans, loans[PLACES_AT], loans, index)
 }

@@ -1,5 +1,5 @@
 // The search upward for a level with a ready side, and whether there are pairs for the split down.
-ghost use Rattle.std.specs.Prelude.{◌≡◌, [], ℕ, ◌+◌, ◌^◌, max, ◌≤◌, ◌<◌, length};
+ghost use Rattle.std.specs.Prelude.{◌≡◌, [], ℕ, ◌+◌, ◌^◌, ◌≤◌, ◌<◌, length};
 ghost use Rattle.counter.specs.Limits.{levels_most, pairs_most, minimal_bits};
 ghost use Rattle.buddy_rules.specs.Level.{level_start};
 ghost use Rattle.buddy_levels.specs.Seen.{part_settings, level_part};
@@ -18,36 +18,20 @@ pub enum Found {
     Order(u64, u64),
 }
 
-// As many levels as there are, or as this one needs.
-fn grown(level: u64, levels: u64) -> u64
-    requires { level < levels_most }
-    ensures { result ≡ max levels (level + 1) }
-{
-    if levels <= level {
-        return level + 1;
-    }
-    levels
-}
-
 // From this level on: the first with a ready side ends the search. Where none has, the chunk to order is a node of the level
 // above the top.
 pub fn seek(minimal: u64, pairs: usize, level: u64, levels: u64, tree: &[u64]) -> Found
     requires { (minimal ≤ 2 ^ minimal_bits) × (pairs ≤ pairs_most) × (level < levels_most) × (levels ≤ levels_most) × (level_start pairs levels_most ≤ length tree.now) }
     ensures { result ≡ sought minimal pairs level levels tree.now }
 {
-    let mut l = level;
-    let found = loop {
-        if levels <= l {
-            let top = grown(level, levels);
-            break Found::Order(buddy_levels::node_bytes(minimal, top), top);
-        }
+    for l in level..levels {
         let head = slabs::place_of(tree[level_from(pairs, l as usize) + RING_AT]);
         if head != NOWHERE {
-            break Found::At(head, l);
+            return Found::At(head, l);
         }
-        l += 1;
-    };
-    found
+    }
+    let top = levels.max(level + 1);
+    Found::Order(buddy_levels::node_bytes(minimal, top), top)
 }
 
 // Whether each of n levels from this one on has a place for a new pair; one that is not there yet has.
@@ -56,8 +40,7 @@ pub fn has_pairs(pairs: usize, level: u64, n: u64, levels: u64, tree: &[u64]) ->
     requires by_index { (l : ℕ) → l < levels → Takes (level_start pairs l) tree.now }
     ensures { result ≡ pairs_room (part_settings 0 pairs 0) (level_part levels [] tree.now) level n }
 {
-    let mut i = 0;
-    while i < n {
+    for i in 0..n {
         let l = level + i;
         if l < levels {
             let taken = buddy_levels::pair_taken(tree, level_from(pairs, l as usize));
@@ -65,7 +48,6 @@ pub fn has_pairs(pairs: usize, level: u64, n: u64, levels: u64, tree: &[u64]) ->
                 return false;
             }
         }
-        i += 1;
     }
     true
 }

@@ -12,8 +12,8 @@ use Rattle.counter.specs.Gate.{Verdict, pass, refuse, gated}
 use Rattle.counter.specs.Paper as Paper
 use Rattle.counter.specs.declared.account.Account.{Account}
 use Rattle.counter.specs.declared.account.KeptOrder.{KeptOrder}
-use Rattle.counter.specs.declared.account.OpenOrder.{OpenOrder}
-use Rattle.counter.specs.declared.account.OpenOrder.TheVariants.{Nothing, Kept}
+use Rattle.counter.specs.Open.{OpenOrder}
+use Rattle.std.specs.Prelude.{None, Some}
 use Rattle.counter.specs.declared.account.Order.{Order}
 use Rattle.counter.specs.declared.answers.Block.{Block}
 use Rattle.counter.specs.declared.answers.Mapping.{Mapping}
@@ -85,12 +85,12 @@ module _ (s : BuddySettings) (a : Account) (t : Tables) where
 
   -- ---- a delivery
 
-  opened : (k : KeptOrder) → a.order ≡ Kept k → deliver_gate_of s a t ≡ pass → Bears s.store a k
+  opened : (k : KeptOrder) → a.order ≡ Some k → deliver_gate_of s a t ≡ pass → Bears s.store a k
   unfolding deliver_gate_of account_ok
   opened k e g =
       let h = heap_at a s.store.heap in
       let r = passed (gate_row (in_table_ok s a t) (open_for s.store.number a.order) (sound_ok s t && still_ok s a t a.order) (account_ok s a t)) g in
-      let ask : still_ok s a t (Kept k) ≡ true = ap (still_ok s a t) (sym e) ∙ and_right (sound_ok s t) (still_ok s a t a.order) r.1.1.0 in
+      let ask : still_ok s a t (Some k) ≡ true = ap (still_ok s a t) (sym e) ∙ and_right (sound_ok s t) (still_ok s a t a.order) r.1.1.0 in
       let l = leads_buy s.store k.order (decide_ask s h a.objects k.ask.size k.ask.mask t) ask in
       let z : k.order.size ≡ l.0 = ap (λ (x : Order). x.size) l.2 in
       let b = buy_bears s h a.objects k.ask.size k.ask.mask t l.0 l.1 in
@@ -135,8 +135,8 @@ module _ (s : BuddySettings) (a : Account) (t : Tables) where
     after_delivery : (v : Verdict) → deliver_gate_of s a t ≡ v → (x : OpenOrder) → a.order ≡ x → BuddyBooked (delivers o) (arrived (carry_deliver s a t (gated Deliver.deny v (decide_deliver o held x))))
     unfolding carry_deliver
     after_delivery (refuse n) g x e = early_booked s.store a n t (gate_number n g) o
-    after_delivery pass g Nothing e = early_booked s.store a 2 t refl o
-    after_delivery pass g (Kept k) e =
+    after_delivery pass g None e = early_booked s.store a 2 t refl o
+    after_delivery pass g (Some k) e =
         ⊎_elim (λ d. rw d (fated_booked k (opened k e g) o)) (λ d. rw d (early_booked s.store a 13 t refl o)) (told (delivery_ok k.order.map held o))
 
     delivers_booked : BuddyBooked (delivers o) (does buddy_shape s a t (delivers o))

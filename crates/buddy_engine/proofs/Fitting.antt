@@ -11,8 +11,8 @@ use Rattle.counter.specs.Paper as Paper
 use Rattle.counter.specs.Table.{buddy_ok}
 use Rattle.counter.specs.declared.account.Account.{Account}
 use Rattle.counter.specs.declared.account.KeptOrder.{KeptOrder}
-use Rattle.counter.specs.declared.account.OpenOrder.{OpenOrder}
-use Rattle.counter.specs.declared.account.OpenOrder.TheVariants.{Nothing, Kept}
+use Rattle.counter.specs.Open.{OpenOrder}
+use Rattle.std.specs.Prelude.{None, Some}
 use Rattle.counter.specs.declared.answers.Block.{Block}
 use Rattle.counter.specs.declared.answers.Mapping.{Mapping}
 use Rattle.counter.specs.declared.answers.Mapping.TheVariants as M
@@ -97,8 +97,8 @@ module _ (s : BuddySettings) (a : Account) (t : Tables) (fit : BuddyIn s) (lengt
   after_delivery : (o : Outcome) (v : Verdict) → deliver_gate_of s a t ≡ v → (x : OpenOrder) → a.order ≡ x → Lengths s (carry_deliver s a t (gated Deliver.deny v (decide_deliver o held x))).tables
   unfolding carry_deliver
   after_delivery o (refuse n) g x e = lengths
-  after_delivery o pass g Nothing e = lengths
-  after_delivery o pass g (Kept k) e = ⊎_elim (λ d. rw d (fate_long o k (opened s a o t sound k e g) o d)) (λ d. rw d lengths) (told (delivery_ok k.order.map held o))
+  after_delivery o pass g None e = lengths
+  after_delivery o pass g (Some k) e = ⊎_elim (λ d. rw d (fate_long o k (opened s a o t sound k e g) o d)) (λ d. rw d lengths) (told (delivery_ok k.order.map held o))
 
   deliver_long : (o : Outcome) → Lengths s (deliver_of s a o t).tables
   unfolding deliver_of plan_deliver

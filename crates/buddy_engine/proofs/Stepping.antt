@@ -14,8 +14,8 @@ use Rattle.counter.specs.Paper.{Said}
 use Rattle.counter.specs.Paper as Paper
 use Rattle.counter.specs.declared.account.Account.{Account}
 use Rattle.counter.specs.declared.account.KeptOrder.{KeptOrder}
-use Rattle.counter.specs.declared.account.OpenOrder.{OpenOrder}
-use Rattle.counter.specs.declared.account.OpenOrder.TheVariants.{Nothing, Kept}
+use Rattle.counter.specs.Open.{OpenOrder}
+use Rattle.std.specs.Prelude.{None, Some}
 use Rattle.counter.specs.declared.answers.Block.{Block}
 use Rattle.counter.specs.declared.answers.Outcome.{Outcome}
 use Rattle.counter.specs.declared.settings.BuddySettings.{BuddySettings}
@@ -132,8 +132,8 @@ module _ (s : BuddySettings) (a : Account) (t : Tables) where
         → Stepped t (carry_deliver s a t (gated Deliver.deny v (decide_deliver o held x))).tables (carry_deliver s a t (gated Deliver.deny v (decide_deliver o held x))).said
     unfolding carry_deliver
     after_delivery (refuse n) e x = stayed n
-    after_delivery pass e Nothing = stayed 2
-    after_delivery pass e (Kept k) = ⊎_elim (λ d. rw d (fated (gate_some e) k (fate_of buddy o))) (λ d. rw d (stayed 13)) (told (delivery_ok k.order.map held o))
+    after_delivery pass e None = stayed 2
+    after_delivery pass e (Some k) = ⊎_elim (λ d. rw d (fated (gate_some e) k (fate_of buddy o))) (λ d. rw d (stayed 13)) (told (delivery_ok k.order.map held o))
 
     -- a delivery
     pub deliver_stepped : Stepped t (deliver_of s a o t).tables (deliver_of s a o t).said

@@ -8,7 +8,7 @@ use Rattle.counter.specs.Gate.{Verdict, pass, refuse}
 use Rattle.counter.specs.Paper as Paper
 use Rattle.counter.specs.declared.account.Account.{Account}
 use Rattle.counter.specs.declared.account.KeptOrder.{KeptOrder}
-use Rattle.counter.specs.declared.account.OpenOrder.TheVariants.{Kept}
+use Rattle.std.specs.Prelude.{Some}
 use Rattle.counter.specs.declared.answers.Block.{Block}
 use Rattle.counter.specs.declared.answers.Memory.{Memory}
 use Rattle.counter.specs.declared.answers.Outcome.{Outcome}
@@ -103,7 +103,7 @@ ask_leaves s a size mask t _ (orders z p e) = grown_chunks s (grown_to (level_fo
 
 abbrev Arrives : BuddySettings → Account → Outcome → Tables → Tables → ℕ → Type 0
 Arrives s a o t u number =
-    (k : KeptOrder) × (m : Memory) × (a.order ≡ Kept k) × (o ≡ O.Made m)
+    (k : KeptOrder) × (m : Memory) × (a.order ≡ Some k) × (o ≡ O.Made m)
     × ((c : Chunk) → Memᴰ c (chunks_in u) ↔ (Memᴰ c (chunks_in t) ⊎ (c ≡ chunk number m.number k.order.size)))
 
 -- a delivery that lends a block lends it from the new chunk

@@ -16,7 +16,7 @@ use Rattle.counter.specs.Limits.{chunks_most}
 use Rattle.counter.specs.Table.{buddy_ok, heap_ok}
 use Rattle.counter.specs.declared.account.Account.{Account}
 use Rattle.counter.specs.declared.account.Heap.{Heap}
-use Rattle.counter.specs.declared.account.OpenOrder.{OpenOrder}
+use Rattle.counter.specs.Open.{OpenOrder}
 use Rattle.counter.specs.declared.settings.BuddySettings.{BuddySettings}
 use Rattle.counter.proofs.Tables.{buddy_yes}
 use Rattle.store_rules.specs.Loans.{loan_words}
@@ -124,9 +124,6 @@ module _ (s : BuddySettings) (h : Heap) (objects : ℕ) (t : Tables) where
   pub store_go : sound_ok s t ≡ true → covered ≡ true → pass ≡ store_gate s h objects t
   unfolding store_gate
   store_go e f = rw (e, sym covered_same ∙ f) refl
-
-pub covered_is : (h : Heap) (objects k n b m : ℕ) (r : Bool) → k ≡ n → b ≡ m → r ≡ covers_ok h objects k b → r ≡ covers_ok h objects n m
-covered_is h objects k n b m r e f g = g ∙ (λ j. covers_ok h objects (e j) (f j))
 
 module _ (s : BuddySettings) (share : Share) (t : Tables) (list : Bool) where
   abbrev held : Account

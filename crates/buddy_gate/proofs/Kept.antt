@@ -6,11 +6,10 @@ use Rattle.counter.specs.Gate.{Verdict, pass, refuse}
 use Rattle.counter.specs.declared.account.Account.{Account}
 use Rattle.counter.specs.declared.account.Heap.{Heap}
 use Rattle.counter.specs.declared.account.KeptOrder.{KeptOrder}
-use Rattle.counter.specs.declared.account.OpenOrder.{OpenOrder}
-use Rattle.counter.specs.declared.account.OpenOrder.TheVariants.{Nothing, Kept}
-use Rattle.counter.specs.declared.account.Order.{Order}
+use Rattle.counter.specs.Open.{OpenOrder}
+use Rattle.std.specs.Prelude.{None, Some}
 use Rattle.counter.specs.declared.settings.BuddySettings.{BuddySettings}
-use Rattle.store_rules.specs.Orders.{Plan, deny, take, buy, order_from, same_order, leads_to}
+use Rattle.store_rules.specs.Orders.{leads_to}
 use Rattle.store_rules.proofs.Holders.{holding, order_by, holder}
 use Rattle.store_rules.specs.Tests.{open_for}
 use Rattle.store_rules.specs.declared.Share.{Share}
@@ -21,21 +20,11 @@ use Rattle.buddy_outcomes.specs.Ask.{decide_ask}
 use Rattle.buddy_outcomes.specs.Deliver.{still_ok, deliver_gate_of}
 use Rattle.buddy_outcomes.specs.Gate.{in_table_ok, account_ok}
 use Rattle.buddy_outcomes.proofs.Passing.{lent_in_lem}
+use Rattle.std.specs.Prelude.{Result}
+use Rattle.counter.specs.declared.refusal.Refusal.{Refusal}
+use Rattle.buddy_decide.specs.declared.plans.Buying.{Buying}
 use Rattle.buddy_gate.specs.Gates.{kept_gate, PassingBuys, OpenBuys}
-use Rattle.buddy_gate.specs.declared.deliveries.Passing.{Passing}
 use Rattle.buddy_gate.proofs.Gates.{covered, covered_same, lent_held}
-
--- ---- the order that the kept ask leads to
-
-module _ (s : BuddySettings) (k : KeptOrder) where
-  pub leads_not : (p q : Plan ℕ) (n : ℕ) → p ≡ deny n → p ≡ q → false ≡ leads_to s.store k.order q
-  leads_not p q n e f = ap (leads_to s.store k.order) (sym e ∙ f)
-
-  pub leads_take : (p q : Plan ℕ) (i : ℕ) → p ≡ take i → p ≡ q → false ≡ leads_to s.store k.order q
-  leads_take p q i e f = ap (leads_to s.store k.order) (sym e ∙ f)
-
-  pub leads_buy : (p q : Plan ℕ) (z : ℕ) (o : Order) (r : Bool) → p ≡ buy z → p ≡ q → o ≡ order_from s.store z → r ≡ same_order k.order o → r ≡ leads_to s.store k.order q
-  leads_buy p q z o r e f g h = h ∙ ap (same_order k.order) g ∙ ap (leads_to s.store k.order) (sym e ∙ f)
 
 -- ---- the gate
 
@@ -79,10 +68,10 @@ module _ (s : BuddySettings) (share : Share) (o : OpenOrder) (t : Tables) where
   delivery_order e f = rw (lent_same true e, f) refl
 
   -- no order is open
-  pub delivery_none : lent ≡ true → o ≡ Nothing → refuse 2 ≡ deliver_gate_of s held t
+  pub delivery_none : lent ≡ true → o ≡ None → refuse 2 ≡ deliver_gate_of s held t
   delivery_none e f = delivery_order e (ap (open_for s.store.number) f)
 
-  pub delivery_kept : (v : Verdict) (k : KeptOrder) → lent ≡ true → open_for s.store.number o ≡ true → o ≡ Kept k → v ≡ kept_gate s share.heap share.objects k t → v ≡ deliver_gate_of s held t
+  pub delivery_kept : (v : Verdict) (k : KeptOrder) → lent ≡ true → open_for s.store.number o ≡ true → o ≡ Some k → v ≡ kept_gate s share.heap share.objects k t → v ≡ deliver_gate_of s held t
   unfolding deliver_gate_of kept_gate account_ok holding
   delivery_kept v k e f d g =
       let below = (lent_in_lem s (holder s.store share) t e).settings.store.heap in
@@ -92,8 +81,8 @@ module _ (s : BuddySettings) (share : Share) (o : OpenOrder) (t : Tables) where
 
 -- ---- of the order that is open
 
-kept_kept : (j k : KeptOrder) → Kept j ≡ Kept k → j ≡ k
+kept_kept : (j k : KeptOrder) → Some j ≡ Some k → j ≡ k
 kept_kept j k e = cc
 
-pub open_kept : (s : BuddySettings) (order : OpenOrder) (t : Tables) (k : KeptOrder) (p : Passing) → order ≡ Kept k → PassingBuys s k t p → OpenBuys s order t p
+pub open_kept : (s : BuddySettings) (order : OpenOrder) (t : Tables) (k : KeptOrder) (p : Result Buying Refusal) → order ≡ Some k → PassingBuys s k t p → OpenBuys s order t p
 open_kept s order t k p e b j f = subst (λ (x : KeptOrder). PassingBuys s x t p) (kept_kept k j (sym e ∙ f)) b

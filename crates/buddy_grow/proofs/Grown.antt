@@ -6,7 +6,7 @@ use native.Mathlib.Omega.{arith}
 use lib.ListN.{length, get_or, set}
 use Rattle.counter.specs.declared.settings.BuddySettings.{BuddySettings}
 use Rattle.store_rules.specs.Loans.{loan_words}
-use Rattle.buddy_rules.specs.Level.{fresh_level, level_start}
+use Rattle.buddy_rules.specs.Level.{fresh_level}
 use Rattle.buddy_rules.specs.Tables.{tables, levels_at, head_words, chunk_words, book_words, tree_words, level_from, marks}
 use Rattle.buddy_outcomes.specs.Ask.{fresh_levels, grown_tables}
 use Rattle.buddy_outcomes.specs.SetUp.{fresh_head, fresh_tables}
@@ -25,20 +25,6 @@ module _ (s : BuddySettings) where
       let p : suc n - 1 ≡ n = omega arith in
       let q : l + 1 ≡ suc l = omega arith in
       rw (p, q, f, e) refl
-
-  -- the same after i of n
-  pub fresh_next : (l n i : ℕ) (t t' : List ℕ) (b : ℕ) → i < n → b ≡ level_start s.pairs (l + i) → t' ≡ fresh_level b t
-      → fresh_levels s (l + i) (n - i) t ≡ fresh_levels s (l + (i + 1)) (n - (i + 1)) t'
-  fresh_next l n i t t' b h e f =
-      let p : n - (i + 1) ≡ n - i - 1 = omega arith in
-      let q : l + (i + 1) ≡ l + i + 1 = omega arith in
-      rw (p, q) (fresh_on (l + i) (n - i) t t' b (omega arith) e f)
-
-  pub fresh_all : (l n : ℕ) (t : List ℕ) → fresh_levels s l n t ≡ fresh_levels s (l + 0) (n - 0) t
-  fresh_all l n t =
-      let p : l + 0 ≡ l = omega arith in
-      let q : n - 0 ≡ n = omega arith in
-      rw (p, q) refl
 
   pub grown_done : (n levels : ℕ) (head tree h' t' : List ℕ) → levels ≡ get_or head levels_at 0 → t' ≡ fresh_levels s levels (n - levels) tree → h' ≡ set head levels_at n
       → tables h' [] [] [] t' ≡ grown_tables s n (tables head [] [] [] tree)

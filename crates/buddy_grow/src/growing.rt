@@ -14,10 +14,8 @@ fn fresh_levels(s: BuddySettings, level: usize, n: usize, tree: &mut [u64])
     requires { BuddyIn s × (level + n ≤ levels_most) }
     ensures { tree.new ≡ fresh_levels s level n tree.old }
 {
-    let mut i = 0;
-    while i < n {
-        buddy_levels::fresh_level(tree, buddy_levels::level_from(s.pairs, level + i));
-        i += 1;
+    for l in level..level + n {
+        buddy_levels::fresh_level(tree, buddy_levels::level_from(s.pairs, l));
     }
 }
 

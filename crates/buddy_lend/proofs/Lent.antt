@@ -3,14 +3,13 @@ use mathlib.Core.Path.{◌≡◌, sym, ap, subst, ◌∙◌}
 use mathlib.Core.List.{List, []}
 use Prim.Native.Nat.{ℕ, ◌+◌, ◌-◌, ◌^◌, ◌≤◌, ◌<◌}
 use lib.ListN.{get_or}
-use borrow.Author.Tests.{eq-eqb, ne_eqb}
 use Rattle.counter.specs.declared.settings.BuddySettings.{BuddySettings}
 use Rattle.slabs.specs.declared.Taken.{Taken}
 use Rattle.store_rules.specs.Loans.{given_at, places_at, loan}
 use Rattle.store_rules.specs.declared.Loan.{Loan}
 use Rattle.book_rules.specs.Book.{taken_of}
 use Rattle.buddy_trees.specs.Trees.{bytes}
-use Rattle.buddy_rules.specs.Nodes.{free_word, left_ready, Ent}
+use Rattle.buddy_rules.specs.Nodes.{free_word, Side, L, R, Ent, base}
 use Rattle.buddy_rules.specs.Levels.{side_of, base_of}
 use Rattle.buddy_rules.specs.Level.{tag_at, pair_cell, ent_of, ring_head, acquired, level_start}
 use Rattle.buddy_levels.specs.Pairs.{ent_from}
@@ -23,11 +22,11 @@ use Rattle.buddy_outcomes.specs.Ask.{loan_from, taken_tables, booked_tables}
 
 -- where the ready side begins
 module _ (u : ℕ) (e : Pair) (l : ℕ) where
-  pub left_from : e.tag ≡ left_ready → e.off ≡ base_of u (ent_from e) l
-  left_from h = sym (simp (eq-eqb e.tag left_ready h))
+  pub left_from : L ≡ side_of e.tag → e.off ≡ base_of u (ent_from e) l
+  left_from h = ap (λ (z : Side). base u z e.off l) h
 
-  pub right_from : (e.tag ≡ left_ready → ⊥) → (b : ℕ) → b ≡ bytes u l → e.off + b ≡ base_of u (ent_from e) l
-  right_from h b q = ap (λ (x : ℕ). e.off + x) q ∙ sym (simp (ne_eqb e.tag left_ready h))
+  pub right_from : R ≡ side_of e.tag → (b : ℕ) → b ≡ bytes u l → e.off + b ≡ base_of u (ent_from e) l
+  right_from h b q = ap (λ (x : ℕ). e.off + x) q ∙ ap (λ (z : Side). base u z e.off l) h
 
 -- the head pair stands in the tree, and can leave its ring
 pub head_leaves : (s : BuddySettings) (i : ℕ) (tree : List ℕ) (h : ℕ) → h ≡ ring_head (level_from s i) tree → Leaves (level_from s i) (ring_head (level_from s i) tree) tree → Leaves (level_start s.pairs i) h tree

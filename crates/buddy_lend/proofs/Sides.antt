@@ -1,12 +1,11 @@
 -- The ready side of a level's head pair taken, and split down to the asked level.
 use mathlib.Core.Path.{◌≡◌, sym, ap, subst, ◌∙◌}
-use mathlib.Core.Bool.{Bool, true, false}
 use mathlib.Core.List.{List}
 use Prim.Native.Nat.{ℕ, ◌-◌, ◌<◌}
 use native.Mathlib.Omega.{arith}
 use lib.ListN.{get_or, set}
-use Rattle.buddy_rules.specs.Nodes.{free_word, loan_word, Side, L, R, node_of, pair_of}
-use Rattle.buddy_rules.specs.Levels.{side_by, side_of}
+use Rattle.buddy_rules.specs.Nodes.{free_word, loan_word, Side, node_of, pair_of}
+use Rattle.buddy_rules.specs.Levels.{side_of}
 use Rattle.buddy_rules.proofs.Climbs.{node_pair, node_side}
 use Rattle.buddy_rules.specs.Level.{tag_at, side_at, pair_cell, ring_head, acquired, level_start}
 use Rattle.buddy_rules.specs.Moves.{Cut, ready_node, split_down}
@@ -25,15 +24,9 @@ module _ (pairs i : ℕ) (tree : List ℕ) where
   Ready = side_of (get_or tree (pair_cell Base tag_at Head) 0)
 
   -- the ready side, as a node
-  module _ (h : ℕ) (left : Bool) (ring : h ≡ Head) (side : side_by left ≡ side_of (get_or tree (pair_cell Base tag_at h) 0)) where
-    node_is : (n : ℕ) → n ≡ node_of h (side_by left) → n ≡ ready_node pairs i tree
+  module _ (h : ℕ) (s : Side) (ring : h ≡ Head) (side : s ≡ side_of (get_or tree (pair_cell Base tag_at h) 0)) where
+    pub node_is : (n : ℕ) → n ≡ node_of h s → n ≡ ready_node pairs i tree
     node_is n q = q ∙ ap (node_of h) side ∙ (λ j. node_of (ring j) (side_of (get_or tree (pair_cell Base tag_at (ring j)) 0)))
-
-    pub node_left : (n : ℕ) → left ≡ true → n ≡ node_of h L → n ≡ ready_node pairs i tree
-    node_left n e q = node_is n (q ∙ ap (λ (x : Bool). node_of h (side_by x)) (sym e))
-
-    pub node_right : (n : ℕ) → left ≡ false → n ≡ node_of h R → n ≡ ready_node pairs i tree
-    node_right n e q = node_is n (q ∙ ap (λ (x : Bool). node_of h (side_by x)) (sym e))
 
   module _ (lev c o k n b : ℕ) (ready : n ≡ ready_node pairs i tree) (at : b ≡ Base) where
     -- a node of the head pair

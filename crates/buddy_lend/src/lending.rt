@@ -11,8 +11,7 @@ ghost use Rattle.buddy_rules.specs.Tables.{tables, level_from};
 ghost use Rattle.buddy_outcomes.specs.Ask.{loan_from, taken_tables};
 ghost use Rattle.buddy_moves.specs.Ready.{Lends};
 
-use buddy_levels::Pair;
-use buddy_rules::LEFT_READY;
+use buddy_levels::{Pair, Side};
 use counter::BuddySettings;
 use slabs::Taken;
 use store_rules::{GIVEN_AT, Loan};
@@ -22,10 +21,10 @@ fn side_from(s: BuddySettings, e: Pair, level: u64) -> u64
     requires { BuddyIn s × (level ≤ levels_most) × (e.off ≤ 2 ^ 62) }
     ensures { result ≡ base_of s.minimal (ent_from e) level }
 {
-    if e.tag == LEFT_READY {
-        return e.off;
+    match buddy_levels::side_of(e.tag) {
+        Side::Left => e.off,
+        Side::Right => e.off + buddy_levels::node_bytes(s.minimal, level),
     }
-    e.off + buddy_levels::node_bytes(s.minimal, level)
 }
 
 // A block of this size and level, from the level `from`, where the head pair is ready; its loan takes this place of the book.
@@ -50,8 +49,8 @@ pub fn lend(
     let l = Loan {
         serial: loans[GIVEN_AT] + 1,
         chunk: e.chunk,
-        offset: offset,
-        size: size,
+        offset,
+        size,
     };
     let n = crate::taking::take_side(
         tree,
@@ -59,7 +58,7 @@ pub fn lend(
         level,
         from,
         pair,
-        e.tag == LEFT_READY,
+        buddy_levels::side_of(e.tag),
         l.chunk,
         l.offset,
         loan.place,

@@ -95,7 +95,7 @@ pub fn serve(
         serial: words::word(loans, GIVEN_AT) + 1,
         chunk: chunk.place,
         offset: 0,
-        size: size,
+        size,
     };
     let above = levels - level - 1;
     let n = buddy_moves::split_chunk(tree, s.pairs, level, above, l.chunk, loan.place);

@@ -1,11 +1,11 @@
 -- What the code of a level has done where it returns.
-use Rattle.std.proofs.Common.{◌≡◌, ℕ, ◌+◌, ◌%◌, ◌^◌, ◌<◌, ◌≤◌, Bool, true, false, List, get_or, set, sym, ap, ◌∙◌}
+use Rattle.std.proofs.Common.{◌≡◌, ℕ, ◌+◌, ◌%◌, ◌^◌, ◌<◌, ◌≤◌, List, get_or, set, sym, ap, ◌∙◌}
 use Rattle.slabs.specs.Slab.{place_of, record_of, inserted}
 use Rattle.slabs.specs.declared.Taken.{Taken}
 use Rattle.slabs.proofs.Places.{insert_first, insert_next}
 use Rattle.ring_rules.specs.Ring.{alone}
-use Rattle.buddy_rules.specs.Nodes.{free_word, vacant, exhausted, left_ready, right_ready}
-use Rattle.buddy_rules.specs.Levels.{side_by, side_of}
+use Rattle.buddy_rules.specs.Nodes.{Side, free_word, vacant, exhausted, right_ready}
+use Rattle.buddy_rules.specs.Levels.{side_of}
 use Rattle.buddy_rules.specs.Level.{
   ring_at,
   used_at,
@@ -20,6 +20,7 @@ use Rattle.buddy_rules.specs.Level.{
   up_at,
   pair_words,
   side_at,
+  ready_tag,
   field_at,
   pair_cell,
   ring_head,
@@ -45,34 +46,15 @@ module _ (b : ℕ) (t : List ℕ) where
   unfolding dropped
   pair_dropped p v r w x y z d e f g k h = h ∙ rw (g, f, e, d, k)
 
-  module _ (p : ℕ) (x y z : List ℕ) (s : Bool) (e : x ≡ joins b p t) where
-    pub left_backed : s ≡ true → y ≡ set x (pair_cell b tag_at p) left_ready → z ≡ set y (pair_cell b left_at p) free_word → z ≡ backed b p (side_by s) t
-    unfolding backed
-    left_backed d f g = g ∙ rw (f, e, d)
+  pub pair_backed : (p g f : ℕ) (x y z : List ℕ) (s : Side) → x ≡ joins b p t → g ≡ ready_tag s → y ≡ set x (pair_cell b tag_at p) g → f ≡ side_at s → z ≡ set y (pair_cell b f p) free_word → z ≡ backed b p s t
+  unfolding backed
+  pair_backed p g f x y z s d e h i j = j ∙ rw (i, h, e, d)
 
-    pub right_backed : s ≡ false → y ≡ set x (pair_cell b tag_at p) right_ready → z ≡ set y (pair_cell b right_at p) free_word → z ≡ backed b p (side_by s) t
-    unfolding backed
-    right_backed d f g = g ∙ rw (f, e, d)
-
-  module _ (w h : ℕ) (x y z : List ℕ) (l : Bool) (c : h ≡ ring_head b t) (s : side_by l ≡ side_of (get_or t (pair_cell b tag_at h) 0)) (e : x ≡ leaves b h t) (f : y ≡ set x (pair_cell b tag_at h) exhausted) where
-    head_acquired : z ≡ set y (pair_cell b (side_at (side_by l)) h) w → z ≡ acquired b w t
-    unfolding acquired
-    head_acquired g = g ∙ rw (f, e, s, c)
-
-    pub left_acquired : l ≡ true → z ≡ set y (pair_cell b left_at h) w → z ≡ acquired b w t
-    left_acquired d g = head_acquired (rw d g)
-
-    pub right_acquired : l ≡ false → z ≡ set y (pair_cell b right_at h) w → z ≡ acquired b w t
-    right_acquired d g = head_acquired (rw d g)
-
-  pub alone_stood : (p r : ℕ) (x y z : List ℕ) → r ≡ record_of p → x ≡ set t (pair_cell b next_at p) r → y ≡ set x (pair_cell b prev_at p) r → z ≡ set y (b + ring_at) r → z ≡ alone (b + ring_at) (field_at b next_at) (field_at b prev_at) pair_words p t
-  alone_stood p r x y z d e f g = g ∙ rw (f, e, d)
+  pub head_acquired : (w h f : ℕ) (x y z : List ℕ) {s : Side} → h ≡ ring_head b t → s ≡ side_of (get_or t (pair_cell b tag_at h) 0) → x ≡ leaves b h t → y ≡ set x (pair_cell b tag_at h) exhausted → f ≡ side_at s → z ≡ set y (pair_cell b f h) w → z ≡ acquired b w t
+  unfolding acquired
+  head_acquired w h f x y z c d e g i j = j ∙ rw (i, g, e, d, c)
 
   module _ (p c o n w : ℕ) where
-    pub pair_written : (u v x y z r : List ℕ) → u ≡ set t (pair_cell b tag_at p) right_ready → v ≡ set u (pair_cell b chunk_at p) c → x ≡ set v (pair_cell b off_at p) o → y ≡ set x (pair_cell b left_at p) w → z ≡ set y (pair_cell b right_at p) free_word → r ≡ set z (pair_cell b up_at p) n
-        → r ≡ set (set (set (set (set (set t (pair_cell b tag_at p) right_ready) (pair_cell b chunk_at p) c) (pair_cell b off_at p) o) (pair_cell b left_at p) w) (pair_cell b right_at p) free_word) (pair_cell b up_at p) n
-    pair_written u v x y z r d e f g h k = k ∙ rw (h, g, f, e, d)
-
     pub pair_entered : (x y : List ℕ) → x ≡ set (set (set (set (set (set t (pair_cell b tag_at p) right_ready) (pair_cell b chunk_at p) c) (pair_cell b off_at p) o) (pair_cell b left_at p) w) (pair_cell b right_at p) free_word) (pair_cell b up_at p) n
         → y ≡ alone (b + ring_at) (field_at b next_at) (field_at b prev_at) pair_words p x → y ≡ entered b p c o n w t
     unfolding entered

@@ -1,5 +1,5 @@
 -- What the code of a level asks of a table, so that every word of the pairs it reads or writes is there.
-use Rattle.std.specs.Prelude.{◌≡◌, ℕ, ◌+◌, ◌<◌, List, length, ◌≢◌}
+use Rattle.std.specs.Prelude.{ℕ, ◌+◌, ◌<◌, List, length, ◌≢◌}
 use Rattle.slabs.specs.Slab.{nowhere, link_at}
 use Rattle.buddy_rules.specs.Level.{vacated_at, pair_words, next_at, prev_at, up_at, field_at, pair_cell, ring_head, slab_in}
 

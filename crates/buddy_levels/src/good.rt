@@ -1,5 +1,5 @@
 // The test of a level, linear in the pair places ever used: its chain and its ring are followed, and no place is looked at beside them.
-ghost use Rattle.std.specs.Prelude.{◌≡◌, ◌+◌, ◌≤◌, true, length, slice_index};
+ghost use Rattle.std.specs.Prelude.{◌≡◌, ◌+◌, ◌≤◌, IfSome, is_some, length, slice_index};
 ghost use Rattle.ring_rules.specs.Test.{ring_length};
 ghost use Rattle.buddy_rules.specs.Level.{base_most, level_words, ring_at, used_at, next_at, prev_at, pair_words, field_at};
 ghost use Rattle.buddy_rules.specs.LevelTest.{along, ready_in, ready_after, ringed, in_use, level_ok};
@@ -10,42 +10,36 @@ use crate::{
 use buddy_rules::EXHAUSTED;
 use slabs::NOWHERE;
 
-// Whether levels are right, and, where they are, how many pairs are in use and how many of them stand in the rings.
+// How many pairs of levels are in use, and how many of them stand in the rings.
 #[derive(Clone, Copy)]
-pub struct Tested {
-    pub ok: bool,
+pub struct PairCounts {
     pub used: u64,
     pub ready: u64,
 }
 
-// Whether a level of at most `pairs` places is right: its chain and its ring end within its places, and the ring's pairs are ready.
-pub fn test_level(tree: &[u64], base: usize, pairs: u64) -> Tested
+// A level of at most `pairs` places, where it is right: its chain and its ring end within its places, and the ring's pairs are ready.
+pub fn test_level(tree: &[u64], base: usize, pairs: u64) -> Option<PairCounts>
     requires { (base ≤ base_most) × (base + level_words pairs ≤ length tree.now) }
-    ensures ok_value { result.ok ≡ level_ok base pairs tree.now }
-    ensures used_value { (result.ok ≡ true → (result.used ≡ in_use base tree.now) × (result.ready ≡ ringed base tree.now)) × (result.used ≤ pairs) × (result.ready ≤ pairs) }
+    ensures right { is_some result ≡ level_ok base pairs tree.now }
+    ensures counts { IfSome result (λ c. (c.used ≡ in_use base tree.now) × (c.ready ≡ ringed base tree.now) × (c.used ≤ pairs) × (c.ready ≤ pairs)) }
 {
-    let no = Tested {
-        ok: false,
-        used: 0,
-        ready: 0,
-    };
     let places = tree[base + USED_AT];
     if pairs < places {
-        return no;
+        return None;
     }
     let used = count_used(tree, base, places);
     let ready = ring_size(tree, base, places);
     if (used == NOWHERE) | (ready == NOWHERE) {
-        return no;
+        return None;
     }
-    Tested {
-        ok: all_ready(tree, base, slabs::led_to(tree, base + RING_AT), ready),
-        used: used,
-        ready: ready,
+    if !all_ready(tree, base, slabs::led_to(tree, base + RING_AT), ready) {
+        return None;
     }
+    Some(PairCounts { used, ready })
 }
 
-// How many pairs are in use: of the places ever used those that the chain of the vacated ones leaves over, NOWHERE where it is torn.
+// How many pairs are in use: of the places ever used those that the chain of the vacated ones leaves over, NOWHERE where it is torn,
+// as in_use has it.
 fn count_used(tree: &[u64], base: usize, places: u64) -> u64
     requires { (base ≤ base_most) × (base + level_words places ≤ length tree.now) × (places ≡ slice_index tree.now (base + used_at)) }
     ensures { result ≡ in_use base tree.now }
@@ -58,7 +52,7 @@ fn count_used(tree: &[u64], base: usize, places: u64) -> u64
     )
 }
 
-// How many pairs stand in the ring, all of them below `used`: NOWHERE where it is torn.
+// How many pairs stand in the ring, all of them below `used`: NOWHERE where it is torn, as specs/Test of ring_rules has it.
 fn ring_size(tree: &[u64], base: usize, used: u64) -> u64
     requires { base ≤ base_most }
     ensures { result ≡ ring_length (base + ring_at) (field_at base next_at) (field_at base prev_at) pair_words used tree.now }
@@ -82,13 +76,11 @@ fn all_ready(tree: &[u64], base: usize, h: u64, k: u64) -> bool
 {
     let next = base + (HEADER_WORDS + NEXT_AT);
     let mut p = h;
-    let mut left = k;
-    while 0 < left {
+    for _ in 0..k {
         if field(tree, base, TAG_AT, p) <= EXHAUSTED {
             return false;
         }
         p = slabs::link(tree, next, PAIR_WORDS, p);
-        left -= 1;
     }
     true
 }

@@ -7,21 +7,23 @@ mod good;
 mod nodes;
 mod pairs;
 mod shape;
+mod sides;
 
 ghost use Rattle.std.specs.Prelude.{◌≡◌, ◌+◌, ◌<◌, ◌≤◌, slice_index, slice_set};
 ghost use Rattle.buddy_rules.specs.Nodes.{free_word, right_ready};
-ghost use Rattle.buddy_rules.specs.Levels.{side_by, side_of};
+ghost use Rattle.buddy_rules.specs.Levels.{side_of};
 ghost use Rattle.ring_rules.specs.Ring.{alone};
+ghost use Rattle.buddy_levels.specs.Sides.{side_said};
 ghost use Rattle.buddy_levels.specs.Stands.{Stands, Leaves, Joins, Takes};
 ghost use Rattle.buddy_rules.specs.Level.{base_most, pair_words, tag_at, chunk_at, off_at, left_at, right_at, next_at, prev_at, up_at, ring_at, field_at, pair_cell, ring_head, leaves, joins, pair_taken, dropped, backed, acquired, entered, added, fresh_level};
 
-use buddy_rules::{EXHAUSTED, FREE_WORD, LEFT_READY, RIGHT_READY, VACANT};
-pub use good::{Tested, test_level};
-pub use nodes::{
-    is_left, left_node, loan_said, loan_word, pair_of, pair_said, right_node, says_loan, split_word,
-};
-pub use pairs::{Pair, pair_at, standing_pair};
+// A tag is a word of a lent table, so it stays a number.
+use buddy_rules::{EXHAUSTED, FREE_WORD, RIGHT_READY, VACANT};
+pub use good::{PairCounts, test_level};
+pub use nodes::{loan_said, loan_word, pair_of, pair_said, says_loan, split_word};
+pub use pairs::{Pair, standing_pair};
 pub use shape::{chunks_from, level_from, node_at, node_bytes, tree_words};
+pub use sides::{Side, node_of, other, side_in, side_of, word_at};
 use slabs::{Slab, Taken};
 
 // Where the words stand; specs/Level has the same names.
@@ -53,7 +55,7 @@ pub const PREV_AT: usize = 6;
 
 pub const UP_AT: usize = 7;
 
-// Field f of pair p.
+// Field f of pair p, 0 past the end: what the ring of a level that is not tested leads to may be no pair of the table.
 pub fn field(tree: &[u64], base: usize, f: usize, p: u64) -> u64
     requires { (base ≤ base_most) × (f < pair_words) }
     ensures { result ≡ slice_index tree.now (pair_cell base f p) }
@@ -61,7 +63,7 @@ pub fn field(tree: &[u64], base: usize, f: usize, p: u64) -> u64
     words::cell(tree, base + (HEADER_WORDS + f), PAIR_WORDS, p as usize)
 }
 
-// Field f of a pair that the table has.
+// Field f of a pair that the table has: with no look at a bound, which the calls behind a gate are spared.
 pub fn field_in(tree: &[u64], base: usize, f: usize, p: u64) -> u64
     requires { (f < pair_words) × Stands base p tree.now }
     ensures { result ≡ slice_index tree.now (pair_cell base f p) }
@@ -79,7 +81,8 @@ pub fn put_field_in(tree: &mut [u64], base: usize, f: usize, p: u64, v: u64)
     tree[at] = v;
 }
 
-// Pair p leaves the ring.
+// Pair p leaves the ring. Where the links of a level stand is said here and in `join` and `ring_size`; a value that said it would be
+// taken apart again at each call of `ring`.
 fn leave(tree: &mut [u64], base: usize, p: u64)
     requires { Leaves base p tree.old }
     ensures { tree.new ≡ leaves base p tree.old }
@@ -125,37 +128,28 @@ pub fn drop_pair(tree: &mut [u64], base: usize, p: u64)
     tree[base + VACATED_AT] = slabs::record_of(p);
 }
 
-// The pair p joins the ring before the head, ready at its left or its right, where the node is free.
-pub fn ready_pair(tree: &mut [u64], base: usize, p: u64, left: bool)
+// The pair p joins the ring before the head, ready at this side, where the node is free.
+pub fn ready_pair(tree: &mut [u64], base: usize, p: u64, side: Side)
     requires { Joins base p tree.old }
-    ensures { tree.new ≡ backed base p (side_by left) tree.old }
+    ensures { tree.new ≡ backed base p (side_said side) tree.old }
 {
     join(tree, base, p);
-    if left {
-        put_field_in(tree, base, TAG_AT, p, LEFT_READY);
-        put_field_in(tree, base, LEFT_AT, p, FREE_WORD);
-    } else {
-        put_field_in(tree, base, TAG_AT, p, RIGHT_READY);
-        put_field_in(tree, base, RIGHT_AT, p, FREE_WORD);
-    }
+    put_field_in(tree, base, TAG_AT, p, sides::ready_tag(side));
+    put_field_in(tree, base, word_at(side), p, FREE_WORD);
 }
 
-// The head pair h leaves the ring, exhausted: the node at its ready side, the left or the right one, has the word w.
-pub fn acquire(tree: &mut [u64], base: usize, h: u64, left: bool, w: u64)
+// The head pair h leaves the ring, exhausted: the node at its ready side has the word w.
+pub fn acquire(tree: &mut [u64], base: usize, h: u64, side: Side, w: u64)
     requires leaves { Leaves base h tree.old }
-    requires h_value { (h ≡ ring_head base tree.old) × (side_by left ≡ side_of (slice_index tree.old (pair_cell base tag_at h))) }
+    requires h_value { (h ≡ ring_head base tree.old) × (side_said side ≡ side_of (slice_index tree.old (pair_cell base tag_at h))) }
     ensures { tree.new ≡ acquired base w tree.old }
 {
     leave(tree, base, h);
     put_field_in(tree, base, TAG_AT, h, EXHAUSTED);
-    if left {
-        put_field_in(tree, base, LEFT_AT, h, w);
-    } else {
-        put_field_in(tree, base, RIGHT_AT, h, w);
-    }
+    put_field_in(tree, base, word_at(side), h, w);
 }
 
-// The place that a new pair takes, and the slab from then on.
+// The place that a new pair takes, and the slab from then on. As Slab::insert, but with no look at a bound.
 pub fn pair_taken(tree: &[u64], base: usize) -> Taken
     requires { Takes base tree.now }
     ensures { result ≡ pair_taken base tree.now }

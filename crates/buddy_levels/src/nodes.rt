@@ -1,8 +1,8 @@
-// What the word of a node says, and a node by its pair and its side; specs/Nodes of buddy_rules has the same names. Here alone these
-// numbers are worked out.
-ghost use Rattle.std.specs.Prelude.{◌≡◌, ◌^◌, ◌<◌};
+// What the word of a node says, and the pair of a node; specs/Nodes of buddy_rules has the same names. Here and in sides.rt alone
+// these numbers are worked out.
+ghost use Rattle.std.specs.Prelude.{◌≡◌, ◌<◌};
 ghost use Rattle.counter.specs.Limits.{pairs_most, loans_most};
-ghost use Rattle.buddy_rules.specs.Nodes.{loan_word, split_word, says_loan, loan_said, pair_said, L, R, node_of, pair_of, is_left};
+ghost use Rattle.buddy_rules.specs.Nodes.{loan_word, split_word, says_loan, loan_said, pair_said, pair_of};
 
 // The word of a node that is on loan k.
 pub fn loan_word(k: u64) -> u64
@@ -41,30 +41,8 @@ pub fn pair_said(w: u64) -> u64
     w / 2 - 1
 }
 
-// The pair of a node, and whether it is that pair's left one.
 pub fn pair_of(node: u64) -> u64
     ensures { result ≡ pair_of node }
 {
     node / 2
-}
-
-pub fn is_left(node: u64) -> bool
-    ensures { result ≡ is_left node }
-{
-    node % 2 == 0
-}
-
-// The left and the right node of the pair p, which a torn table may say to be any.
-pub fn left_node(p: u64) -> u64
-    requires { p < 2 ^ 63 }
-    ensures { result ≡ node_of p L }
-{
-    2 * p
-}
-
-pub fn right_node(p: u64) -> u64
-    requires { p < 2 ^ 63 }
-    ensures { result ≡ node_of p R }
-{
-    2 * p + 1
 }

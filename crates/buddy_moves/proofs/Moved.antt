@@ -1,20 +1,17 @@
 -- What each turn of the climb and of the split comes to.
 use mathlib.Core.Path.{◌≡◌, refl, sym, ap, ◌∙◌, subst}
-use mathlib.Core.Bool.{Bool, true, false, cond, ◌&&◌, not}
-use mathlib.Core.Logic.{◌⊎◌, ⊎_elim}
+use mathlib.Core.Bool.{true, false, cond}
 use mathlib.Core.List.{List}
 use Prim.Native.Nat.{ℕ, zero, suc, ◌+◌, ◌-◌, ◌≤◌, ◌<◌}
 use native.Mathlib.Omega.{arith}
 use native.Mathlib.Nat.{mul-le-mul_left}
-use lib.Dec.{eqb, ltb}
+use lib.Dec.{eqb}
 use lib.ListN.{length, get_or, set}
-use borrow.Author.Tests.{eqb-false, eq-eqb, ne_eqb, ltb-true, ltb-false}
-use Rattle.lists.proofs.Bools.{and_left, and_right, not_yes, not_no, told}
+use borrow.Author.Tests.{eq-eqb, ne_eqb}
 use Rattle.counter.specs.Limits.{levels_most}
 use Rattle.slabs.specs.Slab.{nowhere}
-use Rattle.buddy_rules.specs.Nodes.{free_word, loan_word, split_word, L, node_of, pair_of, is_left, other, word}
-use Rattle.buddy_rules.specs.Levels.{side_by}
-use Rattle.buddy_rules.specs.Level.{ent_of, pair_cell, side_at, left_at, right_at, up_at, pair_taken, dropped, backed, added, level_words, level_start}
+use Rattle.buddy_rules.specs.Nodes.{free_word, loan_word, split_word, Side, L, node_of, pair_of, other, word}
+use Rattle.buddy_rules.specs.Level.{ent_of, pair_cell, side_at, up_at, pair_taken, dropped, backed, added, level_words, level_start}
 use Rattle.buddy_rules.specs.Moves.{Cut, side_in, climbed, worded, left_next, split_into, split_down, split_chunk}
 use Rattle.buddy_trees.specs.Trees.{up}
 use Rattle.buddy_rules.proofs.Fitting.{up_add}
@@ -23,45 +20,20 @@ use Rattle.buddy_levels.specs.Stands.{Stands, Leaves, Joins}
 use Rattle.buddy_moves.specs.Footing.{Foot, Footing}
 use Rattle.buddy_moves.specs.Roomy.{Roomy}
 
--- ---- the two nodes of a pair
-
--- of node n: p is its pair, and q says whether it is the left one
-module _ (b n p : ℕ) (q : Bool) (t : List ℕ) (of : p ≡ pair_of n) (side : q ≡ is_left n) where
-  side_told : (x : Bool) → q ≡ x → is_left n ≡ x
-  side_told x e = sym side ∙ e
-
-  pub left_twin : (x : ℕ) → q ≡ true → x ≡ get_or t (pair_cell b right_at p) 0 → x ≡ word (other (side_in n)) (ent_of b t (pair_of n))
-  left_twin x e h = h ∙ ap (λ (z : ℕ). get_or t (pair_cell b right_at z) 0) of ∙ sym (simp (side_told true e))
-
-  pub right_twin : (x : ℕ) → q ≡ false → x ≡ get_or t (pair_cell b left_at p) 0 → x ≡ word (other (side_in n)) (ent_of b t (pair_of n))
-  right_twin x e h = h ∙ ap (λ (z : ℕ). get_or t (pair_cell b left_at z) 0) of ∙ sym (simp (side_told false e))
-
-  pub left_put : (w : ℕ) (t' : List ℕ) → q ≡ true → t' ≡ set t (pair_cell b left_at p) w → t' ≡ set t (pair_cell b (side_at (side_in n)) (pair_of n)) w
-  left_put w t' e h = h ∙ ap (λ (z : ℕ). set t (pair_cell b left_at z) w) of ∙ sym (simp (side_told true e))
-
-  pub right_put : (w : ℕ) (t' : List ℕ) → q ≡ false → t' ≡ set t (pair_cell b right_at p) w → t' ≡ set t (pair_cell b (side_at (side_in n)) (pair_of n)) w
-  right_put w t' e h = h ∙ ap (λ (z : ℕ). set t (pair_cell b right_at z) w) of ∙ sym (simp (side_told false e))
-
 -- ---- the climb
 
-pub goes_on : (f n : ℕ) → (ltb 0 f && not (eqb n nowhere)) ≡ true → (0 < f) × (n ≡ nowhere → ⊥)
-goes_on f n e =
-    (ltb-true 0 f (and_left (ltb 0 f) (not (eqb n nowhere)) e), eqb-false n nowhere (not_yes (eqb n nowhere) (and_right (ltb 0 f) (not (eqb n nowhere)) e)))
-
 module _ (pairs f l n : ℕ) (t : List ℕ) where
-  pub climb_done : (ltb 0 f && not (eqb n nowhere)) ≡ false → climbed pairs f l n t ≡ record { freed = true; room = t }
+  pub climb_none : f ≡ 0 → climbed pairs f l n t ≡ record { freed = true; room = t }
   unfolding climbed
-  climb_done e = by f refl
+  climb_none e = rw e refl
+
+  pub climb_top : n ≡ nowhere → climbed pairs f l n t ≡ record { freed = true; room = t }
+  unfolding climbed
+  climb_top e = by f
     where
-      by : (g : ℕ) → f ≡ g → climbed pairs g l n t ≡ record { freed = true; room = t }
-      by zero h = refl
-      by (suc g) h =
-          let o : 0 < f = omega arith in
-          let top : not (eqb n nowhere) ≡ false = sym (simp (lt_one o)) ∙ e in
-          simp (not_no (eqb n nowhere) top)
-        where
-          lt_one : 0 < f → ltb 0 f ≡ true
-          lt_one o = ⊎_elim (λ a. a) (λ a. absurd (omega (arith, ltb-false 0 f a))) (told (ltb 0 f))
+      by : (g : ℕ) → climbed pairs g l n t ≡ record { freed = true; room = t }
+      by zero = refl
+      by (suc g) = rw (eq-eqb n nowhere e) refl
 
   module _ (o : 0 < f) (top : n ≡ nowhere → ⊥) (b : ℕ) (at : b ≡ level_start pairs l) (w : ℕ) (twin : w ≡ word (other (side_in n)) (ent_of b t (pair_of n)))
       (p : ℕ) (of : p ≡ pair_of n) where
@@ -83,11 +55,11 @@ module _ (pairs f l n : ℕ) (t : List ℕ) where
             let j : l + 1 ≡ suc l = omega arith in
             rw (i, j, at, of, twin_is, ne_eqb n nowhere top) refl
 
-    pub climb_on : w ≡ free_word → (m : ℕ) → m ≡ get_or t (pair_cell b up_at p) 0 → (t' : List ℕ) → t' ≡ dropped b p t
-        → climbed pairs f l n t ≡ climbed pairs (f - 1) (l + 1) m t'
-    climb_on z m e t' d = step ∙ simp (eq-eqb w free_word z, e, d)
+    pub climb_on : (g : ℕ) → g ≡ f - 1 → w ≡ free_word → (m : ℕ) → m ≡ get_or t (pair_cell b up_at p) 0 → (t' : List ℕ) → t' ≡ dropped b p t
+        → climbed pairs f l n t ≡ climbed pairs g (l + 1) m t'
+    climb_on g i z m e t' d = step ∙ simp (eq-eqb w free_word z, e, d, i)
 
-    pub climb_stays : (w ≡ free_word → ⊥) → (q : Bool) → q ≡ is_left n → (t' : List ℕ) → t' ≡ backed b p (side_by q) t
+    pub climb_stays : (w ≡ free_word → ⊥) → (q : Side) → q ≡ side_in n → (t' : List ℕ) → t' ≡ backed b p q t
         → climbed pairs f l n t ≡ record { freed = false; room = t' }
     climb_stays z q s t' d = step ∙ simp (ne_eqb w free_word z, d, s)
 
@@ -118,8 +90,8 @@ module _ (pairs f l n : ℕ) (t : List ℕ) where
       pub foot_leaves : w ≡ free_word → Leaves b p t
       foot_leaves z = subst (λ (x : ℕ). Leaves b x t) (sym of) (foot.goes (sym twin ∙ z))
 
-      pub foot_above : w ≡ free_word → (m : ℕ) → m ≡ get_or t (pair_cell b up_at p) 0 → (t' : List ℕ) → t' ≡ dropped b p t → Footing pairs (f - 1) (l + 1) m t'
-      foot_above z m e t' d = rw (e, d, of) (foot.above (sym twin ∙ z))
+      pub foot_above : (g : ℕ) → g ≡ f - 1 → w ≡ free_word → (m : ℕ) → m ≡ get_or t (pair_cell b up_at p) 0 → (t' : List ℕ) → t' ≡ dropped b p t → Footing pairs g (l + 1) m t'
+      foot_above g i z m e t' d = rw (i, e, d, of) (foot.above (sym twin ∙ z))
 
 -- ---- the split
 

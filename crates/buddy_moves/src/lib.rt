@@ -13,7 +13,7 @@ ghost use Rattle.buddy_levels.specs.Stands.{Stands};
 ghost use Rattle.buddy_moves.specs.Footing.{Footing};
 ghost use Rattle.buddy_moves.specs.Roomy.{Roomy};
 
-use buddy_levels::{LEFT_AT, RIGHT_AT, UP_AT, level_from};
+use buddy_levels::{Side, UP_AT, level_from};
 use buddy_rules::FREE_WORD;
 use slabs::NOWHERE;
 
@@ -22,12 +22,9 @@ fn twin_word(tree: &[u64], base: usize, n: u64) -> u64
     requires { Stands base (pair_of n) tree.now }
     ensures { result ≡ word (other (side_in n)) (ent_of base tree.now (pair_of n)) }
 {
+    let side = buddy_levels::other(buddy_levels::side_in(n));
     let p = buddy_levels::pair_of(n);
-    if buddy_levels::is_left(n) {
-        buddy_levels::field_in(tree, base, RIGHT_AT, p)
-    } else {
-        buddy_levels::field_in(tree, base, LEFT_AT, p)
-    }
+    buddy_levels::field_in(tree, base, buddy_levels::word_at(side), p)
 }
 
 // Node n of a level was given back. While its twin is free its pair goes, and the node above is given back in turn; at most
@@ -38,20 +35,19 @@ pub fn climb(tree: &mut [u64], pairs: usize, level: usize, levels: usize, node: 
     ensures value { result ≡ (climbed pairs levels level node tree.old).freed }
     ensures tree_after { tree.new ≡ (climbed pairs levels level node tree.old).room }
 {
-    let mut l = level;
-    let mut left = levels;
     let mut n = node;
-    while (0 < left) & (n != NOWHERE) {
+    for l in level..level + levels {
+        if n == NOWHERE {
+            return true;
+        }
         let base = level_from(pairs, l);
         let p = buddy_levels::pair_of(n);
         if twin_word(tree, base, n) != FREE_WORD {
-            buddy_levels::ready_pair(tree, base, p, buddy_levels::is_left(n));
+            buddy_levels::ready_pair(tree, base, p, buddy_levels::side_in(n));
             return false;
         }
         n = buddy_levels::field_in(tree, base, UP_AT, p);
         buddy_levels::drop_pair(tree, base, p);
-        l += 1;
-        left -= 1;
     }
     true
 }
@@ -61,16 +57,13 @@ fn put_word(tree: &mut [u64], base: usize, n: u64, w: u64)
     requires { Stands base (pair_of n) tree.old }
     ensures { tree.new ≡ set tree.old (pair_cell base (side_at (side_in n)) (pair_of n)) w }
 {
+    let side = buddy_levels::side_in(n);
     let p = buddy_levels::pair_of(n);
-    if buddy_levels::is_left(n) {
-        buddy_levels::put_field_in(tree, base, LEFT_AT, p, w);
-    } else {
-        buddy_levels::put_field_in(tree, base, RIGHT_AT, p, w);
-    }
+    buddy_levels::put_field_in(tree, base, buddy_levels::word_at(side), p, w);
 }
 
 // A node `above` levels over the asked level is split down to it, always keeping the left half, which is lent: its word says
-// which loan it is. Tells that node.
+// which loan it is. Tells that node. A struct of its numbers would be made for this one call and taken apart in every clause.
 pub fn split_down(
     tree: &mut [u64],
     pairs: usize,
@@ -87,10 +80,8 @@ pub fn split_down(
     ensures value { result ≡ (split_down pairs level chunk offset loan node above tree.old).node }
     ensures tree_after { tree.new ≡ (split_down pairs level chunk offset loan node above tree.old).room }
 {
-    let mut d = above;
     let mut n = node;
-    while 0 < d {
-        d -= 1;
+    for d in (0..above).rev() {
         let base = level_from(pairs, level + d);
         let p = buddy_levels::add_pair(tree, base, chunk, offset, n, FREE_WORD);
         put_word(
@@ -99,7 +90,7 @@ pub fn split_down(
             n,
             buddy_levels::split_word(p),
         );
-        n = buddy_levels::left_node(p);
+        n = buddy_levels::node_of(p, Side::Left);
     }
     put_word(
         tree,
@@ -134,6 +125,6 @@ pub fn split_chunk(
         chunk,
         0,
         loan,
-        buddy_levels::left_node(p),
+        buddy_levels::node_of(p, Side::Left),
     )
 }

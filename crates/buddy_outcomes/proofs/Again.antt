@@ -14,8 +14,8 @@ use Rattle.counter.specs.InTable.{BuddyIn}
 use Rattle.counter.specs.Table.{buddy_ok, heaps_ok}
 use Rattle.counter.specs.declared.account.Account.{Account}
 use Rattle.counter.specs.declared.account.KeptOrder.{KeptOrder}
-use Rattle.counter.specs.declared.account.OpenOrder.{OpenOrder}
-use Rattle.counter.specs.declared.account.OpenOrder.TheVariants.{Nothing, Kept}
+use Rattle.counter.specs.Open.{OpenOrder}
+use Rattle.std.specs.Prelude.{None, Some}
 use Rattle.counter.specs.declared.answers.Block.{Block}
 use Rattle.counter.specs.declared.answers.Mapping.{Mapping}
 use Rattle.counter.specs.declared.answers.Mapping.TheVariants as M
@@ -279,8 +279,8 @@ module _ (s : BuddySettings) (a : Account) (o : Outcome) (t : Tables) (typed : T
   module _ (passes_now : deliver_gate_of s a t ≡ pass) where
     decided_again : (x : OpenOrder) → a.order ≡ x → no_order (carry_deliver s a t (decide_deliver o held x)).account.order ≡ true → Passes (carry_deliver s a t (decide_deliver o held x))
     unfolding carry_deliver
-    decided_again Nothing e = λ none. absurd (true_false _ (deliver_for s a t passes_now) (ap (open_for s.store.number) e))
-    decided_again (Kept k) e =
+    decided_again None e = λ none. absurd (true_false _ (deliver_for s a t passes_now) (ap (open_for s.store.number) e))
+    decided_again (Some k) e =
         ⊎_elim (λ d. rw d (λ none. fate_again k (opened s a o t sound k e passes_now) o d)) (λ d. rw d (λ none. absurd (true_false _ none (ap no_order e))))
         (told (delivery_ok k.order.map held o))
 

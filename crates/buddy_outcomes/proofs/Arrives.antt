@@ -14,8 +14,8 @@ use Rattle.counter.specs.InTable.{BuddyIn}
 use Rattle.counter.specs.Paper as Paper
 use Rattle.counter.specs.declared.account.Account.{Account}
 use Rattle.counter.specs.declared.account.KeptOrder.{KeptOrder}
-use Rattle.counter.specs.declared.account.OpenOrder.{OpenOrder}
-use Rattle.counter.specs.declared.account.OpenOrder.TheVariants.{Nothing, Kept}
+use Rattle.counter.specs.Open.{OpenOrder}
+use Rattle.std.specs.Prelude.{None, Some}
 use Rattle.counter.specs.declared.answers.Outcome.{Outcome}
 use Rattle.counter.specs.declared.settings.BuddySettings.{BuddySettings}
 use Rattle.store_rules.specs.Loans as Loans
@@ -49,7 +49,7 @@ use Rattle.buddy_outcomes.proofs.Lendings.{booked_chunks, seen_given}
 pub record Came (s : BuddySettings) (a : Account) (o : Outcome) (t : Tables) (serial chunk offset len : ℕ) : Type 0 where
   pub order : KeptOrder
   pub memory : ℕ
-  pub ordered : a.order ≡ Kept order
+  pub ordered : a.order ≡ Some order
   pub kept_is : fate_of buddy o ≡ kept memory
   pub lent : Lent s a t
   pub sound : Sound s t
@@ -65,7 +65,7 @@ module _ (s : BuddySettings) (a : Account) (o : Outcome) (t : Tables) (serial ch
   tells : (r : Out Tables) → deliver_of s a o t ≡ r → r.said ≡ Paper.block serial chunk offset len
   tells r e = sym (ap (λ (x : Out Tables). x.said) e) ∙ q
 
-  fate_came : (k : KeptOrder) → a.order ≡ Kept k → deliver_gate_of s a t ≡ pass → (f : Fate) → fate_of buddy o ≡ f → deliver_of s a o t ≡ carry_fate s a k t f → Came s a o t serial chunk offset len
+  fate_came : (k : KeptOrder) → a.order ≡ Some k → deliver_gate_of s a t ≡ pass → (f : Fate) → fate_of buddy o ≡ f → deliver_of s a o t ≡ carry_fate s a k t f → Came s a o t serial chunk offset len
   unfolding carry_fate
   fate_came k e g (lost n charged back) w r = refusal_block n back serial chunk offset len (tells _ r)
   fate_came k e g (kept m) w r =
@@ -93,8 +93,8 @@ module _ (s : BuddySettings) (a : Account) (o : Outcome) (t : Tables) (serial ch
       → deliver_of s a o t ≡ carry_deliver s a t (gated Deliver.deny v (decide_deliver o (memories t (chunk_places_in t)) ord)) → Came s a o t serial chunk offset len
   unfolding carry_deliver
   came_by (refuse n) g ord e r = refusal_block n [] serial chunk offset len (tells _ r)
-  came_by pass g Nothing e r = refusal_block 2 [] serial chunk offset len (tells _ r)
-  came_by pass g (Kept k) e r =
+  came_by pass g None e r = refusal_block 2 [] serial chunk offset len (tells _ r)
+  came_by pass g (Some k) e r =
       ⊎_elim
       (λ d. fate_came k e g (fate_of buddy o) refl (rw d at r))
       (λ d. refusal_block 13 [] serial chunk offset len (tells (out (Paper.refusal 13 []) a t) (rw d at r)))

@@ -6,7 +6,7 @@ use native.Mathlib.Nat.{zero-mod}
 use Rattle.counter.specs.Paper as Paper
 use Rattle.counter.specs.declared.account.Account.{Account}
 use Rattle.counter.specs.declared.account.KeptOrder.{KeptOrder}
-use Rattle.counter.specs.declared.account.OpenOrder.TheVariants.{Kept}
+use Rattle.std.specs.Prelude.{Some}
 use Rattle.counter.specs.declared.answers.Outcome.{Outcome}
 use Rattle.counter.specs.declared.settings.BuddySettings.{BuddySettings}
 use Rattle.store_rules.specs.Outcomes.{Out, charged_account}
@@ -47,7 +47,7 @@ module _ (s : BuddySettings) (a : Account) (size mask : ℕ) (t : Tables) (seria
 
 module _ (s : BuddySettings) (a : Account) (o : Outcome) (t : Tables) (serial chunk offset len : ℕ) (q : (deliver_of s a o t).said ≡ Paper.block serial chunk offset len) where
   -- a delivery answered by a block: the block is good for the ask that was kept, and the account is charged
-  pub deliver_block : (k : KeptOrder) × (a.order ≡ Kept k) × GoodBlock s.store.atom k.ask.size k.ask.mask (given_in t) (loans_in t) (chunks_in (deliver_of s a o t).tables) serial chunk offset len
+  pub deliver_block : (k : KeptOrder) × (a.order ≡ Some k) × GoodBlock s.store.atom k.ask.size k.ask.mask (given_in t) (loans_in t) (chunks_in (deliver_of s a o t).tables) serial chunk offset len
       × ((deliver_of s a o t).account ≡ charged_account s.store a k.order.size)
   deliver_block =
       let v = deliver_came s a o t serial chunk offset len q in
@@ -61,7 +61,7 @@ module _ (s : BuddySettings) (a : Account) (o : Outcome) (t : Tables) (serial ch
       )
 
   -- it is as long as 01 says, and begins at a multiple of its own size
-  pub deliver_own_size : (k : KeptOrder) × (a.order ≡ Kept k) × (len ≡ size_for s k.ask.size k.ask.mask) × (offset % len ≡ 0)
+  pub deliver_own_size : (k : KeptOrder) × (a.order ≡ Some k) × (len ≡ size_for s k.ask.size k.ask.mask) × (offset % len ≡ 0)
   deliver_own_size =
       let v = deliver_came s a o t serial chunk offset len q in
       (v.order, v.ordered, v.len_is, ap (λ (x : ℕ). x % len) v.offset_is ∙ zero-mod len)

@@ -15,8 +15,8 @@ use Rattle.counter.specs.InTable.{BuddyIn}
 use Rattle.counter.specs.Paper as Paper
 use Rattle.counter.specs.declared.account.Account.{Account}
 use Rattle.counter.specs.declared.account.KeptOrder.{KeptOrder}
-use Rattle.counter.specs.declared.account.OpenOrder.{OpenOrder}
-use Rattle.counter.specs.declared.account.OpenOrder.TheVariants.{Nothing, Kept}
+use Rattle.counter.specs.Open.{OpenOrder}
+use Rattle.std.specs.Prelude.{None, Some}
 use Rattle.counter.specs.declared.answers.Mapping.{Mapping}
 use Rattle.counter.specs.declared.answers.Mapping.TheVariants as M
 use Rattle.counter.specs.declared.answers.Memory.{Memory}
@@ -83,11 +83,11 @@ module _ (s : BuddySettings) (a : Account) (size mask : ℕ) (t : Tables) where
 pub data DeliverComes (s : BuddySettings) (a : Account) (o : Outcome) (t : Tables) : Out Tables → Type 0 where
   early : (n : ℕ) → DeliverComes s a o t (out (Paper.refusal n []) a t)
   loses : (k : KeptOrder) (n : ℕ) (charged : Bool) (back : List ℕ) → DeliverComes s a o t (carry_fate s a k t (lost n charged back))
-  keeps : (k : KeptOrder) (m : Memory) → o ≡ O.Made m → a.order ≡ Kept k → Lent s a t → Sound s t → Buys s k.ask.size k.ask.mask t k.order.size
+  keeps : (k : KeptOrder) (m : Memory) → o ≡ O.Made m → a.order ≡ Some k → Lent s a t → Sound s t → Buys s k.ask.size k.ask.mask t k.order.size
       → DeliverComes s a o t (carry_fate s a k t (kept m.number))
 
 module _ (s : BuddySettings) (a : Account) (o : Outcome) (t : Tables) where
-  fated : (k : KeptOrder) → a.order ≡ Kept k → deliver_gate_of s a t ≡ pass → (x : Outcome) → o ≡ x → DeliverComes s a o t (carry_fate s a k t (fate_of buddy x))
+  fated : (k : KeptOrder) → a.order ≡ Some k → deliver_gate_of s a t ≡ pass → (x : Outcome) → o ≡ x → DeliverComes s a o t (carry_fate s a k t (fate_of buddy x))
   fated k e g O.OutOfDevice f = loses k 11 false []
   fated k e g O.OutOfHost f = loses k 12 false []
   fated k e g (O.Made m) f = by m.mapping refl
@@ -111,8 +111,8 @@ module _ (s : BuddySettings) (a : Account) (o : Outcome) (t : Tables) where
   after_delivery : (v : Verdict) → deliver_gate_of s a t ≡ v → (x : OpenOrder) → a.order ≡ x → DeliverComes s a o t (carry_deliver s a t (gated Deliver.deny v (decide_deliver o held x)))
   unfolding carry_deliver
   after_delivery (refuse n) g x e = early n
-  after_delivery pass g Nothing e = early 2
-  after_delivery pass g (Kept k) e = ⊎_elim (λ d. rw d (fated k e g o refl)) (λ d. rw d (early 13)) (told (delivery_ok k.order.map held o))
+  after_delivery pass g None e = early 2
+  after_delivery pass g (Some k) e = ⊎_elim (λ d. rw d (fated k e g o refl)) (λ d. rw d (early 13)) (told (delivery_ok k.order.map held o))
 
   pub deliver_comes : DeliverComes s a o t (deliver_of s a o t)
   unfolding deliver_of plan_deliver

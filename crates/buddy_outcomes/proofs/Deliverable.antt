@@ -16,7 +16,7 @@ use Rattle.counter.specs.Paper as Paper
 use Rattle.counter.specs.Table.{buddy_ok, heaps_ok}
 use Rattle.counter.specs.declared.account.Account.{Account}
 use Rattle.counter.specs.declared.account.Heap.{Heap}
-use Rattle.counter.specs.declared.account.OpenOrder.TheVariants.{Kept}
+use Rattle.std.specs.Prelude.{Some}
 use Rattle.counter.specs.declared.settings.BuddySettings.{BuddySettings}
 use Rattle.counter.proofs.Gates.{passes}
 use Rattle.counter.proofs.Tables.{buddy_all}
@@ -75,7 +75,7 @@ module _ (s : BuddySettings) (a : Account) (size mask : ℕ) (t : Tables) where
     pub passed : Passed s a t true
     pub buys_it : decide_ask s (heap_at a s.store.heap) a.objects size mask t ≡ buy (Ask.order_bytes s (level_for s size mask) t)
     pub leaves : ask_of s a size mask t
-        ≡ out (Paper.order_of (order_from s.store (Ask.order_bytes s (level_for s size mask) t))) (with_order a (Kept (kept_from s.store size mask (Ask.order_bytes s (level_for s size mask) t)))) (grown_tables s (grown_to (level_for s size mask) t) t)
+        ≡ out (Paper.order_of (order_from s.store (Ask.order_bytes s (level_for s size mask) t))) (with_order a (Some (kept_from s.store size mask (Ask.order_bytes s (level_for s size mask) t)))) (grown_tables s (grown_to (level_for s size mask) t) t)
 
   module _ (store bytes memtype : ℕ) (map : Bool) where
     buying_by : (r : Out Tables) → ask_of s a size mask t ≡ r → AskComes s a size mask t r → r.said ≡ Paper.order store bytes memtype map → Buying
@@ -156,7 +156,7 @@ module _ (s : BuddySettings) (a : Account) (size mask : ℕ) (t : Tables) where
         ∙ ap buy same_order_size
 
     abbrev kept : Account
-    kept = with_order a (Kept (kept_from s.store size mask z))
+    kept = with_order a (Some (kept_from s.store size mask z))
 
     -- the delivery's tests 1 to 4 pass
     gate_open : deliver_gate_of s kept g ≡ pass

@@ -14,8 +14,8 @@ use Rattle.counter.specs.InTable.{BuddyIn}
 use Rattle.counter.specs.Limits.{levels_most}
 use Rattle.counter.specs.declared.account.Account.{Account}
 use Rattle.counter.specs.declared.account.KeptOrder.{KeptOrder}
-use Rattle.counter.specs.declared.account.OpenOrder.{OpenOrder}
-use Rattle.counter.specs.declared.account.OpenOrder.TheVariants.{Nothing, Kept}
+use Rattle.counter.specs.Open.{OpenOrder}
+use Rattle.std.specs.Prelude.{None, Some}
 use Rattle.counter.specs.declared.account.Order.{Order}
 use Rattle.counter.specs.declared.answers.Mapping.{Mapping}
 use Rattle.counter.specs.declared.answers.Mapping.TheVariants as M
@@ -187,11 +187,11 @@ module _ (s : BuddySettings) (a : Account) (o : Outcome) (t : Tables) (sound : S
     pub object : 0 < a.objects
     pub covered : account_ok s a t ≡ true
 
-  pub opened : (k : KeptOrder) → a.order ≡ Kept k → deliver_gate_of s a t ≡ pass → Open k
+  pub opened : (k : KeptOrder) → a.order ≡ Some k → deliver_gate_of s a t ≡ pass → Open k
   unfolding deliver_gate_of
   opened k e g =
       let r = passed (gate_row (in_table_ok s a t) (open_for s.store.number a.order) (sound_ok s t && still_ok s a t a.order) (account_ok s a t)) g in
-      let still : still_ok s a t (Kept k) ≡ true = ap (still_ok s a t) (sym e) ∙ and_right (sound_ok s t) (still_ok s a t a.order) r.1.1.0 in
+      let still : still_ok s a t (Some k) ≡ true = ap (still_ok s a t) (sym e) ∙ and_right (sound_ok s t) (still_ok s a t a.order) r.1.1.0 in
       let l = leads_buy s.store k.order (decide_ask s (heap_at a s.store.heap) a.objects k.ask.size k.ask.mask t) still in
       let z : k.order.size ≡ l.0 = ap (λ (x : Order). x.size) l.2 in
       let b = buy_bears s (heap_at a s.store.heap) a.objects k.ask.size k.ask.mask t l.0 l.1 in
@@ -206,8 +206,8 @@ module _ (s : BuddySettings) (a : Account) (o : Outcome) (t : Tables) (sound : S
   after : (v : Verdict) → deliver_gate_of s a t ≡ v → (ord : OpenOrder) → a.order ≡ ord → Sound s (carry_deliver s a t (gated Deliver.deny v (decide_deliver o held ord))).tables
   unfolding carry_deliver
   after (refuse n) g ord e = sound
-  after pass g Nothing e = sound
-  after pass g (Kept k) e =
+  after pass g None e = sound
+  after pass g (Some k) e =
       let p = opened k e g in
       ⊎_elim (λ d. rw d (fate_sound k p.lent.settings p.lent.lengths p.buys_it o d)) (λ d. rw d sound) (told (delivery_ok k.order.map held o))
 

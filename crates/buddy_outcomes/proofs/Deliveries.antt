@@ -15,8 +15,8 @@ use Rattle.counter.specs.Limits.{levels_most}
 use Rattle.counter.specs.Paper as Paper
 use Rattle.counter.specs.declared.account.Account.{Account}
 use Rattle.counter.specs.declared.account.KeptOrder.{KeptOrder}
-use Rattle.counter.specs.declared.account.OpenOrder.{OpenOrder}
-use Rattle.counter.specs.declared.account.OpenOrder.TheVariants.{Nothing, Kept}
+use Rattle.counter.specs.Open.{OpenOrder}
+use Rattle.std.specs.Prelude.{None, Some}
 use Rattle.counter.specs.declared.account.Order.{Order}
 use Rattle.counter.specs.declared.answers.Outcome.{Outcome}
 use Rattle.counter.specs.declared.settings.BuddySettings.{BuddySettings}
@@ -122,7 +122,7 @@ nine_rings s a size mask t back q W rings =
 
 -- a delivery refused as 11 or 12 passed the gate, and an order was open
 lost_passed : (s : BuddySettings) (a : Account) (o : Outcome) (t : Tables) (n : ℕ) (back : List ℕ) → (deliver_of s a o t).said ≡ Paper.refusal n back → (n ≡ 11) ⊎ (n ≡ 12)
-    → (k : KeptOrder) × (a.order ≡ Kept k) × (deliver_gate_of s a t ≡ pass)
+    → (k : KeptOrder) × (a.order ≡ Some k) × (deliver_gate_of s a t ≡ pass)
 unfolding deliver_of plan_deliver carry_deliver deliver_gate_of
 lost_passed s a o t n back e number = by (deliver_gate_of s a t) refl a.order refl e
   where
@@ -131,12 +131,12 @@ lost_passed s a o t n back e number = by (deliver_gate_of s a t) refl a.order re
 
     by : (v : Verdict) → deliver_gate_of s a t ≡ v → (x : OpenOrder) → a.order ≡ x
         → (carry_deliver s a t (gated Deliver.deny v (decide_deliver o (memories t (chunk_places_in t)) x))).said ≡ Paper.refusal n back
-        → (k : KeptOrder) × (a.order ≡ Kept k) × (deliver_gate_of s a t ≡ pass)
+        → (k : KeptOrder) × (a.order ≡ Some k) × (deliver_gate_of s a t ≡ pass)
     by (refuse m) g x y q =
         let low = gate_low (in_table_ok s a t) (open_for s.store.number a.order) (sound_ok s t && still_ok s a t a.order) (account_ok s a t) m g in
         absurd (other m low (said_number m n [] back q))
-    by pass g Nothing y q = absurd (other 2 (omega arith) (said_number 2 n [] back q))
-    by pass g (Kept k) y q = (k, y, g)
+    by pass g None y q = absurd (other 2 (omega arith) (said_number 2 n [] back q))
+    by pass g (Some k) y q = (k, y, g)
 
 -- "11 and 12 close the order and leave the levels .. as the order raised them": the rings of the levels that were there stay, and
 -- new levels have none
@@ -198,7 +198,7 @@ module _ (s : BuddySettings) (t : Tables) (fit : BuddyIn s) (lengths : Lengths s
 module _ (s : BuddySettings) (a : Account) (o : Outcome) (t : Tables) (serial number offset len : ℕ) (q : (deliver_of s a o t).said ≡ Paper.block serial number offset len) where
   -- a delivery that says a block: the loans are those before and one that matches the block, and the chunks those before and the
   -- one that was ordered, with the memory that was handed over
-  pub deliver_view : (k : KeptOrder) × (memory : ℕ) × (a.order ≡ Kept k) × (fate_of buddy o ≡ kept memory)
+  pub deliver_view : (k : KeptOrder) × (memory : ℕ) × (a.order ≡ Some k) × (fate_of buddy o ≡ kept memory)
       × (l : Loan) × Matches (block serial number offset len) l × Amid l (view_of s t).loans (view_of s (deliver_of s a o t).tables).loans
       × Amid (chunk number memory k.order.size) (view_of s t).chunks (view_of s (deliver_of s a o t).tables).chunks
   deliver_view =
@@ -223,7 +223,7 @@ module _ (s : BuddySettings) (a : Account) (o : Outcome) (t : Tables) (serial nu
 
   -- and the rings, from those that the levels have when they have grown
   pub deliver_rings : (W : ℕ → List ℕ) → Rings s t W
-      → (k : KeptOrder) × (a.order ≡ Kept k)
+      → (k : KeptOrder) × (a.order ≡ Some k)
       × Rings s (deliver_of s a o t).tables
       (rings_lent (λ (j : ℕ). (pair_taken (level_from s j) (as_ordered s k t).room).place) (level_for s k.ask.size k.ask.mask) (levels_in (as_ordered s k t)) (rings_grown (levels_in t) W))
   deliver_rings W rings =

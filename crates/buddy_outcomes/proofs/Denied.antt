@@ -14,8 +14,8 @@ use Rattle.counter.specs.Paper as Paper
 use Rattle.counter.specs.Reasons.{none, reason, Given, Clear, Decides}
 use Rattle.counter.specs.declared.account.Account.{Account}
 use Rattle.counter.specs.declared.account.KeptOrder.{KeptOrder}
-use Rattle.counter.specs.declared.account.OpenOrder.{OpenOrder}
-use Rattle.counter.specs.declared.account.OpenOrder.TheVariants.{Nothing, Kept}
+use Rattle.counter.specs.Open.{OpenOrder}
+use Rattle.std.specs.Prelude.{None, Some}
 use Rattle.counter.specs.declared.answers.Outcome.{Outcome}
 use Rattle.counter.specs.declared.settings.BuddySettings.{BuddySettings}
 use Rattle.counter.proofs.Gates.{passed}
@@ -66,7 +66,7 @@ module _ (s : BuddySettings) (a : Account) (o : Outcome) (t : Tables) (k : KeptO
   fated (kept m) e q = not_refused (carry_fate s a k t (kept m)).said n back refl q
   fated (lost m c x) e q = λ i. out (Paper.refusal (said_number m n x back q i) (said_back m n x back q i)) ((loss_left buddy s.store a k o m c x e).1 i) (as_ordered s k t)
 
-  after : (v : Verdict) → deliver_gate_of s a t ≡ v → Leaves (gated D.deny v (decide_deliver o (memories t (chunk_places_in t)) (Kept k)))
+  after : (v : Verdict) → deliver_gate_of s a t ≡ v → Leaves (gated D.deny v (decide_deliver o (memories t (chunk_places_in t)) (Some k)))
   unfolding deliver_gate_of
   after (refuse m) g =
       let h = gate_low (in_table_ok s a t) (open_for s.store.number a.order) (sound_ok s t && still_ok s a t a.order) (account_ok s a t) m g in
@@ -75,12 +75,12 @@ module _ (s : BuddySettings) (a : Account) (o : Outcome) (t : Tables) (k : KeptO
       ⊎_elim (λ d. rw d (fated (fate_of buddy o) refl)) (λ d. rw d (denied 13 (λ z. omega arith) (λ z. omega arith))) (told (delivery_ok k.order.map (memories t (chunk_places_in t)) o))
 
 -- 11 and 12 leave the levels grown as the order raised them and every other word as it was, and of the account what 01 says
-pub deliver_lost : (s : BuddySettings) (a : Account) (o : Outcome) (t : Tables) (k : KeptOrder) (n : ℕ) (back : List ℕ) → a.order ≡ Kept k → (deliver_of s a o t).said ≡ Paper.refusal n back → (n ≡ 11) ⊎ (n ≡ 12)
+pub deliver_lost : (s : BuddySettings) (a : Account) (o : Outcome) (t : Tables) (k : KeptOrder) (n : ℕ) (back : List ℕ) → a.order ≡ Some k → (deliver_of s a o t).said ≡ Paper.refusal n back → (n ≡ 11) ⊎ (n ≡ 12)
     → deliver_of s a o t ≡ out (Paper.refusal n back) (lost_for buddy s.store a k o) (as_ordered s k t)
 unfolding deliver_of plan_deliver
 deliver_lost s a o t k n back its e number = by a.order its e
   where
-    by : (x : OpenOrder) → x ≡ Kept k → (carry_deliver s a t (gated D.deny (deliver_gate_of s a t) (decide_deliver o (memories t (chunk_places_in t)) x))).said ≡ Paper.refusal n back
+    by : (x : OpenOrder) → x ≡ Some k → (carry_deliver s a t (gated D.deny (deliver_gate_of s a t) (decide_deliver o (memories t (chunk_places_in t)) x))).said ≡ Paper.refusal n back
         → carry_deliver s a t (gated D.deny (deliver_gate_of s a t) (decide_deliver o (memories t (chunk_places_in t)) x)) ≡ out (Paper.refusal n back) (lost_for buddy s.store a k o) (as_ordered s k t)
     by x q = rw q (after s a o t k n back number (deliver_gate_of s a t) refl)
 
@@ -108,8 +108,8 @@ module _ (s : BuddySettings) (a : Account) (t : Tables) where
       bought sound k z = ask_buys s t fit lengths sound (heap_at a s.store.heap) a.objects k.ask.size k.ask.mask z
 
       still : Sound s t → (ord : OpenOrder) → a.order ≡ ord → still_ok s a t ord ≡ true → Leads buddy_words s a t
-      still sound Nothing q e = absurd (true_false false e refl)
-      still sound (Kept k) q e =
+      still sound None q e = absurd (true_false false e refl)
+      still sound (Some k) q e =
           let p = leads_buy s.store k.order (decide_ask s (heap_at a s.store.heap) a.objects k.ask.size k.ask.mask t) e in
           let w = (bought sound k p.0).0 p.1 in
           record { kept = k; its = q; clear = w.0; needed = w.1; same = p.2 ∙ ap (order_from s.store) w.2 }

@@ -17,8 +17,8 @@ use Rattle.counter.specs.Paper as Paper
 use Rattle.counter.specs.Reasons.{none, reason, Given}
 use Rattle.counter.specs.declared.account.Account.{Account}
 use Rattle.counter.specs.declared.account.KeptOrder.{KeptOrder}
-use Rattle.counter.specs.declared.account.OpenOrder.{OpenOrder}
-use Rattle.counter.specs.declared.account.OpenOrder.TheVariants.{Nothing, Kept}
+use Rattle.counter.specs.Open.{OpenOrder}
+use Rattle.std.specs.Prelude.{None, Some}
 use Rattle.counter.specs.declared.answers.Block.{Block}
 use Rattle.counter.specs.declared.answers.Outcome.{Outcome}
 use Rattle.counter.specs.declared.settings.BuddySettings.{BuddySettings}
@@ -184,8 +184,8 @@ module _ (k : ℕ) (s : BuddySettings) (a : Account) (o : Outcome) (t : Tables) 
       → Gone k (carry_deliver s a t (gated Deliver.deny v (decide_deliver o (memories t (chunk_places_in t)) ord))).tables
   unfolding carry_deliver
   delivered_gone (refuse n) e ord h = g
-  delivered_gone pass e Nothing h = g
-  delivered_gone pass e (Kept x) h =
+  delivered_gone pass e None h = g
+  delivered_gone pass e (Some x) h =
       let sound = gate_sound s a t e in
       let p = opened s a o t sound x h e in
       ⊎_elim (λ d. rw d (fate_gone p.lent.settings p.lent.lengths sound x p.buys_it (fate_of buddy o))) (λ d. rw d g)

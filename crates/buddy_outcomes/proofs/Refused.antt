@@ -16,8 +16,8 @@ use Rattle.counter.specs.Reasons.{none, reason, Given, Decides}
 use Rattle.counter.specs.Table.{buddy_ok}
 use Rattle.counter.specs.declared.account.Account.{Account}
 use Rattle.counter.specs.declared.account.KeptOrder.{KeptOrder}
-use Rattle.counter.specs.declared.account.OpenOrder.{OpenOrder}
-use Rattle.counter.specs.declared.account.OpenOrder.TheVariants.{Nothing, Kept}
+use Rattle.counter.specs.Open.{OpenOrder}
+use Rattle.std.specs.Prelude.{None, Some}
 use Rattle.counter.specs.declared.answers.Block.{Block}
 use Rattle.counter.specs.declared.answers.Outcome.{Outcome}
 use Rattle.counter.specs.declared.settings.BuddySettings.{BuddySettings}
@@ -218,5 +218,5 @@ deliver_leaves s a o t n back e device host = after (deliver_gate_of s a t) a.or
 
     after : (v : Verdict) (x : OpenOrder) → Leaves (gated D.deny v (arrival_of buddy o (memories t (chunk_places_in t)) x))
     after (refuse m) x = denied m
-    after pass Nothing = denied 2
-    after pass (Kept k) = tested (delivery_ok k.order.map (memories t (chunk_places_in t)) o) k
+    after pass None = denied 2
+    after pass (Some k) = tested (delivery_ok k.order.map (memories t (chunk_places_in t)) o) k

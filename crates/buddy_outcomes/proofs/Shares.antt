@@ -10,8 +10,8 @@ use Rattle.counter.specs.Paper as Paper
 use Rattle.counter.specs.Table.{buddy_ok}
 use Rattle.counter.specs.declared.account.Account.{Account}
 use Rattle.counter.specs.declared.account.KeptOrder.{KeptOrder}
-use Rattle.counter.specs.declared.account.OpenOrder.{OpenOrder}
-use Rattle.counter.specs.declared.account.OpenOrder.TheVariants.{Nothing, Kept}
+use Rattle.counter.specs.Open.{OpenOrder}
+use Rattle.std.specs.Prelude.{None, Some}
 use Rattle.counter.specs.declared.answers.Block.{Block}
 use Rattle.counter.specs.declared.answers.Outcome.{Outcome}
 use Rattle.counter.specs.declared.settings.BuddySettings.{BuddySettings}
@@ -65,8 +65,8 @@ module _ (s : BuddySettings) (a b : Account) (alike : Alike s.store a b) where
 
   module _ (e : a.order ≡ b.order) where
     still_alike : (t : Tables) (o : OpenOrder) → still_ok s a t o ≡ still_ok s b t o
-    still_alike t Nothing = refl
-    still_alike t (Kept k) = λ j. leads_to s.store k.order (decide_ask s (alike.heap j) (alike.objects j) k.ask.size k.ask.mask t)
+    still_alike t None = refl
+    still_alike t (Some k) = λ j. leads_to s.store k.order (decide_ask s (alike.heap j) (alike.objects j) k.ask.size k.ask.mask t)
 
     kept_alike : (t : Tables) → still_ok s a t a.order ≡ still_ok s b t b.order
     kept_alike t = still_alike t a.order ∙ ap (still_ok s b t) e

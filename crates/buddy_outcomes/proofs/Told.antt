@@ -17,7 +17,7 @@ use Rattle.counter.specs.Gate.{Verdict, pass, refuse, first, gated}
 use Rattle.counter.specs.Paper as Paper
 use Rattle.counter.specs.Table.{alignment_ok}
 use Rattle.counter.specs.declared.account.Account.{Account}
-use Rattle.counter.specs.declared.account.OpenOrder.TheVariants.{Kept}
+use Rattle.std.specs.Prelude.{Some}
 use Rattle.counter.specs.declared.answers.Block.{Block}
 use Rattle.counter.specs.declared.settings.BuddySettings.{BuddySettings}
 use Rattle.store_rules.specs.Orders.{order_from, kept_from}
@@ -64,7 +64,7 @@ module _ (s : BuddySettings) (a : Account) (size mask : ℕ) (t : Tables) (gate 
       pub ask_ordered : found ≡ nowhere
           → ask_of s a size mask t
           ≡ out (Paper.order_of (order_from s.store (order_bytes s (level_for s size mask) t)))
-          (with_order a (Kept (kept_from s.store size mask (order_bytes s (level_for s size mask) t))))
+          (with_order a (Some (kept_from s.store size mask (order_bytes s (level_for s size mask) t))))
           (grown_tables s (grown_to (level_for s size mask) t) t)
       unfolding carry_ask
       ask_ordered e = answer pass passing ∙ ap (λ (f : Found). carry_ask s a size mask t (planned s (level_for s size mask) t f pass)) e

@@ -8,7 +8,7 @@ use Rattle.counter.specs.Paper as Paper
 use Rattle.counter.specs.Table.{alignment_ok}
 use Rattle.counter.specs.declared.account.Account.{Account}
 use Rattle.counter.specs.declared.account.Heap.{Heap}
-use Rattle.counter.specs.declared.account.OpenOrder.TheVariants.{Kept}
+use Rattle.std.specs.Prelude.{Some}
 use Rattle.counter.specs.declared.settings.BuddySettings.{BuddySettings}
 use Rattle.heap.specs.Heap.{bears_ok}
 use Rattle.slabs.specs.Slab.{inserted}
@@ -170,7 +170,7 @@ unfoldable pub carry_ask : BuddySettings → Account → ℕ → ℕ → Tables 
 carry_ask s a size mask t (deny n) = out (Paper.refusal n []) a (denied_tables s (level_for s size mask) n t)
 carry_ask s a size mask t (take i) = out (block_said (loan_from s (size_for s size mask) t i)) a (taken_tables s (size_for s size mask) (level_for s size mask) t i)
 carry_ask s a size mask t (buy z) =
-    out (Paper.order_of (order_from s.store z)) (with_order a (Kept (kept_from s.store size mask z))) (grown_tables s (grown_to (level_for s size mask) t) t)
+    out (Paper.order_of (order_from s.store z)) (with_order a (Some (kept_from s.store size mask z))) (grown_tables s (grown_to (level_for s size mask) t) t)
 
 -- ---- the call
 

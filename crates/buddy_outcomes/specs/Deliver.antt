@@ -7,8 +7,8 @@ use Rattle.counter.specs.Gate.{Verdict, first, gated}
 use Rattle.counter.specs.Paper as Paper
 use Rattle.counter.specs.declared.account.Account.{Account}
 use Rattle.counter.specs.declared.account.KeptOrder.{KeptOrder}
-use Rattle.counter.specs.declared.account.OpenOrder.{OpenOrder}
-use Rattle.counter.specs.declared.account.OpenOrder.TheVariants.{Nothing, Kept}
+use Rattle.counter.specs.Open.{OpenOrder}
+use Rattle.std.specs.Prelude.{None, Some}
 use Rattle.counter.specs.declared.answers.Outcome.{Outcome}
 use Rattle.counter.specs.declared.settings.BuddySettings.{BuddySettings}
 pub use Rattle.store_rules.specs.Arrivals.{Arrival, deny, go, arrival_of}
@@ -29,8 +29,8 @@ use Rattle.buddy_outcomes.specs.Ask.{size_for, level_for, grown_to, chunk_taken,
 
 -- 3 on a delivery: the kept ask still leads to the order that was told
 abbrev pub still_ok : BuddySettings → Account → Tables → OpenOrder → Bool
-still_ok s a t Nothing = false
-still_ok s a t (Kept k) =
+still_ok s a t None = false
+still_ok s a t (Some k) =
     leads_to s.store k.order (decide_ask s (heap_at a s.store.heap) a.objects k.ask.size k.ask.mask t)
 
 unfoldable pub deliver_gate_of : BuddySettings → Account → Tables → Verdict

@@ -24,7 +24,7 @@ use Rattle.buddy_trees.proofs.Fills.{has_in}
 use Rattle.buddy_rules.proofs.Frames.{rep_loan}
 use Rattle.buddy_rules.proofs.Grown.{grow_above}
 use Rattle.buddy_rules.proofs.Puts.{put_other}
-use Rattle.buddy_rules.specs.Level.{ent_of, pair_in, ring_head, pair_taken, dropped, backed, acquired, Good, part}
+use Rattle.buddy_rules.specs.Level.{ent_of, pair_in, ring_head, pair_taken, dropped, backed, acquired, part}
 use Rattle.buddy_rules.specs.Ringed.{Ringed, out_of, tail_of}
 use Rattle.buddy_rules.proofs.Ops.{level_ops}
 use Rattle.buddy_rules.proofs.Parts.{part_pair, part_head, part_taken}

@@ -7,6 +7,8 @@ pub mod Nodes
 pub mod Returns
 pub mod Ringed
 pub mod Rings
+pub mod Seen
+pub mod Sole
 pub mod Sound
 pub mod Stores
 pub mod Tables

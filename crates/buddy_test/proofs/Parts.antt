@@ -1,4 +1,5 @@
 -- Head, chunk places, levels and units: what the code has read of them is what the tests are of.
+use Rattle.std.specs.Prelude.{Option, Some, None, SomeIff, IfSome, is_some}
 use mathlib.Core.Path.{◌≡◌, refl, sym, ap, ap₂, ◌∙◌}
 use mathlib.Core.Bool.{Bool, true, false, ◌&&◌, ◌||◌, not}
 use mathlib.Core.List.{List, []}
@@ -101,3 +102,14 @@ module _ (s : BuddySettings) (k : ℕ) (loans : List ℕ) (l : Loan) (is : l ≡
   pub units_told : (r : Bool) → r ≡ (eqb l.size 0 || units s l) → r ≡ units_ok s (part_tables 0 loans [] [] []) k
   unfolding units_ok
   units_told r e = e ∙ rw (lt-ltb k (get_or loans places_at 0) used, sym size_is, sym offset_is) (twice (eqb l.size 0) (units s l))
+
+-- ---- a count that is told exactly where a test holds
+
+pub told_right : (r : Option ℕ) (b : Bool) (v : ℕ) → SomeIff r (b ≡ true) v → is_some r ≡ b
+told_right None true v h = absurd (h refl)
+told_right None false v h = refl
+told_right (Some x) b v h = sym h.0
+
+pub told_value : (r : Option ℕ) (b : Bool) (v n : ℕ) → SomeIff r (b ≡ true) v → IfSome r (λ k. k ≤ n) → IfSome r (λ k. (k ≡ v) × (k ≤ n))
+told_value None b v n h g = tt
+told_value (Some x) b v n h g = (h.1, g)

@@ -15,13 +15,11 @@ fn gather_held(chunks: &[u64], n: usize, found: &mut [u64]) -> usize
     ensures upper_bound { (result ≤ n) × (length found.new ≡ length found.old) }
 {
     let mut k = 0;
-    let mut c = 0;
-    while c < n {
+    for c in 0..n {
         if words::cell(chunks, CHUNK_SIZE_AT, CHUNK_WORDS, c) != 0 {
             found[k] = words::cell(chunks, MEMORY_AT, CHUNK_WORDS, c);
             k += 1;
         }
-        c += 1;
     }
     k
 }

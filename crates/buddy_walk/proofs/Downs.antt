@@ -20,7 +20,7 @@ use Rattle.buddy_levels.specs.Seen.{part_settings, loan_part}
 use Rattle.buddy_rules.specs.Tables.{Tables, places_in, level_from, pairs_in, nodes_from, loan_cell}
 use Rattle.buddy_rules.specs.Test.{leaf_ok, entry_ok, and_then, left_node}
 use Rattle.buddy_walk.specs.Walks.{Within, left_leaf, left_pair}
-use Rattle.buddy_walk.proofs.Shows.{entry_shows, leaf_shows}
+use Rattle.buddy_walk.proofs.Shows.{entry_shows}
 
 none : (b : Bool) (x : ℕ) → cond (b && false) x nowhere ≡ nowhere
 none true x = refl
@@ -97,14 +97,10 @@ module _ (s : BuddySettings) (t : Tables) where
     told : (x : Bool) → q ≡ x → says_loan w ≡ x
     told x e = sym says ∙ e
 
-    leaf_seen : (l m : ℕ) → left_leaf (part_settings s.minimal 0 s.store.loans) (loan_part t.loans t.index []) m c l o n k ≡ cond (ltb 0 k && leaf_ok s t m c l o n) (k - 1) nowhere
-    unfolding left_leaf
-    leaf_seen l m = ap (λ (b : Bool). cond (ltb 0 k && b) (k - 1) nowhere) (sym (leaf_shows s t m c l o n))
-
-    pub node_loan : (l m r : ℕ) → q ≡ true → m ≡ loan_said w → r ≡ left_leaf (part_settings s.minimal 0 s.store.loans) (loan_part t.loans t.index []) m c l o n k → r ≡ left_node s t l c o n w k
-    unfolding left_node
-    node_loan zero m r e j h = rw (ne_eqb w free_word some, told true e, ← j) (h ∙ leaf_seen zero m)
-    node_loan (suc l) m r e j h = rw (ne_eqb w free_word some, told true e, ← j) (h ∙ leaf_seen (suc l) m)
+    pub node_loan : (l m r : ℕ) → q ≡ true → m ≡ loan_said w → r ≡ left_leaf s t m c l o n k → r ≡ left_node s t l c o n w k
+    unfolding left_node left_leaf
+    node_loan zero m r e j h = rw (ne_eqb w free_word some, told true e, ← j) h
+    node_loan (suc l) m r e j h = rw (ne_eqb w free_word some, told true e, ← j) h
 
     pub node_low : (l : ℕ) → q ≡ false → l ≡ 0 → nowhere ≡ left_node s t l c o n w k
     unfolding left_node
@@ -177,18 +173,6 @@ pub half_size : (u l z : ℕ) → (l ≡ 0 → ⊥) → z ≡ bytes u l → z / 
 half_size u zero z f h = absurd (f refl)
 half_size u (suc l) z f h = let e : suc l - 1 ≡ l = omega arith in rw e (omega (arith, h, bytes_suc u l))
 
--- what the walk of a node's halves reads is there
-pub within_lower : (k l p m : ℕ) (loans index tree : List ℕ) → k ≤ l → Within l p m loans index tree → Within k p m loans index tree
-within_lower k l p m loans index tree h w =
-    record {
-      few_pairs = w.few_pairs;
-      few_loans = w.few_loans;
-      few_places = w.few_places;
-      loans_there = w.loans_there;
-      nodes_there = w.nodes_there;
-      pairs_there = λ i j. w.pairs_there i (omega arith);
-    }
-
 -- the words of a level that begins at b
-pub level_there : (l p m b : ℕ) (loans index tree : List ℕ) → b ≡ level_start p l → Within (l + 1) p m loans index tree → b + level_words (get_or tree (b + used_at) 0) ≤ length tree
-level_there l p m b loans index tree e w = rw e (w.pairs_there l (omega arith))
+pub level_there : (l k p m b : ℕ) (loans index tree : List ℕ) → b ≡ level_start p l → l < k → Within k p m loans index tree → b + level_words (get_or tree (b + used_at) 0) ≤ length tree
+level_there l k p m b loans index tree e h w = rw e (w.pairs_there l h)

@@ -1,7 +1,6 @@
 -- What the walk down a chunk, and the test of a chunk, read: no more than their numbers and lists.
 use mathlib.Core.Path.{◌≡◌, refl}
 use mathlib.Core.Bool.{cond, ◌&&◌}
-use mathlib.Core.List.{[]}
 use Prim.Native.Nat.{ℕ, zero, suc, ◌+◌, ◌-◌}
 use lib.Dec.{eqb, ltb}
 use Rattle.counter.specs.declared.settings.BuddySettings.{BuddySettings}
@@ -25,10 +24,6 @@ module _ (s : BuddySettings) (t : Tables) where
   entry_shows z v e c o n = refl
 
   -- nor does a leaf ask for more than the loans and their nodes
-  pub leaf_shows : (k c l o n : ℕ) → leaf_ok s t k c l o n ≡ leaf_ok (part_settings s.minimal 0 s.store.loans) (loan_part t.loans t.index []) k c l o n
-  unfolding leaf_ok
-  leaf_shows k c l o n = refl
-
   leaf_by : (k c l o n : ℕ) → leaf_ok s t k c l o n ≡ leaf_ok numbers shown k c l o n
   unfolding leaf_ok
   leaf_by k c l o n = refl

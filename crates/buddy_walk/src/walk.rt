@@ -1,19 +1,19 @@
 // The walk down a chunk, as 01 has it: the node check calls the pair check, and that the node check on both halves. It counts down
 // what it meets of the pairs in use and the loans. The tests before it have shown that the tables have the words of every place ever
-// used, so no word is asked for whether it is there.
-ghost use Rattle.std.specs.Prelude.{◌≡◌, [], ℕ, ◌+◌, ◌*◌, ◌^◌, ◌≤◌, ◌<◌, eqb, length, get_or};
-ghost use Rattle.counter.specs.Limits.{levels_most, loans_most, minimal_bits};
-ghost use Rattle.store_rules.specs.Loans.{places_at, loan_words};
-ghost use Rattle.book_rules.specs.Book.{index_words};
+// used, as its view says. A count that is torn is NOWHERE, as left_node has it: one number goes down the walk and comes back, and an
+// Option of it would have to say beside that it is never that number.
+ghost use Rattle.std.specs.Prelude.{◌≡◌, [], ℕ, ◌+◌, ◌*◌, ◌^◌, ◌≤◌, ◌<◌, eqb};
+ghost use Rattle.counter.specs.Limits.{levels_most, minimal_bits};
 ghost use Rattle.buddy_trees.specs.Trees.{bytes};
 ghost use Rattle.buddy_rules.specs.Nodes.{free_word, tag_of};
-ghost use Rattle.buddy_rules.specs.Tables.{columns};
 ghost use Rattle.buddy_levels.specs.Pairs.{ent_from};
 ghost use Rattle.buddy_rules.specs.Test.{entry_ok, left_node};
 ghost use Rattle.buddy_levels.specs.Seen.{part_settings, loan_part};
-ghost use Rattle.buddy_walk.specs.Walks.{Within, left_leaf, left_pair};
+ghost use Rattle.buddy_walk.specs.Views.{walk_settings, walk_tables};
+ghost use Rattle.buddy_walk.specs.Walks.{left_leaf, left_pair};
 
-use buddy_levels::{Pair, USED_AT};
+use crate::view::WalkView;
+use buddy_levels::{Pair, Side, USED_AT};
 use buddy_rules::{EXHAUSTED, FREE_WORD, LEFT_READY, RIGHT_READY};
 use slabs::NOWHERE;
 use store_rules::{CHUNK_AT, LOAN_WORDS, OFFSET_AT, PLACES_AT, SIZE_AT};
@@ -27,21 +27,19 @@ fn left_at_loan(
     node: u64,
     place: u64,
     left: u64,
-    most: usize,
-    loans: &[u64],
-    index: &[u64],
+    w: &WalkView<'_>,
 ) -> u64
-    requires { (most ≤ loans_most) × (get_or loans.now places_at 0 ≤ most) × (loan_words + loan_words * most ≤ length loans.now) × (index_words most + columns * (most + 1) ≤ length index.now) }
-    ensures { (minimal level : ℕ) → 0 < minimal → size ≡ bytes minimal level → result ≡ left_leaf (part_settings minimal 0 most) (loan_part loans.now index.now []) place chunk level offset node left }
+    ensures { (level : ℕ) → size ≡ bytes w.now.settings.minimal level → result ≡ left_leaf (walk_settings w.now) (walk_tables w.now) place chunk level offset node left }
 {
+    let loans = w.loans;
     if loans[PLACES_AT] <= place {
         return NOWHERE;
     }
     let i = LOAN_WORDS * place as usize;
-    let at = buddy_levels::node_at(most, place);
+    let at = buddy_levels::node_at(w.settings.store.loans, place);
     let stands = (loans[CHUNK_AT + i] == chunk)
         & ((loans[OFFSET_AT + i] == offset) & (loans[SIZE_AT + i] == size));
-    if (0 < left) & (stands & (index[at] == node)) {
+    if (0 < left) & (stands & (w.index[at] == node)) {
         left - 1
     } else {
         NOWHERE
@@ -81,40 +79,23 @@ pub fn left_at_node(
     word: u64,
     left: u64,
     level: u64,
-    pairs: usize,
-    most: usize,
-    loans: &[u64],
-    index: &[u64],
-    tree: &[u64],
+    w: &WalkView<'_>,
 ) -> u64
-    requires { Within level pairs most loans.now index.now tree.now × (level ≤ levels_most) × (offset + size ≤ 2 ^ (minimal_bits + levels_most)) }
-    ensures { (minimal : ℕ) → 0 < minimal → size ≡ bytes minimal level → result ≡ left_node (part_settings minimal pairs most) (loan_part loans.now index.now tree.now) level chunk offset node word left }
+    requires { (level ≤ w.now.levels) × (offset + size ≤ 2 ^ (minimal_bits + levels_most)) }
+    ensures { size ≡ bytes w.now.settings.minimal level → result ≡ left_node (walk_settings w.now) (walk_tables w.now) level chunk offset node word left }
 {
     if word == FREE_WORD {
         return left;
     }
     if buddy_levels::says_loan(word) {
         let place = buddy_levels::loan_said(word);
-        return left_at_loan(size, chunk, offset, node, place, left, most, loans, index);
+        return left_at_loan(size, chunk, offset, node, place, left, w);
     }
     if level == 0 {
         return NOWHERE;
     }
     let p = buddy_levels::pair_said(word);
-    left_at_pair(
-        size / 2,
-        chunk,
-        offset,
-        node,
-        p,
-        left,
-        level - 1,
-        pairs,
-        most,
-        loans,
-        index,
-        tree,
-    )
+    left_at_pair(size / 2, chunk, offset, node, p, left, level - 1, w)
 }
 
 // The same when the pair p, into which a node of the level above is split, and both its halves, each so long, have been walked; the
@@ -128,16 +109,13 @@ fn left_at_pair(
     p: u64,
     left: u64,
     level: u64,
-    pairs: usize,
-    most: usize,
-    loans: &[u64],
-    index: &[u64],
-    tree: &[u64],
+    w: &WalkView<'_>,
 ) -> u64
-    requires { Within (level + 1) pairs most loans.now index.now tree.now × (level < levels_most) × (offset + 2 * size ≤ 2 ^ (minimal_bits + levels_most)) }
-    ensures { (minimal : ℕ) → 0 < minimal → size ≡ bytes minimal level → result ≡ left_pair (part_settings minimal pairs most) (loan_part loans.now index.now tree.now) level chunk offset node p left }
+    requires { (level < w.now.levels) × (offset + 2 * size ≤ 2 ^ (minimal_bits + levels_most)) }
+    ensures { size ≡ bytes w.now.settings.minimal level → result ≡ left_pair (walk_settings w.now) (walk_tables w.now) level chunk offset node p left }
 {
-    let base = buddy_levels::level_from(pairs, level as usize);
+    let tree = w.tree;
+    let base = buddy_levels::level_from(w.settings.pairs, level as usize);
     if tree[base + USED_AT] <= p {
         return NOWHERE;
     }
@@ -149,15 +127,11 @@ fn left_at_pair(
         size,
         chunk,
         offset,
-        buddy_levels::left_node(p),
+        buddy_levels::node_of(p, Side::Left),
         e.left,
         left - 1,
         level,
-        pairs,
-        most,
-        loans,
-        index,
-        tree,
+        w,
     );
     if rest == NOWHERE {
         return NOWHERE;
@@ -166,14 +140,10 @@ fn left_at_pair(
         size,
         chunk,
         offset + size,
-        buddy_levels::right_node(p),
+        buddy_levels::node_of(p, Side::Right),
         e.right,
         rest,
         level,
-        pairs,
-        most,
-        loans,
-        index,
-        tree,
+        w,
     )
 }

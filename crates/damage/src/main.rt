@@ -4,14 +4,16 @@
 // Each argument names a tape; without arguments the tape is standard input.
 #![tactic(auto)]
 
-ghost use Rattle.text.specs.Written.{Stays};
-
 mod calls;
 mod history;
+mod stop;
 mod trials;
+
+ghost use Rattle.text.specs.Written.{Stays};
 
 use crate::calls::set_up;
 use crate::history::replay;
+use crate::stop::Stop;
 use crate::trials::{case_of, is_sound, try_tables};
 use counter::Account;
 use damage_parts::{
@@ -22,19 +24,9 @@ use reel::Settings;
 use std::io::{Read, Write};
 use std::rt::Files;
 use std::{env, io};
-use tape::Header;
 
 // what lent tables happen to hold before
 const LEFTOVER: u64 = 165;
-
-fn failed(t: Tally) -> Tally {
-    Tally {
-        stores: t.stores,
-        words: t.words,
-        calls: t.calls,
-        kept: false,
-    }
-}
 
 // The store that a history led to, in the row and the account.
 fn try_reached<W: Write>(
@@ -44,7 +36,7 @@ fn try_reached<W: Write>(
     a: Account,
     image: &[u64],
     t: Tally,
-) -> io::Result<Tally>
+) -> Result<Tally, Stop>
     ensures kept { Stays (W.contents out.old) (W.contents out.new) }
 {
     let c = case_of(store, s, a, image);
@@ -52,7 +44,7 @@ fn try_reached<W: Write>(
         return try_tables(out, c, image, t);
     }
     print_unsound(out, store)?;
-    Ok(failed(t))
+    Err(Stop::Told)
 }
 
 fn try_store<W: Write>(
@@ -62,48 +54,42 @@ fn try_store<W: Write>(
     s: Settings,
     fresh: Account,
     t: Tally,
-) -> io::Result<Tally>
+) -> Result<Tally, Stop>
     ensures kept { Stays (W.contents out.old) (W.contents out.new) }
 {
     if !fits(s) {
         print_too_large(out, store)?;
-        return Ok(failed(t));
+        return Err(Stop::Told);
     }
     let mut image = [LEFTOVER; ROW_MOST];
     if !set_up(s, &mut image) {
         print_not_set_up(out, store)?;
-        return Ok(failed(t));
+        return Err(Stop::Told);
     }
-    let reached = replay(input, s, fresh, &mut image);
-    if !reached.whole {
-        print_not_reached(out, store, reached.records)?;
-        return Ok(failed(t));
+    match replay(input, s, fresh, &mut image) {
+        Ok(reached) => try_reached(out, store, s, reached, &image, t),
+        Err(records) => {
+            print_not_reached(out, store, records)?;
+            Err(Stop::Told)
+        }
     }
-    try_reached(out, store, s, reached.account, &image, t)
 }
 
-fn try_tape<W: Write>(input: &mut impl Read, out: &mut W, store: u64, t: Tally) -> io::Result<Tally>
+fn try_tape<W: Write>(
+    input: &mut impl Read,
+    out: &mut W,
+    store: u64,
+    t: Tally,
+) -> Result<Tally, Stop>
     ensures kept { Stays (W.contents out.old) (W.contents out.new) }
 {
-    let header = reel::read_header(input);
-    match header {
-        Header::FreeList(h) => {
-            let settings = h.settings;
-            let own = settings.store;
-            let fresh = reel::fresh_account(own.heap, h.heap_size, h.objects);
-            try_store(input, out, store, Settings::FreeList(settings), fresh, t)
-        }
-        Header::Buddy(h) => {
-            let settings = h.settings;
-            let own = settings.store;
-            let fresh = reel::fresh_account(own.heap, h.heap_size, h.objects);
-            try_store(input, out, store, Settings::Buddy(settings), fresh, t)
-        }
-        Header::Refused => {
-            print_not_set_up(out, store)?;
-            Ok(failed(t))
-        }
-    }
+    let Some(start) = reel::read_header(input) else {
+        print_not_set_up(out, store)?;
+        return Err(Stop::Told);
+    };
+    let heap = reel::store_of(start.settings).heap;
+    let fresh = reel::fresh_account(heap, start.heap_size, start.objects);
+    try_store(input, out, store, start.settings, fresh, t)
 }
 
 // The tape that an argument names.
@@ -113,34 +99,32 @@ fn try_named<W: Write>(
     out: &mut W,
     store: u64,
     t: Tally,
-) -> io::Result<Tally>
+) -> Result<Tally, Stop>
     ensures kept { Stays (W.contents out.old) (W.contents out.new) }
 {
     match reel::open(rt, path)? {
-        None => Ok(failed(t)),
+        None => Err(Stop::Told),
         Some(mut tape) => try_tape(&mut tape, out, store, t),
     }
 }
 
-fn main(rt: HostRuntime) -> io::Result<()> {
-    let mut out = io::writer(&rt);
-    let mut t = Tally {
-        stores: 0,
-        words: 0,
-        calls: 0,
-        kept: true,
-    };
-    let args = env::args(&rt)?;
+fn try_all(rt: &HostRuntime) -> Result<(), Stop> {
+    let mut out = io::writer(rt);
+    let mut t = Tally::default();
+    let args = env::args(rt)?;
     if args.len() < 2 {
         t = try_tape(&mut rt.reader(), &mut out, 0, t)?;
     }
     for (i, path) in args.enumerate().skip(1) {
-        if t.kept {
-            t = try_named(&rt, path.as_str(), &mut out, i as u64, t)?;
-        }
+        t = try_named(rt, path.as_str(), &mut out, i as u64, t)?;
     }
-    if t.kept {
-        print_verdict(&mut out, t.stores, t.words, t.calls)?;
-    }
+    print_verdict(&mut out, t.stores, t.words, t.calls)?;
     Ok(())
+}
+
+fn main(rt: HostRuntime) -> io::Result<()> {
+    match try_all(&rt) {
+        Err(Stop::Write(e)) => Err(e),
+        Ok(()) | Err(Stop::Told) => Ok(()),
+    }
 }

@@ -7,22 +7,16 @@
 ghost use Rattle.text.specs.Written.{Stays};
 
 use crate::calls::{run, set_up};
-use counter::{Account, OpenOrder};
+use crate::stop::Stop;
+use counter::{Account, Refusal};
 use damage_parts::{
-    Case, Done, Place, Tally, WITH_ORDER, ask, ask_of, call_of, closed, copy_of, counted,
-    held_block, is_call, is_raised, is_same, is_same_account, is_tried, large, left_of,
-    print_changed, print_no_set_up, row_words, spoilt_row, stray, table_words,
+    CALLS, Call, Case, DAMAGES, Done, Place, TABLES, Table, Tally, ask, ask_of, call_of, closed,
+    copy_of, held_block, is_raised, is_same, is_tried, large, left_of, print_changed,
+    print_no_set_up, row_words, spoilt_row, stray, table_words,
 };
 use reel::Settings;
-use std::io;
 use std::io::Write;
 use tape::Record;
-
-const TABLES: u64 = 5;
-
-const VALUES: u64 = 5;
-
-const CALLS: u64 = 10;
 
 // A call made on a copy of the row, so that the row stays as it is.
 fn answered(s: Settings, a: Account, call: Record, image: &[u64]) -> Done {
@@ -33,47 +27,39 @@ fn answered(s: Settings, a: Account, call: Record, image: &[u64]) -> Done {
 pub fn case_of(store: u64, s: Settings, a: Account, image: &[u64]) -> Case {
     let free = closed(reel::store_of(s), a);
     let large = large(s, image);
-    let done = answered(s, free, ask(large, 0), image);
-    let open = done.account;
-    let held = held_block(image);
     Case {
-        store: store,
+        store,
         settings: s,
-        free: free,
-        open: open,
-        held: held,
-        large: large,
+        free,
+        open: answered(s, free, ask(large, 0), image).account,
+        held: held_block(image),
+        large,
     }
 }
 
 // Whether the store is sound: with no order open and an account that agrees, a return that matches no loan is refused by 7 if
 // it is, and else by 3.
 pub fn is_sound(c: Case, image: &[u64]) -> bool {
-    let s = c.settings;
-    let free = c.free;
-    let done = answered(s, free, stray(), image);
-    done.refusal == 7
+    answered(c.settings, c.free, stray(), image).refusal == Some(Refusal::Stale)
 }
 
 // Whether the tables are as an order for the call's ask leaves the damaged ones, an object given: it changes no more of them than
 // the levels that the ask needs.
-fn is_as_raised(c: Case, call: u64, spoilt: &[u64], after: &[u64]) -> bool {
+fn is_as_raised(c: Case, call: Call, spoilt: &[u64], after: &[u64]) -> bool {
     let s = c.settings;
-    let a = c.free;
-    let own = reel::store_of(s);
-    let able = a.settled(own.heap, a.heap(own.heap), 1, OpenOrder::Nothing);
+    let heap = reel::store_of(s).heap;
+    let able = c.free.settled(heap, c.free.heap(heap), 1, None);
     let mut raised = copy_of(s, spoilt);
     run(s, able, ask_of(c, call), &mut raised);
     is_same(after, &raised, row_words(s))
 }
 
 // Whether a refusal left the tables and the list as it should.
-fn is_left(c: Case, call: u64, refusal: u32, spoilt: &[u64], after: &[u64]) -> bool {
-    let s = c.settings;
-    if is_raised(s, refusal) {
+fn is_left(c: Case, call: Call, refusal: Refusal, spoilt: &[u64], after: &[u64]) -> bool {
+    if is_raised(c.settings, refusal) {
         is_as_raised(c, call, spoilt, after)
     } else {
-        is_same(after, spoilt, row_words(s))
+        is_same(after, spoilt, row_words(c.settings))
     }
 }
 
@@ -82,111 +68,75 @@ fn try_call<W: Write>(
     c: Case,
     spoilt: &[u64],
     p: Place,
-    call: u64,
-    t: Tally,
-) -> io::Result<Tally>
+    call: Call,
+) -> Result<(), Stop>
     ensures kept { Stays (W.contents out.old) (W.contents out.new) }
 {
     let s = c.settings;
-    let a = if call < WITH_ORDER { c.free } else { c.open };
+    let a = if call.has_order() { c.open } else { c.free };
     let mut after = copy_of(s, spoilt);
     let done = run(s, a, call_of(c, call), &mut after);
-    let expected = left_of(s, a, call, done.refusal);
-    let same = is_left(c, call, done.refusal, spoilt, &after);
-    let kept = (same & is_same_account(done.account, expected)) | (done.refusal == 0);
-    if !kept {
-        print_changed(
-            out,
-            c.store,
-            p.table,
-            p.word as u64,
-            p.value,
-            call,
-            done.refusal,
-        )?;
+    let Some(refusal) = done.refusal else {
+        return Ok(());
+    };
+    if is_left(c, call, refusal, spoilt, &after) & (done.account == left_of(s, a, call, refusal)) {
+        return Ok(());
     }
-    Ok(counted(t, kept))
+    print_changed(out, c.store, p, call, refusal)?;
+    Err(Stop::Told)
 }
 
 // Set-up takes the tables whatever they hold.
-fn try_set_up<W: Write>(out: &mut W, c: Case, spoilt: &[u64], t: Tally) -> io::Result<Tally>
+fn try_set_up<W: Write>(out: &mut W, c: Case, spoilt: &[u64]) -> Result<(), Stop>
     ensures kept { Stays (W.contents out.old) (W.contents out.new) }
 {
-    let s = c.settings;
-    let mut after = copy_of(s, spoilt);
-    let kept = set_up(s, &mut after);
-    if !kept {
-        print_no_set_up(out, c.store)?;
+    let mut after = copy_of(c.settings, spoilt);
+    if set_up(c.settings, &mut after) {
+        return Ok(());
     }
-    Ok(counted(t, kept))
+    print_no_set_up(out, c.store)?;
+    Err(Stop::Told)
 }
 
-fn try_calls<W: Write>(
-    out: &mut W,
-    c: Case,
-    spoilt: &[u64],
-    p: Place,
-    before: Tally,
-) -> io::Result<Tally>
-    ensures kept { Stays (W.contents out.old) (W.contents out.new) }
-{
-    let s = c.settings;
-    let mut t = before;
-    let mut call = 0u64;
-    while call < CALLS {
-        if t.kept & is_call(s, call) {
-            t = try_call(out, c, spoilt, p, call, t)?;
-        }
-        call += 1;
-    }
-    Ok(t)
-}
-
-fn try_value<W: Write>(
+fn try_damage<W: Write>(
     out: &mut W,
     c: Case,
     image: &[u64],
     p: Place,
     before: Tally,
-) -> io::Result<Tally>
+) -> Result<Tally, Stop>
     ensures kept { Stays (W.contents out.old) (W.contents out.new) }
 {
-    let s = c.settings;
-    let spoilt = spoilt_row(s, image, p);
-    let t = try_calls(out, c, &spoilt, p, before)?;
-    if t.kept {
-        return try_set_up(out, c, &spoilt, t);
+    let spoilt = spoilt_row(c.settings, image, p);
+    let mut t = before;
+    for call in CALLS {
+        if call.is_of(c.settings) {
+            try_call(out, c, &spoilt, p, call)?;
+            t = t.one_call();
+        }
     }
-    Ok(t)
+    try_set_up(out, c, &spoilt)?;
+    Ok(t.one_call())
 }
 
 fn try_word<W: Write>(
     out: &mut W,
     c: Case,
     image: &[u64],
-    table: u64,
+    table: Table,
     word: usize,
     before: Tally,
-) -> io::Result<Tally>
+) -> Result<Tally, Stop>
     ensures kept { Stays (W.contents out.old) (W.contents out.new) }
 {
-    let mut t = Tally {
-        stores: before.stores,
-        words: std::num::wrapping_add_u64(before.words, 1),
-        calls: before.calls,
-        kept: before.kept,
-    };
-    let mut value = 0u64;
-    while value < VALUES {
-        if t.kept {
-            let p = Place {
-                table: table,
-                word: word,
-                value: value,
-            };
-            t = try_value(out, c, image, p, t)?;
-        }
-        value += 1;
+    let mut t = before.one_word();
+    for damage in DAMAGES {
+        let p = Place {
+            table,
+            word,
+            damage,
+        };
+        t = try_damage(out, c, image, p, t)?;
     }
     Ok(t)
 }
@@ -195,39 +145,31 @@ fn try_table<W: Write>(
     out: &mut W,
     c: Case,
     image: &[u64],
-    table: u64,
+    table: Table,
     before: Tally,
-) -> io::Result<Tally>
+) -> Result<Tally, Stop>
     ensures kept { Stays (W.contents out.old) (W.contents out.new) }
 {
-    let s = c.settings;
-    let n = table_words(s, table);
     let mut t = before;
-    let mut word = 0usize;
-    while word < n {
-        if t.kept & is_tried(s, image, table, word) {
+    for word in 0..table_words(c.settings, table) {
+        if is_tried(c.settings, image, table, word) {
             t = try_word(out, c, image, table, word, t)?;
         }
-        word += 1;
     }
     Ok(t)
 }
 
-pub fn try_tables<W: Write>(out: &mut W, c: Case, image: &[u64], before: Tally) -> io::Result<Tally>
+pub fn try_tables<W: Write>(
+    out: &mut W,
+    c: Case,
+    image: &[u64],
+    before: Tally,
+) -> Result<Tally, Stop>
     ensures kept { Stays (W.contents out.old) (W.contents out.new) }
 {
-    let mut t = Tally {
-        stores: std::num::wrapping_add_u64(before.stores, 1),
-        words: before.words,
-        calls: before.calls,
-        kept: before.kept,
-    };
-    let mut table = 0u64;
-    while table < TABLES {
-        if t.kept {
-            t = try_table(out, c, image, table, t)?;
-        }
-        table += 1;
+    let mut t = before.one_store();
+    for table in TABLES {
+        t = try_table(out, c, image, table, t)?;
     }
     Ok(t)
 }

@@ -3,16 +3,57 @@
 ghost use Rattle.std.specs.Prelude.{◌≡◌, length};
 
 use crate::accounts::{charged, closed, given_back};
-use crate::image::{ROW_MOST, copy_of, table_at};
-use counter::{Account, Ask, Block, HOST_VISIBLE, Mapping, Memory, Outcome};
+use crate::image::{ROW_MOST, Table, copy_of, table_at};
+use counter::{Account, Ask, Block, HOST_VISIBLE, Mapping, Memory, Outcome, Refusal};
 use reel::Settings;
 use tape::Record;
 
-// A buddy store has no such call.
-const CLEAN_UP: u64 = 4;
+// The calls that are made on damaged tables, in the order of the numbers that are printed. The last four are deliveries to an open
+// order.
+#[derive(Clone, Copy, PartialEq, Eq, PartialOrd, Ord)]
+pub enum Call {
+    Ask,
+    AskLarge,
+    Return,
+    ReturnStray,
+    CleanUp,
+    DeliverUnordered,
+    Deliver,
+    DeviceRefuses,
+    MapOutOfHost,
+    MapFails,
+}
 
-// The calls from here on are deliveries to an open order.
-pub const WITH_ORDER: u64 = 6;
+pub const CALLS: [Call; 10] = [
+    Call::Ask,
+    Call::AskLarge,
+    Call::Return,
+    Call::ReturnStray,
+    Call::CleanUp,
+    Call::DeliverUnordered,
+    Call::Deliver,
+    Call::DeviceRefuses,
+    Call::MapOutOfHost,
+    Call::MapFails,
+];
+
+// What damage puts in place of a word, in the order of the numbers that are printed.
+#[derive(Clone, Copy)]
+pub enum Damage {
+    Zero,
+    One,
+    Above,
+    Below,
+    Highest,
+}
+
+pub const DAMAGES: [Damage; 5] = [
+    Damage::Zero,
+    Damage::One,
+    Damage::Above,
+    Damage::Below,
+    Damage::Highest,
+];
 
 // A store's number, its settings, its account without an order and with one, a block that it lent, and a size to ask for that
 // no free place has.
@@ -29,38 +70,56 @@ pub struct Case {
 // Which word is damaged, and how.
 #[derive(Clone, Copy)]
 pub struct Place {
-    pub table: u64,
+    pub table: Table,
     pub word: usize,
-    pub value: u64,
+    pub damage: Damage,
 }
 
-// So many stores, words and calls, and whether each refusal so far left everything as it was.
-#[derive(Clone, Copy)]
+// So many stores, words and calls, of which each refusal left everything as it was.
+#[derive(Clone, Copy, Default)]
 pub struct Tally {
     pub stores: u64,
     pub words: u64,
     pub calls: u64,
-    pub kept: bool,
+}
+
+impl Tally {
+    pub fn one_store(self) -> Tally {
+        Tally {
+            stores: self.stores.wrapping_add(1),
+            ..self
+        }
+    }
+
+    pub fn one_word(self) -> Tally {
+        Tally {
+            words: self.words.wrapping_add(1),
+            ..self
+        }
+    }
+
+    pub fn one_call(self) -> Tally {
+        Tally {
+            calls: self.calls.wrapping_add(1),
+            ..self
+        }
+    }
 }
 
 pub fn ask(size: u64, mask: u64) -> Record {
-    Record::Ask(Ask {
-        size: size,
-        mask: mask,
-    })
+    Record::Ask(Ask { size, mask })
 }
 
 fn delivered(mapping: Mapping) -> Record {
     Record::Deliver(Outcome::Made(Memory {
         number: 333,
-        mapping: mapping,
+        mapping,
     }))
 }
 
 // Memory such as the store's orders ask for.
 fn memory(settings: Settings) -> Record {
-    let s = reel::store_of(settings);
-    if counter::has(s.properties, HOST_VISIBLE) {
+    if counter::has(reel::store_of(settings).properties, HOST_VISIBLE) {
         delivered(Mapping::Mapped)
     } else {
         delivered(Mapping::NotWanted)
@@ -88,79 +147,68 @@ pub fn stray() -> Record {
     })
 }
 
-pub fn call_of(c: Case, call: u64) -> Record {
-    let s = c.settings;
-    let held = c.held;
+pub fn call_of(c: Case, call: Call) -> Record {
     match call {
-        0 => ask(8, 0),
-        1 => ask(c.large, 0),
-        2 => Record::Return(held),
-        3 => stray(),
-        CLEAN_UP => Record::CleanUp,
-        5 => memory(s),
-        6 => memory(s),
-        7 => Record::Deliver(Outcome::OutOfDevice),
-        8 => delivered(Mapping::OutOfHost),
-        _ => delivered(Mapping::Failed),
+        Call::Ask => ask(8, 0),
+        Call::AskLarge => ask(c.large, 0),
+        Call::Return => Record::Return(c.held),
+        Call::ReturnStray => stray(),
+        Call::CleanUp => Record::CleanUp,
+        Call::DeliverUnordered | Call::Deliver => memory(c.settings),
+        Call::DeviceRefuses => Record::Deliver(Outcome::OutOfDevice),
+        Call::MapOutOfHost => delivered(Mapping::OutOfHost),
+        Call::MapFails => delivered(Mapping::Failed),
+    }
+}
+
+impl Call {
+    // Whether an order is open when it is made.
+    pub fn has_order(self) -> bool {
+        Call::Deliver <= self
+    }
+
+    // A buddy store has no clean-up.
+    pub fn is_of(self, s: Settings) -> bool {
+        (self != Call::CleanUp) | !reel::is_buddy(s)
     }
 }
 
 // The call's ask: its own, or the one that led to the open order.
-pub fn ask_of(c: Case, call: u64) -> Record {
-    if call < WITH_ORDER {
-        call_of(c, call)
-    } else {
+pub fn ask_of(c: Case, call: Call) -> Record {
+    if call.has_order() {
         ask(c.large, 0)
+    } else {
+        call_of(c, call)
     }
-}
-
-pub fn is_call(s: Settings, call: u64) -> bool {
-    !((call == CLEAN_UP) & reel::is_buddy(s))
 }
 
 // What a refusal leaves of the account: 11 and 12 close the order, the others change nothing.
-pub fn left_of(settings: Settings, a: Account, call: u64, refusal: u32) -> Account {
-    if (refusal < 11) | (12 < refusal) {
-        return a;
-    }
+pub fn left_of(settings: Settings, a: Account, call: Call, refusal: Refusal) -> Account {
     let s = reel::store_of(settings);
-    match call {
-        7 => closed(s, a),
-        8 => charged(s, a),
-        9 => {
-            if reel::is_buddy(settings) {
-                charged(s, a)
-            } else {
-                given_back(s, a)
-            }
+    match (refusal, call) {
+        (Refusal::Device | Refusal::Host, Call::DeviceRefuses) => closed(s, a),
+        (Refusal::Device | Refusal::Host, Call::MapOutOfHost) => charged(s, a),
+        (Refusal::Device | Refusal::Host, Call::MapFails) if reel::is_buddy(settings) => {
+            charged(s, a)
         }
+        (Refusal::Device | Refusal::Host, Call::MapFails) => given_back(s, a),
         _ => a,
     }
 }
 
 // Whether a refusal leaves the levels as the ask raises them: in a buddy store 9, 11 and 12 do. A free list's chunk size, which
 // 11 and 12 leave as raised, is as large as the ask already.
-pub fn is_raised(s: Settings, refusal: u32) -> bool {
-    reel::is_buddy(s) & ((refusal == 9) | (refusal == 11) | (refusal == 12))
+pub fn is_raised(s: Settings, refusal: Refusal) -> bool {
+    reel::is_buddy(s) & matches!(refusal, Refusal::Objects | Refusal::Device | Refusal::Host)
 }
 
-// One more call.
-pub fn counted(t: Tally, kept: bool) -> Tally {
-    Tally {
-        stores: t.stores,
-        words: t.words,
-        calls: std::num::wrapping_add_u64(t.calls, 1),
-        kept: kept,
-    }
-}
-
-fn damaged(old: u64, value: u64) -> u64 {
-    match value {
-        0 => 0,
-        1 => 1,
-        2 => std::num::wrapping_add_u64(old, 1),
-        3 => std::num::wrapping_add_u64(old, u64::MAX),
-        _ => u64::MAX,
+fn damaged(old: u64, damage: Damage) -> u64 {
+    match damage {
+        Damage::Zero => 0,
+        Damage::One => 1,
+        Damage::Above => old.wrapping_add(1),
+        Damage::Below => old.wrapping_sub(1),
+        Damage::Highest => u64::MAX,
     }
 }
 
@@ -171,6 +219,6 @@ pub fn spoilt_row(s: Settings, image: &[u64], p: Place) -> [u64; ROW_MOST]
     let mut row = copy_of(s, image);
     let at = table_at(p.table);
     let old = words::cell(image, at, 1, p.word);
-    words::put_cell(&mut row, at, 1, p.word, damaged(old, p.value));
+    words::put_cell(&mut row, at, 1, p.word, damaged(old, p.damage));
     row
 }

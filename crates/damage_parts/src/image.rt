@@ -79,27 +79,45 @@ pub fn row_words(settings: Settings) -> usize {
     OWN_AT + lengths.own
 }
 
+// A store's tables, in the order of the numbers that are printed; the last is the engine's own.
+#[derive(Clone, Copy, PartialEq, Eq)]
+pub enum Table {
+    Head,
+    Loans,
+    Chunks,
+    Index,
+    Own,
+}
+
+pub const TABLES: [Table; 5] = [
+    Table::Head,
+    Table::Loans,
+    Table::Chunks,
+    Table::Index,
+    Table::Own,
+];
+
 // Where a table stands in the row, and how many of its words the store is lent.
-pub fn table_at(table: u64) -> usize
+pub fn table_at(table: Table) -> usize
     ensures { result ≤ at_most }
 {
     match table {
-        0 => HEAD_AT,
-        1 => LOANS_AT,
-        2 => CHUNKS_AT,
-        3 => INDEX_AT,
-        _ => OWN_AT,
+        Table::Head => HEAD_AT,
+        Table::Loans => LOANS_AT,
+        Table::Chunks => CHUNKS_AT,
+        Table::Index => INDEX_AT,
+        Table::Own => OWN_AT,
     }
 }
 
-pub fn table_words(settings: Settings, table: u64) -> usize {
+pub fn table_words(settings: Settings, table: Table) -> usize {
     let lengths = lent_words(settings);
     match table {
-        0 => lengths.head,
-        1 => lengths.loans,
-        2 => lengths.chunks,
-        3 => lengths.index,
-        _ => lengths.own,
+        Table::Head => lengths.head,
+        Table::Loans => lengths.loans,
+        Table::Chunks => lengths.chunks,
+        Table::Index => lengths.index,
+        Table::Own => lengths.own,
     }
 }
 
@@ -107,11 +125,7 @@ pub fn table_words(settings: Settings, table: u64) -> usize {
 fn level_rows(s: BuddySettings) -> usize
     ensures { 1 ≤ result }
 {
-    if s.pairs < PAIRS {
-        1 + s.pairs
-    } else {
-        1 + PAIRS
-    }
+    1 + s.pairs.min(PAIRS)
 }
 
 // Whether a word of a buddy store's tree is damaged: those in use, and some past them. In use are what stands before and after the
@@ -119,10 +133,10 @@ fn level_rows(s: BuddySettings) -> usize
 // lowest level, and the own words of the first level that there isn't.
 fn is_tried_in_tree(s: BuddySettings, image: &[u64], word: usize) -> bool {
     let rows = level_rows(s);
-    let row = std::num::wrapping_sub_usize(word / PAIR_WORDS, 1);
+    let row = (word / PAIR_WORDS).wrapping_sub(1);
     let level = (row / rows) as u64;
     let pair = row % rows;
-    let first = std::num::wrapping_sub_usize(row, pair);
+    let first = row.wrapping_sub(pair);
     let used = words::cell(image, OWN_AT + OWN_WORDS + USED_AT, PAIR_WORDS, first);
     let levels = words::word(image, HEAD_AT + LEVELS_AT);
     ((LEVELS_MOST as u64) <= level)
@@ -131,10 +145,10 @@ fn is_tried_in_tree(s: BuddySettings, image: &[u64], word: usize) -> bool {
         | ((level == levels) & (pair == 0))
 }
 
-pub fn is_tried(settings: Settings, image: &[u64], table: u64, word: usize) -> bool {
+pub fn is_tried(settings: Settings, image: &[u64], table: Table, word: usize) -> bool {
     match settings {
         Settings::FreeList(_) => true,
-        Settings::Buddy(s) => (table < 4) | is_tried_in_tree(s, image, word),
+        Settings::Buddy(s) => (table != Table::Own) | is_tried_in_tree(s, image, word),
     }
 }
 
@@ -152,11 +166,8 @@ pub fn table_from(image: &[u64], from: usize) -> [u64; ROOM]
 fn load(table: &mut [u64], image: &[u64], from: usize, n: usize)
     requires { from ≤ at_most }
 {
-    let mut i = 0usize;
-    while i < n {
-        let v = words::cell(image, from, 1, i);
-        words::put(table, i, v);
-        i += 1;
+    for i in 0..n {
+        words::put(table, i, words::cell(image, from, 1, i));
     }
 }
 
@@ -183,11 +194,8 @@ pub fn copy_of(settings: Settings, image: &[u64]) -> [u64; ROW_MOST]
 fn keep(image: &mut [u64], from: usize, table: &[u64], n: usize)
     requires { from ≤ at_most }
 {
-    let mut i = 0usize;
-    while i < n {
-        let v = words::word(table, i);
-        words::put_cell(image, from, 1, i, v);
-        i += 1;
+    for i in 0..n {
+        words::put_cell(image, from, 1, i, words::word(table, i));
     }
 }
 
@@ -212,13 +220,7 @@ pub fn keep_all(
 
 // Whether two rows have the same first n words.
 pub fn is_same(x: &[u64], y: &[u64], n: usize) -> bool {
-    let mut same = true;
-    let mut i = 0usize;
-    while i < n {
-        same = same & (words::word(x, i) == words::word(y, i));
-        i += 1;
-    }
-    same
+    (0..n).all(|i| words::word(x, i) == words::word(y, i))
 }
 
 // The loan at a place, as the block that was lent.
@@ -235,13 +237,11 @@ fn block_at(image: &[u64], place: usize) -> Block {
 pub fn held_block(image: &[u64]) -> Block {
     let places = words::word(image, LOANS_AT + PLACES_AT);
     let mut held = block_at(image, 0);
-    let mut i = 0usize;
-    while i < LOANS {
+    for i in 0..LOANS {
         let b = block_at(image, i);
         if ((i as u64) < places) & (0 < b.size) {
             held = b;
         }
-        i += 1;
     }
     held
 }

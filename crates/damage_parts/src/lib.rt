@@ -8,17 +8,18 @@ mod image;
 mod lines;
 mod refusals;
 
-pub use accounts::{closed, is_same_account};
+pub use accounts::closed;
 pub use cases::{
-    Case, Place, Tally, WITH_ORDER, ask, ask_of, call_of, counted, is_call, is_raised, large,
+    CALLS, Call, Case, DAMAGES, Damage, Place, Tally, ask, ask_of, call_of, is_raised, large,
     left_of, spoilt_row, stray,
 };
 pub use image::{
-    CHUNKS_AT, HEAD_AT, INDEX_AT, LIST_AT, LOANS_AT, ROW_MOST, copy_of, fits, held_block, is_same,
-    is_tried, keep_all, lent_words, own_from, row_words, table_from, table_words,
+    CHUNKS_AT, HEAD_AT, INDEX_AT, LIST_AT, LOANS_AT, ROW_MOST, TABLES, Table, copy_of, fits,
+    held_block, is_same, is_tried, keep_all, lent_words, own_from, row_words, table_from,
+    table_words,
 };
 pub use lines::{
     print_changed, print_no_set_up, print_not_reached, print_not_set_up, print_too_large,
     print_unsound, print_verdict,
 };
-pub use refusals::{Done, told};
+pub use refusals::Done;

@@ -2,6 +2,8 @@
 // write ends a line with an I/O error, and no error of another kind comes; what was written before stays.
 ghost use Rattle.text.specs.Written.{Stays};
 
+use crate::cases::{Call, Place};
+use counter::Refusal;
 use std::io;
 use std::io::Write;
 use text::{number, word};
@@ -13,35 +15,33 @@ fn store_number<W: Write>(out: &mut W, store: u64) -> io::Result<()>
     number(out, store)
 }
 
-fn print_damage<W: Write>(out: &mut W, table: u64, at: u64, value: u64) -> io::Result<()>
+fn print_damage<W: Write>(out: &mut W, p: Place) -> io::Result<()>
     ensures kept { Stays (W.contents out.old) (W.contents out.new) }
 {
     word(out, ", table ")?;
-    number(out, table)?;
+    number(out, p.table as u64)?;
     word(out, ", word ")?;
-    number(out, at)?;
+    number(out, p.word as u64)?;
     word(out, ", value ")?;
-    number(out, value)
+    number(out, p.damage as u64)
 }
 
 // Tables are numbered as image.rt lists them, values and calls as cases.rt does.
 pub fn print_changed<W: Write>(
     out: &mut W,
     store: u64,
-    table: u64,
-    at: u64,
-    value: u64,
-    call: u64,
-    refusal: u32,
+    p: Place,
+    call: Call,
+    refusal: Refusal,
 ) -> io::Result<()>
     ensures kept { Stays (W.contents out.old) (W.contents out.new) }
 {
     store_number(out, store)?;
-    print_damage(out, table, at, value)?;
+    print_damage(out, p)?;
     word(out, ", call ")?;
-    number(out, call)?;
+    number(out, call as u64)?;
     word(out, ": refusal ")?;
-    number(out, refusal as u64)?;
+    number(out, u64::from(refusal.number()))?;
     word(out, " changed something\n")
 }
 

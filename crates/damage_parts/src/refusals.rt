@@ -1,54 +1,28 @@
 // What a call comes to for a trial.
-use counter::{Account, AskAnswer, DeliverAnswer, Refused, ReleaseAnswer};
+use counter::{Account, Refusal};
 use reel::{Answer, Taken};
 
-// The account after a call, and the refusal's number, 0 where there is none.
+// The account after a call, and why it was refused, where it was.
 #[derive(Clone, Copy)]
 pub struct Done {
     pub account: Account,
-    pub refusal: u32,
+    pub refusal: Option<Refusal>,
 }
 
-fn number(r: Refused) -> u32 {
-    let refusal = r.refusal;
-    refusal.number()
-}
-
-fn ask_refusal(answer: AskAnswer) -> u32 {
+fn refusal(answer: Answer) -> Option<Refusal> {
     match answer {
-        AskAnswer::Refused(r) => number(r),
-        _ => 0,
+        Answer::Asked(Err(r)) | Answer::Delivered(Err(r)) | Answer::Released(Err(r)) => {
+            Some(r.refusal)
+        }
+        _ => None,
     }
 }
 
-fn deliver_refusal(answer: DeliverAnswer) -> u32 {
-    match answer {
-        DeliverAnswer::Refused(r) => number(r),
-        _ => 0,
-    }
-}
-
-fn release_refusal(answer: ReleaseAnswer) -> u32 {
-    match answer {
-        ReleaseAnswer::Refused(r) => number(r),
-        _ => 0,
-    }
-}
-
-fn refusal(answer: Answer) -> u32 {
-    match answer {
-        Answer::Asked(asked) => ask_refusal(asked),
-        Answer::Delivered(delivered) => deliver_refusal(delivered),
-        Answer::Released(released) => release_refusal(released),
-        Answer::Nothing => 0,
-    }
-}
-
-pub fn told(taken: Taken) -> Done {
-    let after = taken.account;
-    let answer = taken.answer;
-    Done {
-        account: after,
-        refusal: refusal(answer),
+impl From<Taken> for Done {
+    fn from(taken: Taken) -> Done {
+        Done {
+            account: taken.account,
+            refusal: taken.answer.and_then(refusal),
+        }
     }
 }

@@ -5,7 +5,7 @@ use Rattle.rounding_rules.specs.Masks.{ones_ok, power_ok}
 use Rattle.rounding_rules.specs.Raising.{up_to, bits, power_up, level_of}
 use Rattle.counter.specs.Paper as Paper
 use Rattle.counter.specs.Table.{alignment_ok, store_ok, buddy_ok, heaps_upto}
-use Rattle.counter.specs.declared.account.OpenOrder.TheVariants.{Nothing}
+use Rattle.std.specs.Prelude.{None}
 use Rattle.heap.specs.Heap.{plus_of, charged_of, released_of, bears_ok, agrees_ok}
 use Rattle.words.specs.Words.{blank}
 use Rattle.slabs.specs.Slab.{inserted}
@@ -72,7 +72,7 @@ tables_worked =
     two_back : back (return_of halves holding (slip 2 512) one_returned (replicate 2 0)) ≡ back (listed (Paper.released 0) holding two_returned (replicate 2 0))
     two_back = refl
 
-    three_back : back (return_of halves holding (slip 3 1024) two_returned (replicate 2 0)) ≡ back (listed (Paper.released 1) (account 0 4096 4096 10 Nothing) all_returned (50 ∷ 0 ∷ []))
+    three_back : back (return_of halves holding (slip 3 1024) two_returned (replicate 2 0)) ≡ back (listed (Paper.released 1) (account 0 4096 4096 10 None) all_returned (50 ∷ 0 ∷ []))
     three_back = refl
 
     level_31 : row (level_for halves (2 ^ 39) 0 ∷ []) ≡ row (31 ∷ [])

@@ -5,7 +5,7 @@ use Rattle.rounding_rules.specs.Masks.{ones_ok, power_ok}
 use Rattle.rounding_rules.specs.Raising.{up_to, bits, power_up, level_of}
 use Rattle.counter.specs.Paper as Paper
 use Rattle.counter.specs.Table.{alignment_ok, store_ok, buddy_ok, heaps_upto}
-use Rattle.counter.specs.declared.account.OpenOrder.TheVariants.{Nothing}
+use Rattle.std.specs.Prelude.{None}
 use Rattle.heap.specs.Heap.{plus_of, charged_of, released_of, bears_ok, agrees_ok}
 use Rattle.words.specs.Words.{blank}
 use Rattle.slabs.specs.Slab.{inserted}
@@ -51,22 +51,22 @@ split_worked = λ j. order_300 j ∷ block_300 j ∷ block_512 j ∷ next_512 j 
     order_300 : heard asked.said asked.account ≡ heard (Paper.order 7 4096 0 false) (account 0 0 0 10 (open_for 300 4096))
     order_300 = refl
 
-    block_300 : heard first.said first.account ≡ heard (Paper.block 1 0 0 512) (account 4096 4096 0 9 Nothing)
+    block_300 : heard first.said first.account ≡ heard (Paper.block 1 0 0 512) (account 4096 4096 0 9 None)
     block_300 = refl
 
-    block_512 : heard second.said second.account ≡ heard (Paper.block 2 0 512 512) (account 4096 4096 0 9 Nothing)
+    block_512 : heard second.said second.account ≡ heard (Paper.block 2 0 512 512) (account 4096 4096 0 9 None)
     block_512 = refl
 
-    next_512 : heard third.said third.account ≡ heard (Paper.block 3 0 1024 512) (account 4096 4096 0 9 Nothing)
+    next_512 : heard third.said third.account ≡ heard (Paper.block 3 0 1024 512) (account 4096 4096 0 9 None)
     next_512 = refl
 
-    one_back : heard back_one.said back_one.account ≡ heard (Paper.released 0) (account 4096 4096 0 9 Nothing)
+    one_back : heard back_one.said back_one.account ≡ heard (Paper.released 0) (account 4096 4096 0 9 None)
     one_back = refl
 
-    two_back : heard back_two.said back_two.account ≡ heard (Paper.released 0) (account 4096 4096 0 9 Nothing)
+    two_back : heard back_two.said back_two.account ≡ heard (Paper.released 0) (account 4096 4096 0 9 None)
     two_back = refl
 
-    three_back : heard back_three.said back_three.account ≡ heard (Paper.released 1) (account 0 4096 4096 10 Nothing)
+    three_back : heard back_three.said back_three.account ≡ heard (Paper.released 1) (account 0 4096 4096 10 None)
     three_back = refl
 
     listed_back : row back_three.list ≡ row (50 ∷ 0 ∷ [])
@@ -75,5 +75,5 @@ split_worked = λ j. order_300 j ∷ block_300 j ∷ block_512 j ∷ next_512 j 
     level_31 : row (level_for halves (2 ^ 39) 0 ∷ []) ≡ row (31 ∷ [])
     level_31 = refl
 
-    past_31 : heard (ask_of halves (account 0 0 0 10 Nothing) (2 ^ 39 + 1) 0 empty).said (account 0 0 0 10 Nothing) ≡ heard (Paper.refusal 6 []) (account 0 0 0 10 Nothing)
+    past_31 : heard (ask_of halves (account 0 0 0 10 None) (2 ^ 39 + 1) 0 empty).said (account 0 0 0 10 None) ≡ heard (Paper.refusal 6 []) (account 0 0 0 10 None)
     past_31 = refl

@@ -1,7 +1,7 @@
 -- The worked days of 01 that are marked * : what the definitions give beside what the paper says, as one checked table.
 use Rattle.std.specs.Prelude.{false, List, [], ◌∷◌, ◌++◌, ℕ, take, replicate}
 use Rattle.counter.specs.Paper as Paper
-use Rattle.counter.specs.declared.account.OpenOrder.TheVariants.{Nothing}
+use Rattle.std.specs.Prelude.{None}
 use Rattle.counter.specs.declared.settings.FreeListSettings.{FreeListSettings}
 use Rattle.store_rules.specs.Outcomes.{out, listed}
 use Rattle.freelist_rules.specs.Tables.{Tables, tables, marks}
@@ -112,27 +112,27 @@ less_two =
 unfoldable pub lending : List Day
 lending =
     day (left (out (set_up_of list (tables (replicate 2 9) (replicate 16 9) (replicate 9 9) (replicate 20 9) (replicate 24 9))).said
-    (account 0 0 0 10 Nothing)
+    (account 0 0 0 10 None)
     (set_up_of list (tables (replicate 2 9) (replicate 16 9) (replicate 9 9) (replicate 20 9) (replicate 24 9))).tables))
-    (left (out Paper.ready (account 0 0 0 10 Nothing) opening))
+    (left (out Paper.ready (account 0 0 0 10 None) opening))
     -- "Ask 100: order 4,096, block 3,968 size 128."
-    ∷ day (left (ask_of list (account 0 0 0 10 Nothing) 100 0 opening))
+    ∷ day (left (ask_of list (account 0 0 0 10 None) 100 0 opening))
     (left (out (Paper.order 7 4096 0 false) (account 0 0 0 10 (open_for 100 4096)) opening))
     ∷ day (left (deliver_of list (account 0 0 0 10 (open_for 100 4096)) (made 50) opening))
-    (left (out (Paper.block 1 1 3968 128) (account 4096 4096 0 9 Nothing) with_one))
+    (left (out (Paper.block 1 1 3968 128) (account 4096 4096 0 9 None) with_one))
     -- "Then 256 with mask 1,023: offset 3,072, size 896."
-    ∷ day (left (ask_of list (account 4096 4096 0 9 Nothing) 256 1023 with_one))
-    (left (out (Paper.block 2 1 3072 896) (account 4096 4096 0 9 Nothing) with_two))
+    ∷ day (left (ask_of list (account 4096 4096 0 9 None) 256 1023 with_one))
+    (left (out (Paper.block 2 1 3072 896) (account 4096 4096 0 9 None) with_two))
     -- "Then 5,000: order 8,192, chunk 2, offset 3,136, size 5,056."
-    ∷ day (left (ask_of list (account 4096 4096 0 9 Nothing) 5000 0 with_two))
+    ∷ day (left (ask_of list (account 4096 4096 0 9 None) 5000 0 with_two))
     (left (out (Paper.order 7 8192 0 false) (account 4096 4096 0 9 (open_for 5000 8192)) with_two))
     ∷ day (left (deliver_of list (account 4096 4096 0 9 (open_for 5000 8192)) (made 51) with_two))
-    (left (out (Paper.block 3 2 3136 5056) (account 12288 12288 0 8 Nothing) with_three))
+    (left (out (Paper.block 3 2 3136 5056) (account 12288 12288 0 8 None) with_three))
     -- "Return the 128, then the 896: chunk 1 is released."
-    ∷ day (back (return_of list (account 12288 12288 0 8 Nothing) (record { serial = 1; chunk = 1; offset = 3968; size = 128 }) with_three (replicate 2 0)))
-    (back (listed (Paper.released 0) (account 12288 12288 0 8 Nothing) less_one (replicate 2 0)))
-    ∷ day (back (return_of list (account 12288 12288 0 8 Nothing) (record { serial = 2; chunk = 1; offset = 3072; size = 896 }) less_one (replicate 2 0)))
-    (back (listed (Paper.released 1) (account 8192 12288 4096 9 Nothing) less_two (50 ∷ 0 ∷ [])))
+    ∷ day (back (return_of list (account 12288 12288 0 8 None) (record { serial = 1; chunk = 1; offset = 3968; size = 128 }) with_three (replicate 2 0)))
+    (back (listed (Paper.released 0) (account 12288 12288 0 8 None) less_one (replicate 2 0)))
+    ∷ day (back (return_of list (account 12288 12288 0 8 None) (record { serial = 2; chunk = 1; offset = 3072; size = 896 }) less_one (replicate 2 0)))
+    (back (listed (Paper.released 1) (account 8192 12288 4096 9 None) less_two (50 ∷ 0 ∷ [])))
     ∷ []
 
 unfoldable pub days : List Day

@@ -3,8 +3,8 @@ use Rattle.std.specs.Prelude.{false, List, ◌∷◌, ℕ, replicate}
 use Rattle.counter.specs.Account.{no_heap}
 use Rattle.counter.specs.Paper.{Said}
 use Rattle.counter.specs.declared.account.Account.{Account}
-use Rattle.counter.specs.declared.account.OpenOrder.{OpenOrder}
-use Rattle.counter.specs.declared.account.OpenOrder.TheVariants.{Kept}
+use Rattle.counter.specs.Open.{OpenOrder}
+use Rattle.std.specs.Prelude.{Some}
 use Rattle.counter.specs.declared.answers.Mapping.TheVariants as M
 use Rattle.counter.specs.declared.answers.Outcome.{Outcome}
 use Rattle.counter.specs.declared.answers.Outcome.TheVariants as O
@@ -41,7 +41,7 @@ account used allocated deallocated objects order =
 
 abbrev pub open_for : ℕ → ℕ → OpenOrder
 open_for size z =
-    Kept (record { ask = record { size = size; mask = 0 }; order = record { store = 7; size = z; memtype = 0; map = false } })
+    Some (record { ask = record { size = size; mask = 0 }; order = record { store = 7; size = z; memtype = 0; map = false } })
 
 -- the memory is made, and a map was not wanted
 abbrev pub made : ℕ → Outcome

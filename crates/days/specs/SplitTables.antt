@@ -2,7 +2,7 @@
 use Rattle.std.specs.Prelude.{false, List, [], ◌∷◌, ◌++◌, ℕ, ◌+◌, ◌^◌, replicate}
 use Rattle.counter.specs.Paper as Paper
 use Rattle.counter.specs.declared.account.Account.{Account}
-use Rattle.counter.specs.declared.account.OpenOrder.TheVariants.{Nothing}
+use Rattle.std.specs.Prelude.{None}
 use Rattle.counter.specs.declared.answers.Block.{Block}
 use Rattle.slabs.specs.Slab.{nowhere}
 use Rattle.store_rules.specs.Outcomes.{out, listed}
@@ -124,10 +124,10 @@ all_returned =
 -- ---- the day
 
 abbrev pub idle : Account
-idle = account 0 0 0 10 Nothing
+idle = account 0 0 0 10 None
 
 abbrev pub holding : Account
-holding = account 4096 4096 0 9 Nothing
+holding = account 4096 4096 0 9 None
 
 abbrev pub slip : ℕ → ℕ → Block
 slip serial offset = record { serial = serial; chunk = 0; offset = offset; size = 512 }
@@ -144,7 +144,7 @@ split_tables =
     -- "Return all three in that order: only the last releases the chunk."
     ∷ day (back (return_of halves holding (slip 1 0) three_lent (replicate 2 0))) (back (listed (Paper.released 0) holding one_returned (replicate 2 0)))
     ∷ day (back (return_of halves holding (slip 2 512) one_returned (replicate 2 0))) (back (listed (Paper.released 0) holding two_returned (replicate 2 0)))
-    ∷ day (back (return_of halves holding (slip 3 1024) two_returned (replicate 2 0))) (back (listed (Paper.released 1) (account 0 4096 4096 10 Nothing) all_returned (50 ∷ 0 ∷ [])))
+    ∷ day (back (return_of halves holding (slip 3 1024) two_returned (replicate 2 0))) (back (listed (Paper.released 1) (account 0 4096 4096 10 None) all_returned (50 ∷ 0 ∷ [])))
     -- "Ask 2^39 is level 31." "Ask 2^39 + 1: refusal 6."
     ∷ day (row (level_for halves (2 ^ 39) 0 ∷ [])) (row (31 ∷ []))
     ∷ day (left (ask_of halves idle (2 ^ 39 + 1) 0 none_lent)) (left (out (Paper.refusal 6 []) idle none_lent))

@@ -2,7 +2,7 @@
 use Rattle.std.specs.Prelude.{false, List, [], ◌∷◌, ℕ, ◌+◌, ◌^◌, replicate}
 use Rattle.counter.specs.Paper as Paper
 use Rattle.counter.specs.declared.account.Account.{Account}
-use Rattle.counter.specs.declared.account.OpenOrder.TheVariants.{Nothing}
+use Rattle.std.specs.Prelude.{None}
 use Rattle.counter.specs.declared.settings.BuddySettings.{BuddySettings}
 use Rattle.store_rules.specs.Outcomes.{Out, Listed}
 use Rattle.buddy_rules.specs.Tables.{Tables, tables, book_words, tree_words}
@@ -24,7 +24,7 @@ empty =
 
 -- the day's calls, each on what the one before left
 abbrev pub asked : Out Tables
-asked = ask_of halves (account 0 0 0 10 Nothing) 300 0 empty
+asked = ask_of halves (account 0 0 0 10 None) 300 0 empty
 
 abbrev pub first : Out Tables
 first = deliver_of halves asked.account (made 50) asked.tables
@@ -51,16 +51,16 @@ unfoldable pub splitting : List Day
 splitting =
     -- "Ask 300: order 4,096; block offset 0, size 512."
     day (heard asked.said asked.account) (heard (Paper.order 7 4096 0 false) (account 0 0 0 10 (open_for 300 4096)))
-    ∷ day (heard first.said first.account) (heard (Paper.block 1 0 0 512) (account 4096 4096 0 9 Nothing))
+    ∷ day (heard first.said first.account) (heard (Paper.block 1 0 0 512) (account 4096 4096 0 9 None))
     -- "Ask 512: offset 512." "Ask 512: offset 1,024."
-    ∷ day (heard second.said second.account) (heard (Paper.block 2 0 512 512) (account 4096 4096 0 9 Nothing))
-    ∷ day (heard third.said third.account) (heard (Paper.block 3 0 1024 512) (account 4096 4096 0 9 Nothing))
+    ∷ day (heard second.said second.account) (heard (Paper.block 2 0 512 512) (account 4096 4096 0 9 None))
+    ∷ day (heard third.said third.account) (heard (Paper.block 3 0 1024 512) (account 4096 4096 0 9 None))
     -- "Return all three in that order: only the last releases the chunk."
-    ∷ day (heard back_one.said back_one.account) (heard (Paper.released 0) (account 4096 4096 0 9 Nothing))
-    ∷ day (heard back_two.said back_two.account) (heard (Paper.released 0) (account 4096 4096 0 9 Nothing))
-    ∷ day (heard back_three.said back_three.account) (heard (Paper.released 1) (account 0 4096 4096 10 Nothing))
+    ∷ day (heard back_one.said back_one.account) (heard (Paper.released 0) (account 4096 4096 0 9 None))
+    ∷ day (heard back_two.said back_two.account) (heard (Paper.released 0) (account 4096 4096 0 9 None))
+    ∷ day (heard back_three.said back_three.account) (heard (Paper.released 1) (account 0 4096 4096 10 None))
     ∷ day (row back_three.list) (row (50 ∷ 0 ∷ []))
     -- "Ask 2^39 is level 31." "Ask 2^39 + 1: refusal 6."
     ∷ day (row (level_for halves (2 ^ 39) 0 ∷ [])) (row (31 ∷ []))
-    ∷ day (heard (ask_of halves (account 0 0 0 10 Nothing) (2 ^ 39 + 1) 0 empty).said (account 0 0 0 10 Nothing)) (heard (Paper.refusal 6 []) (account 0 0 0 10 Nothing))
+    ∷ day (heard (ask_of halves (account 0 0 0 10 None) (2 ^ 39 + 1) 0 empty).said (account 0 0 0 10 None)) (heard (Paper.refusal 6 []) (account 0 0 0 10 None))
     ∷ []

@@ -1,19 +1,16 @@
 -- What a loop has filled of a table, one store a turn: the words it has put are the front of what is to stand there.
-use mathlib.Core.Path.{◌≡◌, sym, ◌∙◌}
+use mathlib.Core.Path.{◌≡◌, ◌∙◌}
 use mathlib.Core.List.{List, ◌∷◌, ◌++◌, append-nil}
 use Prim.Native.Nat.{ℕ, suc, ◌+◌, ◌-◌, ◌≤◌, ◌<◌}
 use native.Mathlib.Omega.{arith}
 use native.Mathlib.Numerals.{add-one}
 use lib.ListN.{length, get_or, take, drop, set, replicate, length-drop, length-replicate}
-use lib.Seq.{length-take-le, take_all, drop-length, get_or-drop, paste, paste-suc}
+use lib.Seq.{length-take-le, drop-length, get_or-drop, paste, paste-suc}
 use Rattle.words.specs.Words.{cell_of}
 use Rattle.words.proofs.Filled.{put_next}
 use Rattle.distinct.specs.Column.{column, column_from}
 
 -- ---- a column gathered, a word a turn
-
-pub column_none : (t : List ℕ) (at w n : ℕ) → column t at w n ≡ column_from t at w 0 (n - 0)
-column_none t at w n = let e : n - 0 ≡ n = omega arith in rw e
 
 column_from_lem : (t : List ℕ) (at w i n : ℕ) → i < n → column_from t at w i (n - i) ≡ get_or t (cell_of at w i) 0 ∷ column_from t at w (i + 1) (n - (i + 1))
 column_from_lem t at w i n h = let e : n - i ≡ suc (n - (i + 1)) = omega arith in rw (e, add-one i)
@@ -24,11 +21,6 @@ pub column_next : (t f : List ℕ) (at w i n : ℕ) → i < n → n ≡ length f
 column_next t f at w i n h l e =
     put_next (column t at w n) f i (get_or t (cell_of at w i) 0) (column_from t at w (i + 1) (n - (i + 1))) (omega arith)
     (e ∙ rw (column_from_lem t at w i n h))
-
-pub column_done : (t f : List ℕ) (at w i n : ℕ) → i ≡ n → n ≡ length f → column t at w n ≡ take i f ++ column_from t at w i (n - i) → f ≡ column t at w n
-column_done t f at w i n h l e =
-    let z : n - i ≡ 0 = omega arith in
-    sym (e ∙ rw z (append-nil (take i f)) ∙ take_all i f (omega arith))
 
 -- ---- words copied from one table to another, a word a turn
 

@@ -13,7 +13,7 @@ ghost use Rattle.distinct.specs.Order.{climbing};
 
 use counter::CHUNKS_MOST;
 pub use sorting::sort;
-use words::cell;
+use words::Column;
 
 // Whether the words at `at` of the first n records, of w words each, all differ.
 pub fn is_distinct(t: &[u64], at: usize, w: usize, n: usize) -> bool
@@ -22,15 +22,15 @@ pub fn is_distinct(t: &[u64], at: usize, w: usize, n: usize) -> bool
 {
     let mut found = [0u64; CHUNKS_MOST];
     let mut spare = [0u64; CHUNKS_MOST];
-    all_differ(t, at, w, &mut found[..n], &mut spare)
+    all_differ(t, Column { at, width: w }, &mut found[..n], &mut spare)
 }
 
 // The same of as many records as `found` has words. Memory numbers that a caller counts up rise, and are not sorted.
-fn all_differ(t: &[u64], at: usize, w: usize, found: &mut [u64], spare: &mut [u64]) -> bool
-    requires { (0 < w) × (w ≤ widest) × (length found.old ≤ length spare.old) × (at ≤ at_most) }
-    ensures { (result ≡ true → Distinct (column t.now at w (length found.old))) × (Distinct (column t.now at w (length found.old)) → result ≡ true) }
+fn all_differ(t: &[u64], c: Column, found: &mut [u64], spare: &mut [u64]) -> bool
+    requires { length found.old ≤ length spare.old }
+    ensures { (result ≡ true → Distinct (column t.now c.at c.width (length found.old))) × (Distinct (column t.now c.at c.width (length found.old)) → result ≡ true) }
 {
-    gather(t, at, w, found);
+    gather(t, c, found);
     if climbs(found) {
         return true;
     }
@@ -38,15 +38,12 @@ fn all_differ(t: &[u64], at: usize, w: usize, found: &mut [u64], spare: &mut [u6
     climbs(found)
 }
 
-// The word at `at` of each record, as many as `found` has room for.
-fn gather(t: &[u64], at: usize, w: usize, found: &mut [u64])
-    requires { (0 < w) × (w ≤ widest) × (at ≤ at_most) }
-    ensures { found.new ≡ column t.now at w (length found.old) }
+// The column's words, as many as `found` has room for.
+fn gather(t: &[u64], c: Column, found: &mut [u64])
+    ensures { found.new ≡ column t.now c.at c.width (length found.old) }
 {
-    let mut i = 0;
-    while i < found.len() {
-        found[i] = cell(t, at, w, i);
-        i += 1;
+    for (i, x) in found.iter_mut().enumerate() {
+        *x = c.word(t, i);
     }
 }
 
@@ -54,12 +51,5 @@ fn gather(t: &[u64], at: usize, w: usize, found: &mut [u64])
 fn climbs(a: &[u64]) -> bool
     ensures { result ≡ climbing a.now }
 {
-    let mut i = 1;
-    while i < a.len() {
-        if a[i] <= a[i - 1] {
-            return false;
-        }
-        i += 1;
-    }
-    true
+    a.is_sorted_by(|x, y| *x < *y)
 }

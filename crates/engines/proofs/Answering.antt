@@ -11,7 +11,7 @@ use Rattle.lists.proofs.Bools.{same?}
 use Rattle.counter.specs.Paper as Paper
 use Rattle.counter.specs.Reasons.{Clear}
 use Rattle.counter.specs.declared.account.Account.{Account}
-use Rattle.counter.specs.declared.account.OpenOrder.TheVariants.{Kept}
+use Rattle.std.specs.Prelude.{Some}
 use Rattle.counter.specs.declared.answers.Block.{Block}
 use Rattle.counter.specs.declared.answers.Outcome.{Outcome}
 use Rattle.store_rules.specs.Orders.{order_from, kept_from}
@@ -81,7 +81,7 @@ module _ (E : Engine) (s : E.shape.Settings) where
         pub ask_tells : (Blocked (E.shape.ask s a size mask t).said × (E.shape.Needed s size mask t → ⊥))
             ⊎ (E.shape.Needed s size mask t
             × ((E.shape.ask s a size mask t).said ≡ Paper.order_of (order_from (E.shape.store s) (E.shape.order_size s size mask t)))
-            × ((E.shape.ask s a size mask t).account ≡ with_order a (Kept (kept_from (E.shape.store s) size mask (E.shape.order_size s size mask t)))))
+            × ((E.shape.ask s a size mask t).account ≡ with_order a (Some (kept_from (E.shape.store s) size mask (E.shape.order_size s size mask t)))))
         ask_tells =
             ⊎_elim (λ b. inl (b, blocked_unneeded b))
             (λ x. ⊎_elim ordered (λ r. absurd (ask_unrefused r.0 r.1 r.2)) x)
@@ -91,7 +91,7 @@ module _ (E : Engine) (s : E.shape.Settings) where
                 → (Blocked (E.shape.ask s a size mask t).said × (E.shape.Needed s size mask t → ⊥))
                 ⊎ (E.shape.Needed s size mask t
                 × ((E.shape.ask s a size mask t).said ≡ Paper.order_of (order_from (E.shape.store s) (E.shape.order_size s size mask t)))
-                × ((E.shape.ask s a size mask t).account ≡ with_order a (Kept (kept_from (E.shape.store s) size mask (E.shape.order_size s size mask t)))))
+                × ((E.shape.ask s a size mask t).account ≡ with_order a (Some (kept_from (E.shape.store s) size mask (E.shape.order_size s size mask t)))))
             ordered o =
                 let w = E.delivers.ordered s a size mask t o in
                 inr ((E.lends.orders_when s a size mask t ask_unrefused).0 (E.shape.order_size s size mask t, w.0), w.0, w.1)

@@ -15,7 +15,7 @@ use Rattle.counter.specs.Paper as Paper
 use Rattle.counter.specs.declared.account.Account.{Account}
 use Rattle.counter.specs.declared.account.Heap.{Heap}
 use Rattle.counter.specs.declared.account.KeptOrder.{KeptOrder}
-use Rattle.counter.specs.declared.account.OpenOrder.TheVariants.{Nothing, Kept}
+use Rattle.std.specs.Prelude.{None, Some}
 use Rattle.counter.specs.declared.account.Total.{Total}
 use Rattle.counter.specs.declared.answers.Memory.{Memory}
 use Rattle.counter.specs.declared.answers.Outcome.{Outcome}
@@ -72,7 +72,7 @@ module _ (s : StoreSettings) (a : Account) where
 
 -- the open order is k, the account's heap is right and bears it, and an object is left
 pub record Bears (s : StoreSettings) (a : Account) (k : KeptOrder) : Type 0 where
-  pub is : a.order ≡ Kept k
+  pub is : a.order ≡ Some k
   pub low : s.heap < heaps_most
   pub bears : bears_ok (heap_at a s.heap) k.order.size ≡ true
   pub object : 0 < a.objects
@@ -107,9 +107,9 @@ module _ (s : StoreSettings) (a : Account) (k : KeptOrder) (w : Bears s a k) whe
       let g = charged_of (own s a) z in
       let b : delivery_books (O.Made m) (order_size a.order) said ≡ charge z ∷ [] = rw (x, y, size_is) in
       record {
-        heaps = settled_length a s.heap g (a.objects - 1) Nothing;
-        others = settled_other a s.heap g (a.objects - 1) Nothing;
-        heap = λ v. settled_own a s.heap g (a.objects - 1) Nothing w.low (has v) ∙ ap (after (own s a)) (sym b);
+        heaps = settled_length a s.heap g (a.objects - 1) None;
+        others = settled_other a s.heap g (a.objects - 1) None;
+        heap = λ v. settled_own a s.heap g (a.objects - 1) None w.low (has v) ∙ ap (after (own s a)) (sym b);
         fitting = λ v. subst (AllFitting (own s a)) (sym b) (room, tt);
         objects = let e : delivery_takes (O.Made m) said ≡ 1 = rw x in omega (arith, e, y, w.object);
       }
@@ -122,9 +122,9 @@ module _ (s : StoreSettings) (a : Account) (k : KeptOrder) (w : Bears s a k) whe
       let g = released_of (charged_of (own s a) z) z in
       let b : delivery_books (O.Made m) (order_size a.order) said ≡ charge z ∷ release z ∷ [] = rw (x, y, size_is) in
       record {
-        heaps = settled_length a s.heap g a.objects Nothing;
-        others = settled_other a s.heap g a.objects Nothing;
-        heap = λ v. settled_own a s.heap g a.objects Nothing w.low (has v) ∙ ap (after (own s a)) (sym b);
+        heaps = settled_length a s.heap g a.objects None;
+        others = settled_other a s.heap g a.objects None;
+        heap = λ v. settled_own a s.heap g a.objects None w.low (has v) ∙ ap (after (own s a)) (sym b);
         fitting = λ v. subst (AllFitting (own s a)) (sym b) back_fits;
         objects = let e : delivery_takes (O.Made m) said ≡ 1 = rw x in omega (arith, e, y);
       }

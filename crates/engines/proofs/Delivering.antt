@@ -11,7 +11,7 @@ use Rattle.counter.specs.Properties.{host_visible}
 use Rattle.counter.specs.Reasons.{Reasons, none, reason, Given, Clear}
 use Rattle.counter.specs.declared.account.Account.{Account}
 use Rattle.counter.specs.declared.account.KeptOrder.{KeptOrder}
-use Rattle.counter.specs.declared.account.OpenOrder.TheVariants.{Kept}
+use Rattle.std.specs.Prelude.{Some}
 use Rattle.counter.specs.declared.answers.Mapping.{Mapping}
 use Rattle.counter.specs.declared.answers.Mapping.TheVariants as M
 use Rattle.counter.specs.declared.answers.Memory.{Memory}
@@ -42,7 +42,7 @@ as_ordered false = M.NotWanted
 same_memory : (x y : Memory) → O.Made x ≡ O.Made y → x ≡ y
 same_memory x y q = cc
 
-same_kept : (x y : KeptOrder) → Kept x ≡ Kept y → x ≡ y
+same_kept : (x y : KeptOrder) → Some x ≡ Some y → x ≡ y
 same_kept x y q = cc
 
 suited : (wanted : Bool) → Unsuited wanted (as_ordered wanted) → ⊥
@@ -80,7 +80,7 @@ module _ (wanted : Bool) (m : Memory) (fit : m.mapping ≡ as_ordered wanted) wh
       let q = sym fit ∙ ap (λ (x : Memory). x.mapping) (same_memory m w.0 w.1) in
       ⊎_elim (λ e. not_host wanted (q ∙ e)) (λ e. not_failed wanted (q ∙ e)) w.2
 
-  welcome : (a : Account) (held : List ℕ) (k : KeptOrder) → a.order ≡ Kept k → k.order.map ≡ wanted → (Memᴰ m.number held → ⊥) → UnwelcomeTo a held (O.Made m) → ⊥
+  welcome : (a : Account) (held : List ℕ) (k : KeptOrder) → a.order ≡ Some k → k.order.map ≡ wanted → (Memᴰ m.number held → ⊥) → UnwelcomeTo a held (O.Made m) → ⊥
   welcome a held k is map new w =
       let q : m ≡ w.2.0 = same_memory m w.2.0 w.2.1 in
       let z : w.0.order.map ≡ wanted = ap (λ (x : KeptOrder). x.order.map) (same_kept w.0 k (sym w.1 ∙ is)) ∙ map in
@@ -113,7 +113,7 @@ module _ (E : Engine) (s : E.shape.Settings) (a : Account) (size mask : ℕ) (t 
       let u = (E.shape.ask s a size mask t).tables in
       let c = (E.refuses.deliver_clear s b u).0 order_delivers in
       let k = kept_from (E.shape.store s) size mask (E.shape.order_size s size mask t) in
-      let is : b.order ≡ Kept k = ap (λ (x : Account). x.order) (E.delivers.ordered s a size mask t its).1 in
+      let is : b.order ≡ Some k = ap (λ (x : Account). x.order) (E.delivers.ordered s a size mask t its).1 in
       let new' : Memᴰ m.number (map (λ (c : Chunk). c.memory) (E.shape.view s u).chunks) → ⊥ =
       subst (λ (cs : List Chunk). Memᴰ m.number (map (λ (c : Chunk). c.memory) cs) → ⊥) (sym (E.tells.ask_chunks s a size mask t)) new in
       let all : Clear (deliver_rows (words_of E.shape) s b (O.Made m) u) =

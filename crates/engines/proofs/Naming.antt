@@ -13,8 +13,8 @@ use Rattle.counter.specs.Paper.{Said}
 use Rattle.counter.specs.Paper as Paper
 use Rattle.counter.specs.declared.account.Account.{Account}
 use Rattle.counter.specs.declared.account.KeptOrder.{KeptOrder}
-use Rattle.counter.specs.declared.account.OpenOrder.{OpenOrder}
-use Rattle.counter.specs.declared.account.OpenOrder.TheVariants.{Nothing, Kept}
+use Rattle.counter.specs.Open.{OpenOrder}
+use Rattle.std.specs.Prelude.{None, Some}
 use Rattle.counter.specs.declared.answers.Mapping.{Mapping}
 use Rattle.counter.specs.declared.answers.Mapping.TheVariants as M
 use Rattle.counter.specs.declared.answers.Outcome.{Outcome}
@@ -62,8 +62,8 @@ module _ (e : D.Engine) (o : Outcome) where
 
     pub arrival_names : (v : Verdict) → ((m : ℕ) → v ≡ refuse m → m ≤ 4) → (ord : OpenOrder) → say (gated deny v (arrival_of e o held ord)) ≡ Paper.refusal n back → back ≡ named_by e o
     arrival_names (refuse m) low ord q = let h = low m refl in denied m (λ z. omega arith) (λ z. omega arith) q
-    arrival_names pass low Nothing q = denied 2 (λ z. omega arith) (λ z. omega arith) q
-    arrival_names pass low (Kept k) q = went (delivery_ok k.order.map held o) k q
+    arrival_names pass low None q = denied 2 (λ z. omega arith) (λ z. omega arith) q
+    arrival_names pass low (Some k) q = went (delivery_ok k.order.map held o) k q
 
 -- ---- of any engine that gives `Further`
 

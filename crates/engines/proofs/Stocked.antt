@@ -14,7 +14,7 @@ use Rattle.lists.proofs.Bools.{same?}
 use Rattle.counter.specs.Account.{Typed, heap_at}
 use Rattle.counter.specs.Paper as Paper
 use Rattle.counter.specs.declared.account.Account.{Account}
-use Rattle.counter.specs.declared.account.OpenOrder.{OpenOrder}
+use Rattle.counter.specs.Open.{OpenOrder}
 use Rattle.counter.specs.declared.answers.Block.{Block}
 use Rattle.counter.proofs.Papers.{kind_of}
 use Rattle.heap.specs.History.{release, after}

@@ -15,8 +15,8 @@ use Rattle.counter.specs.Paper as Paper
 use Rattle.counter.specs.Reasons.{Clear}
 use Rattle.counter.specs.declared.account.Account.{Account}
 use Rattle.counter.specs.declared.account.KeptOrder.{KeptOrder}
-use Rattle.counter.specs.declared.account.OpenOrder.{OpenOrder}
-use Rattle.counter.specs.declared.account.OpenOrder.TheVariants.{Nothing, Kept}
+use Rattle.counter.specs.Open.{OpenOrder}
+use Rattle.std.specs.Prelude.{None, Some}
 use Rattle.counter.specs.declared.answers.Block.{Block}
 use Rattle.counter.specs.declared.answers.Outcome.{Outcome}
 use Rattle.counter.specs.declared.answers.Outcome.TheVariants as O
@@ -100,7 +100,7 @@ distinct_stable : (l : List ℕ) → ((Distinct l → ⊥) → ⊥) → Distinct
 distinct_stable [] f = tt
 distinct_stable (x ∷ l) f = (not_in_stable x l (λ g. f (λ d. g d.0)), distinct_stable l (λ g. f (λ d. g d.1)))
 
-nothing_kept : (k : KeptOrder) → Nothing ≡ Kept k → ⊥
+nothing_kept : (k : KeptOrder) → None ≡ Some k → ⊥
 nothing_kept k e = let z : ◌≡◌ {A = ℕ} 0 1 = cc in omega arith
 
 pub refused_brings : (o : Outcome) (z n : ℕ) (back : List ℕ) → brought_by o z (Paper.refusal n back) ≡ []
@@ -129,12 +129,12 @@ module _ (E : Engine) (F : Further E.shape) (s : E.shape.Settings) (a : Account)
     after = (E.shape.deliver s a o t).tables
 
     -- 11 and 12 are given only where an order is open
-    lost_kept : (n : ℕ) (back : List ℕ) → (E.shape.deliver s a o t).said ≡ Paper.refusal n back → (n ≡ 11) ⊎ (n ≡ 12) → (k : KeptOrder) × (a.order ≡ Kept k)
+    lost_kept : (n : ℕ) (back : List ℕ) → (E.shape.deliver s a o t).said ≡ Paper.refusal n back → (n ≡ 11) ⊎ (n ≡ 12) → (k : KeptOrder) × (a.order ≡ Some k)
     lost_kept n back e number = by a.order refl
       where
-        by : (x : OpenOrder) → a.order ≡ x → (k : KeptOrder) × (a.order ≡ Kept k)
-        by (Kept k) q = (k, q)
-        by Nothing q =
+        by : (x : OpenOrder) → a.order ≡ x → (k : KeptOrder) × (a.order ≡ Some k)
+        by (Some k) q = (k, q)
+        by None q =
             let shut : NoneFor (E.shape.store s).number a = λ k w z. nothing_kept k (sym q ∙ w) in
             let not_low : (m : ℕ) → n ≡ m → (m ≡ 11 → ⊥) → (m ≡ 12 → ⊥) → ⊥ = λ m w x y. ⊎_elim (λ z. x (sym w ∙ z)) (λ z. y (sym w ∙ z)) number in
             absurd

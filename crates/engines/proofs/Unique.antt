@@ -3,14 +3,10 @@
 use mathlib.Core.Path.{◌≡◌, sym, ap, ◌∙◌}
 use mathlib.Core.List.{List}
 use Prim.Native.Nat.{ℕ}
-use Rattle.counter.specs.Paper.{Said, set_up_said, ask_said, deliver_said, release_said}
+use Rattle.counter.specs.Paper.{Said, set_up_said, ask_said, deliver_said, release_said, AskAnswer, DeliverAnswer, ReleaseAnswer, SetUpAnswer}
 use Rattle.counter.specs.declared.account.Account.{Account}
-use Rattle.counter.specs.declared.answers.AskAnswer.{AskAnswer}
 use Rattle.counter.specs.declared.answers.Block.{Block}
-use Rattle.counter.specs.declared.answers.DeliverAnswer.{DeliverAnswer}
 use Rattle.counter.specs.declared.answers.Outcome.{Outcome}
-use Rattle.counter.specs.declared.answers.ReleaseAnswer.{ReleaseAnswer}
-use Rattle.counter.specs.declared.answers.SetUpAnswer.{SetUpAnswer}
 use Rattle.counter.proofs.Papers.{set_up_once, ask_once, deliver_once, release_once}
 use Rattle.store_rules.specs.Outcomes.{Out, out, Listed, listed}
 use Rattle.engines.specs.Shapes.{Tables, Begun, Shape}

@@ -6,8 +6,8 @@ use Rattle.counter.specs.Account.{Typed, heap_at}
 use Rattle.counter.specs.Paper.{Said}
 use Rattle.counter.specs.Paper as Paper
 use Rattle.counter.specs.declared.account.Account.{Account}
-use Rattle.counter.specs.declared.account.OpenOrder.{OpenOrder}
-use Rattle.counter.specs.declared.account.OpenOrder.TheVariants.{Nothing, Kept}
+use Rattle.counter.specs.Open.{OpenOrder}
+use Rattle.std.specs.Prelude.{None, Some}
 use Rattle.counter.specs.declared.answers.Outcome.{Outcome}
 use Rattle.counter.specs.declared.answers.Outcome.TheVariants as O
 use Rattle.heap.specs.Heap.{Within}
@@ -18,8 +18,8 @@ use Rattle.engines.specs.Shapes.{Tables, Call, sets_up, asks, delivers, returns,
 
 -- the size of the open order
 abbrev pub order_size : OpenOrder → ℕ
-order_size Nothing = 0
-order_size (Kept k) = k.order.size
+order_size None = 0
+order_size (Some k) = k.order.size
 
 -- whether a delivered memory number was accepted: a block is lent, or it is lost with 11 or 12
 abbrev pub accepted : Said → Bool

@@ -7,7 +7,7 @@ use Rattle.counter.specs.Gate.{pass}
 use Rattle.counter.specs.Paper as Paper
 use Rattle.counter.specs.declared.account.Account.{Account}
 use Rattle.counter.specs.declared.account.KeptOrder.{KeptOrder}
-use Rattle.counter.specs.declared.account.OpenOrder.TheVariants.{Kept}
+use Rattle.std.specs.Prelude.{Some}
 use Rattle.counter.specs.declared.answers.Block.{Block}
 use Rattle.counter.specs.declared.answers.Outcome.{Outcome}
 use Rattle.store_rules.specs.Orders.{order_from}
@@ -53,7 +53,7 @@ pub record Lends (E : Shape) : Type 0 where
   pub ask_block : (s : E.Settings) (a : Account) (size mask : ℕ) (t : Tables) (serial chunk offset len : ℕ) → (E.ask s a size mask t).said ≡ Paper.block serial chunk offset len
       → GoodBlock (E.store s).atom size mask (E.given t) (E.loans t) (E.view s (E.ask s a size mask t).tables).chunks serial chunk offset len × ((E.ask s a size mask t).account ≡ a)
   pub deliver_block : (s : E.Settings) (a : Account) (o : Outcome) (t : Tables) (serial chunk offset len : ℕ) → (E.deliver s a o t).said ≡ Paper.block serial chunk offset len
-      → (k : KeptOrder) × (a.order ≡ Kept k)
+      → (k : KeptOrder) × (a.order ≡ Some k)
       × GoodBlock (E.store s).atom k.ask.size k.ask.mask (E.given t) (E.loans t) (E.view s (E.deliver s a o t).tables).chunks serial chunk offset len
       × ((E.deliver s a o t).account ≡ charged_account (E.store s) a k.order.size)
   -- on an ask that is not refused an order is given exactly when no held chunk has a fitting free place

@@ -5,7 +5,7 @@ use Rattle.counter.specs.Gate.{pass}
 use Rattle.counter.specs.Reasons.{Given, Clear}
 use Rattle.counter.specs.declared.account.Account.{Account}
 use Rattle.counter.specs.declared.account.KeptOrder.{KeptOrder}
-use Rattle.counter.specs.declared.account.OpenOrder.TheVariants.{Kept}
+use Rattle.std.specs.Prelude.{Some}
 use Rattle.counter.specs.declared.answers.Block.{Block}
 use Rattle.counter.specs.declared.answers.Outcome.{Outcome}
 use Rattle.store_rules.specs.Outcomes.{out, listed}
@@ -41,7 +41,7 @@ pub record Refuses (E : Shape) : Type 0 where
   -- what these leave: 9 the account, and 11 and 12 of the account what 01 says; all three leave what a user sees of the store
   pub nine_leaves : (s : E.Settings) (a : Account) (size mask : ℕ) (t : Tables) (back : List ℕ) → (E.ask s a size mask t).said ≡ Paper.refusal 9 back
       → ((E.ask s a size mask t).account ≡ a) × (E.view s (E.ask s a size mask t).tables ≡ E.view s t)
-  pub lost_leaves : (s : E.Settings) (a : Account) (o : Outcome) (t : Tables) (k : KeptOrder) (n : ℕ) (back : List ℕ) → a.order ≡ Kept k → (E.deliver s a o t).said ≡ Paper.refusal n back
+  pub lost_leaves : (s : E.Settings) (a : Account) (o : Outcome) (t : Tables) (k : KeptOrder) (n : ℕ) (back : List ℕ) → a.order ≡ Some k → (E.deliver s a o t).said ≡ Paper.refusal n back
       → (n ≡ 11) ⊎ (n ≡ 12)
       → ((E.deliver s a o t).account ≡ lost_for E.engine (E.store s) a k o) × (E.view s (E.deliver s a o t).tables ≡ E.view s t)
   -- on tables that another engine set up each call but set-up is refused, by 1, 2 or 3, and leaves everything

@@ -6,7 +6,7 @@ use Rattle.counter.specs.Paper.{Said}
 use Rattle.counter.specs.Paper as Paper
 use Rattle.counter.specs.declared.account.Account.{Account}
 use Rattle.counter.specs.declared.account.KeptOrder.{KeptOrder}
-use Rattle.counter.specs.declared.account.OpenOrder.TheVariants.{Kept}
+use Rattle.std.specs.Prelude.{Some}
 use Rattle.counter.specs.declared.answers.Block.{Block}
 use Rattle.counter.specs.declared.answers.Memory.{Memory}
 use Rattle.counter.specs.declared.answers.Outcome.{Outcome}
@@ -69,5 +69,5 @@ pub record Tells (E : Shape) : Type 0 where
   -- the order's size
   pub ask_chunks : (s : E.Settings) (a : Account) (size mask : ℕ) (t : Tables) → (E.view s (E.ask s a size mask t).tables).chunks ≡ (E.view s t).chunks
   pub deliver_chunks : (s : E.Settings) (a : Account) (o : Outcome) (t : Tables) (serial number offset len : ℕ) → (E.deliver s a o t).said ≡ Paper.block serial number offset len
-      → (k : KeptOrder) × (m : Memory) × (a.order ≡ Kept k) × (o ≡ O.Made m)
+      → (k : KeptOrder) × (m : Memory) × (a.order ≡ Some k) × (o ≡ O.Made m)
       × ((c : Chunk) → Memᴰ c (E.view s (E.deliver s a o t).tables).chunks ↔ (Memᴰ c (E.view s t).chunks ⊎ (c ≡ chunk number m.number k.order.size)))

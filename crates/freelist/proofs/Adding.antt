@@ -35,6 +35,7 @@ use Rattle.freelist_outcomes.proofs.Plans.{not_spent, buy_held, chunk_place, chu
 use Rattle.freelist_outcomes.proofs.Comes.{buys_bought}
 use Rattle.freelist_outcomes.proofs.Arrives.{order_enough}
 use Rattle.freelist_regions.proofs.Asking.{both_ones}
+use Rattle.std.specs.Prelude.{Ok}
 use Rattle.freelist_decide.specs.Plans.{Planned}
 use Rattle.freelist_decide.specs.declared.deciding.Buying.{Buying}
 use Rattle.freelist_decide.specs.declared.deciding.Plan.TheVariants.{Buy}
@@ -164,7 +165,7 @@ delivered_last s memory z t adds =
 
 -- with the numbers that the plan carries
 module _ (s : FreeListSettings) (t : Tables) (fit : FreeListIn s) (lengths : lengths_ok s t ≡ true) (sound : SoundTables s t) (memory : ℕ) (k : KeptOrder) (b : Buying) where
-  pub keep_ready : (h : Heap) (objects : ℕ) → decide_ask s h objects k.ask.size k.ask.mask t ≡ buy k.order.size → Planned s k.ask.size k.ask.mask t (Buy b) → KeepReady s k memory t b
+  pub keep_ready : (h : Heap) (objects : ℕ) → decide_ask s h objects k.ask.size k.ask.mask t ≡ buy k.order.size → Planned s k.ask.size k.ask.mask t (Ok (Buy b)) → KeepReady s k memory t b
   keep_ready h objects order p =
       let w = buys_bought s h objects k.ask.size k.ask.mask t k.order.size order in
       record {

@@ -19,8 +19,7 @@ use Rattle.counter.specs.Paper.{Said}
 use Rattle.counter.specs.Paper as Paper
 use Rattle.counter.specs.declared.account.Account.{Account}
 use Rattle.counter.specs.declared.account.KeptOrder.{KeptOrder}
-use Rattle.counter.specs.declared.account.OpenOrder.{OpenOrder}
-use Rattle.counter.specs.declared.account.OpenOrder.TheVariants.{Nothing, Kept}
+use Rattle.counter.specs.Open.{OpenOrder}
 use Rattle.counter.specs.declared.answers.Outcome.{Outcome}
 use Rattle.counter.specs.declared.settings.FreeListSettings.{FreeListSettings}
 use Rattle.store_rules.specs.Delivery.{Fate, kept, lost, free_list, delivery_ok, fate_of}
@@ -47,17 +46,16 @@ use Rattle.freelist_outcomes.specs.Deliver.{Arrival, deny, go, still_ok, deliver
 use Rattle.freelist_outcomes.specs.Gate.{in_table_ok, account_ok}
 use Rattle.freelist_outcomes.proofs.Passing.{lent_in_lem}
 use Rattle.freelist_rules.proofs.Tested.{tables_yes}
+use Rattle.std.specs.Prelude.{None, Some, Result, Ok, Err}
+use Rattle.counter.specs.declared.refusal.Refusal.{Refusal}
 use Rattle.freelist_decide.specs.declared.deciding.Buying.{Buying}
 use Rattle.freelist_gate.specs.Gates.{BoughtFor}
-use Rattle.freelist_gate.specs.declared.deliveries.Passing.{Passing}
-use Rattle.freelist_gate.specs.declared.deliveries.Passing.TheVariants.{Go}
 use Rattle.freelist_place.specs.Ready.{Lends}
 use Rattle.freelist_place.specs.Lent.{lent_from, lent_tables}
 use Rattle.freelist_place.proofs.Serving.{loan_planned, tables_planned}
 use Rattle.freelist.specs.Deliveries.{delivery_of}
 use Rattle.freelist.specs.Ready.{ComingBuys, Delivers, KeepReady, ComingReady, DeliverReady}
 use Rattle.freelist.specs.declared.plans.Delivery.{Delivery}
-use Rattle.freelist.specs.declared.plans.Delivery.TheVariants as D
 use Rattle.freelist.proofs.Adding.{keep_ready, delivered_last}
 use Rattle.freelist.proofs.Asking.{lent_rest, loan_rest}
 
@@ -73,12 +71,12 @@ gated_go : (v : Verdict) (p : Arrival) (k : KeptOrder) (f : Fate) → gated deny
 gated_go pass p k f e = (refl, e)
 gated_go (refuse n) p k f e = deny_go n k f e
 
-decided_go : (o : Outcome) (held : List ℕ) (order : OpenOrder) (k : KeptOrder) (f : Fate) → decide_deliver o held order ≡ go k f → order ≡ Kept k
-decided_go o held Nothing k f e = deny_go 2 k f e
-decided_go o held (Kept j) k f e = by (delivery_ok j.order.map held o) e
+decided_go : (o : Outcome) (held : List ℕ) (order : OpenOrder) (k : KeptOrder) (f : Fate) → decide_deliver o held order ≡ go k f → order ≡ Some k
+decided_go o held None k f e = deny_go 2 k f e
+decided_go o held (Some j) k f e = by (delivery_ok j.order.map held o) e
   where
-    by : (b : Bool) → cond b (go j (fate_of free_list o)) (deny 13) ≡ go k f → Kept j ≡ Kept k
-    by true p = ap Kept (same_go j k (fate_of free_list o) f p)
+    by : (b : Bool) → cond b (go j (fate_of free_list o)) (deny 13) ≡ go k f → Some j ≡ Some k
+    by true p = ap Some (same_go j k (fate_of free_list o) f p)
     by false p = deny_go 13 k f p
 
 -- the kept ask leads to an order of the kept size
@@ -91,11 +89,10 @@ leads_bought s o (Orders.take i) e = no_test e
 leads_bought s o (Orders.buy z) e = ap Orders.buy (sym (eqb-true o.size z (and_left _ _ (and_right (eqb o.store s.number) _ e))))
 
 -- what a delivery's gate tells goes on with its plan
-pub coming_buys : (s : FreeListSettings) (t : Tables) (o : Outcome) (held : List ℕ) (order : OpenOrder) (r : Coming) (q : Passing) (b : Buying) → q ≡ Go b → coming_of r ≡ decide_deliver o held order
-    → ((k : KeptOrder) → order ≡ Kept k → BoughtFor s k t q) → ComingBuys s t b r
-coming_buys s t o held order (C.Refuse r) q b g e f = tt
+pub coming_buys : (s : FreeListSettings) (t : Tables) (o : Outcome) (held : List ℕ) (order : OpenOrder) (r : Coming) (q : Result Buying Refusal) (b : Buying) → q ≡ Ok b → coming_of (Ok r) ≡ decide_deliver o held order
+    → ((k : KeptOrder) → order ≡ Some k → BoughtFor s k t q) → ComingBuys s t b r
 coming_buys s t o held order (C.Keep c) q b g e f =
-    subst (λ (x : Passing). BoughtFor s c.kept t x) g (f c.kept (decided_go o held order c.kept (kept c.memory) (sym e)))
+    subst (λ (x : Result Buying Refusal). BoughtFor s c.kept t x) g (f c.kept (decided_go o held order c.kept (kept c.memory) (sym e)))
 coming_buys s t o held order (C.Lose l) q b g e f = tt
 
 -- ---- the tables are ready
@@ -105,7 +102,7 @@ module _ (s : FreeListSettings) (a : Account) (o : Outcome) (t : Tables) (k : Ke
   unfolding plan_deliver
   gate_passed = gated_go (deliver_gate_of s a t) (decide_deliver o (memories (store_of s t).chunks) a.order) k f plan
 
-  open_order : a.order ≡ Kept k
+  open_order : a.order ≡ Some k
   open_order = decided_go o (memories (store_of s t).chunks) a.order k f gate_passed.1
 
   abbrev lent : Bool
@@ -129,20 +126,19 @@ module _ (s : FreeListSettings) (a : Account) (o : Outcome) (t : Tables) (k : Ke
   -- the kept ask comes to the order that is open
   bought : decide_ask s (heap_at a s.store.heap) a.objects k.ask.size k.ask.mask t ≡ Orders.buy k.order.size
   bought =
-      let still : still_ok s a t (Kept k) ≡ true = ap (still_ok s a t) (sym open_order) ∙ and_right sound (still_ok s a t a.order) held.1 in
+      let still : still_ok s a t (Some k) ≡ true = ap (still_ok s a t) (sym open_order) ∙ and_right sound (still_ok s a t a.order) held.1 in
       leads_bought s.store k.order (decide_ask s (heap_at a s.store.heap) a.objects k.ask.size k.ask.mask t) still
 
-coming_ready : (s : FreeListSettings) (a : Account) (o : Outcome) (t : Tables) (b : Buying) (r : Coming) → coming_of r ≡ plan_deliver s a o t → ComingBuys s t b r → ComingReady s t b r
-coming_ready s a o t b (C.Refuse r) e c = tt
+coming_ready : (s : FreeListSettings) (a : Account) (o : Outcome) (t : Tables) (b : Buying) (r : Coming) → coming_of (Ok r) ≡ plan_deliver s a o t → ComingBuys s t b r → ComingReady s t b r
 coming_ready s a o t b (C.Lose l) e c = tt
 coming_ready s a o t b (C.Keep k) e c =
     let f = kept k.memory in
     let w = fits s a o t k.kept f (sym e) in
     keep_ready s t w.0 w.1 (yes s a o t k.kept f (sym e)) k.memory k.kept b (heap_at a s.store.heap) a.objects (bought s a o t k.kept f (sym e)) c.1
 
-pub deliver_ready : (s : FreeListSettings) (a : Account) (o : Outcome) (t : Tables) (d : Delivery) → delivery_of d ≡ plan_deliver s a o t → Delivers s t d → DeliverReady s t d
-deliver_ready s a o t (D.Shut r) e c = tt
-deliver_ready s a o t (D.Come r b) e c = coming_ready s a o t b r e c
+pub deliver_ready : (s : FreeListSettings) (a : Account) (o : Outcome) (t : Tables) (d : Result Delivery Refusal) → delivery_of d ≡ plan_deliver s a o t → Delivers s t d → DeliverReady s t d
+deliver_ready s a o t (Err r) e c = tt
+deliver_ready s a o t (Ok d) e c = coming_ready s a o t d.bought d.coming e c
 
 -- ---- what is left
 
@@ -195,7 +191,7 @@ module _ (s : FreeListSettings) (share : Share) (k : KeptOrder) (memory : ℕ) (
       → tables h₁ [] c₁ index r₁ ≡ delivered_tables s memory k.order.size (tables head [] chunks index regions)
       → l ≡ lent_from s x (tables [] loans c₁ index r₁) i
       → tables [] l₂ c₁ i₂ r₂ ≡ lent_tables s x b.loan (tables [] loans c₁ index r₁) i
-      → after ≡ paid → order ≡ Nothing → said ≡ block_said l → (left : OpenOrder)
+      → after ≡ paid → order ≡ None → said ≡ block_said l → (left : OpenOrder)
       → out said (holding s.store after order) (tables h₁ l₂ c₁ i₂ r₂) ≡ carry_fate s (holding s.store share left) k start (kept memory)
   unfolding carry_fate
   kept_done i x h₁ c₁ r₁ l₂ r₂ i₂ after paid order l said e y p f m g q n d left =
@@ -223,7 +219,7 @@ module _ (s : FreeListSettings) (share : Share) (order : OpenOrder) (t : Tables)
   refused_done n after left said e g l d = (λ j. out (d j) (holding s.store (g j) (l j)) t) ∙ ap (carry_deliver s account t) (sym e)
 
   pub lost_done : (k : KeptOrder) (n : ℕ) (charged : Bool) (back : List ℕ) (after : Share) (left : OpenOrder) (said : Said) → p ≡ go k (lost n charged back)
-      → after ≡ lost_share share k.order.size charged back → left ≡ Nothing → said ≡ Paper.refusal n back → out said (holding s.store after left) t ≡ carry_deliver s account t p
+      → after ≡ lost_share share k.order.size charged back → left ≡ None → said ≡ Paper.refusal n back → out said (holding s.store after left) t ≡ carry_deliver s account t p
   unfolding carry_deliver carry_fate
   lost_done k n charged back after left said e g l d =
       (λ j. out (d j) (holding s.store (g j) (l j)) t)

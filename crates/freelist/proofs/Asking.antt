@@ -17,6 +17,8 @@ use Rattle.book_rules.specs.Book.{taken_of}
 use Rattle.freelist_rules.specs.Tables.{Tables, tables, chunk_size_at, places_in, store_of}
 use Rattle.freelist_outcomes.specs.Ask.{block_at, taken_tables, ordered_tables, carry_ask, plan_ask, ask_of}
 use Rattle.freelist_outcomes.proofs.Plans.{plan_take}
+use Rattle.std.specs.Prelude.{Result, Ok, Err}
+use Rattle.counter.specs.declared.refusal.Refusal.{Refusal}
 use Rattle.freelist_decide.specs.Plans.{plan_of, Planned}
 use Rattle.freelist_decide.specs.declared.deciding.Plan as Decided
 use Rattle.freelist_decide.specs.declared.deciding.Plan.TheVariants as Decides
@@ -27,11 +29,11 @@ use Rattle.freelist.proofs.Lending.{lends_ready}
 
 -- ---- what a passed gate and the plan give
 
-pub ask_ready : (s : FreeListSettings) (a : Account) (size mask : ℕ) (t : Tables) (p : Decided.Plan) → plan_of p ≡ plan_ask s a size mask t → Planned s size mask t p
+pub ask_ready : (s : FreeListSettings) (a : Account) (size mask : ℕ) (t : Tables) (p : Result Decided.Plan Refusal) → plan_of p ≡ plan_ask s a size mask t → Planned s size mask t p
     → AskReady s t p
-ask_ready s a size mask t (Decides.Refuse r) e c = tt
-ask_ready s a size mask t (Decides.Buy b) e c = tt
-ask_ready s a size mask t (Decides.Take k) e c =
+ask_ready s a size mask t (Err r) e c = tt
+ask_ready s a size mask t (Ok (Decides.Buy b)) e c = tt
+ask_ready s a size mask t (Ok (Decides.Take k)) e c =
     let w = plan_take s a size mask t k.region (sym e) in
     lends_ready s (heap_at a s.store.heap) a.objects size mask t w.0.settings w.0.lengths w.0.sound k.region k.start k.loan w.1 c.0 c.1
 

@@ -5,13 +5,12 @@ use mathlib.Core.List.{[]}
 use Prim.Native.Nat.{ℕ}
 use native.Mathlib.Omega.{arith}
 use Rattle.lists.proofs.Bools.{and_left, and_right}
-use Rattle.counter.specs.Gate.{Verdict, pass, refuse, verdict_of}
+use Rattle.counter.specs.Gate.{Gate, Verdict, pass, refuse, verdict_of}
 use Rattle.counter.specs.InTable.{FreeListIn}
 use Rattle.counter.specs.Paper.{Said}
 use Rattle.counter.specs.Paper as Paper
 use Rattle.counter.specs.Table.{free_list_ok}
-use Rattle.counter.specs.declared.refusal.Gate.{Gate}
-use Rattle.counter.specs.declared.refusal.Gate.TheVariants as G
+use Rattle.std.specs.Prelude.{Ok, Err}
 use Rattle.counter.specs.declared.settings.FreeListSettings.{FreeListSettings}
 use Rattle.counter.proofs.Tables.{free_list_yes}
 use Rattle.freelist_rules.specs.Tables.{Tables, Lengths}
@@ -43,8 +42,8 @@ module _ (s : FreeListSettings) (t : Tables) where
   fit_lengths e = (free_list_yes s (and_left (free_list_ok s) _ e), lengths_are s t (and_right (free_list_ok s) _ e))
 
   pub set_up_ready : (p : Gate) → verdict_of p ≡ plan_set_up s t → SetUpReady s t p
-  set_up_ready (G.Shut r) e = tt
-  set_up_ready G.Go e = fit_lengths (passed_fit e)
+  set_up_ready (Err r) e = tt
+  set_up_ready (Ok u) e = fit_lengths (passed_fit e)
 
 -- ---- carried out
 

@@ -23,10 +23,10 @@ use Rattle.freelist_outcomes.specs.Deliver.{deliver_gate_of, decide_deliver, pla
 use Rattle.freelist_rules.specs.Records.{chunk_row}
 use Rattle.freelist_rules.specs.Walk.{memories}
 use Rattle.words.specs.Rows.{rows}
-use Rattle.counter.specs.declared.account.OpenOrder.{OpenOrder}
+use Rattle.counter.specs.Open.{OpenOrder}
 use Rattle.counter.specs.declared.answers.Outcome.{Outcome}
-use Rattle.freelist_decide.proofs.Few.{return_few}
 use Rattle.freelist_outcomes.proofs.Passing.{gate_passed}
+use Rattle.freelist_decide.proofs.Few.{return_few}
 
 module _ (s : FreeListSettings) (a : Account) (t : Tables) where
   -- ---- an ask

@@ -10,12 +10,10 @@ use lib.Seq.{sets}
 use borrow.Author.Tests.{leb-true}
 use Rattle.lists.proofs.Bools.{told, true_false}
 use Rattle.counter.specs.Account.{heap_at}
-use Rattle.counter.specs.Gate.{Verdict, pass, refuse, verdict_of, gated}
-use Rattle.counter.specs.declared.refusal.Gate.{Gate}
-use Rattle.counter.specs.declared.refusal.Gate.TheVariants as G
+use Rattle.counter.specs.Gate.{Gate, Verdict, pass, refuse, verdict_of, gated}
+use Rattle.counter.specs.declared.refusal.Refusal.{Refusal}
+use Rattle.std.specs.Prelude.{Result, Ok, Err}
 use Rattle.returning.specs.Backs.{back_of}
-use Rattle.returning.specs.declared.Back.{Back}
-use Rattle.returning.specs.declared.Back.TheVariants as B
 use Rattle.counter.specs.Limits.{objects_most}
 use Rattle.counter.specs.Paper as Paper
 use Rattle.counter.specs.declared.account.Account.{Account}
@@ -94,8 +92,8 @@ module _ (s : FreeListSettings) (share : Share) (t : Tables) (list : List ℕ) (
       )
 
   pub clean_up_ready : (p : Gate) → verdict_of p ≡ plan_clean_up s held t (list_ok s.store list) → CleanUpReady s share.objects t list p
-  clean_up_ready (G.Shut r) e = tt
-  clean_up_ready G.Go e = cleaned_releases e
+  clean_up_ready (Err r) e = tt
+  clean_up_ready (Ok u) e = cleaned_releases e
 
   module _ (b : Block) (w : ℕ) (e : back w ≡ plan_return s held b t (list_ok s.store list)) where
     abbrev gate : Passed s held t (list_ok s.store list)
@@ -124,9 +122,9 @@ module _ (s : FreeListSettings) (share : Share) (t : Tables) (list : List ℕ) (
           releases = returned_releases;
         }
 
-  pub return_ready : (b : Block) (p : Back) → back_of p ≡ plan_return s held b t (list_ok s.store list) → ReturnReady s share.objects b t list p
-  return_ready b (B.Refuse r) e = tt
-  return_ready b (B.From w) e = takes_back b w e
+  pub return_ready : (b : Block) (p : Result ℕ Refusal) → back_of p ≡ plan_return s held b t (list_ok s.store list) → ReturnReady s share.objects b t list p
+  return_ready b (Err r) e = tt
+  return_ready b (Ok w) e = takes_back b w e
 
 -- ---- carried out
 
@@ -188,15 +186,15 @@ module _ (s : FreeListSettings) (share : Share) (t : Tables) (list : List ℕ) w
   abbrev before : Account
   before = holder s.store share
 
-  pub return_refused : (b : Block) (p q : Back) (n : ℕ) (after : Share) (said : Paper.Said) → p ≡ q → back_of q ≡ deny n → after ≡ share → said ≡ Paper.refusal n []
+  pub return_refused : (b : Block) (p q : Result ℕ Refusal) (n : ℕ) (after : Share) (said : Paper.Said) → p ≡ q → back_of q ≡ deny n → after ≡ share → said ≡ Paper.refusal n []
       → listed said (holder s.store after) t list ≡ carry_return s before b t list (back_of p)
   unfolding carry_return
   return_refused b p q n after said f e same says =
-      (λ j. listed (says j) (holder s.store (same j)) t list) ∙ ap (carry_return s before b t list) (sym e) ∙ ap (λ (x : Back). carry_return s before b t list (back_of x)) (sym f)
+      (λ j. listed (says j) (holder s.store (same j)) t list) ∙ ap (carry_return s before b t list) (sym e) ∙ ap (λ (x : Result ℕ Refusal). carry_return s before b t list (back_of x)) (sym f)
 
-  pub return_taken : (b : Block) (p q : Back) (w : ℕ) (r : Listed Tables) → p ≡ q → back_of q ≡ back w → r ≡ release_of s before true (given_tables s b w t) list → r ≡ carry_return s before b t list (back_of p)
+  pub return_taken : (b : Block) (p q : Result ℕ Refusal) (w : ℕ) (r : Listed Tables) → p ≡ q → back_of q ≡ back w → r ≡ release_of s before true (given_tables s b w t) list → r ≡ carry_return s before b t list (back_of p)
   unfolding carry_return
-  return_taken b p q w r f e d = d ∙ ap (carry_return s before b t list) (sym e) ∙ ap (λ (x : Back). carry_return s before b t list (back_of x)) (sym f)
+  return_taken b p q w r f e d = d ∙ ap (carry_return s before b t list) (sym e) ∙ ap (λ (x : Result ℕ Refusal). carry_return s before b t list (back_of x)) (sym f)
 
   pub clean_refused : (p q : Gate) (n : ℕ) (after : Share) (said : Paper.Said) → p ≡ q → verdict_of q ≡ refuse n → after ≡ share → said ≡ Paper.refusal n []
       → listed said (holder s.store after) t list ≡ carry_clean_up s before t list (verdict_of p)
@@ -210,7 +208,7 @@ module _ (s : FreeListSettings) (share : Share) (t : Tables) (list : List ℕ) w
 
   -- ---- the calls
 
-  pub return_done : (b : Block) (p : Back) → back_of p ≡ plan_return s before b t (list_ok s.store list) → carry_return s before b t list (back_of p) ≡ return_of s before b t list
+  pub return_done : (b : Block) (p : Result ℕ Refusal) → back_of p ≡ plan_return s before b t (list_ok s.store list) → carry_return s before b t list (back_of p) ≡ return_of s before b t list
   unfolding return_of
   return_done b p e = ap (carry_return s before b t list) e
 

@@ -2,13 +2,10 @@
 use mathlib.Core.Path.{◌≡◌, refl, sym, subst, ◌∙◌}
 use mathlib.Core.List.{List}
 use Prim.Native.Nat.{ℕ}
-use Rattle.counter.specs.Paper.{ask_said, deliver_said, release_said}
+use Rattle.counter.specs.Paper.{ask_said, deliver_said, release_said, AskAnswer, DeliverAnswer, ReleaseAnswer}
 use Rattle.counter.specs.declared.account.Account.{Account}
-use Rattle.counter.specs.declared.answers.AskAnswer.{AskAnswer}
 use Rattle.counter.specs.declared.answers.Block.{Block}
-use Rattle.counter.specs.declared.answers.DeliverAnswer.{DeliverAnswer}
 use Rattle.counter.specs.declared.answers.Outcome.{Outcome}
-use Rattle.counter.specs.declared.answers.ReleaseAnswer.{ReleaseAnswer}
 use Rattle.counter.specs.declared.settings.FreeListSettings.{FreeListSettings}
 use Rattle.store_rules.specs.Outcomes.{out, Listed, listed}
 use Rattle.store_rules.specs.Shares.{share_of, with_share, ask_left}

@@ -9,7 +9,7 @@ ghost use Rattle.freelist_outcomes.specs.Ask.{ask_of};
 ghost use Rattle.freelist_outcomes.specs.Deliver.{deliver_of};
 ghost use Rattle.freelist_outcomes.specs.Return.{return_of, clean_up_of};
 
-use counter::{AskAnswer, Block, FreeListSettings, OpenOrder, Outcome};
+use counter::{Block, FreeListSettings, Granted, OpenOrder, Outcome, Refused};
 use store_rules::{DeliveredShare, ReleasedShare, Share};
 
 // An ask: a block, an order, or a refusal.
@@ -23,7 +23,7 @@ pub fn ask(
     chunks: &[u64],
     index: &mut [u64],
     regions: &mut [u64],
-) -> AskAnswer
+) -> Result<Granted, Refused>
     ensures { out (ask_said result) (ask_left (holder s.store share) size mask (ask_said result)) (tables head.new loans.new chunks.now index.new regions.new) ≡ ask_of s (holder s.store share) size mask (tables head.old loans.old chunks.now index.old regions.old) }
 {
     let plan = crate::plans::plan_ask(s, share, size, mask, head, loans, chunks, index, regions);

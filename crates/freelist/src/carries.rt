@@ -1,9 +1,9 @@
 // Plans carried out: the tables written, and what is answered.
-ghost use Rattle.std.specs.Prelude.{◌≡◌, true, [], ℕ};
+ghost use Rattle.std.specs.Prelude.{◌≡◌, true, Ok, [], ℕ};
 ghost use Rattle.counter.specs.Gate.{verdict_of};
 ghost use Rattle.counter.specs.Paper.{set_up_said, ask_said, deliver_said, release_said};
 ghost use Rattle.counter.specs.declared.account.Account.{Account};
-ghost use Rattle.counter.specs.declared.account.OpenOrder.{OpenOrder};
+ghost use Rattle.counter.specs.Open.{OpenOrder};
 ghost use Rattle.store_rules.specs.Delivery as Fates;
 ghost use Rattle.store_rules.specs.Outcomes.{out, listed};
 ghost use Rattle.store_rules.specs.Shares.{ask_left};
@@ -20,34 +20,28 @@ ghost use Rattle.freelist.specs.Deliveries.{delivery_of};
 ghost use Rattle.freelist.specs.Ready.{SetUpReady, AskReady, KeepReady, ComingReady, DeliverReady, TakesBack, ReturnReady, CleanUpReady};
 
 use crate::plans::Delivery;
-use counter::{
-    AskAnswer, Block, FreeListSettings, Gate, KeptOrder, OpenOrder, Refused, SetUpAnswer, ToFree,
-};
+use counter::{Block, FreeListSettings, Granted, KeptOrder, OpenOrder, Refusal, Refused};
 use freelist_decide::{Buying, Plan};
-use returning::Back;
 use store::Coming;
 use store_rules::{DeliveredShare, ReleasedShare, Share};
 
 pub fn carry_set_up(
     s: FreeListSettings,
-    plan: Gate,
+    plan: Result<(), Refusal>,
     head: &mut [u64],
     loans: &mut [u64],
     chunks: &mut [u64],
     index: &mut [u64],
     regions: &mut [u64],
-) -> SetUpAnswer
+) -> Result<(), Refused>
     requires { SetUpReady s (tables head.old loans.old chunks.old index.old regions.old) plan }
     ensures { begun (set_up_said result) (tables head.new loans.new chunks.new index.new regions.new) ≡ carry_set_up s (tables head.old loans.old chunks.old index.old regions.old) (verdict_of plan) }
 {
     match plan {
-        Gate::Shut(refusal) => SetUpAnswer::Refused(Refused {
-            refusal: refusal,
-            free: ToFree::Nothing,
-        }),
-        Gate::Go => {
+        Err(refusal) => Err(refusal.into()),
+        Ok(()) => {
             freelist_place::fresh(s, head, loans, chunks, index, regions);
-            SetUpAnswer::Ready
+            Ok(())
         }
     }
 }
@@ -55,39 +49,41 @@ pub fn carry_set_up(
 // Whatever the account, and the size and mask that this is the plan of.
 pub fn carry_ask(
     s: FreeListSettings,
-    plan: Plan,
+    plan: Result<Plan, Refusal>,
     head: &mut [u64],
     loans: &mut [u64],
     chunks: &[u64],
     index: &mut [u64],
     regions: &mut [u64],
-) -> AskAnswer
+) -> Result<Granted, Refused>
     requires { AskReady s (tables head.old loans.old chunks.now index.old regions.old) plan }
     ensures { (a : Account) (size mask : ℕ) → Planned s size mask (tables head.old loans.old chunks.now index.old regions.old) plan → out (ask_said result) (ask_left a size mask (ask_said result)) (tables head.new loans.new chunks.now index.new regions.new) ≡ carry_ask s a size mask (tables head.old loans.old chunks.now index.old regions.old) (plan_of plan) }
 {
     match plan {
-        Plan::Refuse(refusal) => store::refuse_ask(refusal),
-        Plan::Take(k) => {
-            let loan = k.loan;
-            let book = loan.slab;
-            let l = freelist_place::lend(
-                s,
-                k.region,
-                k.start,
-                loan.place,
-                book.places,
-                book.vacant,
-                loans,
-                chunks,
-                index,
-                regions,
-            );
-            store::answer_block(l)
-        }
-        Plan::Buy(b) => {
-            freelist_place::raise_size(head, b.order);
-            store::answer_order(s.store, b.order)
-        }
+        Err(refusal) => store::refuse_ask(refusal),
+        Ok(plan) => match plan {
+            Plan::Take(k) => {
+                let loan = k.loan;
+                let book = loan.slab;
+                let l = freelist_place::lend(
+                    s,
+                    k.region,
+                    k.start,
+                    loan.place,
+                    book.places,
+                    book.vacant,
+                    loans,
+                    chunks,
+                    index,
+                    regions,
+                );
+                store::answer_block(l)
+            }
+            Plan::Buy(b) => {
+                freelist_place::raise_size(head, b.order);
+                store::answer_order(s.store, b.order)
+            }
+        },
     }
 }
 
@@ -144,10 +140,9 @@ fn carry_coming(
     regions: &mut [u64],
 ) -> DeliveredShare
     requires { ComingReady s (tables head.old loans.old chunks.old index.old regions.old) b coming }
-    ensures { out (deliver_said result.answer) (holding s.store result.share result.order) (tables head.new loans.new chunks.new index.new regions.new) ≡ carry_deliver s (holding s.store share order) (tables head.old loans.old chunks.old index.old regions.old) (coming_of coming) }
+    ensures { out (deliver_said result.answer) (holding s.store result.share result.order) (tables head.new loans.new chunks.new index.new regions.new) ≡ carry_deliver s (holding s.store share order) (tables head.old loans.old chunks.old index.old regions.old) (coming_of (Ok coming)) }
 {
     match coming {
-        Coming::Refuse(r) => store::refuse_delivery(share, order, r),
         Coming::Keep(c) => {
             let k = c.kept;
             keep_chunk(
@@ -166,7 +161,7 @@ pub fn carry_deliver(
     s: FreeListSettings,
     share: Share,
     order: OpenOrder,
-    plan: Delivery,
+    plan: Result<Delivery, Refusal>,
     head: &mut [u64],
     loans: &mut [u64],
     chunks: &mut [u64],
@@ -177,10 +172,10 @@ pub fn carry_deliver(
     ensures { out (deliver_said result.answer) (holding s.store result.share result.order) (tables head.new loans.new chunks.new index.new regions.new) ≡ carry_deliver s (holding s.store share order) (tables head.old loans.old chunks.old index.old regions.old) (delivery_of plan) }
 {
     match plan {
-        Delivery::Shut(r) => store::refuse_delivery(share, order, r),
-        Delivery::Come(coming, b) => {
+        Err(r) => store::refuse_delivery(share, order, r),
+        Ok(d) => {
             carry_coming(
-                s, share, order, coming, b, head, loans, chunks, index, regions,
+                s, share, order, d.coming, d.bought, head, loans, chunks, index, regions,
             )
         }
     }
@@ -211,7 +206,7 @@ pub fn carry_return(
     s: FreeListSettings,
     share: Share,
     b: Block,
-    plan: Back,
+    plan: Result<usize, Refusal>,
     head: &[u64],
     loans: &mut [u64],
     chunks: &mut [u64],
@@ -223,15 +218,15 @@ pub fn carry_return(
     ensures { listed (release_said result.answer) (holder s.store result.share) (tables head.now loans.new chunks.new index.new regions.new) list.new ≡ carry_return s (holder s.store share) b (tables head.now loans.old chunks.old index.old regions.old) list.old (back_of plan) }
 {
     match plan {
-        Back::Refuse(refusal) => store::refuse_return(share, refusal),
-        Back::From(at) => take_in(s, share, b, at, loans, chunks, index, regions, list),
+        Err(refusal) => store::refuse_return(share, refusal),
+        Ok(at) => take_in(s, share, b, at, loans, chunks, index, regions, list),
     }
 }
 
 pub fn carry_clean_up(
     s: FreeListSettings,
     share: Share,
-    plan: Gate,
+    plan: Result<(), Refusal>,
     head: &[u64],
     loans: &[u64],
     chunks: &mut [u64],
@@ -243,8 +238,8 @@ pub fn carry_clean_up(
     ensures { listed (release_said result.answer) (holder s.store result.share) (tables head.now loans.now chunks.new index.now regions.new) list.new ≡ carry_clean_up s (holder s.store share) (tables head.now loans.now chunks.old index.now regions.old) list.old (verdict_of plan) }
 {
     match plan {
-        Gate::Shut(refusal) => store::refuse_return(share, refusal),
-        Gate::Go => {
+        Err(refusal) => store::refuse_return(share, refusal),
+        Ok(()) => {
             let f = freelist_release::release(s, false, chunks, regions, list);
             store::settle(share, f.count, f.bytes)
         }

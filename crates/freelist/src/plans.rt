@@ -1,4 +1,5 @@
-// What each call comes to: the gate, and then the tests behind it. Reads only.
+// What each call comes to: the gate, and then the tests behind it. Reads only. The tables come one by one: a view of them can be had
+// only where test 1 has passed.
 ghost use Rattle.std.specs.Prelude.{◌≡◌};
 ghost use Rattle.counter.specs.Gate.{verdict_of};
 ghost use Rattle.store_rules.specs.Outcomes.{list_ok};
@@ -13,18 +14,17 @@ ghost use Rattle.freelist_decide.specs.Plans.{plan_of, Planned};
 ghost use Rattle.freelist.specs.Deliveries.{delivery_of};
 ghost use Rattle.freelist.specs.Ready.{Delivers};
 
-use counter::{Block, FreeListSettings, Gate, OpenOrder, Outcome, Refusal};
+use counter::{Block, FreeListSettings, OpenOrder, Outcome, Refusal};
 use freelist_decide::{Buying, Plan};
-use freelist_gate::Passing;
-use returning::Back;
+use freelist_rules::FreeListView;
 use store::Coming;
 use store_rules::Share;
 
-// What a delivery comes to, with what its kept ask came to. A shut gate has no buying.
+// What a delivery comes to, with what its kept ask came to.
 #[derive(Clone, Copy)]
-pub enum Delivery {
-    Shut(Refusal),
-    Come(Coming, Buying),
+pub struct Delivery {
+    pub coming: Coming,
+    pub bought: Buying,
 }
 
 // 1, but for the account, which set-up does not take.
@@ -35,13 +35,13 @@ pub fn plan_set_up(
     chunks: &[u64],
     index: &[u64],
     regions: &[u64],
-) -> Gate
+) -> Result<(), Refusal>
     ensures { verdict_of result ≡ plan_set_up s (tables head.now loans.now chunks.now index.now regions.now) }
 {
     if freelist_gate::is_fit(s, head, loans, chunks, index, regions) {
-        Gate::Go
+        Ok(())
     } else {
-        Gate::Shut(Refusal::Setup)
+        Err(Refusal::Setup)
     }
 }
 
@@ -55,29 +55,20 @@ pub fn plan_ask(
     chunks: &[u64],
     index: &[u64],
     regions: &[u64],
-) -> Plan
+) -> Result<Plan, Refusal>
     ensures result_value { plan_of result ≡ plan_ask s (holder s.store share) size mask (tables head.now loans.now chunks.now index.now regions.now) }
     ensures planned { Planned s size mask (tables head.now loans.now chunks.now index.now regions.now) result }
 {
-    let g = freelist_gate::gate(s, share, true, head, loans, chunks, index, regions);
-    match g {
-        Gate::Shut(refusal) => Plan::Refuse(refusal),
-        Gate::Go => {
-            let heap = share.heap;
-            freelist_decide::decide(
-                s,
-                heap,
-                share.objects,
-                size,
-                mask,
-                head,
-                loans,
-                chunks,
-                index,
-                regions,
-            )
-        }
-    }
+    freelist_gate::gate(s, share, true, head, loans, chunks, index, regions)?;
+    let view = FreeListView {
+        settings: s,
+        head,
+        loans,
+        chunks,
+        index,
+        regions,
+    };
+    freelist_decide::decide(&view, share.heap, share.objects, size, mask)
 }
 
 pub fn plan_deliver(
@@ -90,18 +81,15 @@ pub fn plan_deliver(
     chunks: &[u64],
     index: &[u64],
     regions: &[u64],
-) -> Delivery
+) -> Result<Delivery, Refusal>
     ensures result_value { delivery_of result ≡ plan_deliver s (holding s.store share order) o (tables head.now loans.now chunks.now index.now regions.now) }
     ensures delivers { Delivers s (tables head.now loans.now chunks.now index.now regions.now) result }
 {
-    let g = freelist_gate::gate_delivery(s, share, order, head, loans, chunks, index, regions);
-    match g {
-        Passing::Shut(refusal) => Delivery::Shut(refusal),
-        Passing::Go(b) => {
-            let coming = freelist_decide::decide_delivery(order, o, chunks);
-            Delivery::Come(coming, b)
-        }
-    }
+    let bought = freelist_gate::gate_delivery(
+        s, share, order, head, loans, chunks, index, regions,
+    )?;
+    let coming = freelist_decide::decide_delivery(order, o, chunks)?;
+    Ok(Delivery { coming, bought })
 }
 
 // The release list has to hold the chunk limit.
@@ -115,16 +103,12 @@ pub fn plan_return(
     index: &[u64],
     regions: &[u64],
     list: &[u64],
-) -> Back
+) -> Result<usize, Refusal>
     ensures { back_of result ≡ plan_return s (holder s.store share) b (tables head.now loans.now chunks.now index.now regions.now) (list_ok s.store list.now) }
 {
-    let own = s.store;
-    let long = own.chunks <= list.len();
-    let g = freelist_gate::gate(s, share, long, head, loans, chunks, index, regions);
-    match g {
-        Gate::Shut(refusal) => Back::Refuse(refusal),
-        Gate::Go => freelist_decide::decide_return(s, b, loans, index),
-    }
+    let long = s.store.chunks <= list.len();
+    freelist_gate::gate(s, share, long, head, loans, chunks, index, regions)?;
+    freelist_decide::decide_return(s, b, loans, index)
 }
 
 // The same list; there is no test behind the gate.
@@ -137,7 +121,7 @@ pub fn plan_clean_up(
     index: &[u64],
     regions: &[u64],
     list: &[u64],
-) -> Gate
+) -> Result<(), Refusal>
     ensures { verdict_of result ≡ plan_clean_up s (holder s.store share) (tables head.now loans.now chunks.now index.now regions.now) (list_ok s.store list.now) }
 {
     let own = s.store;

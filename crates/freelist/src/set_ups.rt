@@ -4,7 +4,7 @@ ghost use Rattle.counter.specs.Paper.{set_up_said};
 ghost use Rattle.freelist_rules.specs.Tables.{tables};
 ghost use Rattle.freelist_outcomes.specs.SetUp.{begun, set_up_of};
 
-use counter::{FreeListSettings, SetUpAnswer};
+use counter::{FreeListSettings, Refused};
 
 pub fn set_up(
     s: FreeListSettings,
@@ -13,7 +13,7 @@ pub fn set_up(
     chunks: &mut [u64],
     index: &mut [u64],
     regions: &mut [u64],
-) -> SetUpAnswer
+) -> Result<(), Refused>
     ensures { begun (set_up_said result) (tables head.new loans.new chunks.new index.new regions.new) ≡ set_up_of s (tables head.old loans.old chunks.old index.old regions.old) }
 {
     let plan = crate::plans::plan_set_up(s, head, loans, chunks, index, regions);

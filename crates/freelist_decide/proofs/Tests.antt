@@ -26,10 +26,11 @@ use Rattle.freelist_outcomes.specs.Ask.{size_ok, room_ok, count_ok, objects_ok, 
 use Rattle.words.specs.Rows.{rows}
 use Rattle.counter.specs.Limits.{spent}
 use Rattle.freelist_regions.specs.Found.{Starts}
-use Rattle.freelist_regions.specs.declared.search.Found as Regions
-use Rattle.freelist_regions.specs.declared.search.Found.TheVariants.{At}
+use Rattle.freelist_regions.specs.declared.search.Fit.{Fit}
 use Rattle.freelist_decide.specs.Plans.{Carries, Planned}
 use Rattle.freelist_decide.specs.declared.deciding.Plan as Code
+use Rattle.counter.specs.declared.refusal.Refusal.{Refusal}
+use Rattle.std.specs.Prelude.{Option, Some, Result}
 
 module _ (s : FreeListSettings) (loans index : List ℕ) where
   abbrev book : Tables
@@ -145,14 +146,14 @@ module _ (s : FreeListSettings) (h : Heap) (objects size mask : ℕ) (head loans
 
   -- ---- what the plan carries
 
-  pub start_is : (i x m n k : ℕ) (f : Regions.Found) → f ≡ At i x → Starts m n (free_of (rows gap_row k regions)) f → m ≡ mask_for s mask → n ≡ size_for s size → k ≡ get_or regions region_count_at 0
-      → x ≡ (block_at s size mask all i).start
+  pub start_is : (m n k : ℕ) (f : Fit) (o : Option Fit) → o ≡ Some f → Starts m n (free_of (rows gap_row k regions)) o → m ≡ mask_for s mask → n ≡ size_for s size → k ≡ get_or regions region_count_at 0
+      → f.start ≡ (block_at s size mask all f.region).start
   unfolding store_of
-  start_is i x m n k f e g a b c =
-      let h : x ≡ cut m n (get_or (free_of (rows gap_row k regions)) i no_region) = subst (λ (y : Regions.Found). Starts m n (free_of (rows gap_row k regions)) y) e g in
-      h ∙ (λ j. cut (a j) (b j) (get_or (free_of (rows gap_row (c j) regions)) i no_region))
+  start_is m n k f o e g a b c =
+      let h : f.start ≡ cut m n (get_or (free_of (rows gap_row k regions)) f.region no_region) = subst (λ (y : Option Fit). Starts m n (free_of (rows gap_row k regions)) y) e g in
+      h ∙ (λ j. cut (a j) (b j) (get_or (free_of (rows gap_row (c j) regions)) f.region no_region))
 
-  pub carried_is : (p : Code.Plan) (m n : ℕ) → m ≡ mask_for s mask → n ≡ size_for s size → ((from : ℕ → ℕ) → Carries from n m (taken_of (get_or loans places_at 0) index) p) → Planned s size mask all p
+  pub carried_is : (p : Result Code.Plan Refusal) (m n : ℕ) → m ≡ mask_for s mask → n ≡ size_for s size → ((from : ℕ → ℕ) → Carries from n m (taken_of (get_or loans places_at 0) index) p) → Planned s size mask all p
   carried_is p m n a b g =
       let from : ℕ → ℕ = λ i. (block_at s size mask all i).start in
       let loan = taken_of (get_or loans places_at 0) index in

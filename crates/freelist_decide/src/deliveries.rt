@@ -8,7 +8,7 @@ ghost use Rattle.freelist_rules.specs.Tables.{chunks_at};
 ghost use Rattle.freelist_rules.specs.Walk.{memories};
 ghost use Rattle.freelist_outcomes.specs.Deliver.{decide_deliver};
 
-use counter::{OpenOrder, Outcome};
+use counter::{OpenOrder, Outcome, Refusal};
 use freelist_rules::{CHUNK_MEMORY_AT, CHUNK_WORDS, CHUNKS_AT};
 use store::{Coming, Engine};
 
@@ -17,10 +17,8 @@ fn is_held(chunks: &[u64], k: usize, memory: u64) -> bool
     ensures { result ≡ holds memory (memories (rows chunk_row k chunks.now)) }
 {
     let mut held = false;
-    let mut i = 0;
-    while i < k {
+    for i in 0..k {
         held = held | (words::cell(chunks, CHUNK_MEMORY_AT, CHUNK_WORDS, i) == memory);
-        i += 1;
     }
     held
 }
@@ -31,13 +29,12 @@ fn is_known(o: Outcome, chunks: &[u64]) -> bool
 {
     match o {
         Outcome::Made(m) => is_held(chunks, words::word(chunks, CHUNKS_AT) as usize, m.number),
-        Outcome::OutOfDevice => false,
-        Outcome::OutOfHost => false,
+        Outcome::OutOfDevice | Outcome::OutOfHost => false,
     }
 }
 
 // Test 13, and what the outcome leads to.
-pub fn decide_delivery(order: OpenOrder, o: Outcome, chunks: &[u64]) -> Coming
+pub fn decide_delivery(order: OpenOrder, o: Outcome, chunks: &[u64]) -> Result<Coming, Refusal>
     ensures { coming_of result ≡ decide_deliver o (memories (rows chunk_row (get_or chunks.now chunks_at 0) chunks.now)) order }
 {
     store::come(Engine::FreeList, order, o, is_known(o, chunks))

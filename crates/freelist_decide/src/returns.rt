@@ -6,16 +6,18 @@ ghost use Rattle.freelist_rules.specs.Tables.{tables};
 ghost use Rattle.freelist_outcomes.specs.Return.{decide_return};
 ghost use Rattle.returning.specs.Backs.{back_of};
 
-use counter::{Block, FreeListSettings};
-use returning::Back;
+use counter::{Block, FreeListSettings, Refusal};
 use store_rules::PLACES_AT;
 
 // Test 7, by the store's book.
-pub fn decide_return(s: FreeListSettings, b: Block, loans: &[u64], index: &[u64]) -> Back
+pub fn decide_return(
+    s: FreeListSettings,
+    b: Block,
+    loans: &[u64],
+    index: &[u64],
+) -> Result<usize, Refusal>
     requires { Reads s.store.loans (get_or loans.now places_at 0) loans.now index.now }
     ensures { back_of result ≡ decide_return s b (tables [] loans.now [] index.now []) }
 {
-    let own = s.store;
-    let places = loans[PLACES_AT];
-    returning::decide(b, own.loans, places, loans, index)
+    returning::decide(b, s.store.loans, loans[PLACES_AT], loans, index)
 }

@@ -11,7 +11,7 @@ use Rattle.counter.specs.InTable.{FreeListIn}
 use Rattle.counter.specs.Paper as Paper
 use Rattle.counter.specs.declared.account.Account.{Account}
 use Rattle.counter.specs.declared.account.KeptOrder.{KeptOrder}
-use Rattle.counter.specs.declared.account.OpenOrder.TheVariants.{Kept}
+use Rattle.std.specs.Prelude.{Some}
 use Rattle.counter.specs.declared.answers.Memory.{Memory}
 use Rattle.counter.specs.declared.answers.Outcome.{Outcome}
 use Rattle.counter.specs.declared.answers.Outcome.TheVariants as O
@@ -134,7 +134,7 @@ ask_chunks s a size mask t _ (orders p v) =
     sym (ap (λ (x : Store). x.chunks) (ordered_store s t p.settings (lengths_are s t p.lengths) p.sound (raised_for s size t)))
 
 -- a delivery that is answered by a block leaves the new one with them
-deliver_chunks : (s : FreeListSettings) (a : Account) (o : Outcome) (t : Tables) (k : KeptOrder) (m : Memory) → a.order ≡ Kept k → o ≡ O.Made m → (serial number offset len : ℕ) (r : Out Tables) → DeliverComes s a o t r
+deliver_chunks : (s : FreeListSettings) (a : Account) (o : Outcome) (t : Tables) (k : KeptOrder) (m : Memory) → a.order ≡ Some k → o ≡ O.Made m → (serial number offset len : ℕ) (r : Out Tables) → DeliverComes s a o t r
     → r.said ≡ Paper.block serial number offset len → (delivered s m.number k.order.size (store_of s t)).chunks ≡ (store_of s r.tables).chunks
 unfolding carry_fate
 deliver_chunks s a o t k m its made serial number offset len _ (DeliverComes.denied n) e = refusal_block n [] serial number offset len e
@@ -143,7 +143,7 @@ deliver_chunks s a o t k m its made serial number offset len _ (keeps j i f w ne
     (λ z. (delivered s (same_memory m i (sym made ∙ f) z).number (same_kept k j (sym its ∙ w.is) z).order.size (store_of s t)).chunks)
     ∙ sym (ap (λ (x : Store). x.chunks) (lent_store s a t j w i.number new))
   where
-    same_kept : (x y : KeptOrder) → Kept x ≡ Kept y → x ≡ y
+    same_kept : (x y : KeptOrder) → Some x ≡ Some y → x ≡ y
     same_kept x y q = cc
 
     same_memory : (x y : Memory) → O.Made x ≡ O.Made y → x ≡ y

@@ -13,7 +13,7 @@ use Rattle.counter.specs.Paper.{Said}
 use Rattle.counter.specs.Paper as Paper
 use Rattle.counter.specs.declared.account.Account.{Account}
 use Rattle.counter.specs.declared.account.KeptOrder.{KeptOrder}
-use Rattle.counter.specs.declared.account.OpenOrder.TheVariants.{Kept}
+use Rattle.std.specs.Prelude.{Some}
 use Rattle.counter.specs.declared.answers.Block.{Block}
 use Rattle.counter.specs.declared.answers.Memory.{Memory}
 use Rattle.counter.specs.declared.answers.Outcome.{Outcome}
@@ -149,7 +149,7 @@ last_joined cs d = amid_member d cs (cs ++ (d ∷ [])) (record { earlier = cs; l
 -- a delivery that lends a block lends it from the new chunk
 abbrev Arrives : FreeListSettings → Account → Outcome → Tables → Tables → ℕ → Type 0
 Arrives s a o t u number =
-    (k : KeptOrder) × (m : Memory) × (a.order ≡ Kept k) × (o ≡ O.Made m)
+    (k : KeptOrder) × (m : Memory) × (a.order ≡ Some k) × (o ≡ O.Made m)
     × ((c : Chunk) → Memᴰ c (store_of s u).chunks ↔ (Memᴰ c (store_of s t).chunks ⊎ (c ≡ chunk number m.number k.order.size)))
 
 deliver_arrives : (s : FreeListSettings) (a : Account) (o : Outcome) (t : Tables) (serial number offset len : ℕ) (r : Out Tables) → DeliverComes s a o t r → r.said ≡ Paper.block serial number offset len

@@ -2,6 +2,7 @@
 use mathlib.Core.Path.{◌≡◌, refl, sym, ap, subst, ◌∙◌}
 use mathlib.Core.Bool.{Bool, true, false}
 use mathlib.Core.List.{List}
+use Rattle.std.specs.Prelude.{Some, Result, Ok, Err}
 use Prim.Native.Nat.{ℕ}
 use lib.Dec.{eqb}
 use lib.ListN.{get_or}
@@ -12,9 +13,9 @@ use Rattle.counter.specs.Gate.{Verdict, pass, refuse}
 use Rattle.counter.specs.declared.account.Account.{Account}
 use Rattle.counter.specs.declared.account.Heap.{Heap}
 use Rattle.counter.specs.declared.account.KeptOrder.{KeptOrder}
-use Rattle.counter.specs.declared.account.OpenOrder.{OpenOrder}
-use Rattle.counter.specs.declared.account.OpenOrder.TheVariants.{Nothing, Kept}
+use Rattle.counter.specs.Open.{OpenOrder}
 use Rattle.counter.specs.declared.account.Order.{Order}
+use Rattle.counter.specs.declared.refusal.Refusal.{Refusal}
 use Rattle.counter.specs.declared.settings.FreeListSettings.{FreeListSettings}
 use Rattle.store_rules.specs.Orders.{Plan, deny, take, buy, order_from, same_order}
 use Rattle.store_rules.proofs.Holders.{holding, holder}
@@ -31,8 +32,6 @@ use Rattle.freelist_decide.specs.declared.deciding.Buying.{Buying}
 use Rattle.freelist_decide.specs.declared.deciding.Plan as Code
 use Rattle.freelist_decide.specs.declared.deciding.Plan.TheVariants.{Buy}
 use Rattle.freelist_gate.specs.Gates.{bought_gate, kept_gate, BoughtAs, BoughtFor}
-use Rattle.freelist_gate.specs.declared.deliveries.Passing.{Passing}
-use Rattle.freelist_gate.specs.declared.deliveries.Passing.TheVariants.{Shut, Go}
 use Rattle.freelist_gate.proofs.Gates.{bytes}
 
 -- ---- the order that the kept ask leads to
@@ -92,7 +91,7 @@ module _ (s : FreeListSettings) (a : Account) (t : Tables) where
   unfolding deliver_gate_of
   order_not e f = rw (e, f) refl
 
-  order_kept : (h : Heap) (v : Verdict) (k : KeptOrder) → in_table_ok s a t ≡ true → open_for s.store.number a.order ≡ true → a.order ≡ Kept k → h ≡ heap_at a s.store.heap → v ≡ kept_gate s h a.objects k t → v ≡ deliver_gate_of s a t
+  order_kept : (h : Heap) (v : Verdict) (k : KeptOrder) → in_table_ok s a t ≡ true → open_for s.store.number a.order ≡ true → a.order ≡ Some k → h ≡ heap_at a s.store.heap → v ≡ kept_gate s h a.objects k t → v ≡ deliver_gate_of s a t
   unfolding deliver_gate_of kept_gate account_ok
   order_kept h v k e f o p g = g ∙ ap (λ (x : Heap). kept_gate s x a.objects k t) p ∙ rw (e, f, ap (still_ok s a t) o) refl
 
@@ -113,11 +112,7 @@ module _ (s : FreeListSettings) (share : Share) (order : OpenOrder) (t : Tables)
   unfolding holding
   delivery_order e f = order_not s held t (lent_held e) f
 
-  -- no order is open
-  pub delivery_none : in_table_ok s (holder s.store share) t ≡ true → order ≡ Nothing → refuse 2 ≡ deliver_gate_of s held t
-  delivery_none e f = delivery_order e (ap (open_for s.store.number) f)
-
-  pub delivery_kept : (v : Verdict) (k : KeptOrder) → in_table_ok s (holder s.store share) t ≡ true → open_for s.store.number order ≡ true → order ≡ Kept k → v ≡ kept_gate s share.heap share.objects k t → v ≡ deliver_gate_of s held t
+  pub delivery_kept : (v : Verdict) (k : KeptOrder) → in_table_ok s (holder s.store share) t ≡ true → open_for s.store.number order ≡ true → order ≡ Some k → v ≡ kept_gate s share.heap share.objects k t → v ≡ deliver_gate_of s held t
   unfolding holding
   delivery_kept v k e f o g =
       order_kept s held t share.heap v k (lent_held e) f o (sym (held_heap s.store share order (lent_in_lem s held t (lent_held e)).0.store.heap)) g
@@ -125,14 +120,14 @@ module _ (s : FreeListSettings) (share : Share) (order : OpenOrder) (t : Tables)
 -- ---- what it tells
 
 module _ (s : FreeListSettings) (k : KeptOrder) (t : Tables) where
-  pub bought_for : (b : Buying) (p : Code.Plan) (r : Passing) → p ≡ Buy b → Planned s k.ask.size k.ask.mask t p → BoughtAs k.order b r → BoughtFor s k t r
-  bought_for b p (Shut n) e c o = tt
-  bought_for b p (Go x) e c (f, z) =
-      (ap (λ (y : Buying). y.order) f ∙ z, subst (λ (y : Buying). Planned s k.ask.size k.ask.mask t (Buy y)) (sym f) (subst (Planned s k.ask.size k.ask.mask t) e c))
+  pub bought_for : (b : Buying) (p : Result Code.Plan Refusal) (r : Result Buying Refusal) → p ≡ Ok (Buy b) → Planned s k.ask.size k.ask.mask t p → BoughtAs k.order b r → BoughtFor s k t r
+  bought_for b p (Err n) e c o = tt
+  bought_for b p (Ok x) e c (f, z) =
+      (ap (λ (y : Buying). y.order) f ∙ z, subst (λ (y : Buying). Planned s k.ask.size k.ask.mask t (Ok (Buy y))) (sym f) (subst (Planned s k.ask.size k.ask.mask t) e c))
 
   -- of the order that is open
-  pub open_for_lem : (order : OpenOrder) (j : KeptOrder) (r : Passing) → order ≡ Kept j → BoughtFor s j t r → order ≡ Kept k → BoughtFor s k t r
+  pub open_for_lem : (order : OpenOrder) (j : KeptOrder) (r : Result Buying Refusal) → order ≡ Some j → BoughtFor s j t r → order ≡ Some k → BoughtFor s k t r
   open_for_lem order j r e b f = subst (λ (x : KeptOrder). BoughtFor s x t r) (same (sym e ∙ f)) b
     where
-      same : Kept j ≡ Kept k → j ≡ k
+      same : Some j ≡ Some k → j ≡ k
       same p = cc

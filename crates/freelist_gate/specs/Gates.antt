@@ -1,11 +1,12 @@
 -- The later halves of the gates, by one heap and the object count, and what a delivery's passed gate tells.
-use Rattle.std.specs.Prelude.{◌≡◌, ◌&&◌, List, [], ◌∷◌, ℕ, get_or}
+use Rattle.std.specs.Prelude.{◌≡◌, ◌&&◌, Result, Ok, Err, List, [], ◌∷◌, ℕ, get_or}
 use Rattle.words.specs.Rows.{rows}
 use Rattle.counter.specs.Gate.{Verdict, pass, refuse, first}
 use Rattle.counter.specs.Paper.{number_of}
 use Rattle.counter.specs.declared.account.Heap.{Heap}
 use Rattle.counter.specs.declared.account.KeptOrder.{KeptOrder}
 use Rattle.counter.specs.declared.account.Order.{Order}
+use Rattle.counter.specs.declared.refusal.Refusal.{Refusal}
 use Rattle.counter.specs.declared.settings.FreeListSettings.{FreeListSettings}
 use Rattle.store_rules.specs.Orders.{order_from, same_order, leads_to}
 use Rattle.store_rules.specs.Tests.{covers_ok}
@@ -17,8 +18,6 @@ use Rattle.freelist_outcomes.specs.Ask.{decide_ask}
 use Rattle.freelist_decide.specs.Plans.{Planned}
 use Rattle.freelist_decide.specs.declared.deciding.Buying.{Buying}
 use Rattle.freelist_decide.specs.declared.deciding.Plan.TheVariants.{Buy}
-use Rattle.freelist_gate.specs.declared.deliveries.Passing.{Passing}
-use Rattle.freelist_gate.specs.declared.deliveries.Passing.TheVariants.{Shut, Go}
 
 -- 3 and 4 of an ask, a return and a clean-up
 
@@ -47,16 +46,16 @@ bought_gate s h objects order z chunks =
 
 -- ---- the code's words for a delivery's gate
 
-abbrev pub pass_of : Passing → Verdict
-pass_of (Shut r) = refuse (number_of r)
-pass_of (Go b) = pass
+abbrev pub pass_of : Result Buying Refusal → Verdict
+pass_of (Err r) = refuse (number_of r)
+pass_of (Ok b) = pass
 
 -- what is passed on is b, of the order's size
-abbrev pub BoughtAs : Order → Buying → Passing → Type 0
-BoughtAs order b (Shut r) = Unit {0}
-BoughtAs order b (Go x) = (x ≡ b) × (b.order ≡ order.size)
+abbrev pub BoughtAs : Order → Buying → Result Buying Refusal → Type 0
+BoughtAs order b (Err r) = Unit {0}
+BoughtAs order b (Ok x) = (x ≡ b) × (b.order ≡ order.size)
 
 -- 3, "the kept ask still leads to the order that was told": what it leads to, with the numbers that an ask's plan carries
-abbrev pub BoughtFor : FreeListSettings → KeptOrder → Tables → Passing → Type 0
-BoughtFor s k t (Shut r) = Unit {0}
-BoughtFor s k t (Go b) = (b.order ≡ k.order.size) × Planned s k.ask.size k.ask.mask t (Buy b)
+abbrev pub BoughtFor : FreeListSettings → KeptOrder → Tables → Result Buying Refusal → Type 0
+BoughtFor s k t (Err r) = Unit {0}
+BoughtFor s k t (Ok b) = (b.order ≡ k.order.size) × Planned s k.ask.size k.ask.mask t (Ok (Buy b))

@@ -1,5 +1,5 @@
-// The gate of every call: the tests 1 to 4, in that order.
-ghost use Rattle.std.specs.Prelude.{◌≡◌, true, ◌*◌, ◌≤◌, get_or};
+// The gate of every call: the tests 1 to 4, in that order. Up to test 1 the tables come one by one: no view of them can be had yet.
+ghost use Rattle.std.specs.Prelude.{true, ◌≡◌, ◌*◌, ◌≤◌, get_or};
 ghost use Rattle.words.specs.Rows.{rows};
 ghost use Rattle.counter.specs.Gate.{verdict_of};
 ghost use Rattle.counter.specs.InTable.{FreeListIn};
@@ -9,13 +9,16 @@ ghost use Rattle.store_rules.specs.Tests.{covers_ok};
 ghost use Rattle.freelist_rules.specs.Records.{chunk_row};
 ghost use Rattle.freelist_rules.specs.Pieces.{total};
 ghost use Rattle.freelist_rules.specs.Tables.{tables, lengths_ok, chunks_at};
+ghost use Rattle.freelist_rules.specs.Seen.{seen};
 ghost use Rattle.freelist_outcomes.specs.Gate.{in_table_ok, gate_of};
 ghost use Rattle.freelist_outcomes.specs.SetUp.{fit_ok};
 ghost use Rattle.freelist_gate.specs.Gates.{store_gate};
 
 use book::ENTRY_WORDS;
-use counter::{FreeListSettings, Gate, Heap, Refusal};
-use freelist_rules::{CHUNK_BYTES_AT, CHUNK_WORDS, CHUNKS_AT, COLUMNS, HEAD_WORDS, REGION_WORDS};
+use counter::{FreeListSettings, Heap, Refusal};
+use freelist_rules::{
+    CHUNK_BYTES_AT, CHUNK_WORDS, CHUNKS_AT, COLUMNS, FreeListView, HEAD_WORDS, REGION_WORDS,
+};
 use store_rules::{LOAN_WORDS, Share};
 
 pub fn lengths_fit(
@@ -82,10 +85,8 @@ fn chunk_bytes(chunks: &[u64], k: usize) -> u64
     ensures { result ≡ total (λ c. c.size) (rows chunk_row k chunks.now) }
 {
     let mut sum = 0u64;
-    let mut i = 0;
-    while i < k {
+    for i in 0..k {
         sum += words::cell(chunks, CHUNK_BYTES_AT, CHUNK_WORDS, i);
-        i += 1;
     }
     sum
 }
@@ -100,26 +101,17 @@ pub fn is_covered(h: Heap, objects: u32, chunks: &[u64]) -> bool
 }
 
 // Tests 3 and 4: the store is sound, and the account covers it.
-fn gate_store(
-    s: FreeListSettings,
-    h: Heap,
-    objects: u32,
-    head: &[u64],
-    loans: &[u64],
-    chunks: &[u64],
-    index: &[u64],
-    regions: &[u64],
-) -> Gate
-    requires { FreeListIn s × (lengths_ok s (tables head.now loans.now chunks.now index.now regions.now) ≡ true) }
-    ensures { verdict_of result ≡ store_gate s h objects (tables head.now loans.now chunks.now index.now regions.now) }
+fn gate_store(t: &FreeListView<'_>, h: Heap, objects: u32) -> Result<(), Refusal>
+    requires { lengths_ok t.now.settings (seen t.now) ≡ true }
+    ensures { verdict_of result ≡ store_gate t.now.settings h objects (seen t.now) }
 {
-    if !freelist_test::is_sound(s, head, loans, chunks, index, regions) {
-        return Gate::Shut(Refusal::Torn);
+    if !freelist_test::is_sound(t) {
+        return Err(Refusal::Torn);
     }
-    if !is_covered(h, objects, chunks) {
-        return Gate::Shut(Refusal::Account);
+    if !is_covered(h, objects, t.chunks) {
+        return Err(Refusal::Account);
     }
-    Gate::Go
+    Ok(())
 }
 
 // The gate of an ask, a return and a clean-up. `list` says whether a release list is long enough.
@@ -132,16 +124,23 @@ pub fn gate(
     chunks: &[u64],
     index: &[u64],
     regions: &[u64],
-) -> Gate
+) -> Result<(), Refusal>
     ensures { verdict_of result ≡ gate_of s (holder s.store share) (tables head.now loans.now chunks.now index.now regions.now) list }
 {
     let lent = is_in_table(s, share, head, loans, chunks, index, regions);
     if !(lent & list) {
-        return Gate::Shut(Refusal::Setup);
+        return Err(Refusal::Setup);
     }
     if !share.idle {
-        return Gate::Shut(Refusal::Order);
+        return Err(Refusal::Order);
     }
-    let heap = share.heap;
-    gate_store(s, heap, share.objects, head, loans, chunks, index, regions)
+    let view = FreeListView {
+        settings: s,
+        head,
+        loans,
+        chunks,
+        index,
+        regions,
+    };
+    gate_store(&view, share.heap, share.objects)
 }

@@ -4,5 +4,5 @@
 mod deliveries;
 mod gating;
 
-pub use deliveries::{Passing, gate_delivery};
+pub use deliveries::gate_delivery;
 pub use gating::{gate, is_fit};

@@ -1,6 +1,7 @@
 -- The chunk with a number stands where a search by halves ends, and says whether a region is all of it.
 use mathlib.Core.Path.{◌≡◌, refl, sym, ap, ◌∙◌}
 use mathlib.Core.Bool.{Bool, true, false, cond, ◌&&◌, ◌||◌, not}
+use Rattle.std.specs.Prelude.{Option, Some, None, is_some}
 use mathlib.Core.Logic.{◌⊎◌, inl, inr, ⊎_elim}
 use mathlib.Core.List.{List, [], ◌∷◌}
 use Prim.Native.Nat.{ℕ, zero, suc, ◌+◌, ◌≤◌, ◌<◌}
@@ -12,7 +13,7 @@ use Rattle.words.specs.Words.{cell_of}
 use Rattle.words.specs.Rows.{row, rows}
 use Rattle.words.proofs.Records.{length_rows, get_d_rows, cell_row}
 use Rattle.lists.proofs.Bools.{and_left, and_right, and_both, told, true_false, same?, lt_or_le}
-use Rattle.freelist_rules.specs.Records.{chunk_row, gap_row, chunk_number_at, region_start_at, chunk_words, region_words}
+use Rattle.freelist_rules.specs.Records.{chunk, chunk_row, gap_row, chunk_number_at, region_start_at, chunk_words, region_words}
 use Rattle.freelist_rules.specs.Threads.{region_in}
 use Rattle.freelist_rules.specs.Release.{covers, wholly, goes, memory_of}
 use Rattle.store_rules.specs.declared.Chunk.{Chunk}
@@ -21,8 +22,11 @@ use Rattle.freelist_rules.proofs.Base.{rising_low, at_in}
 use Rattle.freelist_rules.proofs.Facts.{ChunksRise}
 use Rattle.freelist_regions.specs.Stand.{Parting, Parts}
 use Rattle.freelist_regions.specs.Seat.{reaches}
-use Rattle.freelist_marks.specs.Numbered.{no_chunk, numbered, fills}
+use Rattle.freelist_marks.specs.Numbered.{numbered, whole_in, going}
 use Rattle.freelist_marks.specs.Releasable.{NumbersRise}
+
+no_chunk : Chunk
+no_chunk = chunk 0 0 0
 
 abbrev number_at : List Chunk → ℕ → ℕ
 number_at cs i = (get_or cs i no_chunk).number
@@ -36,16 +40,24 @@ numbers_order b (c ∷ cs) up i zero h g = absurd (omega arith)
 numbers_order b (c ∷ cs) up zero (suc j) h g = omega (arith, number_low (0 + suc c.number) cs up.2 j (omega arith))
 numbers_order b (c ∷ cs) up (suc i) (suc j) h g = numbers_order (0 + suc c.number) cs up.2 i j (omega arith) (omega arith)
 
+-- ---- None and Some
+
+no_some : {A : Type 0} (a : A) → None ≡ Some a → ⊥
+no_some a e = cc
+
+some_same : {A : Type 0} (a b : A) → Some a ≡ Some b → a ≡ b
+some_same a b e = cc
+
 -- ---- the chunk with a number, by its place
 
-found_at : (n b : ℕ) (cs : List Chunk) → ChunksRise b cs → (j : ℕ) → j < length cs → n ≡ number_at cs j → get_or cs j no_chunk ≡ numbered n cs
+found_at : (n b : ℕ) (cs : List Chunk) → ChunksRise b cs → (j : ℕ) → j < length cs → n ≡ number_at cs j → Some (get_or cs j no_chunk) ≡ numbered n cs
 unfolding numbered
 found_at n b [] up j h e = absurd (omega arith)
 found_at n b (c ∷ cs) up zero h e = rw (eq-eqb n c.number e)
 found_at n b (c ∷ cs) up (suc j) h e =
     rw (ne_eqb n c.number (λ q. omega (arith, e, q, number_low (0 + suc c.number) cs up.2 j (omega arith)))) (found_at n (0 + suc c.number) cs up.2 j (omega arith) e)
 
-found_none : (n : ℕ) (cs : List Chunk) → ((i : ℕ) → i < length cs → n ≡ number_at cs i → ⊥) → no_chunk ≡ numbered n cs
+found_none : (n : ℕ) (cs : List Chunk) → ((i : ℕ) → i < length cs → n ≡ number_at cs i → ⊥) → None ≡ numbered n cs
 unfolding numbered
 found_none n [] never = refl
 found_none n (c ∷ cs) never = rw (ne_eqb n c.number (never 0 (omega arith))) (found_none n cs (λ i h. never (suc i) (omega arith)))
@@ -66,13 +78,13 @@ module _ (t : List ℕ) (k n : ℕ) (up : NumbersRise (rows chunk_row k t)) wher
     in_rows : j < k → c ≡ get_or (rows chunk_row k t) j no_chunk
     in_rows h = is ∙ sym (get_d_rows chunk_row k j t no_chunk h)
 
-    pub there : (ltb j k && eqb n c.number) ≡ true → c ≡ numbered n (rows chunk_row k t)
+    pub there : (ltb j k && eqb n c.number) ≡ true → Some c ≡ numbered n (rows chunk_row k t)
     there e =
         let h = ltb-true j k (and_left (ltb j k) (eqb n c.number) e) in
         let q = eqb-true n c.number (and_right (ltb j k) (eqb n c.number) e) in
-        in_rows h ∙ found_at n 1 (rows chunk_row k t) up j (omega (arith, long)) (q ∙ ap (λ (z : Chunk). z.number) (in_rows h))
+        ap (λ (d : Chunk). Some d) (in_rows h) ∙ found_at n 1 (rows chunk_row k t) up j (omega (arith, long)) (q ∙ ap (λ (z : Chunk). z.number) (in_rows h))
 
-    pub nowhere : (ltb j k && eqb n c.number) ≡ false → no_chunk ≡ numbered n (rows chunk_row k t)
+    pub nowhere : (ltb j k && eqb n c.number) ≡ false → None ≡ numbered n (rows chunk_row k t)
     nowhere e = found_none n (rows chunk_row k t) none
       where
         other : (i : ℕ) → i < k → n ≡ number_at (rows chunk_row k t) i → (i < j) ⊎ (j ≤ i) → ⊥
@@ -96,14 +108,14 @@ module _ (t : List ℕ) (k n : ℕ) (up : NumbersRise (rows chunk_row k t)) wher
 
 -- ---- what the definitions of a release say, by the chunk with the region's number
 
-pub memory_numbered : (r : Region) (cs : List Chunk) → (numbered r.chunk cs).memory ≡ memory_of cs r
+memory_numbered : (r : Region) (cs : List Chunk) (c : Chunk) → numbered r.chunk cs ≡ Some c → c.memory ≡ memory_of cs r
 unfolding numbered
-memory_numbered r [] = refl
-memory_numbered r (c ∷ cs) = go (eqb r.chunk c.number) (memory_numbered r cs)
+memory_numbered r [] c e = absurd (no_some c e)
+memory_numbered r (d ∷ cs) c e = go (eqb r.chunk d.number) (memory_numbered r cs c) e
   where
-    go : (b : Bool) → (numbered r.chunk cs).memory ≡ memory_of cs r → (cond b c (numbered r.chunk cs)).memory ≡ cond b c.memory (memory_of cs r)
-    go true ih = refl
-    go false ih = ih
+    go : (b : Bool) → (numbered r.chunk cs ≡ Some c → c.memory ≡ memory_of cs r) → cond b (Some d) (numbered r.chunk cs) ≡ Some c → c.memory ≡ cond b d.memory (memory_of cs r)
+    go true ih q = ap (λ (z : Chunk). z.memory) (sym (some_same d c q))
+    go false ih q = ih q
 
 -- none of higher numbers is the region's
 wholly_higher : (r : Region) (b : ℕ) (cs : List Chunk) → r.chunk < b → ChunksRise b cs → wholly cs r ≡ false
@@ -114,20 +126,24 @@ or_none : (a : Bool) → (a || false) ≡ a
 or_none true = refl
 or_none false = refl
 
-wholly_from : (r : Region) → r.start ≡ 0 → (b : ℕ) → 0 < b → (cs : List Chunk) → ChunksRise b cs → fills r (numbered r.chunk cs) ≡ wholly cs r
+-- whether the chunk that was found, where there is one, ends where the region does
+abbrev fills : Region → Option Chunk → Bool
+fills r None = false
+fills r (Some c) = eqb r.end c.size
+
+wholly_from : (r : Region) → r.start ≡ 0 → (b : ℕ) → (cs : List Chunk) → ChunksRise b cs → fills r (numbered r.chunk cs) ≡ wholly cs r
 unfolding numbered
-wholly_from r z b some [] up = refl
-wholly_from r z b some (c ∷ cs) up = ⊎_elim same (other (wholly_from r z (0 + suc c.number) (omega arith) cs up.2)) (told (eqb r.chunk c.number))
+wholly_from r z b [] up = refl
+wholly_from r z b (c ∷ cs) up = ⊎_elim same (other (wholly_from r z (0 + suc c.number) cs up.2)) (told (eqb r.chunk c.number))
   where
-    same : eqb r.chunk c.number ≡ true → fills r (cond (eqb r.chunk c.number) c (numbered r.chunk cs)) ≡ (covers r c || wholly cs r)
+    same : eqb r.chunk c.number ≡ true → fills r (cond (eqb r.chunk c.number) (Some c) (numbered r.chunk cs)) ≡ (covers r c || wholly cs r)
     same e =
         let q : wholly cs r ≡ false = wholly_higher r (0 + suc c.number) cs (omega (arith, eqb-true r.chunk c.number e)) up.2 in
-        let s : ltb 0 c.number ≡ true = lt-ltb 0 c.number (omega (arith, up.0)) in
         let o : eqb r.start 0 ≡ true = eq-eqb r.start 0 z in
-        let n : cond (eqb r.chunk c.number) c (numbered r.chunk cs) ≡ c = rw e in
-        ap (fills r) n ∙ rw (s, e, o, q) (sym (or_none (eqb r.end c.size)))
+        let n : cond (eqb r.chunk c.number) (Some c) (numbered r.chunk cs) ≡ Some c = rw e in
+        ap (fills r) n ∙ rw (e, o, q) (sym (or_none (eqb r.end c.size)))
 
-    other : fills r (numbered r.chunk cs) ≡ wholly cs r → eqb r.chunk c.number ≡ false → fills r (cond (eqb r.chunk c.number) c (numbered r.chunk cs)) ≡ (covers r c || wholly cs r)
+    other : fills r (numbered r.chunk cs) ≡ wholly cs r → eqb r.chunk c.number ≡ false → fills r (cond (eqb r.chunk c.number) (Some c) (numbered r.chunk cs)) ≡ (covers r c || wholly cs r)
     other ih e = rw e ih
 
 wholly_late : (r : Region) → (r.start ≡ 0 → ⊥) → (cs : List Chunk) → wholly cs r ≡ false
@@ -138,32 +154,72 @@ wholly_late r z (c ∷ cs) = go (eqb r.chunk c.number) (wholly_late r z cs)
     go true ih = rw (ne_eqb r.start 0 z) ih
     go false ih = ih
 
--- a region told by itself
-module _ (t : List ℕ) (k : ℕ) (up : NumbersRise (rows chunk_row k t)) (r : Region) where
-  pub whole_by : r.start ≡ 0 → (c : Chunk) → c ≡ numbered r.chunk (rows chunk_row k t) → (all : Bool) → all ≡ fills r c → all ≡ wholly (rows chunk_row k t) r
-  whole_by z c e all f = f ∙ ap (fills r) e ∙ wholly_from r z 1 (omega arith) (rows chunk_row k t) up
+-- the chunk that a region is all of, by the chunk that was found for it
+module _ (cs : List Chunk) (up : ChunksRise 1 cs) (r : Region) where
+  pub whole_late : (r.start ≡ 0 → ⊥) → None ≡ whole_in cs r
+  whole_late z = rw (wholly_late r z cs)
 
-  pub not_whole : (r.start ≡ 0 → ⊥) → false ≡ wholly (rows chunk_row k t) r
-  not_whole z = sym (wholly_late r z (rows chunk_row k t))
+  module _ (z : r.start ≡ 0) where
+    filled : wholly cs r ≡ fills r (numbered r.chunk cs)
+    filled = sym (wholly_from r z 1 cs up)
 
-module _ (t u : List ℕ) (k i : ℕ) (up : NumbersRise (rows chunk_row k t)) (spared : Bool) (start : ℕ) (read : start ≡ get_or u (cell_of region_start_at region_words i) 0) where
-  abbrev Told : Bool → Type 0
-  Told b = b ≡ (not spared && wholly (rows chunk_row k t) (region_in (row gap_row i u)))
+    pub whole_none : numbered r.chunk cs ≡ None → None ≡ whole_in cs r
+    whole_none e = rw (filled ∙ ap (fills r) e)
 
-  starts : (row gap_row i u).start ≡ start
-  starts = sym (read ∙ cell_row u region_start_at region_words i)
+    pub whole_some : (c : Chunk) → numbered r.chunk cs ≡ Some c → r.end ≡ c.size → Some c ≡ whole_in cs r
+    whole_some c e q = rw (filled ∙ ap (fills r) e ∙ eq-eqb r.end c.size q) (sym e)
 
-  pub goes_whole : start ≡ 0 → (r : Region) → r ≡ region_in (row gap_row i u) → (c : Chunk) → c ≡ numbered r.chunk (rows chunk_row k t) → (all : Bool) → all ≡ fills r c → Told (not spared && all)
-  goes_whole z r is c e all f =
-      ap (λ (b : Bool). not spared && b)
-      (f ∙ ap (fills r) e ∙ wholly_from r (ap (λ (d : Region). d.start) is ∙ starts ∙ z) 1 (omega arith) (rows chunk_row k t) up ∙ ap (wholly (rows chunk_row k t)) is)
+    pub whole_short : (c : Chunk) → numbered r.chunk cs ≡ Some c → (r.end ≡ c.size → ⊥) → None ≡ whole_in cs r
+    whole_short c e q = rw (filled ∙ ap (fills r) e ∙ ne_eqb r.end c.size q)
 
-  pub goes_not : (start ≡ 0 → ⊥) → Told false
-  goes_not z = go spared (wholly_late (region_in (row gap_row i u)) (λ q. z (sym starts ∙ q)) (rows chunk_row k t))
+  -- only what starts at 0 is all of a chunk
+  start_of : wholly cs r ≡ true → r.start ≡ 0
+  start_of w = ⊎_elim (λ (z : r.start ≡ 0). z) (λ (z : r.start ≡ 0 → ⊥). absurd (true_false (wholly cs r) w (wholly_late r z cs))) (same? r.start 0)
+
+  -- it is told where there is one, and then with its memory and its size
+  told_whole : (w : Bool) → wholly cs r ≡ w → (o : Option Chunk) → o ≡ cond w (numbered r.chunk cs) None → is_some o ≡ w
+  told_whole false e o q = ap is_some q
+  told_whole true e o q = found (numbered r.chunk cs) refl
     where
-      go : (s : Bool) → wholly (rows chunk_row k t) (region_in (row gap_row i u)) ≡ false → false ≡ (not s && wholly (rows chunk_row k t) (region_in (row gap_row i u)))
-      go true e = refl
-      go false e = sym e
+      found : (p : Option Chunk) → numbered r.chunk cs ≡ p → is_some o ≡ true
+      found None f = absurd (true_false (wholly cs r) e (filled (start_of e) ∙ ap (fills r) f))
+      found (Some c) f = ap is_some (q ∙ f)
+
+  pub whole_told : (o : Option Chunk) → o ≡ whole_in cs r → is_some o ≡ wholly cs r
+  whole_told o q = told_whole (wholly cs r) refl o q
+
+  pub going_told : (spared : Bool) (o : Option Chunk) → o ≡ going cs spared r → is_some o ≡ (not spared && wholly cs r)
+  going_told true o q = ap is_some q
+  going_told false o q = whole_told o q
+
+  size_of : (w : Bool) → wholly cs r ≡ w → (c : Chunk) → Some c ≡ cond w (numbered r.chunk cs) None → (c.memory ≡ memory_of cs r) × (c.size ≡ r.end)
+  size_of false e c q = absurd (no_some c (sym q))
+  size_of true e c q =
+      (memory_numbered r cs c (sym q), sym (eqb-true r.end c.size (ap (fills r) q ∙ sym (filled (start_of e)) ∙ e)))
+
+  pub going_is : (spared : Bool) (c : Chunk) → Some c ≡ going cs spared r → (c.memory ≡ memory_of cs r) × (c.size ≡ r.end)
+  going_is true c q = absurd (no_some c (sym q))
+  going_is false c q = size_of (wholly cs r) refl c q
+
+-- a region told by its start alone
+module _ (cs : List Chunk) (u : List ℕ) (i : ℕ) (spared : Bool) (start : ℕ) (read : start ≡ get_or u (cell_of region_start_at region_words i) 0) where
+  pub going_late : (eqb start 0 && not spared) ≡ false → None ≡ going cs spared (region_in (row gap_row i u))
+  going_late e = go spared e
+    where
+      go : (s : Bool) → (eqb start 0 && not s) ≡ false → None ≡ going cs s (region_in (row gap_row i u))
+      go true q = refl
+      go false q = rw (wholly_late (region_in (row gap_row i u)) (λ z. true_false (eqb start 0 && not false) (and_both (eqb start 0) (not false) (eq-eqb start 0 (read ∙ cell_row u region_start_at region_words i ∙ z)) refl) q) cs)
+
+  pub going_early : (eqb start 0 && not spared) ≡ true → (o : Option Chunk) → o ≡ whole_in cs (region_in (row gap_row i u)) → o ≡ going cs spared (region_in (row gap_row i u))
+  going_early e o q = go spared e
+    where
+      go : (s : Bool) → (eqb start 0 && not s) ≡ true → o ≡ going cs s (region_in (row gap_row i u))
+      go true f = absurd (true_false (eqb start 0 && not true) f (and_no_right (eqb start 0)))
+        where
+          and_no_right : (a : Bool) → (a && false) ≡ false
+          and_no_right true = refl
+          and_no_right false = refl
+      go false f = q
 
 -- ---- the last region, by its place
 

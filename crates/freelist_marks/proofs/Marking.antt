@@ -1,6 +1,7 @@
 -- The walk that lists the chunks that go, turn by turn.
 use mathlib.Core.Path.{◌≡◌, refl, sym, ap, ◌∙◌}
-use mathlib.Core.Bool.{Bool, true, false, ◌&&◌, not}
+use mathlib.Core.Bool.{Bool, ◌&&◌, not}
+use Rattle.std.specs.Prelude.{Option, Some, None, is_some}
 use mathlib.Core.List.{List, [], ◌∷◌, ◌++◌}
 use Prim.Native.Nat.{ℕ, ◌+◌, ◌*◌, ◌≤◌, ◌<◌}
 use native.Mathlib.Omega.{arith}
@@ -22,6 +23,8 @@ use Rattle.freelist_rules.proofs.Base.{at_in}
 use Rattle.freelist_marks.specs.Turned.{turned}
 use Rattle.freelist_marks.specs.Releasable.{Releasable}
 use Rattle.freelist_marks.proofs.Fronts.{sets_more, sets_turned, length_rotated}
+use Rattle.freelist_marks.specs.Numbered.{going}
+use Rattle.freelist_marks.proofs.Finding.{going_told, going_is}
 use Rattle.freelist_marks.proofs.Leaving.{region_next, goes_told, leaving_long}
 
 -- ---- sums and numbers of one more, and of a list turned
@@ -81,17 +84,27 @@ module _ (cs : List Chunk) (spare : Bool) (t : List ℕ) (n i : ℕ) (h : i < n)
       let e : get_or rs i no_region ≡ r = free_at (rows gap_row n t) i ∙ ap region_in (get_d_rows gap_row n i t no_gap h) ∙ sym is in
       omega (arith, ap (λ (z : Region). z.end) e, fit.low (get_or rs i no_region) (at_in i rs no_region (omega (arith, free_length (rows gap_row n t), length_rows gap_row n t))))
 
-  pub marking_room : (r : Region) → r ≡ region_in (row gap_row i t) → bytes + r.end ≤ chunk_size_most * (m + 1)
-  marking_room r is = omega (arith, low r is, at.most)
-
   pub marking_fits : m ≤ length l
   marking_fits = omega (arith, room, fit.few spare, ap length at.same, leaving_long cs spare at.marked (drop i rs), at.count)
 
   pub marking_turns : m ≤ length u
   marking_turns = omega (arith, marking_fits, marking_length cs spare rs l u i m bytes at)
 
-  module _ (b : Bool) (e : b ≡ (not (spare && eqb (i + 1) n) && wholly cs (region_in (row gap_row i t)))) where
-    pub marking_stays : b ≡ false → (v : List ℕ) → v ≡ turned m u → Marking cs spare rs l v (i + 1) m bytes
+  -- the region of this turn, and what is found for it
+  module _ (o : Option Chunk) (e : o ≡ going cs (spare && eqb (i + 1) n) (region_in (row gap_row i t))) where
+    abbrev r : Region
+    r = region_in (row gap_row i t)
+
+    abbrev b : Bool
+    b = not (spare && eqb (i + 1) n) && wholly cs r
+
+    told : is_some o ≡ b
+    told = going_told cs fit.numbers r (spare && eqb (i + 1) n) o e
+
+    pub marking_room : (c : Chunk) → o ≡ Some c → bytes + c.size ≤ chunk_size_most * (m + 1)
+    marking_room c q = omega (arith, low r refl, at.most, (going_is cs fit.numbers r (spare && eqb (i + 1) n) c (sym q ∙ e)).1)
+
+    pub marking_stays : o ≡ None → (v : List ℕ) → v ≡ turned m u → Marking cs spare rs l v (i + 1) m bytes
     unfolding leaving
     marking_stays q v p =
         let long = memories_length cs at.marked in
@@ -99,7 +112,7 @@ module _ (cs : List Chunk) (spare : Bool) (t : List ℕ) (n i : ℕ) (h : i < n)
         let c : m ≡ length ms = at.count ∙ sym long in
         record {
           marked = rotated at.marked;
-          same = at.same ∙ ap (leaving cs spare at.marked) (region_next t n i h) ∙ rw (goes_told cs spare t n i h b e ∙ q);
+          same = at.same ∙ ap (leaving cs spare at.marked) (region_next t n i h) ∙ rw (goes_told cs spare t n i h b refl ∙ sym told ∙ ap is_some q);
           count = at.count ∙ sym (length_rotated at.marked);
           sum = at.sum ∙ sym (bytes_rotated at.marked);
           words = p ∙ ap (turned m) at.words ∙ ap (λ (z : ℕ). turned z (sets l 0 ms)) c ∙ sets_turned l ms (omega (arith, c, marking_fits)) ∙ ap (sets l 0) (sym (memories_rotated cs at.marked));
@@ -107,23 +120,24 @@ module _ (cs : List Chunk) (spare : Bool) (t : List ℕ) (n i : ℕ) (h : i < n)
           most = at.most;
         }
 
-    pub marking_goes : b ≡ true → (r : Region) → r ≡ region_in (row gap_row i t) → (x : ℕ) → x ≡ memory_of cs r → (v : List ℕ) → v ≡ set u m x → Marking cs spare rs l v (i + 1) (m + 1) (bytes + r.end)
+    pub marking_goes : (d : Chunk) → o ≡ Some d → (v : List ℕ) → v ≡ set u m d.memory → Marking cs spare rs l v (i + 1) (m + 1) (bytes + d.size)
     unfolding leaving
-    marking_goes q r is x y v p =
+    marking_goes d q v p =
+        let is = going_is cs fit.numbers r (spare && eqb (i + 1) n) d (sym q ∙ e) in
         let long = memories_length cs at.marked in
         let ms : List ℕ = memories_of cs at.marked in
         let more : List Region = at.marked ++ (r ∷ []) in
         let c : m ≡ length ms = at.count ∙ sym long in
         let s : leaving cs spare [] rs ≡ leaving cs spare more rest =
-        at.same ∙ ap (leaving cs spare at.marked) (region_next t n i h) ∙ rw (goes_told cs spare t n i h b e ∙ q, is) in
-        let d : length more ≡ length at.marked + 1 = length-append at.marked (r ∷ []) in
-        let f : length ms < length l = omega (arith, room, fit.few spare, ap length s, leaving_long cs spare more rest, d, long) in
+        at.same ∙ ap (leaving cs spare at.marked) (region_next t n i h) ∙ rw (goes_told cs spare t n i h b refl ∙ sym told ∙ ap is_some q) in
+        let y : length more ≡ length at.marked + 1 = length-append at.marked (r ∷ []) in
+        let f : length ms < length l = omega (arith, room, fit.few spare, ap length s, leaving_long cs spare more rest, y, long) in
         record {
           marked = more;
           same = s;
-          count = omega (arith, at.count, d);
-          sum = omega (arith, at.sum, bytes_append at.marked r);
-          words = p ∙ ap (λ (z : List ℕ). set z m x) at.words ∙ ap (λ (z : ℕ). set (sets l 0 ms) z x) c ∙ ap (λ (z : ℕ). set (sets l 0 ms) (length ms) z) y ∙ sets_more l ms (memory_of cs r) f ∙ ap (sets l 0) (sym (memories_append cs at.marked r));
+          count = omega (arith, at.count, y);
+          sum = omega (arith, at.sum, bytes_append at.marked r, is.1);
+          words = p ∙ ap (λ (z : List ℕ). set z m d.memory) at.words ∙ ap (λ (z : ℕ). set (sets l 0 ms) z d.memory) c ∙ ap (λ (z : ℕ). set (sets l 0 ms) (length ms) z) is.0 ∙ sets_more l ms (memory_of cs r) f ∙ ap (sets l 0) (sym (memories_append cs at.marked r));
           within = omega (arith, at.within);
-          most = marking_room r is;
+          most = marking_room d q;
         }

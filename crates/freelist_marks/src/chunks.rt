@@ -8,20 +8,16 @@ ghost use Rattle.freelist_marks.specs.Releasable.{NumbersRise};
 use freelist_regions::{chunk_at, seat};
 use store_rules::Chunk;
 
-// The chunk with this number, of the first k; a record of zeros where there is none.
-pub fn find_chunk(t: &[u64], k: usize, number: u64) -> Chunk
+// The chunk with this number, of the first k.
+pub fn find_chunk(t: &[u64], k: usize, number: u64) -> Option<Chunk>
     requires { NumbersRise (rows chunk_row k t.now) }
     ensures { result ≡ numbered number (rows chunk_row k t.now) }
 {
     let j = seat(t, k, number);
     let c = chunk_at(t, j);
     if (j < k) & (number == c.number) {
-        c
+        Some(c)
     } else {
-        Chunk {
-            number: 0,
-            memory: 0,
-            size: 0,
-        }
+        None
     }
 }

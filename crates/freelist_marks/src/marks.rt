@@ -7,7 +7,7 @@ ghost use Rattle.freelist_rules.specs.Records.{chunk_row, gap_row};
 ghost use Rattle.freelist_rules.specs.Release.{wholly, leaving, memories_of, bytes_of};
 ghost use Rattle.freelist_rules.specs.Threads.{region_in, free_of};
 ghost use Rattle.freelist_marks.specs.Turned.{turned};
-ghost use Rattle.freelist_marks.specs.Numbered.{fills};
+ghost use Rattle.freelist_marks.specs.Numbered.{whole_in, going};
 ghost use Rattle.freelist_marks.specs.Releasable.{NumbersRise, Releasable};
 
 use crate::chunks::find_chunk;
@@ -21,40 +21,45 @@ pub struct Marked {
     pub bytes: u64,
 }
 
-// Whether the region, which starts at 0, is all of the chunk that was found for it.
-fn is_all(r: Region, c: Chunk) -> bool
-    ensures { result ≡ fills r c }
+// The chunk that the region is all of. Few start at 0, and only those look their chunk up.
+fn whole_chunk(chunks: &[u64], k: usize, r: Region) -> Option<Chunk>
+    requires { NumbersRise (rows chunk_row k chunks.now) }
+    ensures { result ≡ whole_in (rows chunk_row k chunks.now) r }
 {
-    (0 < c.number) & ((r.chunk == c.number) & (r.end == c.size))
+    if r.start != 0 {
+        return None;
+    }
+    let c = find_chunk(chunks, k, r.chunk)?;
+    if r.end == c.size { Some(c) } else { None }
 }
 
-// Whether the region is all of its chunk. Few start at 0, and only those look their chunk up.
+// Whether the region is all of its chunk.
 pub fn is_whole(chunks: &[u64], k: usize, r: Region) -> bool
     requires { NumbersRise (rows chunk_row k chunks.now) }
     ensures { result ≡ wholly (rows chunk_row k chunks.now) r }
 {
-    if r.start == 0 {
-        let c = find_chunk(chunks, k, r.chunk);
-        is_all(r, c)
-    } else {
-        false
-    }
+    whole_chunk(chunks, k, r).is_some()
 }
 
-// Whether region i is all of its chunk, and is not spared. Few start at 0, and only those look their chunk up.
+// The chunk that region i is all of, where it is not spared. Of most regions no more than the start is read.
+#[inline]
+fn going_at(chunks: &[u64], k: usize, regions: &[u64], i: usize, spared: bool) -> Option<Chunk>
+    requires { NumbersRise (rows chunk_row k chunks.now) }
+    ensures { result ≡ going (rows chunk_row k chunks.now) spared (region_in (row gap_row i regions.now)) }
+{
+    let start = words::cell(regions, REGION_START_AT, REGION_WORDS, i);
+    if (start == 0) & !spared {
+        return whole_chunk(chunks, k, region_at(regions, i));
+    }
+    None
+}
+
+// Whether region i is all of its chunk, and is not spared.
 pub fn goes_at(chunks: &[u64], k: usize, regions: &[u64], i: usize, spared: bool) -> bool
     requires { NumbersRise (rows chunk_row k chunks.now) }
     ensures { result ≡ (not spared && wholly (rows chunk_row k chunks.now) (region_in (row gap_row i regions.now))) }
 {
-    let start = words::cell(regions, REGION_START_AT, REGION_WORDS, i);
-    if start == 0 {
-        let r = region_at(regions, i);
-        let c = find_chunk(chunks, k, r.chunk);
-        let all = is_all(r, c);
-        (!spared) & all
-    } else {
-        false
-    }
+    going_at(chunks, k, regions, i, spared).is_some()
 }
 
 // The first of the first m words goes behind the others.
@@ -69,8 +74,7 @@ fn turn(list: &mut [u64], m: usize)
     }
 }
 
-// The chunks that go, listed: each region that stays sends the first of those listed so far to the back. Most regions do not
-// start at 0, and are passed by at once.
+// The chunks that go, listed: each region that stays sends the first of those listed so far to the back.
 pub fn mark(
     chunks: &[u64],
     k: usize,
@@ -85,26 +89,16 @@ pub fn mark(
     ensures bytes_value { result.bytes ≡ bytes_of (leaving (rows chunk_row k chunks.now) spare [] (free_of (rows gap_row n regions.now))) }
     ensures list_after { list.new ≡ sets list.old 0 (memories_of (rows chunk_row k chunks.now) (leaving (rows chunk_row k chunks.now) spare [] (free_of (rows gap_row n regions.now)))) }
 {
-    let mut i = 0;
     let mut m = 0;
     let mut bytes = 0u64;
-    while i < n {
-        let start = words::cell(regions, REGION_START_AT, REGION_WORDS, i);
-        let goes = if start == 0 {
-            goes_at(chunks, k, regions, i, spare & (i + 1 == n))
-        } else {
-            false
-        };
-        if goes {
-            let r = region_at(regions, i);
-            let c = find_chunk(chunks, k, r.chunk);
-            words::put(list, m, c.memory);
-            m += 1;
-            bytes += r.end;
-            i += 1;
-        } else {
-            turn(list, m);
-            i += 1;
+    for i in 0..n {
+        match going_at(chunks, k, regions, i, spare & (i + 1 == n)) {
+            Some(c) => {
+                words::put(list, m, c.memory);
+                m += 1;
+                bytes += c.size;
+            }
+            None => turn(list, m),
         }
     }
     Marked {

@@ -11,8 +11,8 @@ use Rattle.counter.specs.InTable.{FreeListIn}
 use Rattle.counter.specs.Table.{free_list_ok, heaps_ok}
 use Rattle.counter.specs.declared.account.Account.{Account}
 use Rattle.counter.specs.declared.account.KeptOrder.{KeptOrder}
-use Rattle.counter.specs.declared.account.OpenOrder.{OpenOrder}
-use Rattle.counter.specs.declared.account.OpenOrder.TheVariants.{Nothing, Kept}
+use Rattle.counter.specs.Open.{OpenOrder}
+use Rattle.std.specs.Prelude.{None, Some}
 use Rattle.counter.specs.declared.answers.Block.{Block}
 use Rattle.counter.specs.declared.answers.Outcome.{Outcome}
 use Rattle.counter.specs.declared.settings.FreeListSettings.{FreeListSettings}
@@ -113,8 +113,8 @@ deliver_again s a o t typed passes_now = go (deliver_of s a o t) (deliver_comes 
   where
     -- the gate asked for an order
     open_none : (x : OpenOrder) → open_for s.store.number x ≡ true → no_order x ≡ true → ⊥
-    open_none Nothing e f = true_false false e refl
-    open_none (Kept k) e f = true_false false f refl
+    open_none None e f = true_false false e refl
+    open_none (Some k) e f = true_false false f refl
 
     bears : (k : KeptOrder) → Open s a t k → bears_ok (heap_at a s.store.heap) k.order.size ≡ true
     bears k w = ap (bears_ok (heap_at a s.store.heap)) w.size ∙ w.buys.bears

@@ -18,8 +18,8 @@ use Rattle.counter.specs.Table.{alignment_ok, heaps_ok, free_list_ok}
 use Rattle.counter.specs.declared.account.Account.{Account}
 use Rattle.counter.specs.declared.account.Heap.{Heap}
 use Rattle.counter.specs.declared.account.KeptOrder.{KeptOrder}
-use Rattle.counter.specs.declared.account.OpenOrder.{OpenOrder}
-use Rattle.counter.specs.declared.account.OpenOrder.TheVariants.{Nothing, Kept}
+use Rattle.counter.specs.Open.{OpenOrder}
+use Rattle.std.specs.Prelude.{None, Some}
 use Rattle.counter.specs.declared.account.Order.{Order}
 use Rattle.counter.specs.declared.answers.Block.{Block}
 use Rattle.counter.specs.declared.answers.Mapping.{Mapping}
@@ -112,7 +112,7 @@ pub data AskComes (s : FreeListSettings) (a : Account) (size mask : ℕ) (t : Ta
   denied : (n : ℕ) → AskComes s a size mask t (out (Paper.refusal n []) a t)
   lends : (i : ℕ) → Passed s a t true → Serves s size mask t i → AskComes s a size mask t (out (block_said (loan_from s size mask t i)) a (taken_tables s size mask t i))
   orders : Passed s a t true → Buys s (heap_at a s.store.heap) a.objects size mask t
-      → AskComes s a size mask t (out (Paper.order_of (order_from s.store (raised_for s size t))) (with_order a (Kept (kept_from s.store size mask (raised_for s size t)))) (ordered_tables (raised_for s size t) t))
+      → AskComes s a size mask t (out (Paper.order_of (order_from s.store (raised_for s size t))) (with_order a (Some (kept_from s.store size mask (raised_for s size t)))) (ordered_tables (raised_for s size t) t))
 
 module _ (s : FreeListSettings) (a : Account) (size mask : ℕ) (t : Tables) where
   abbrev decided : Orders.Plan ℕ
@@ -140,7 +140,7 @@ pub record Open (s : FreeListSettings) (a : Account) (t : Tables) (k : KeptOrder
   pub lengths : lengths_ok s t ≡ true
   pub sound : SoundTables s t
   pub covered : account_ok s a t ≡ true
-  pub is : a.order ≡ Kept k
+  pub is : a.order ≡ Some k
   pub size : k.order.size ≡ raised_for s k.ask.size t
   pub buys : Buys s (heap_at a s.store.heap) a.objects k.ask.size k.ask.mask t
 
@@ -185,12 +185,12 @@ module _ (s : FreeListSettings) (a : Account) (o : Outcome) (t : Tables) where
       let w = buys_bought s (heap_at a s.store.heap) a.objects k.ask.size k.ask.mask t z e in
       (same_size k.order (order_from s.store z) f ∙ w.0, w.1)
 
-  pub deliver_open : (k : KeptOrder) → a.order ≡ Kept k → deliver_gate_of s a t ≡ pass → Open s a t k
+  pub deliver_open : (k : KeptOrder) → a.order ≡ Some k → deliver_gate_of s a t ≡ pass → Open s a t k
   unfolding deliver_gate_of
   deliver_open k e g =
       let held = passed (gate_row (in_table_ok s a t) (open_for s.store.number a.order) (sound_ok s t && still_ok s a t a.order) (account_ok s a t)) g in
       let lent = lent_in_lem s a t held.0 in
-      let still : still_ok s a t (Kept k) ≡ true = subst (λ (x : OpenOrder). still_ok s a t x ≡ true) e (and_right (sound_ok s t) (still_ok s a t a.order) held.1.1.0) in
+      let still : still_ok s a t (Some k) ≡ true = subst (λ (x : OpenOrder). still_ok s a t x ≡ true) e (and_right (sound_ok s t) (still_ok s a t a.order) held.1.1.0) in
       let leads = leads_open k (decide_ask s (heap_at a s.store.heap) a.objects k.ask.size k.ask.mask t) refl still in
       record {
         settings = lent.0;
@@ -231,11 +231,11 @@ module _ (s : FreeListSettings) (a : Account) (o : Outcome) (t : Tables) where
   after_delivery : (v : Verdict) (x : OpenOrder) → deliver_gate_of s a t ≡ v → a.order ≡ x → Arrival s a o t (carry_deliver s a t (gated Deliver.deny v (decide_deliver o (memories (store_of s t).chunks) x)))
   unfolding carry_deliver
   after_delivery (refuse n) x g e = early n (λ q. omega (arith, gate_number n g)) (λ q. omega (arith, gate_number n g))
-  after_delivery pass Nothing g e = early 2 (λ q. omega arith) (λ q. omega arith)
-  after_delivery pass (Kept k) g e = tested (told (delivery_ok k.order.map (memories (store_of s t).chunks) o))
+  after_delivery pass None g e = early 2 (λ q. omega arith) (λ q. omega arith)
+  after_delivery pass (Some k) g e = tested (told (delivery_ok k.order.map (memories (store_of s t).chunks) o))
     where
       tested : (delivery_ok k.order.map (memories (store_of s t).chunks) o ≡ true) ⊎ (delivery_ok k.order.map (memories (store_of s t).chunks) o ≡ false)
-          → Arrival s a o t (carry_deliver s a t (decide_deliver o (memories (store_of s t).chunks) (Kept k)))
+          → Arrival s a o t (carry_deliver s a t (decide_deliver o (memories (store_of s t).chunks) (Some k)))
       tested (inl f) = rw f (fated k (deliver_open k e g) f)
       tested (inr f) = rw f (early 13 (λ q. omega arith) (λ q. omega arith))
 

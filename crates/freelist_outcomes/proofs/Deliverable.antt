@@ -17,7 +17,7 @@ use Rattle.counter.specs.Paper as Paper
 use Rattle.counter.specs.Table.{free_list_ok, heaps_ok}
 use Rattle.counter.specs.declared.account.Account.{Account}
 use Rattle.counter.specs.declared.account.Heap.{Heap}
-use Rattle.counter.specs.declared.account.OpenOrder.TheVariants.{Kept}
+use Rattle.std.specs.Prelude.{Some}
 use Rattle.counter.specs.declared.settings.FreeListSettings.{FreeListSettings}
 use Rattle.counter.proofs.Gates.{passes}
 use Rattle.counter.proofs.Tables.{free_list_all}
@@ -57,7 +57,7 @@ module _ (s : FreeListSettings) (a : Account) (size mask : ℕ) (t : Tables) whe
     pub passed : Passed s a t true
     pub buys : decide_ask s (heap_at a s.store.heap) a.objects size mask t ≡ Orders.buy (raised_for s size t)
     pub leaves : ask_of s a size mask t
-        ≡ out (Paper.order_of (order_from s.store (raised_for s size t))) (with_order a (Kept (kept_from s.store size mask (raised_for s size t)))) (ordered_tables (raised_for s size t) t)
+        ≡ out (Paper.order_of (order_from s.store (raised_for s size t))) (with_order a (Some (kept_from s.store size mask (raised_for s size t)))) (ordered_tables (raised_for s size t) t)
 
   module _ (store bytes memtype : ℕ) (map : Bool) where
     planned_buying : (p : Orders.Plan ℕ) → plan_ask s a size mask t ≡ p → (carry_ask s a size mask t p).said ≡ Paper.order store bytes memtype map → Buying
@@ -132,7 +132,7 @@ module _ (s : FreeListSettings) (a : Account) (size mask : ℕ) (t : Tables) whe
         ∙ ap Orders.buy (raised_once most)
 
     abbrev kept : Account
-    kept = with_order a (Kept (kept_from s.store size mask z))
+    kept = with_order a (Some (kept_from s.store size mask z))
 
     -- the delivery's tests 1 to 4 pass
     gate_open : deliver_gate_of s kept u ≡ pass

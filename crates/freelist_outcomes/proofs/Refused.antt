@@ -14,8 +14,8 @@ use Rattle.counter.specs.Reasons.{none, reason, Given, Clear, Decides}
 use Rattle.counter.specs.Table.{free_list_ok}
 use Rattle.counter.specs.declared.account.Account.{Account}
 use Rattle.counter.specs.declared.account.KeptOrder.{KeptOrder}
-use Rattle.counter.specs.declared.account.OpenOrder.{OpenOrder}
-use Rattle.counter.specs.declared.account.OpenOrder.TheVariants.{Nothing, Kept}
+use Rattle.counter.specs.Open.{OpenOrder}
+use Rattle.std.specs.Prelude.{None, Some}
 use Rattle.counter.specs.declared.answers.Block.{Block}
 use Rattle.counter.specs.declared.answers.Outcome.{Outcome}
 use Rattle.counter.specs.declared.settings.FreeListSettings.{FreeListSettings}
@@ -138,7 +138,7 @@ deliver_leaves s a o t n back e device host = by (deliver_of s a o t) (arrives s
         absurd (⊎_elim device host (loss_left free_list s.store a k o n f.0 back f.1).0)
 
 -- 11 and 12 leave every table as it was, and of the account what 01 says
-pub deliver_lost : (s : FreeListSettings) (a : Account) (o : Outcome) (t : Tables) (k : KeptOrder) (n : ℕ) (back : List ℕ) → a.order ≡ Kept k → (deliver_of s a o t).said ≡ Paper.refusal n back → (n ≡ 11) ⊎ (n ≡ 12)
+pub deliver_lost : (s : FreeListSettings) (a : Account) (o : Outcome) (t : Tables) (k : KeptOrder) (n : ℕ) (back : List ℕ) → a.order ≡ Some k → (deliver_of s a o t).said ≡ Paper.refusal n back → (n ≡ 11) ⊎ (n ≡ 12)
     → deliver_of s a o t ≡ out (Paper.refusal n back) (lost_for free_list s.store a k o) t
 unfolding carry_fate
 deliver_lost s a o t k n back its e number = by (deliver_of s a o t) (arrives s a o t) e
@@ -176,8 +176,8 @@ module _ (s : FreeListSettings) (a : Account) (t : Tables) where
       bought sound k z = ask_buys s t fit sound (heap_at a s.store.heap) a.objects k.ask.size k.ask.mask z
 
       still : SoundTables s t → (ord : OpenOrder) → a.order ≡ ord → still_ok s a t ord ≡ true → Leads list_words s a t
-      still sound Nothing q e = absurd (true_false false e refl)
-      still sound (Kept k) q e =
+      still sound None q e = absurd (true_false false e refl)
+      still sound (Some k) q e =
           let p = leads_buy s.store k.order (decide_ask s (heap_at a s.store.heap) a.objects k.ask.size k.ask.mask t) e in
           let w = (bought sound k p.0).0 p.1 in
           record { kept = k; its = q; clear = w.0; needed = w.1; same = p.2 ∙ ap (order_from s.store) w.2 }

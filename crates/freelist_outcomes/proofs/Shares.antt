@@ -9,8 +9,8 @@ use Rattle.counter.specs.Gate.{Verdict, pass, refuse, first, gated}
 use Rattle.counter.specs.Table.{free_list_ok}
 use Rattle.counter.specs.declared.account.Account.{Account}
 use Rattle.counter.specs.declared.account.KeptOrder.{KeptOrder}
-use Rattle.counter.specs.declared.account.OpenOrder.{OpenOrder}
-use Rattle.counter.specs.declared.account.OpenOrder.TheVariants.{Nothing, Kept}
+use Rattle.counter.specs.Open.{OpenOrder}
+use Rattle.std.specs.Prelude.{None, Some}
 use Rattle.counter.specs.declared.answers.Block.{Block}
 use Rattle.counter.specs.declared.answers.Outcome.{Outcome}
 use Rattle.counter.specs.declared.settings.FreeListSettings.{FreeListSettings}
@@ -67,8 +67,8 @@ module _ (s : FreeListSettings) (a b : Account) (alike : Alike s.store a b) wher
 
   module _ (e : a.order ≡ b.order) where
     still_alike : (t : Tables) (o : OpenOrder) → still_ok s a t o ≡ still_ok s b t o
-    still_alike t Nothing = refl
-    still_alike t (Kept k) = λ j. leads_to s.store k.order (decide_ask s (alike.heap j) (alike.objects j) k.ask.size k.ask.mask t)
+    still_alike t None = refl
+    still_alike t (Some k) = λ j. leads_to s.store k.order (decide_ask s (alike.heap j) (alike.objects j) k.ask.size k.ask.mask t)
 
     kept_alike : (t : Tables) → still_ok s a t a.order ≡ still_ok s b t b.order
     kept_alike t = still_alike t a.order ∙ ap (still_ok s b t) e

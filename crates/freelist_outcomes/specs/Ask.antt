@@ -8,7 +8,7 @@ use Rattle.counter.specs.Paper as Paper
 use Rattle.counter.specs.Table.{alignment_ok}
 use Rattle.counter.specs.declared.account.Account.{Account}
 use Rattle.counter.specs.declared.account.Heap.{Heap}
-use Rattle.counter.specs.declared.account.OpenOrder.TheVariants.{Kept}
+use Rattle.std.specs.Prelude.{Some}
 use Rattle.counter.specs.declared.settings.FreeListSettings.{FreeListSettings}
 use Rattle.heap.specs.Heap.{bears_ok}
 pub use Rattle.store_rules.specs.Orders.{Plan, deny, take, buy}
@@ -116,7 +116,7 @@ unfoldable pub carry_ask : FreeListSettings → Account → ℕ → ℕ → Tabl
 carry_ask s a size mask t (deny n) = out (Paper.refusal n []) a t
 carry_ask s a size mask t (take i) = out (block_said (loan_from s size mask t i)) a (taken_tables s size mask t i)
 carry_ask s a size mask t (buy z) =
-    out (Paper.order_of (order_from s.store z)) (with_order a (Kept (kept_from s.store size mask z))) (ordered_tables z t)
+    out (Paper.order_of (order_from s.store z)) (with_order a (Some (kept_from s.store size mask z))) (ordered_tables z t)
 
 -- ---- the call
 

@@ -2,7 +2,7 @@
 use Rattle.std.specs.Prelude.{◌≡◌, ℕ, ◌+◌, ◌≤◌}
 use Rattle.counter.specs.declared.account.Account.{Account}
 use Rattle.counter.specs.declared.account.KeptOrder.{KeptOrder}
-use Rattle.counter.specs.declared.account.OpenOrder.TheVariants.{Kept}
+use Rattle.std.specs.Prelude.{Some}
 use Rattle.counter.specs.declared.answers.Memory.{Memory}
 use Rattle.counter.specs.declared.answers.Outcome.{Outcome}
 use Rattle.counter.specs.declared.answers.Outcome.TheVariants as O
@@ -27,7 +27,7 @@ pub record Good (s : FreeListSettings) (size mask : ℕ) (t : Store) (serial chu
 pub record Delivered (s : FreeListSettings) (a : Account) (o : Outcome) (t : Tables) (serial chunk offset len : ℕ) : Type 0 where
   pub kept : KeptOrder
   pub memory : Memory
-  pub ordered : a.order ≡ Kept kept
+  pub ordered : a.order ≡ Some kept
   pub made : o ≡ O.Made memory
   pub good : Good s kept.ask.size kept.ask.mask (delivered s memory.number kept.order.size (store_of s t)) serial chunk offset len
   pub charged : (deliver_of s a o t).account ≡ charged_account s.store a kept.order.size

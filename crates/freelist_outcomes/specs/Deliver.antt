@@ -7,8 +7,8 @@ use Rattle.counter.specs.Gate.{Verdict, first, gated}
 use Rattle.counter.specs.Paper as Paper
 use Rattle.counter.specs.declared.account.Account.{Account}
 use Rattle.counter.specs.declared.account.KeptOrder.{KeptOrder}
-use Rattle.counter.specs.declared.account.OpenOrder.{OpenOrder}
-use Rattle.counter.specs.declared.account.OpenOrder.TheVariants.{Nothing, Kept}
+use Rattle.counter.specs.Open.{OpenOrder}
+use Rattle.std.specs.Prelude.{None, Some}
 use Rattle.counter.specs.declared.answers.Outcome.{Outcome}
 use Rattle.counter.specs.declared.settings.FreeListSettings.{FreeListSettings}
 pub use Rattle.store_rules.specs.Arrivals.{Arrival, deny, go, arrival_of}
@@ -25,8 +25,8 @@ use Rattle.freelist_rules.specs.Threads.{gap, before_in}
 
 -- 3 on a delivery: the kept ask still leads to the order that was told
 abbrev pub still_ok : FreeListSettings → Account → Tables → OpenOrder → Bool
-still_ok s a t Nothing = false
-still_ok s a t (Kept k) =
+still_ok s a t None = false
+still_ok s a t (Some k) =
     leads_to s.store k.order (decide_ask s (heap_at a s.store.heap) a.objects k.ask.size k.ask.mask t)
 
 -- the gate of a delivery: an order is to be open for this store

@@ -1,8 +1,8 @@
 -- Regions changed and counted anew are the table of the regions as they then are.
 use mathlib.Core.Path.{◌≡◌, sym, ap, ◌∙◌}
-use mathlib.Core.Bool.{Bool, true, false, cond}
+use mathlib.Core.Bool.{cond}
 use mathlib.Core.List.{List, [], ◌∷◌, ◌++◌}
-use Prim.Native.Nat.{ℕ, ◌+◌, ◌-◌, ◌*◌, ◌≤◌, ◌<◌}
+use Prim.Native.Nat.{ℕ, ◌+◌, ◌*◌, ◌≤◌, ◌<◌}
 use native.Mathlib.Omega.{arith}
 use lib.ListN.{length, get_or, set, length-append}
 use Rattle.counter.specs.Limits.{loans_most, chunks_most}
@@ -16,41 +16,8 @@ use Rattle.freelist_rules.specs.Join.{insert}
 use Rattle.freelist_rules.specs.Release.{wholly}
 use Rattle.freelist_rules.specs.Threads.{free_of, insert_gap, around}
 use Rattle.freelist_rules.specs.Tables.{regions_most, region_count_at, whole_at, chunks_at, laid_gaps, RegionsFit, gaps_of, regions_of}
-use Rattle.store_rules.specs.declared.Chunk.{Chunk}
 use Rattle.store_rules.specs.declared.Region.{Region}
 use Rattle.freelist_regions.specs.Order.{RegionsStand, LowPlace}
-
--- ---- how many are whole
-
--- as many chunks as are read are those that are held
-held : (chunks : List ℕ) (k : ℕ) → k ≡ get_or chunks chunks_at 0 → rows chunk_row k chunks ≡ rows chunk_row (get_or chunks chunks_at 0) chunks
-held chunks k e = ap (λ (j : ℕ). rows chunk_row j chunks) e
-
--- what is taken off is there
-module _ (chunks : List ℕ) (k : ℕ) (counts : k ≡ get_or chunks chunks_at 0) (r : Region) (b : Bool) (is : b ≡ wholly (rows chunk_row k chunks) r) (whole : ℕ) where
-  abbrev Whole : Bool
-  Whole = wholly (rows chunk_row (get_or chunks chunks_at 0) chunks) r
-
-  told_whole : b ≡ Whole
-  told_whole = is ∙ ap (λ (cs : List Chunk). wholly cs r) (held chunks k counts)
-
-  pub one_more_whole : b ≡ true → whole + 1 ≡ whole + cond Whole 1 0
-  one_more_whole e = ap (λ (c : Bool). whole + cond c 1 0) (sym e ∙ told_whole)
-
-  pub no_more_whole : b ≡ false → whole ≡ whole + cond Whole 1 0
-  no_more_whole e = nought ∙ ap (λ (c : Bool). whole + cond c 1 0) (sym e ∙ told_whole)
-    where
-      nought : whole ≡ whole + 0
-      nought = omega arith
-
-  pub one_less_whole : b ≡ true → whole - 1 ≡ whole - cond Whole 1 0
-  one_less_whole e = ap (λ (c : Bool). whole - cond c 1 0) (sym e ∙ told_whole)
-
-  pub no_less_whole : b ≡ false → whole ≡ whole - cond Whole 1 0
-  no_less_whole e = sub-zero ∙ ap (λ (c : Bool). whole - cond c 1 0) (sym e ∙ told_whole)
-    where
-      sub-zero : whole ≡ whole - 0
-      sub-zero = omega arith
 
 -- ---- the count as the code reads it
 

@@ -1,4 +1,6 @@
 // A free-list store's tables written: set up, a chunk size raised, a block lent, a chunk added, a block taken back.
+// Its functions take slices and no struct of them: a struct of `&mut` tables was tried and proves, but each contract then owes a
+// further clause, that the references stay the same ones, and the calls lend some tables by `&` and others by `&mut`.
 #![tactic(auto)]
 
 mod adding;

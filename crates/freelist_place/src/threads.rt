@@ -5,7 +5,8 @@ ghost use Rattle.freelist_rules.specs.Threads.{thread_words, after_in, before_in
 
 use book::ENTRY_WORDS;
 
-// The record in front of record r.
+// The record in front of record r. freelist_walk has the same of its `usize` records: shared, it would bring the index into
+// freelist_regions, which knows none.
 pub fn before_of(index: &[u64], n: usize, r: u64) -> u64
     requires { (n ≤ loans_most) × (length index.now ≡ thread_words n) × (r ≤ n) }
     ensures { result ≡ before_in n index.now r }

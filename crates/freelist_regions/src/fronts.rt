@@ -13,14 +13,11 @@ pub fn rename(t: &mut [u64], n: usize, from: usize, a: u64, b: u64)
     requires { (from ≤ n) × (region_words + region_words * n ≤ length t.old) }
     ensures { t.new ≡ laid gap_row (renamed_from from a b (rows gap_row n t.old)) t.old }
 {
-    let mut i = from;
-    while i < n {
+    for i in from..n {
         let front = word_at(t, REGION_FRONT_AT, i);
-        if front == a {
-            put_word_at(t, REGION_FRONT_AT, i, b);
-            i += 1;
-        } else {
+        if front != a {
             return;
         }
+        put_word_at(t, REGION_FRONT_AT, i, b);
     }
 }

@@ -18,5 +18,5 @@ pub use fronts::rename;
 pub use joins::{Joined, join_region};
 pub use records::{chunk_at, gap_at, put_chunk, put_gap, region_at};
 pub use regions::cut_region;
-pub use search::{Found, find_fit};
+pub use search::{Fit, find_fit};
 pub use seats::seat;

@@ -9,6 +9,7 @@ pub fn seat(t: &[u64], k: usize, number: u64) -> usize
     requires { Parting (reaches t.now number) k }
     ensures { Parts (reaches t.now number) k result }
 {
+    // no `partition_point`: the numbers stand in records of several words, and a slice's own search compares its words
     let mut lo = 0;
     let mut hi = k;
     while lo < hi {

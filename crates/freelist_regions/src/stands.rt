@@ -24,6 +24,7 @@ pub fn stands_at(t: &[u64], n: usize, chunk: u64, place: u64) -> usize
     requires parting { Parting (after t.now region_chunk_at region_words chunk place) n }
     ensures { Parts (after t.now region_chunk_at region_words chunk place) n result }
 {
+    // no `partition_point`: the places stand in records of several words, and a slice's own search compares its words
     let mut lo = 0;
     let mut left = n + 1;
     while 1 < left {

@@ -1,16 +1,14 @@
--- Whether a number is listed, word by word; the chunks that are not listed are those that remain.
+-- Whether a number is listed; the chunks that are not listed are those that remain.
 use mathlib.Core.Path.{◌≡◌, refl, sym, ap, ◌∙◌}
 use mathlib.Core.Bool.{Bool, true, false, cond, ◌||◌}
 use mathlib.Core.Logic.{◌⊎◌, inl, inr, ⊎_elim}
 use mathlib.Core.List.Memᴰ
 use mathlib.Core.List.{List, [], ◌∷◌, Memᴰ}
-use Prim.Native.Nat.{ℕ, suc, ◌+◌, ◌≤◌, ◌<◌}
-use native.Mathlib.Numerals.{add-one}
-use native.Mathlib.Omega.{arith}
+use Prim.Native.Nat.{ℕ}
 use lib.Dec.{eqb}
-use lib.ListN.{length, take, drop, get_or, drop_of_length-le}
-use lib.Seq.{drop-cons, get_or-take, length-take-le}
-use borrow.Author.Tests.{eqb-true, eq-eqb, ne_eqb}
+use borrow.Author.Tests.{eqb-true, eq-eqb}
+use Rattle.std.specs.Prelude.{nat_eq}
+use Rattle.std.specs.List.{list_any}
 use Rattle.lists.proofs.Bools.{or_cases, or_left, or_right, true_false, same_test}
 use Rattle.freelist_rules.specs.Pieces.{All}
 use Rattle.freelist_rules.specs.Release.{covers, leaving, is_covered, remaining, memories_of}
@@ -21,26 +19,13 @@ use Rattle.freelist_rules.proofs.GivesBack.{memory_of_lem, memory_in_lem, in_mem
 use Rattle.freelist_release.specs.Listed.{among, unlisted}
 use Rattle.freelist_marks.specs.Releasable.{Releasable}
 
--- ---- one word looked at
+-- ---- the library's test of a list
 
-module _ (x : ℕ) (l : List ℕ) (m i : ℕ) (h : i < m) (k : m ≤ length l) where
-  next : drop i (take m l) ≡ get_or l i 0 ∷ drop (i + 1) (take m l)
-  next =
-      drop-cons (take m l) i 0 (omega (arith, length-take-le m l k))
-      ∙ ap (λ (v : ℕ). v ∷ drop (suc i) (take m l)) (get_or-take m l i 0 h)
-      ∙ ap (λ (j : ℕ). get_or l i 0 ∷ drop j (take m l)) (sym (add-one i))
-
-  pub among_here : (v : ℕ) → v ≡ get_or l i 0 → x ≡ v → among x (drop i (take m l)) ≡ true
-  unfolding among
-  among_here v e q = ap (among x) next ∙ rw (eq-eqb x (get_or l i 0) (q ∙ e))
-
-  pub among_past : (v : ℕ) → v ≡ get_or l i 0 → (x ≡ v → ⊥) → among x (drop i (take m l)) ≡ among x (drop (i + 1) (take m l))
-  unfolding among
-  among_past v e q = ap (among x) next ∙ rw (ne_eqb x (get_or l i 0) (λ z. q (z ∙ sym e)))
-
-pub among_end : (x : ℕ) (l : List ℕ) (m i : ℕ) → m ≤ i → m ≤ length l → among x (drop i (take m l)) ≡ false
+pub any_among : (x : ℕ) (l : List ℕ) → list_any (λ (y : ℕ). nat_eq y x) l ≡ among x l
 unfolding among
-among_end x l m i h k = let e : length (take m l) ≤ i = omega (arith, length-take-le m l k) in ap (among x) (drop_of_length-le (take m l) e)
+any_among x [] = refl
+any_among x (y ∷ l) =
+    (λ j. same_test (nat_eq y x) (eqb x y) (λ e. eq-eqb x y (sym (eqb-true y x e))) (λ e. eq-eqb y x (sym (eqb-true x y e))) j || any_among x l j)
 
 -- ---- the test and membership
 

@@ -41,7 +41,7 @@ pub fn drop_chunks(
 {
     let m = mark(chunks, k, regions, n, spare, list);
     let left = keep_regions(chunks, k, regions, n, spare);
-    let held = keep_chunks(chunks, k, list, m.count);
+    let held = keep_chunks(chunks, k, &list[..m.count]);
     Tally {
         count: m.count as u64,
         bytes: m.bytes,

@@ -16,9 +16,5 @@ pub fn spared(chunks: &[u64], k: usize, regions: &[u64], n: usize, spare: bool) 
     if !(spare & (0 < n)) {
         return 0;
     }
-    if goes_at(chunks, k, regions, n - 1, false) {
-        1
-    } else {
-        0
-    }
+    u64::from(goes_at(chunks, k, regions, n - 1, false))
 }

@@ -11,3 +11,5 @@ pub mod Steps
 pub mod AtOnce
 pub mod Threads
 pub mod Tables
+pub mod Sole
+pub mod Seen

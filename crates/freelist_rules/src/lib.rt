@@ -1,6 +1,10 @@
 // A free-list store's records. specs/ says what each call does to them, proofs/ shows what follows. No code.
 #![tactic(auto)]
 
+mod view;
+
+pub use view::FreeListView;
+
 // How many words each takes in a table; specs/Records has the same names.
 pub const CHUNK_WORDS: usize = 3;
 
@@ -44,7 +48,7 @@ pub const MADE_AT: usize = 1;
 pub const CHUNKS_AT: usize = 2;
 
 // A free region, and the record of the last loan in front of it by chunk and place, 0 where there is none.
-#[derive(Clone, Copy)]
+#[derive(Clone, Copy, PartialEq, Eq)]
 pub struct Gap {
     pub chunk: u64,
     pub start: u64,

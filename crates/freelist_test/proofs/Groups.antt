@@ -1,6 +1,7 @@
 -- Each group of tests, as the code takes it: what it comes to by what the code has read, and what it says where it holds.
 use mathlib.Core.Path.{◌≡◌, refl, sym, ap, ◌∙◌}
-use mathlib.Core.Bool.{Bool, true, false, ◌&&◌}
+use mathlib.Core.Bool.{Bool, true, false, cond, ◌&&◌}
+use Rattle.std.specs.Prelude.{Option, Some, None}
 use mathlib.Core.List.{List}
 use Prim.Native.Nat.{ℕ, zero, suc, ◌+◌, ◌-◌, ◌*◌, ◌≤◌, ◌<◌}
 use native.Mathlib.Omega.{arith}
@@ -32,6 +33,32 @@ use Rattle.store_rules.specs.declared.Chunk.{Chunk}
 use Rattle.freelist_rules.proofs.Decides.{all_yes, apart_yes, apart_all, sized_yes}
 use Rattle.freelist_rules.proofs.Facts.{sized_low}
 use Rattle.freelist_test.specs.Parts.{counted, head_ok, lent_ok, live_count, each_ok, chunks_ok}
+
+-- ---- what an Option tells
+
+module _ {A : Type 0} (b : Bool) (x : A) where
+  abbrev Told : Option A → Type 0
+  Told o = o ≡ cond b (Some x) None
+
+  pub none_told : false ≡ b → Told None
+  none_told e = rw (sym e) refl
+
+  pub some_told : b ≡ true → (y : A) → y ≡ x → Told (Some y)
+  some_told e y f = rw e (ap (λ (z : A). Some z) f)
+
+  pub told_none : (o : Option A) → Told o → o ≡ None → b ≡ false
+  told_none o t e = by b (sym e ∙ t)
+    where
+      by : (c : Bool) → None ≡ cond c (Some x) None → c ≡ false
+      by true q = let z : None ≡ Some x = q in cc
+      by false q = refl
+
+  pub told_some : (o : Option A) → Told o → (y : A) → o ≡ Some y → (b ≡ true) × (y ≡ x)
+  told_some o t y e = by b (sym e ∙ t)
+    where
+      by : (c : Bool) → Some y ≡ cond c (Some x) None → (c ≡ true) × (y ≡ x)
+      by true q = (refl, let z : Some y ≡ Some x = q in cc)
+      by false q = let z : Some y ≡ None = q in cc
 
 -- ---- the memories, as the code reads them
 

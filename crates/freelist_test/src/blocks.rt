@@ -1,5 +1,5 @@
 // Each loan.
-ghost use Rattle.std.specs.Prelude.{◌≡◌, cond, ◌+◌, ◌*◌, ◌≤◌, eqb, length};
+ghost use Rattle.std.specs.Prelude.{◌≡◌, cond, if◌then◌else◌, Some, None, ◌+◌, ◌*◌, ◌≤◌, eqb, length};
 ghost use Rattle.counter.specs.InTable.{FreeListIn};
 ghost use Rattle.counter.specs.Limits.{loans_most};
 ghost use Rattle.slabs.specs.Slab.{vacant_at};
@@ -10,13 +10,6 @@ ghost use Rattle.freelist_test.specs.Parts.{counted};
 
 use counter::FreeListSettings;
 use store_rules::Loan;
-
-// Whether each loan is right, and how many places are vacant.
-#[derive(Clone, Copy)]
-pub struct Seen {
-    pub ok: bool,
-    pub vacant: u64,
-}
 
 // Whether a loan has a serial that was given, and lies in whole atom units.
 fn is_loan(s: FreeListSettings, given: u64, l: Loan) -> bool
@@ -32,26 +25,21 @@ fn is_loan(s: FreeListSettings, given: u64, l: Loan) -> bool
 fn vacancy(size: u64) -> u64
     ensures { result ≡ cond (eqb size 0) 1 0 }
 {
-    if size == 0 { 1 } else { 0 }
+    u64::from(size == 0)
 }
 
-// Looks over the first n places once, and to the end, so that no turn branches: what is tested is sound nearly always.
-pub fn look_over(s: FreeListSettings, given: u64, loans: &[u64], n: usize) -> Seen
+// How many of the first n places are vacant, where each loan is right. Looks them over once, and to the end, so that no turn
+// branches: what is tested is sound nearly always.
+pub fn look_over(s: FreeListSettings, given: u64, loans: &[u64], n: usize) -> Option<u64>
     requires { FreeListIn s × (n ≤ loans_most) × (loan_words + loan_words * n ≤ length loans.now) }
-    ensures ok_value { result.ok ≡ all_ok (loan_ok s (counted given 0 0)) (loans_of n loans.now) }
-    ensures vacant_value { result.vacant ≡ vacancies (vacant_at loans.now size_at loan_words) n }
+    ensures { result ≡ if all_ok (loan_ok s (counted given 0 0)) (loans_of n loans.now) then Some (vacancies (vacant_at loans.now size_at loan_words) n) else None }
 {
     let mut ok = true;
     let mut vacant = 0;
-    let mut p = 0;
-    while p < n {
+    for p in 0..n {
         let l = book::loan_in(loans, p);
         ok = ok & ((l.size == 0) | is_loan(s, given, l));
         vacant += vacancy(l.size);
-        p += 1;
     }
-    Seen {
-        ok: ok,
-        vacant: vacant,
-    }
+    if ok { Some(vacant) } else { None }
 }

@@ -21,6 +21,7 @@ fn is_sized(s: FreeListSettings, z: u64) -> bool
         return z == s.last;
     }
     let mut p = s.start;
+    // no `for`: it doubles
     while p < z {
         p = 2 * p;
     }
@@ -41,14 +42,12 @@ fn is_each(s: FreeListSettings, made: u64, size: u64, chunks: &[u64], k: usize) 
     ensures { result ≡ each_ok s made size (rows chunk_row k chunks.now) }
 {
     let mut before = 0u64;
-    let mut i = 0;
-    while i < k {
+    for i in 0..k {
         let c = freelist_regions::chunk_at(chunks, i);
         if !((before < c.number) & is_chunk(s, made, size, c)) {
             return false;
         }
         before = c.number;
-        i += 1;
     }
     true
 }

@@ -8,41 +8,41 @@ mod heads;
 mod loans;
 
 ghost use Rattle.std.specs.Prelude.{◌≡◌, true};
-ghost use Rattle.counter.specs.InTable.{FreeListIn};
-ghost use Rattle.freelist_rules.specs.Tables.{tables, lengths_ok, sound_ok};
+ghost use Rattle.freelist_rules.specs.Seen.{seen};
+ghost use Rattle.freelist_rules.specs.Tables.{lengths_ok, sound_ok};
 
-use counter::FreeListSettings;
-use freelist_rules::{CHUNK_SIZE_AT, CHUNKS_AT, MADE_AT};
+use freelist_rules::{CHUNK_SIZE_AT, CHUNKS_AT, FreeListView, MADE_AT};
+use freelist_walk::Ground;
 use store_rules::PLACES_AT;
 
 // Whether the tables hold a sound store. The tests that read least come first, and each relies on those before it.
-pub fn is_sound(
-    s: FreeListSettings,
-    head: &[u64],
-    loans: &[u64],
-    chunks: &[u64],
-    index: &[u64],
-    regions: &[u64],
-) -> bool
-    requires { FreeListIn s × (lengths_ok s (tables head.now loans.now chunks.now index.now regions.now) ≡ true) }
-    ensures { result ≡ sound_ok s (tables head.now loans.now chunks.now index.now regions.now) }
+pub fn is_sound(t: &FreeListView<'_>) -> bool
+    requires { lengths_ok t.now.settings (seen t.now) ≡ true }
+    ensures { result ≡ sound_ok t.now.settings (seen t.now) }
 {
-    let n = freelist_regions::region_count(regions);
-    if !heads::is_head(s, head, loans, chunks, index, regions, n as u64) {
+    let n = freelist_regions::region_count(t.regions);
+    if !heads::is_head(t, n as u64) {
         return false;
     }
-    let lent = loans::are_lent(s, loans, index);
-    if !lent.ok {
+    let Some(live) = loans::are_lent(t) else {
+        return false;
+    };
+    let k = words::word(t.chunks, CHUNKS_AT) as usize;
+    let size = words::word(t.head, CHUNK_SIZE_AT);
+    let made = words::word(t.chunks, MADE_AT);
+    if !chunks::are_chunks(t.settings, made, size, t.chunks, k) {
         return false;
     }
-    let k = words::word(chunks, CHUNKS_AT) as usize;
-    let size = words::word(head, CHUNK_SIZE_AT);
-    let made = words::word(chunks, MADE_AT);
-    if !chunks::are_chunks(s, made, size, chunks, k) {
-        return false;
-    }
-    let own = s.store;
-    let places = words::word(loans, PLACES_AT) as usize;
-    let live = lent.live as usize;
-    freelist_walk::walk(chunks, k, loans, places, index, own.loans, regions, n, live)
+    let own = t.settings.store;
+    let ground = Ground {
+        chunks: t.chunks,
+        held: k,
+        loans: t.loans,
+        places: words::word(t.loans, PLACES_AT) as usize,
+        index: t.index,
+        most: own.loans,
+        regions: t.regions,
+        count: n,
+    };
+    freelist_walk::walk(&ground, live as usize)
 }

@@ -1,6 +1,7 @@
 -- The whole walk, by its turns, and its end.
 use mathlib.Core.Path.{◌≡◌, refl, sym, ap, ◌∙◌, subst}
 use mathlib.Core.Bool.{Bool, true, false, ◌&&◌}
+use Rattle.std.specs.Prelude.{Option, Some}
 use mathlib.Core.Logic.{⊎_elim}
 use mathlib.Core.List.{List, []}
 use Prim.Native.Nat.{ℕ, ◌≤◌}
@@ -20,6 +21,7 @@ use Rattle.freelist_walk.specs.Turn.{ground_of, LeftAt, Stands, Turned, done_at}
 use Rattle.freelist_walk.specs.Walked.{walk_ok}
 use Rattle.freelist_walk.specs.declared.turns.Reached.{Reached}
 use Rattle.freelist_walk.proofs.Decides.{walk_left, left_walk}
+use Rattle.freelist_walk.proofs.Piecing.{some_is}
 use Rattle.freelist_walk.proofs.Turning.{end_on, end_back}
 
 -- what the code reads at the end
@@ -49,7 +51,7 @@ module _ (most k : ℕ) (chunks loans : List ℕ) (places : ℕ) (index regions 
     pub back : LeftAt (ground_of most k chunks loans places index regions n) s → walk_ok most (rows chunk_row k chunks) loans places index (rows gap_row n regions) live (get_or regions whole_at 0) ≡ true
     pub stands : Stands k n places s
 
-  pub going_starts : live ≤ places → Going (record { ok = true; chunk = 0; byte = 0; last = 0; left = live; region = 0; whole = 0 })
+  pub going_starts : live ≤ places → Going (record { chunk = 0; byte = 0; last = 0; left = live; region = 0; whole = 0 })
   going_starts few =
       record {
         on = walk_left most (rows chunk_row k chunks) loans places index (rows gap_row n regions) live (get_or regions whole_at 0);
@@ -58,11 +60,17 @@ module _ (most k : ℕ) (chunks loans : List ℕ) (places : ℕ) (index regions 
       }
 
   module _ (s : Reached) (g : Going s) where
-    pub going_on : (r : Reached) → Turned k n t s r → r.ok ≡ true → Going r
-    going_on r w e = record { on = λ h. (w.on (g.on h)).1; back = λ L. g.back (w.back e L); stands = w.stands }
+    module _ (r : Option Reached) (w : Turned k n t s r) where
+      pub going_on : (q : Reached) → r ≡ Some q → Going q
+      going_on q e =
+          record {
+            on = λ h. let v = w.on (g.on h) in subst (LeftAt t) (some_is v.0 q (sym v.1 ∙ e)) v.2;
+            back = λ L. g.back (w.back q e L);
+            stands = w.stands q e;
+          }
 
-    pub going_stops : (r : Reached) → Turned k n t s r → r.ok ≡ false → false ≡ whole
-    going_stops r w e = ⊎_elim (λ h. absurd (true_false r.ok (w.on (g.on h)).0 e)) sym (told whole)
+      pub going_stops : ((q : Reached) → r ≡ Some q → ⊥) → false ≡ whole
+      going_stops f = ⊎_elim (λ h. let v = w.on (g.on h) in absurd (f v.0 v.1)) sym (told whole)
 
     -- no chunk is left, and the gaps that remain are none where all were passed
     no_chunk : k ≤ s.chunk → drop s.chunk (rows chunk_row k chunks) ≡ []

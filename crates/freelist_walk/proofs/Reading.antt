@@ -1,4 +1,4 @@
--- Records read word by word, one after the other, are read whole.
+-- Records read word by word are read whole.
 use mathlib.Core.Path.{◌≡◌, ap, ◌∙◌}
 use mathlib.Core.List.{List}
 use Prim.Native.Nat.{ℕ, ◌+◌, ◌*◌}
@@ -6,8 +6,7 @@ use native.Mathlib.Omega.{arith}
 use lib.ListN.{get_or, drop}
 use Rattle.words.specs.Rows.{row}
 use Rattle.words.proofs.Records.{cell_row}
-use Rattle.freelist_rules.specs.Records.{chunk, region, chunk_words, chunk_number_at, chunk_memory_at, chunk_bytes_at, region_words, region_chunk_at, region_start_at, region_end_at, region_front_at, chunk_row, gap_row}
-use Rattle.freelist_rules.specs.Threads.{gap}
+use Rattle.freelist_rules.specs.Records.{chunk, chunk_words, chunk_number_at, chunk_memory_at, chunk_bytes_at, chunk_row}
 
 module _ (t : List ℕ) (i : ℕ) where
   -- word k of the record at i, of records of w words
@@ -20,11 +19,3 @@ module _ (t : List ℕ) (i : ℕ) where
       let y = word chunk_words chunk_memory_at in
       let z = word chunk_words chunk_bytes_at in
       (λ j. chunk (x j) (y j) (z j))
-
-  pub gap_read : gap (region (get_or t (region_words * i + region_chunk_at) 0) (get_or t (region_words * i + region_start_at) 0) (get_or t (region_words * i + region_end_at) 0)) (get_or t (region_words * i + region_front_at) 0) ≡ row gap_row i t
-  gap_read =
-      let x = word region_words region_chunk_at in
-      let y = word region_words region_start_at in
-      let z = word region_words region_end_at in
-      let w = word region_words region_front_at in
-      (λ j. gap (region (x j) (y j) (z j)) (w j))

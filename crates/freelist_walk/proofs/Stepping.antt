@@ -1,6 +1,7 @@
 -- A turn, in the code's words.
 use mathlib.Core.Path.{◌≡◌, refl, sym, ap, ◌∙◌, subst}
 use mathlib.Core.Bool.{Bool, true, false, ◌&&◌}
+use Rattle.std.specs.Prelude.{Option, Some, None}
 use mathlib.Core.Logic.{◌⊎◌, inl, inr, ⊎_elim}
 use mathlib.Core.List.{List, [], ◌∷◌, Memᴰ}
 use Prim.Native.Nat.{ℕ, zero, suc, ◌+◌, ◌-◌, ◌≤◌, ◌<◌}
@@ -9,7 +10,7 @@ use lib.Dec.{eqb, leb, ltb}
 use lib.ListN.{drop, get_or}
 use lib.Seq.{drop-cons}
 use borrow.Author.Tests.{eq-eqb, eqb-true, lt-ltb, ltb-true, le-leb, leb-true}
-use Rattle.lists.proofs.Bools.{and_left, and_right, and_both, told, true_false}
+use Rattle.lists.proofs.Bools.{and_left, and_right, told, true_false}
 use Rattle.words.specs.Words.{cell_of}
 use Rattle.words.specs.Rows.{row, rows}
 use Rattle.words.proofs.Records.{cell_row, length_rows, get_d_rows}
@@ -25,11 +26,12 @@ use Rattle.freelist_rules.proofs.Base.{at_in, rising_mono, rising_apart}
 use Rattle.freelist_rules.proofs.Decides.{numbers_yes}
 use Rattle.freelist_rules.proofs.Facts.{Small, ChunksRise}
 use Rattle.freelist_walk.specs.Left.{Ground, Between, all_of, Left}
-use Rattle.freelist_walk.specs.Turn.{GapPassed, LoanPassed, over_loan, over_chunk, ground_of, LeftAt, Stands, next_ok, Turned}
+use Rattle.freelist_walk.specs.Turn.{GapPassed, LoanPassed, over_loan, over_chunk, ground_of, LeftAt, Stands, next_ok, togo, Turned}
 use Rattle.freelist_walk.specs.declared.passes.Passed.{Passed}
 use Rattle.freelist_walk.specs.declared.turns.Reached.{Reached}
 use Rattle.freelist_walk.proofs.Passing.{between_one}
-use Rattle.freelist_walk.proofs.Turning.{First, Over, loan_on, loan_back, None, Through, chunk_on, chunk_back}
+use Rattle.freelist_walk.proofs.Piecing.{not_some, some_is}
+use Rattle.freelist_walk.proofs.Turning.{First, Over, loan_on, loan_back, NoLoan, Through, chunk_on, chunk_back}
 
 -- ---- what remains of a list
 
@@ -120,7 +122,7 @@ all_one p z = ⊎_elim (λ e. rw e (omega arith)) (λ e. rw e (omega arith)) (to
 -- ---- the turns
 
 module _ (most k : ℕ) (chunks loans : List ℕ) (places : ℕ) (index regions : List ℕ) (n : ℕ) (s : Reached) (c : Chunk) (r : ℕ) (h : s.chunk < k) (st : Stands k n places s)
-    (rise : numbers_rise 1 (rows chunk_row k chunks) ≡ true) (small : Small (rows chunk_row k chunks)) (is : c ≡ row chunk_row s.chunk chunks) (next : r ≡ after_in most index s.last) where
+    (rise : numbers_rise 1 (rows chunk_row k chunks) ≡ true) (small : Small (rows chunk_row k chunks)) (is_lem : c ≡ row chunk_row s.chunk chunks) (next : r ≡ after_in most index s.last) where
   abbrev t : Ground
   t = ground_of most k chunks loans places index regions n
 
@@ -137,110 +139,150 @@ module _ (most k : ℕ) (chunks loans : List ℕ) (places : ℕ) (index regions 
   at : First t c ds
   at =
       record {
-        rise = rise_from chunks k s.chunk c h is rise small;
-        small = small_from chunks k s.chunk c h is rise small;
-        has = chunk_in chunks k s.chunk c h is rise small;
-        one = chunk_one chunks k s.chunk c h is rise small;
+        rise = rise_from chunks k s.chunk c h is_lem rise small;
+        small = small_from chunks k s.chunk c h is_lem rise small;
+        has = chunk_in chunks k s.chunk c h is_lem rise small;
+        one = chunk_one chunks k s.chunk c h is_lem rise small;
       }
 
   here : LeftAt t s → Left t (c ∷ ds) s.byte s.last s.left (drop s.region gs) s.whole
-  here L = subst (λ (xs : List Chunk). Left t xs s.byte s.last s.left (drop s.region gs) s.whole) (chunks_from_lem chunks k s.chunk c h is rise small) L
+  here L = subst (λ (xs : List Chunk). Left t xs s.byte s.last s.left (drop s.region gs) s.whole) (chunks_from_lem chunks k s.chunk c h is_lem rise small) L
 
   back_here : Left t (c ∷ ds) s.byte s.last s.left (drop s.region gs) s.whole → LeftAt t s
-  back_here L = subst (λ (xs : List Chunk). Left t xs s.byte s.last s.left (drop s.region gs) s.whole) (sym (chunks_from_lem chunks k s.chunk c h is rise small)) L
+  back_here L = subst (λ (xs : List Chunk). Left t xs s.byte s.last s.left (drop s.region gs) s.whole) (sym (chunks_from_lem chunks k s.chunk c h is_lem rise small)) L
 
-  -- a loan is passed
-  module _ (yes : next_ok s.left r places loans c.number ≡ true) (p : Passed) (w : LoanPassed c.size s.byte s.last l gs s.region p) (back : ℕ) (led : back ≡ before_in most index r) where
-    abbrev past : Reached
-    past = over_loan s r back p
+  -- no turn is made where nothing can be left to test
+  unturned : (LeftAt t s → ⊥) → Turned k n t s None
+  unturned f =
+      record {
+        on = λ L. absurd (f L);
+        back = λ q e. absurd (not_some q e);
+        less = λ q e. absurd (not_some q e);
+        stands = λ q e. absurd (not_some q e);
+      }
 
+  -- the turn that was made
+  turned : (q : Reached) → (LeftAt t s → LeftAt t q) → (LeftAt t q → LeftAt t s) → togo k q < togo k s → Stands k n places q → Turned k n t s (Some q)
+  turned q on back less stands =
+      record {
+        on = λ L. (q, refl, on L);
+        back = λ r e. subst (λ (x : Reached). LeftAt t x → LeftAt t s) (some_is q r e) back;
+        less = λ r e. subst (λ (x : Reached). togo k x < togo k s) (some_is q r e) less;
+        stands = λ r e. subst (Stands k n places) (some_is q r e) stands;
+      }
+
+  -- a loan is passed, or cannot be
+  module _ (yes : next_ok s.left r places loans c.number ≡ true) (o : Option Passed) (w : LoanPassed c.size s.byte s.last l gs s.region o) where
     said : (0 < s.left) × (0 < r) × (r ≤ places) × (l.chunk ≡ c.number)
     said = test_yes s.left r places loans c.number yes
 
     abbrev Went : Type 0
     Went = Over t c ds s.byte s.last s.left (drop s.region gs) s.whole r
 
-    -- what is left then, by the code's words and by the list's
-    there : (more : List Gap) → p.ok ≡ true → Between c.number s.byte l.offset s.last (drop s.region gs) more → Left t (c ∷ ds) (l.offset + l.size) r (s.left - 1) more s.whole → LeftAt t past
-    there more ok b L =
-        let v = w.on ok in
-        let e : more ≡ drop p.region gs = between_one c.number s.byte l.offset s.last (drop s.region gs) more (drop p.region gs) b (subst (λ (x : ℕ). Between x s.byte l.offset s.last (drop s.region gs) (drop p.region gs)) said.3 v.3) in
-        subst (λ (xs : List Chunk). Left t xs p.byte r (s.left - 1) (drop p.region gs) s.whole) (sym (chunks_from_lem chunks k s.chunk c h is rise small))
-        (subst (λ (x : ℕ). Left t (c ∷ ds) x r (s.left - 1) (drop p.region gs) s.whole) (sym v.2) (subst (λ (xs : List Gap). Left t (c ∷ ds) (l.offset + l.size) r (s.left - 1) xs s.whole) e L))
+    went : LeftAt t s → Went
+    went L = loan_on t c ds at s.byte s.last s.left (drop s.region gs) s.whole r said.0 next said.3 (here L)
 
-    on' : LeftAt t s → (past.ok ≡ true) × LeftAt t past
-    on' L =
-        let v : Went = loan_on t c ds at s.byte s.last s.left (drop s.region gs) s.whole r said.0 next said.3 (here L) in
-        let ok = w.back v.more v.some v.ends (subst (λ (x : ℕ). Between x s.byte l.offset s.last (drop s.region gs) v.more) (sym said.3) v.between) in
-        (and_both p.ok (eqb back s.last) ok (eq-eqb back s.last (led ∙ v.back)), there v.more ok v.between v.left)
+    goes : (v : Went) → (p : Passed) × (o ≡ Some p)
+    goes v = w.back v.more v.some v.ends (subst (λ (x : ℕ). Between x s.byte l.offset s.last (drop s.region gs) v.more) (sym said.3) v.between)
 
-    back' : past.ok ≡ true → LeftAt t past → LeftAt t s
-    back' e L =
-        let v = w.on (and_left p.ok (eqb back s.last) e) in
-        let went : Went = record {
-          back = sym led ∙ eqb-true back s.last (and_right p.ok (eqb back s.last) e);
-          some = v.0;
-          ends = v.1;
-          more = drop p.region gs;
-          between = subst (λ (x : ℕ). Between x s.byte l.offset s.last (drop s.region gs) (drop p.region gs)) said.3 v.3;
-          left =
-              subst (λ (x : ℕ). Left t (c ∷ ds) x r (s.left - 1) (drop p.region gs) s.whole) v.2
-              (subst (λ (xs : List Chunk). Left t xs p.byte r (s.left - 1) (drop p.region gs) s.whole) (chunks_from_lem chunks k s.chunk c h is rise small) L);
-        }
-        in
-        back_here (loan_back t c ds at s.byte s.last s.left (drop s.region gs) s.whole r said.0 next said.3 said.1 said.2 went)
+    stopped : o ≡ None → LeftAt t s → ⊥
+    stopped e L = let v = goes (went L) in not_some v.0 (sym e ∙ v.1)
 
-    turned_loan : Turned k n t s past
-    turned_loan =
-        record {
-          on = on';
-          back = back';
-          less = omega (arith, said.0);
-          stands = record { chunk = st.chunk; region = omega (arith, w.most, length_rows gap_row n regions); last = said.2; whole = st.whole };
-        }
+    module _ (p : Passed) (is : o ≡ Some p) where
+      abbrev past : Reached
+      past = over_loan s r p
 
-  -- what is left of a chunk is passed
-  module _ (no : next_ok s.left r places loans c.number ≡ false) (p : Passed) (w : GapPassed c.number s.byte c.size s.last gs s.region p) where
-    abbrev over : Reached
-    over = over_chunk s c.size p
+      told_lem : (0 < l.size) × (l.offset + l.size ≤ c.size) × (p.byte ≡ l.offset + l.size) × Between l.chunk s.byte l.offset s.last (drop s.region gs) (drop p.region gs)
+      told_lem = w.on p is
 
-    none : None t c s.last s.left
+      between : Between c.number s.byte l.offset s.last (drop s.region gs) (drop p.region gs)
+      between = subst (λ (x : ℕ). Between x s.byte l.offset s.last (drop s.region gs) (drop p.region gs)) said.3 told_lem.3
+
+      past_on : LeftAt t s → LeftAt t past
+      past_on L =
+          let v : Went = went L in
+          let e : v.more ≡ drop p.region gs = between_one c.number s.byte l.offset s.last (drop s.region gs) v.more (drop p.region gs) v.between between in
+          subst (λ (xs : List Chunk). Left t xs p.byte r (s.left - 1) (drop p.region gs) s.whole) (sym (chunks_from_lem chunks k s.chunk c h is_lem rise small))
+          (subst (λ (x : ℕ). Left t (c ∷ ds) x r (s.left - 1) (drop p.region gs) s.whole) (sym told_lem.2) (subst (λ (xs : List Gap). Left t (c ∷ ds) (l.offset + l.size) r (s.left - 1) xs s.whole) e v.left))
+
+      past_back : before_in most index r ≡ s.last → LeftAt t past → LeftAt t s
+      past_back led L =
+          let v : Went = record {
+            back = led;
+            some = told_lem.0;
+            ends = told_lem.1;
+            more = drop p.region gs;
+            between = between;
+            left =
+                subst (λ (x : ℕ). Left t (c ∷ ds) x r (s.left - 1) (drop p.region gs) s.whole) told_lem.2
+                (subst (λ (xs : List Chunk). Left t xs p.byte r (s.left - 1) (drop p.region gs) s.whole) (chunks_from_lem chunks k s.chunk c h is_lem rise small) L);
+          }
+          in
+          back_here (loan_back t c ds at s.byte s.last s.left (drop s.region gs) s.whole r said.0 next said.3 said.1 said.2 v)
+
+      turned_loan : before_in most index r ≡ s.last → Turned k n t s (Some past)
+      turned_loan led =
+          turned past past_on (past_back led) (omega (arith, said.0))
+          (record { chunk = st.chunk; region = omega (arith, w.most p is, length_rows gap_row n regions); last = said.2; whole = st.whole })
+
+      unled : (before_in most index r ≡ s.last → ⊥) → LeftAt t s → ⊥
+      unled ne L = ne (went L).back
+
+  -- what is left of a chunk is passed, or cannot be
+  module _ (no : next_ok s.left r places loans c.number ≡ false) (o : Option Passed) (w : GapPassed c.number s.byte c.size s.last gs s.region o) where
+    none : NoLoan t c s.last s.left
     none b d e f = true_false _ (test_all s.left r places loans c.number b (omega arith) (omega arith) (ap (λ (x : ℕ). (loan_by loans x).chunk) next ∙ f)) no
 
     abbrev Gone : Type 0
     Gone = Through t c ds s.byte s.last s.left (drop s.region gs) s.whole
 
-    chunk_next : s.chunk + 1 ≡ suc s.chunk
-    chunk_next = omega arith
+    gone : LeftAt t s → Gone
+    gone L = chunk_on t c ds at s.byte s.last s.left (drop s.region gs) s.whole none (here L)
 
-    on'' : LeftAt t s → (over.ok ≡ true) × LeftAt t over
-    on'' L =
-        let v : Gone = chunk_on t c ds at s.byte s.last s.left (drop s.region gs) s.whole none (here L) in
-        let ok = w.back v.more v.between in
-        let e = between_one c.number s.byte c.size s.last (drop s.region gs) v.more (drop p.region gs) v.between (w.on ok) in
-        (ok, rw chunk_next (subst (λ (xs : List Gap). Left t ds 0 s.last s.left xs (s.whole + all_of s.byte c.size)) e v.left))
+    ended : o ≡ None → LeftAt t s → ⊥
+    ended e L = let g = gone L in let v = w.back g.more g.between in not_some v.0 (sym e ∙ v.1)
 
-    back'' : over.ok ≡ true → LeftAt t over → LeftAt t s
-    back'' e L =
-        let gone : Gone = record { more = drop p.region gs; between = w.on e; left = rw chunk_next at L } in
-        back_here (chunk_back t c ds at s.byte s.last s.left (drop s.region gs) s.whole none gone)
+    module _ (p : Passed) (is : o ≡ Some p) where
+      abbrev over : Reached
+      over = over_chunk s c.size p
 
-    turned_chunk : Turned k n t s over
-    turned_chunk =
-        record {
-          on = on'';
-          back = back'';
-          less = omega arith;
-          stands = record { chunk = omega arith; region = omega (arith, w.most, length_rows gap_row n regions); last = st.last; whole = omega (arith, st.whole, all_one s.byte c.size) };
-        }
+      chunk_next : s.chunk + 1 ≡ suc s.chunk
+      chunk_next = omega arith
+
+      over_on : LeftAt t s → LeftAt t over
+      over_on L =
+          let v : Gone = gone L in
+          let e = between_one c.number s.byte c.size s.last (drop s.region gs) v.more (drop p.region gs) v.between (w.on p is) in
+          rw chunk_next (subst (λ (xs : List Gap). Left t ds 0 s.last s.left xs (s.whole + all_of s.byte c.size)) e v.left)
+
+      over_back : LeftAt t over → LeftAt t s
+      over_back L =
+          let v : Gone = record { more = drop p.region gs; between = w.on p is; left = rw chunk_next at L } in
+          back_here (chunk_back t c ds at s.byte s.last s.left (drop s.region gs) s.whole none v)
+
+      turned_chunk : Turned k n t s (Some over)
+      turned_chunk =
+          turned over over_on over_back (omega arith)
+          (record { chunk = omega arith; region = omega (arith, w.most p is, length_rows gap_row n regions); last = st.last; whole = omega (arith, st.whole, all_one s.byte c.size) })
 
   -- the same of a loan that was read, and of what is made of it
-  pub loan_turned : next_ok s.left r places loans c.number ≡ true → (d : Loan) → d ≡ loan_by loans r → (p : Passed) → LoanPassed c.size s.byte s.last d gs s.region p → (back : ℕ) → back ≡ before_in most index r
-      → (x : Reached) → x ≡ over_loan s r back p → Turned k n (ground_of most k chunks loans places index regions n) s x
-  loan_turned q d e p w back led x f =
-      subst (Turned k n t s) (sym f)
-      (turned_loan q p (subst (λ (y : Loan). LoanPassed c.size s.byte s.last y gs s.region p) e w) back led)
+  module _ (yes : next_ok s.left r places loans c.number ≡ true) (d : Loan) (same : d ≡ loan_by loans r) (o : Option Passed) (w : LoanPassed c.size s.byte s.last d gs s.region o) where
+    w' : LoanPassed c.size s.byte s.last l gs s.region o
+    w' = subst (λ (y : Loan). LoanPassed c.size s.byte s.last y gs s.region o) same w
 
-  pub chunk_turned : next_ok s.left r places loans c.number ≡ false → (p : Passed) → GapPassed c.number s.byte c.size s.last gs s.region p
-      → (x : Reached) → x ≡ over_chunk s c.size p → Turned k n (ground_of most k chunks loans places index regions n) s x
-  chunk_turned q p w x f = subst (Turned k n t s) (sym f) (turned_chunk q p w)
+    pub loan_stopped : o ≡ None → Turned k n (ground_of most k chunks loans places index regions n) s None
+    loan_stopped e = unturned (stopped yes o w' e)
+
+    module _ (p : Passed) (is : o ≡ Some p) (back : ℕ) (led : back ≡ before_in most index r) where
+      pub loan_unled : (back ≡ s.last → ⊥) → Turned k n (ground_of most k chunks loans places index regions n) s None
+      loan_unled ne = unturned (unled yes o w' p is (λ e. ne (led ∙ e)))
+
+      pub loan_turned : back ≡ s.last → (x : Reached) → x ≡ over_loan s r p → Turned k n (ground_of most k chunks loans places index regions n) s (Some x)
+      loan_turned e x f = subst (λ (y : Reached). Turned k n t s (Some y)) (sym f) (turned_loan yes o w' p is (sym led ∙ e))
+
+  module _ (no : next_ok s.left r places loans c.number ≡ false) (o : Option Passed) (w : GapPassed c.number s.byte c.size s.last gs s.region o) where
+    pub chunk_stopped : o ≡ None → Turned k n (ground_of most k chunks loans places index regions n) s None
+    chunk_stopped e = unturned (ended no o w e)
+
+    pub chunk_turned : (p : Passed) → o ≡ Some p → (x : Reached) → x ≡ over_chunk s c.size p → Turned k n (ground_of most k chunks loans places index regions n) s (Some x)
+    chunk_turned p is x f = subst (λ (y : Reached). Turned k n t s (Some y)) (sym f) (turned_chunk no o w p is)

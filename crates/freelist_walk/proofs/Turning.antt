@@ -2,7 +2,7 @@
 -- at the end.
 use mathlib.Core.Path.{◌≡◌, refl, sym, ap, ◌∙◌, subst}
 use mathlib.Core.Bool.{true, false}
-use mathlib.Core.Logic.{◌⊎◌, inl, inr, ⊎_elim}
+use mathlib.Core.Logic.{inl, inr, ⊎_elim}
 use mathlib.Core.List.Memᴰ
 use mathlib.Core.List.{List, [], ◌∷◌, map, Memᴰ}
 use Prim.Native.Nat.{ℕ, suc, ◌+◌, ◌-◌, ◌≤◌, ◌<◌}
@@ -64,8 +64,8 @@ module _ (t : Ground) where
       pub left : Left t cs 0 u m more (w + all_of p c.size)
 
   -- the record that is next is not that of a loan of the chunk
-  abbrev pub None : Chunk → ℕ → ℕ → Type 0
-  None c u m = 0 < m → 0 < after u → after u ≤ t.places → (by (after u)).chunk ≡ c.number → ⊥
+  abbrev pub NoLoan : Chunk → ℕ → ℕ → Type 0
+  NoLoan c u m = 0 < m → 0 < after u → after u ≤ t.places → (by (after u)).chunk ≡ c.number → ⊥
 
   module _ (c : Chunk) (cs : List Chunk) (at : First c cs) where
     -- ---- the loan of record r, of this chunk
@@ -130,7 +130,7 @@ module _ (t : Ground) where
 
     -- ---- what is left of the chunk, where the next record is not that of a loan of it
 
-    none_first : (u m : ℕ) → None c u m → (rs : List ℕ) → Leads after before u rs → ((x : ℕ) → Mem x rs → Right x) → length rs ≡ m → first_in c.number (map by rs) ≡ false
+    none_first : (u m : ℕ) → NoLoan c u m → (rs : List ℕ) → Leads after before u rs → ((x : ℕ) → Mem x rs → Right x) → length rs ≡ m → first_in c.number (map by rs) ≡ false
     none_first u m f [] L right many = refl
     none_first u m f (x ∷ rs) L right many = ne_eqb (by x).chunk c.number (λ h. f (omega arith) (subst (λ (y : ℕ). 0 < y) e r.0) (subst (λ (y : ℕ). y ≤ t.places) e r.1) (ap (λ (y : ℕ). (by y).chunk) (sym e) ∙ h))
       where
@@ -148,7 +148,7 @@ module _ (t : Ground) where
         let v = (rest_low b (0 + suc c.number) cs 0 (map by (x ∷ rs)) more at.rise.2 (λ d m. at.small d (Memᴰ.tail m)) h (upto_next b 1 c cs p at.rise at.small k (omega arith))).0 (by x) (Memᴰ.head refl) in
         front_short t.loans u x rs (region c.number p c.size) (omega (arith, v))
 
-    pub chunk_on : (p u m : ℕ) (gs : List Gap) (w : ℕ) → None c u m → Left t (c ∷ cs) p u m gs w → Through c cs p u m gs w
+    pub chunk_on : (p u m : ℕ) (gs : List Gap) (w : ℕ) → NoLoan c u m → Left t (c ∷ cs) p u m gs w → Through c cs p u m gs w
     chunk_on p u m gs w f L =
         let rs : List ℕ = L.records in
         let k = chunk_yes c cs p (map by rs) (free_of gs) (none_first u m f rs L.leads L.right L.many) L.fills in
@@ -167,7 +167,7 @@ module _ (t : Ground) where
           };
         }
 
-    pub chunk_back : (p u m : ℕ) (gs : List Gap) (w : ℕ) → None c u m → Through c cs p u m gs w → Left t (c ∷ cs) p u m gs w
+    pub chunk_back : (p u m : ℕ) (gs : List Gap) (w : ℕ) → NoLoan c u m → Through c cs p u m gs w → Left t (c ∷ cs) p u m gs w
     chunk_back p u m gs w f v =
         let L = v.left in
         let rs : List ℕ = L.records in

@@ -1,3 +1,4 @@
 pub mod Left
+pub mod Grounds
 pub mod Turn
 pub mod Walked

@@ -1,5 +1,5 @@
 -- A turn of the walk over chunks, loans and free regions together.
-use Rattle.std.specs.Prelude.{◌≡◌, Bool, true, ◌&&◌, List, ℕ, ◌+◌, ◌-◌, ◌*◌, ◌≤◌, ◌<◌, eqb, leb, ltb, length, drop, get_or}
+use Rattle.std.specs.Prelude.{◌≡◌, Bool, ◌&&◌, Option, Some, List, ℕ, ◌+◌, ◌-◌, ◌*◌, ◌≤◌, ◌<◌, eqb, leb, ltb, length, drop, get_or}
 use Rattle.words.specs.Rows.{rows}
 use Rattle.counter.specs.Limits.{loans_most, chunks_most}
 use Rattle.store_rules.specs.Loans.{loan_words}
@@ -12,32 +12,26 @@ use Rattle.freelist_walk.specs.Left.{Ground, ground, Between, all_of, Left}
 use Rattle.freelist_walk.specs.declared.passes.Passed.{Passed}
 use Rattle.freelist_walk.specs.declared.turns.Reached.{Reached}
 
--- two gaps are the same
-abbrev pub same_gap : Gap → Gap → Bool
-same_gap a b =
-    eqb a.chunk b.chunk && (eqb a.start b.start && (eqb a.end b.end && eqb a.front b.front))
-
 -- a loan is not empty, and ends within z bytes
 unfoldable pub within : Loan → ℕ → Bool
 within l z = ltb 0 l.size && leb (l.offset + l.size) z
 
 -- what lies from p to x of chunk n is passed, or cannot be: the gap that is next then
-pub record GapPassed (n p x u : ℕ) (gs : List Gap) (d : ℕ) (r : Passed) : Type 0 where
-  pub on : r.ok ≡ true → Between n p x u (drop d gs) (drop r.region gs)
-  pub back : (more : List Gap) → Between n p x u (drop d gs) more → r.ok ≡ true
-  pub most : r.region ≤ length gs
+pub record GapPassed (n p x u : ℕ) (gs : List Gap) (d : ℕ) (r : Option Passed) : Type 0 where
+  pub on : (q : Passed) → r ≡ Some q → Between n p x u (drop d gs) (drop q.region gs)
+  pub back : (more : List Gap) → Between n p x u (drop d gs) more → (q : Passed) × (r ≡ Some q)
+  pub most : (q : Passed) → r ≡ Some q → q.region ≤ length gs
 
 -- a loan of a chunk of z bytes is passed, and what lies before it: the byte and the gap that are next then
-pub record LoanPassed (z p u : ℕ) (l : Loan) (gs : List Gap) (d : ℕ) (r : Passed) : Type 0 where
-  pub on : r.ok ≡ true → (0 < l.size) × (l.offset + l.size ≤ z) × (r.byte ≡ l.offset + l.size) × Between l.chunk p l.offset u (drop d gs) (drop r.region gs)
-  pub back : (more : List Gap) → 0 < l.size → l.offset + l.size ≤ z → Between l.chunk p l.offset u (drop d gs) more → r.ok ≡ true
-  pub most : r.region ≤ length gs
+pub record LoanPassed (z p u : ℕ) (l : Loan) (gs : List Gap) (d : ℕ) (r : Option Passed) : Type 0 where
+  pub on : (q : Passed) → r ≡ Some q → (0 < l.size) × (l.offset + l.size ≤ z) × (q.byte ≡ l.offset + l.size) × Between l.chunk p l.offset u (drop d gs) (drop q.region gs)
+  pub back : (more : List Gap) → 0 < l.size → l.offset + l.size ≤ z → Between l.chunk p l.offset u (drop d gs) more → (q : Passed) × (r ≡ Some q)
+  pub most : (q : Passed) → r ≡ Some q → q.region ≤ length gs
 
--- past the loan of record r, which leads back to record `back`, where p tells of its bytes
-abbrev pub over_loan : Reached → ℕ → ℕ → Passed → Reached
-over_loan s r back p =
+-- past the loan of record r, where p tells of its bytes
+abbrev pub over_loan : Reached → ℕ → Passed → Reached
+over_loan s r p =
     record {
-      ok = p.ok && eqb back s.last;
       chunk = s.chunk;
       byte = p.byte;
       last = r;
@@ -50,7 +44,6 @@ over_loan s r back p =
 abbrev pub over_chunk : Reached → ℕ → Passed → Reached
 over_chunk s z p =
     record {
-      ok = p.ok;
       chunk = s.chunk + 1;
       byte = 0;
       last = s.last;
@@ -94,12 +87,12 @@ next_ok left r places loans c = (ltb 0 left && ltb 0 r) && (leb r places && eqb 
 abbrev pub togo : ℕ → Reached → ℕ
 togo k s = (k - s.chunk) + s.left
 
--- one turn made: what was left to test before it is what it tested and what is left then
-pub record Turned (k n : ℕ) (t : Ground) (s r : Reached) : Type 0 where
-  pub on : LeftAt t s → (r.ok ≡ true) × LeftAt t r
-  pub back : r.ok ≡ true → LeftAt t r → LeftAt t s
-  pub less : togo k r < togo k s
-  pub stands : Stands k n t.places r
+-- one turn made, or none: what was left to test before it is what it tested and what is left then
+pub record Turned (k n : ℕ) (t : Ground) (s : Reached) (r : Option Reached) : Type 0 where
+  pub on : LeftAt t s → (q : Reached) × (r ≡ Some q) × LeftAt t q
+  pub back : (q : Reached) → r ≡ Some q → LeftAt t q → LeftAt t s
+  pub less : (q : Reached) → r ≡ Some q → togo k q < togo k s
+  pub stands : (q : Reached) → r ≡ Some q → Stands k n t.places q
 
 -- nothing is left where no chunk is
 abbrev pub done_at : ℕ → List ℕ → List ℕ → ℕ → Reached → Bool

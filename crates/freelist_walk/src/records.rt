@@ -10,6 +10,8 @@ use book::ENTRY_WORDS;
 use freelist_rules::{CHUNK_BYTES_AT, CHUNK_MEMORY_AT, CHUNK_NUMBER_AT, CHUNK_WORDS};
 use store_rules::Chunk;
 
+// The chunk at i. Beside freelist_regions::chunk_at, which serves any i, as a search that finds none asks: here the record is
+// there, and no word is tested.
 pub fn chunk_in(t: &[u64], i: usize) -> Chunk
     requires { cell_of chunk_bytes_at chunk_words i < length t.now }
     ensures { result ≡ row chunk_row i t.now }

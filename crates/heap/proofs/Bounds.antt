@@ -1,5 +1,7 @@
 -- What the tests of a heap's bounds say, and that a charge or release within them wraps nothing.
-use Rattle.std.proofs.Common.{◌≡◌, ℕ, ◌+◌, ◌-◌, ◌*◌, ◌%◌, ◌^◌, ◌<◌, ◌≤◌, Bool, true, false, ◌&&◌, ◌||◌, eqb, ltb, leb, sym, refl, ap, ◌∙◌, mod-eq_of_lt, arith, ltb-true, lt-ltb, eq-eqb, ne_eqb, eqb-true, le-leb, leb-true}
+use Rattle.std.proofs.Common.{◌≡◌, ℕ, ◌+◌, ◌-◌, ◌*◌, ◌%◌, ◌^◌, ◌<◌, ◌≤◌, Bool, true, false, not, ◌&&◌, ◌||◌, eqb, ltb, leb, sym, refl, ap, ◌∙◌, mod-eq_of_lt, arith, ltb-true, lt-ltb, eq-eqb, ne_eqb, eqb-true, le-leb, leb-true}
+use Rattle.std.specs.Bool.{FalseIff}
+use Rattle.std.specs.Int.{from_bool}
 use borrow.Author.Tests.{lt-leb}
 use Rattle.lists.proofs.Bools.{and_left, and_right, and_both, same_test}
 use Rattle.counter.specs.Account.{value}
@@ -7,7 +9,7 @@ use Rattle.counter.specs.Limits.{heap_bytes_most}
 use Rattle.counter.specs.declared.account.Heap.{Heap}
 use Rattle.counter.specs.declared.account.Total.{Total}
 use Rattle.heap.specs.Heap.{charged_of, released_of, bears_ok, agrees_ok}
-use Rattle.heap.proofs.Totals.{carried, not_carried, words_equal, holds_more, plus_value}
+use Rattle.heap.proofs.Totals.{carry, carried, words_equal, holds_more, plus_value}
 
 -- ---- the tests as code makes them
 
@@ -32,25 +34,27 @@ module _ (h : Heap) (w : Words h.allocated) (bytes : ℕ) (bb : bytes < 2 ^ 64) 
   unfolding bears_ok
   bears_far g = let e : leb (h.used + bytes) heap_bytes_most ≡ false = lt-leb (h.used + bytes) heap_bytes_most (omega arith) in rw e
 
-module _ (h : Heap) (a : Words h.allocated) (d : Words h.deallocated) (u : h.used < 2 ^ 64) (r : ℕ) (rb : r < 2 ^ 64) (e : r ≡ (h.deallocated.lo + h.used) % 2 ^ 64) where
-  pub agrees_carried : r < h.used → (eqb r h.allocated.lo && eqb (h.deallocated.hi + 1) h.allocated.hi) ≡ agrees_ok h
-  unfolding agrees_ok
-  agrees_carried g =
-      let s : value h.deallocated + h.used ≡ (h.deallocated.hi + 1) * 2 ^ 64 + r = carried h.deallocated.hi h.deallocated.lo h.used r d.1 u e g in
-      words_equal (h.deallocated.hi + 1) r h.allocated.hi h.allocated.lo rb a.1
-      ∙ ap (λ (n : ℕ). eqb n (value h.allocated)) (sym s)
+-- the words of what was deallocated and what is used, with their carries
+pub agrees_carried : (h : Heap) (a : Words h.allocated) (d : Words h.deallocated) (u : h.used < 2 ^ 64) (r x : ℕ) (o v : Bool) → r < 2 ^ 64
+    → r ≡ (h.deallocated.lo + h.used) % 2 ^ 64 → FalseIff o (h.deallocated.lo + h.used < 2 ^ 64)
+    → x ≡ (h.deallocated.hi + from_bool o) % 2 ^ 64 → FalseIff v (h.deallocated.hi + from_bool o < 2 ^ 64)
+    → ((not v && eqb r h.allocated.lo) && eqb x h.allocated.hi) ≡ agrees_ok h
+unfolding agrees_ok
+agrees_carried h a d u r x o v rb e f g k = by v k
+  where
+    y : ℕ
+    y = h.deallocated.hi + from_bool o
 
-  pub agrees_over : r < h.used → h.deallocated.hi ≡ 0xffff_ffff_ffff_ffff → false ≡ agrees_ok h
-  agrees_over g m =
-      let n : eqb (h.deallocated.hi + 1) h.allocated.hi ≡ false = ne_eqb (h.deallocated.hi + 1) h.allocated.hi (λ q. omega (arith, a.0)) in
-      sym (mathlib.Core.Bool.and-false (eqb r h.allocated.lo)) ∙ ap (λ (b : Bool). eqb r h.allocated.lo && b) (sym n) ∙ agrees_carried g
+    s : value h.deallocated + h.used ≡ y * 2 ^ 64 + r
+    s = carried h.deallocated.hi h.deallocated.lo h.used r (from_bool o) (carry h.deallocated.lo h.used r o d.1 u e f)
 
-  pub agrees_plain : h.used ≤ r → (eqb r h.allocated.lo && eqb h.deallocated.hi h.allocated.hi) ≡ agrees_ok h
-  unfolding agrees_ok
-  agrees_plain g =
-      let s : value h.deallocated + h.used ≡ h.deallocated.hi * 2 ^ 64 + r = not_carried h.deallocated.hi h.deallocated.lo h.used r d.1 u e g in
-      words_equal h.deallocated.hi r h.allocated.hi h.allocated.lo rb a.1
-      ∙ ap (λ (n : ℕ). eqb n (value h.allocated)) (sym s)
+    by : (v : Bool) → FalseIff v (y < 2 ^ 64) → ((not v && eqb r h.allocated.lo) && eqb x h.allocated.hi) ≡ eqb (value h.deallocated + h.used) (value h.allocated)
+    by true k =
+        let l : 2 ^ 64 ≤ y = omega (arith, k) in
+        sym (ne_eqb _ _ (λ q. let z : y * 2 ^ 64 + r ≡ h.allocated.hi * 2 ^ 64 + h.allocated.lo = sym s ∙ q in omega (arith, z, l, a.0, a.1)))
+    by false k =
+        let z : x ≡ y = g ∙ mod-eq_of_lt k in
+        rw z (words_equal y r h.allocated.hi h.allocated.lo rb a.1 ∙ ap (λ (n : ℕ). eqb n (value h.allocated)) (sym s))
 
 -- ---- what they mean, in plain numbers
 

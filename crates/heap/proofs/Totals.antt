@@ -1,10 +1,12 @@
 -- A number of two words, and one word added to it.
-use Rattle.std.proofs.Common.{◌≡◌, ℕ, ◌+◌, ◌-◌, ◌*◌, ◌/◌, ◌%◌, ◌^◌, ◌<◌, ◌≤◌, true, ◌&&◌, ◌||◌, eqb, ltb, leb, sym, refl, ap, ◌∙◌, ⊎_elim, mod-eq_of_lt, suc-mul, add-one, arith, ltb-true, lt-ltb, eq-eqb, eqb-true, le-leb, leb-true}
+use Rattle.std.proofs.Common.{◌≡◌, ℕ, ◌+◌, ◌-◌, ◌*◌, ◌/◌, ◌%◌, ◌^◌, ◌<◌, ◌≤◌, Bool, true, false, ◌&&◌, ◌||◌, eqb, ltb, leb, sym, refl, ap, ◌∙◌, ⊎_elim, suc-mul, add-one, arith, ltb-true, lt-ltb, eq-eqb, eqb-true, le-leb, leb-true}
 use lib.Arith.{digits_lt}
 use lib.Pow.{high, low, recompose}
 use Rattle.lists.proofs.Bools.{and_left, and_right, and_both, or_cases, or_left, or_right, same_test, lt_or_le}
 use Rattle.counter.specs.Account.{value}
 use Rattle.counter.specs.declared.account.Total.{Total}
+use Rattle.std.specs.Bool.{FalseIff}
+use Rattle.std.specs.Int.{from_bool}
 use Rattle.heap.specs.Heap.{plus_of}
 
 -- the words of a sum whose high word x and low word r are known
@@ -14,33 +16,24 @@ low_word k s x r h e = sym (rw e (low x k h))
 high_word : (k s x r : ℕ) → r < 2 ^ k → s ≡ x * 2 ^ k + r → x ≡ s / 2 ^ k
 high_word k s x r h e = sym (rw e (high x k h))
 
--- the low word r wrapped, so the sum carries
-pub carried : (hi lo b r : ℕ) → lo < 2 ^ 64 → b < 2 ^ 64 → r ≡ (lo + b) % 2 ^ 64 → r < b → hi * 2 ^ 64 + lo + b ≡ (hi + 1) * 2 ^ 64 + r
-carried hi lo b r p q e h = omega arith
+-- the low word r and the carry of a sum of two words
+pub carry : (lo b r : ℕ) (o : Bool) → lo < 2 ^ 64 → b < 2 ^ 64 → r ≡ (lo + b) % 2 ^ 64 → FalseIff o (lo + b < 2 ^ 64) → lo + b ≡ from_bool o * 2 ^ 64 + r
+carry lo b r true p q e f = let h : 2 ^ 64 ≤ lo + b = omega (arith, f) in omega arith
+carry lo b r false p q e f = omega arith
 
-pub not_carried : (hi lo b r : ℕ) → lo < 2 ^ 64 → b < 2 ^ 64 → r ≡ (lo + b) % 2 ^ 64 → b ≤ r → hi * 2 ^ 64 + lo + b ≡ hi * 2 ^ 64 + r
-not_carried hi lo b r p q e h = omega arith
+pub carried : (hi lo b r c : ℕ) → lo + b ≡ c * 2 ^ 64 + r → hi * 2 ^ 64 + lo + b ≡ (hi + c) * 2 ^ 64 + r
+carried hi lo b r c e = omega arith
 
--- the two words of a total with n more, with and without a carry
-pub plus_carried : (t : Total) (n r x : ℕ) → t.hi < 2 ^ 64 → t.lo < 2 ^ 64 → n < 2 ^ 64 → r < 2 ^ 64 → r ≡ (t.lo + n) % 2 ^ 64 → r < n → x ≡ (t.hi + 1) % 2 ^ 64
+-- the two words of a total with n more
+pub plus_carried : (t : Total) (n r x : ℕ) (o : Bool) → t.lo < 2 ^ 64 → n < 2 ^ 64 → r < 2 ^ 64 → r ≡ (t.lo + n) % 2 ^ 64 → FalseIff o (t.lo + n < 2 ^ 64) → x ≡ (t.hi + from_bool o) % 2 ^ 64
     → record { hi = x; lo = r } ≡ plus_of t n
 unfolding plus_of
-plus_carried t n r x th tl nb rb e h f =
-    let s : value t + n ≡ (t.hi + 1) * 2 ^ 64 + r = carried t.hi t.lo n r tl nb e h in
-    let l : r ≡ (value t + n) % 2 ^ 64 = low_word 64 (value t + n) (t.hi + 1) r rb s in
-    let g : t.hi + 1 ≡ (value t + n) / 2 ^ 64 = high_word 64 (value t + n) (t.hi + 1) r rb s in
-    let w : x ≡ (value t + n) / 2 ^ 64 % 2 ^ 64 = f ∙ ap (λ (k : ℕ). k % 2 ^ 64) g in
-    λ i. record { hi = w i; lo = l i }
-
-pub plus_plain : (t : Total) (n r : ℕ) → t.hi < 2 ^ 64 → t.lo < 2 ^ 64 → n < 2 ^ 64 → r < 2 ^ 64 → r ≡ (t.lo + n) % 2 ^ 64 → n ≤ r
-    → record { hi = t.hi; lo = r } ≡ plus_of t n
-unfolding plus_of
-plus_plain t n r th tl nb rb e h =
-    let s : value t + n ≡ t.hi * 2 ^ 64 + r = not_carried t.hi t.lo n r tl nb e h in
-    let l : r ≡ (value t + n) % 2 ^ 64 = low_word 64 (value t + n) t.hi r rb s in
-    let g : t.hi ≡ (value t + n) / 2 ^ 64 = high_word 64 (value t + n) t.hi r rb s in
-    let w : t.hi ≡ (value t + n) / 2 ^ 64 % 2 ^ 64 = sym (mod-eq_of_lt th) ∙ ap (λ (k : ℕ). k % 2 ^ 64) g in
-    λ i. record { hi = w i; lo = l i }
+plus_carried t n r x o tl nb rb e f h =
+    let y : ℕ = t.hi + from_bool o in
+    let s : value t + n ≡ y * 2 ^ 64 + r = carried t.hi t.lo n r (from_bool o) (carry t.lo n r o tl nb e f) in
+    let l : r ≡ (value t + n) % 2 ^ 64 = low_word 64 (value t + n) y r rb s in
+    let g : x ≡ (value t + n) / 2 ^ 64 % 2 ^ 64 = h ∙ ap (λ (k : ℕ). k % 2 ^ 64) (high_word 64 (value t + n) y r rb s) in
+    λ i. record { hi = g i; lo = l i }
 
 -- as one number, where it fits 128 bits
 pub plus_value : (t : Total) (n : ℕ) → value t + n < 2 ^ 128 → value (plus_of t n) ≡ value t + n

@@ -11,25 +11,18 @@ use counter::{HEAP_BYTES_MOST, Heap, Total};
 pub fn plus(t: Total, n: u64) -> Total
     ensures { result ≡ plus_of t n }
 {
-    let lo = std::num::wrapping_add_u64(t.lo, n);
-    if lo < n {
-        let hi = std::num::wrapping_add_u64(t.hi, 1);
-        return Total { hi: hi, lo: lo };
-    }
-    Total { hi: t.hi, lo: lo }
+    let (lo, carries) = t.lo.overflowing_add(n);
+    let hi = t.hi.wrapping_add(u64::from(carries));
+    Total { hi, lo }
 }
 
 pub fn charge(h: Heap, bytes: u64) -> Heap
     ensures { result ≡ charged_of h bytes }
 {
-    let allocated = plus(h.allocated, bytes);
-    let deallocated = h.deallocated;
-    let used = std::num::wrapping_add_u64(h.used, bytes);
     Heap {
-        size: h.size,
-        used: used,
-        allocated: allocated,
-        deallocated: deallocated,
+        used: h.used.wrapping_add(bytes),
+        allocated: plus(h.allocated, bytes),
+        ..h
     }
 }
 
@@ -37,14 +30,10 @@ pub fn charge(h: Heap, bytes: u64) -> Heap
 pub fn release(h: Heap, bytes: u64) -> Heap
     ensures { result ≡ released_of h bytes }
 {
-    let allocated = h.allocated;
-    let deallocated = plus(h.deallocated, bytes);
-    let used = if bytes <= h.used { h.used - bytes } else { 0 };
     Heap {
-        size: h.size,
-        used: used,
-        allocated: allocated,
-        deallocated: deallocated,
+        used: h.used.saturating_sub(bytes),
+        deallocated: plus(h.deallocated, bytes),
+        ..h
     }
 }
 
@@ -67,12 +56,7 @@ pub fn agrees(h: Heap) -> bool
 {
     let a = h.allocated;
     let d = h.deallocated;
-    let lo = std::num::wrapping_add_u64(d.lo, h.used);
-    if lo < h.used {
-        if d.hi == u64::MAX {
-            return false;
-        }
-        return (lo == a.lo) & (d.hi + 1 == a.hi);
-    }
-    (lo == a.lo) & (d.hi == a.hi)
+    let (lo, carries) = d.lo.overflowing_add(h.used);
+    let (hi, over) = d.hi.overflowing_add(u64::from(carries));
+    !over & (lo == a.lo) & (hi == a.hi)
 }

@@ -9,7 +9,7 @@ use lib.Dec.{eqb}
 use Rattle.counter.specs.Paper as Paper
 use Rattle.counter.specs.Reasons.{Clear}
 use Rattle.counter.specs.declared.account.Account.{Account}
-use Rattle.counter.specs.declared.account.OpenOrder.TheVariants.{Kept}
+use Rattle.std.specs.Prelude.{Some}
 use Rattle.counter.specs.declared.answers.Block.{Block}
 use Rattle.counter.specs.declared.answers.Outcome.{Outcome}
 use Rattle.store_rules.specs.Orders.{order_from, kept_from}
@@ -37,7 +37,7 @@ module _ (e : Which) (s : (both e).shape.Settings) where
       pub ask_tells : (Blocked ((both e).shape.ask s a size mask t).said × ((both e).shape.Needed s size mask t → ⊥))
           ⊎ ((both e).shape.Needed s size mask t
           × (((both e).shape.ask s a size mask t).said ≡ Paper.order_of (order_from ((both e).shape.store s) ((both e).shape.order_size s size mask t)))
-          × (((both e).shape.ask s a size mask t).account ≡ with_order a (Kept (kept_from ((both e).shape.store s) size mask ((both e).shape.order_size s size mask t)))))
+          × (((both e).shape.ask s a size mask t).account ≡ with_order a (Some (kept_from ((both e).shape.store s) size mask ((both e).shape.order_size s size mask t)))))
       ask_tells = Of.ask_tells (both e) s a size mask t clear
 
       -- a block is lent exactly when no chunk is needed

@@ -22,10 +22,8 @@ fn put_types(w: &mut [u64], u: usize, types: [u32; TYPES_MOST])
     ensures { w.new ≡ types_out types u types_most w.old }
 {
     let at = ROW_WORDS * u;
-    let mut j = 0;
-    while j < TYPES_MOST {
+    for j in 0..TYPES_MOST {
         words::put(w, at + j, types[j] as u64);
-        j += 1;
     }
 }
 
@@ -33,8 +31,7 @@ fn put_row(w: &mut [u64], u: usize, row: Row)
     requires { u < usages }
     ensures { w.new ≡ row_out row u w.old }
 {
-    let types = row.types;
-    put_types(w, u, types);
+    put_types(w, u, row.types);
     let at = ROW_WORDS * u;
     words::put(w, at + COUNT_AT, row.count as u64);
     words::put(w, at + MASK_AT, row.mask as u64);
@@ -43,11 +40,8 @@ fn put_row(w: &mut [u64], u: usize, row: Row)
 fn put_rows(w: &mut [u64], rows: [Row; USAGES])
     ensures { w.new ≡ rows_out rows usages w.old }
 {
-    let mut u = 0;
-    while u < USAGES {
-        let row = rows[u];
-        put_row(w, u, row);
-        u += 1;
+    for u in 0..USAGES {
+        put_row(w, u, rows[u]);
     }
 }
 
@@ -57,8 +51,6 @@ pub extern "C" fn tibrezkam_rank(types: &[u32], rows: &mut [u64], answer: &mut [
     ensures answer_after { answer.new ≡ said_out (rank_of types.now).said answer.old }
 {
     let r = usage::rank(types);
-    let made = r.rows;
-    put_rows(rows, made);
-    let said = r.answer;
-    wire::tell_ranked(answer, said);
+    put_rows(rows, r.rows);
+    wire::tell_ranked(answer, r.answer);
 }

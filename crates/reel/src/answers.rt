@@ -1,51 +1,43 @@
 // What a record's call answered.
-use counter::{Account, AskAnswer, Asked, DeliverAnswer, Delivered, ReleaseAnswer, Released};
+use counter::{Account, Asked, Delivered, Granted, Lent, Refused, Released};
 
-// A record that is no call of the store's engine, as a torn one, has no answer.
 #[derive(Clone, Copy)]
 pub enum Answer {
-    Asked(AskAnswer),
-    Delivered(DeliverAnswer),
-    Released(ReleaseAnswer),
-    Nothing,
+    Asked(Result<Granted, Refused>),
+    Delivered(Result<Lent, Refused>),
+    Released(Result<u64, Refused>),
 }
 
+// A record that is no call of the store's engine has no answer.
 #[derive(Clone, Copy)]
 pub struct Taken {
     pub account: Account,
-    pub answer: Answer,
+    pub answer: Option<Answer>,
 }
 
-pub fn asked(r: Asked) -> Taken {
-    let after = r.account;
-    let answer = r.answer;
-    Taken {
-        account: after,
-        answer: Answer::Asked(answer),
+impl From<Asked> for Taken {
+    fn from(r: Asked) -> Taken {
+        Taken {
+            account: r.account,
+            answer: Some(Answer::Asked(r.answer)),
+        }
     }
 }
 
-pub fn delivered(r: Delivered) -> Taken {
-    let after = r.account;
-    let answer = r.answer;
-    Taken {
-        account: after,
-        answer: Answer::Delivered(answer),
+impl From<Delivered> for Taken {
+    fn from(r: Delivered) -> Taken {
+        Taken {
+            account: r.account,
+            answer: Some(Answer::Delivered(r.answer)),
+        }
     }
 }
 
-pub fn released(r: Released) -> Taken {
-    let after = r.account;
-    let answer = r.answer;
-    Taken {
-        account: after,
-        answer: Answer::Released(answer),
-    }
-}
-
-pub fn untaken(a: Account) -> Taken {
-    Taken {
-        account: a,
-        answer: Answer::Nothing,
+impl From<Released> for Taken {
+    fn from(r: Released) -> Taken {
+        Taken {
+            account: r.account,
+            answer: Some(Answer::Released(r.answer)),
+        }
     }
 }

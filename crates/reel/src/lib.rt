@@ -3,11 +3,12 @@
 #![tactic(auto)]
 
 mod answers;
-mod input;
+mod reading;
 mod settings;
 mod start;
 
-pub use answers::{Answer, Taken, asked, delivered, released, untaken};
-pub use input::{Turn, Window, next, open, read_header};
-pub use settings::{Settings, is_buddy, store_of};
+pub use answers::{Answer, Taken};
+pub use reading::{Turn, Window, open, read_header};
+pub use settings::{is_buddy, store_of};
 pub use start::{Lengths, Limits, fresh_account, table_lengths};
+pub use tape::Settings;

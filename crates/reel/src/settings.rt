@@ -1,11 +1,6 @@
 // The settings of a store of either engine.
-use counter::{BuddySettings, FreeListSettings, StoreSettings};
-
-#[derive(Clone, Copy)]
-pub enum Settings {
-    FreeList(FreeListSettings),
-    Buddy(BuddySettings),
-}
+use counter::StoreSettings;
+use tape::Settings;
 
 pub fn store_of(settings: Settings) -> StoreSettings {
     match settings {
@@ -15,8 +10,5 @@ pub fn store_of(settings: Settings) -> StoreSettings {
 }
 
 pub fn is_buddy(settings: Settings) -> bool {
-    match settings {
-        Settings::FreeList(_) => false,
-        Settings::Buddy(_) => true,
-    }
+    matches!(settings, Settings::Buddy(_))
 }

@@ -1,29 +1,22 @@
 // What a store begins with: a fresh account, and tables of the lengths that its settings ask for.
 ghost use Rattle.std.specs.Prelude.{◌+◌, ◌*◌, ◌≤◌};
 
-use crate::settings::{Settings, store_of};
-use counter::{Account, HEAPS, Heap, OpenOrder, Total};
-
-fn empty(size: u64) -> Heap {
-    let none = Total { hi: 0, lo: 0 };
-    Heap {
-        size: size,
-        used: 0,
-        allocated: none,
-        deallocated: none,
-    }
-}
+use crate::settings::store_of;
+use counter::{Account, HEAPS, Heap};
+use tape::Settings;
 
 // Nothing is used of the heap with this number, and the others have no room.
 pub fn fresh_account(heap: usize, size: u64, objects: u32) -> Account {
-    let none = empty(0);
-    let heaps = [none; HEAPS];
     let bare = Account {
-        heaps: heaps,
-        objects: objects,
-        order: OpenOrder::Nothing,
+        heaps: [Heap::default(); HEAPS],
+        objects,
+        order: None,
     };
-    bare.settled(heap, empty(size), objects, OpenOrder::Nothing)
+    let empty = Heap {
+        size,
+        ..Heap::default()
+    };
+    bare.settled(heap, empty, objects, None)
 }
 
 // How many words of each table a store is lent; `own` is a free list's regions or a buddy store's tree.
@@ -42,12 +35,6 @@ pub struct Limits {
     pub loans: usize,
     pub chunks: usize,
     pub pairs: usize,
-}
-
-fn least(a: usize, b: usize) -> usize
-    ensures { result ≤ b }
-{
-    if a < b { a } else { b }
 }
 
 fn free_list_lengths(loans: usize, chunks: usize) -> Lengths
@@ -101,10 +88,10 @@ pub fn table_lengths(settings: Settings, most: Limits) -> Lengths
     ensures own_bound { result.own ≤ 256 * (1 + most.pairs) + 16 + 4 * most.loans + 8 * most.chunks }
 {
     let store = store_of(settings);
-    let loans = least(store.loans, most.loans);
-    let chunks = least(store.chunks, most.chunks);
+    let loans = store.loans.min(most.loans);
+    let chunks = store.chunks.min(most.chunks);
     match settings {
         Settings::FreeList(_) => free_list_lengths(loans, chunks),
-        Settings::Buddy(s) => buddy_lengths(loans, chunks, least(s.pairs, most.pairs)),
+        Settings::Buddy(s) => buddy_lengths(loans, chunks, s.pairs.min(most.pairs)),
     }
 }

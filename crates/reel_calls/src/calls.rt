@@ -1,7 +1,7 @@
 // The calls of a store of either engine. Both have five tables: head, loans, chunks and index, and one of the engine's own,
 // a free list's regions or a buddy store's tree.
-use counter::{Account, BuddySettings, FreeListSettings, SetUpAnswer};
-use reel::{Settings, Taken, asked, delivered, released, untaken};
+use counter::{Account, BuddySettings, FreeListSettings, Refused};
+use reel::{Settings, Taken};
 use tape::Record;
 
 pub fn set_up(
@@ -11,7 +11,7 @@ pub fn set_up(
     chunks: &mut [u64],
     index: &mut [u64],
     own: &mut [u64],
-) -> SetUpAnswer {
+) -> Result<(), Refused> {
     match settings {
         Settings::FreeList(s) => freelist::set_up(s, head, loans, chunks, index, own),
         Settings::Buddy(s) => buddy::set_up(s, head, loans, chunks, index, own),
@@ -30,23 +30,22 @@ fn take_free_list(
     list: &mut [u64],
 ) -> Taken {
     match record {
-        Record::Ask(q) => asked(freelist::ask(
+        Record::Ask(q) => Taken::from(freelist::ask(
             s, a, q.size, q.mask, head, loans, chunks, index, regions,
         )),
-        Record::Deliver(o) => delivered(freelist::deliver(
+        Record::Deliver(o) => Taken::from(freelist::deliver(
             s, a, o, head, loans, chunks, index, regions,
         )),
-        Record::Return(b) => released(freelist::return_block(
+        Record::Return(b) => Taken::from(freelist::return_block(
             s, a, b, head, loans, chunks, index, regions, list,
         )),
-        Record::CleanUp => released(freelist::clean_up(
+        Record::CleanUp => Taken::from(freelist::clean_up(
             s, a, head, loans, chunks, index, regions, list,
         )),
-        Record::Torn => untaken(a),
     }
 }
 
-// A buddy store has no clean-up, so on its tapes one is torn.
+// A buddy store has no clean-up, so one is no call of it.
 fn take_buddy(
     s: BuddySettings,
     a: Account,
@@ -59,13 +58,19 @@ fn take_buddy(
     list: &mut [u64],
 ) -> Taken {
     match record {
-        Record::Ask(q) => asked(buddy::ask(s, a, q.size, q.mask, head, loans, chunks, index, tree)),
-        Record::Deliver(o) => delivered(buddy::deliver(s, a, o, head, loans, chunks, index, tree)),
-        Record::Return(b) => released(buddy::return_block(
+        Record::Ask(q) => Taken::from(buddy::ask(
+            s, a, q.size, q.mask, head, loans, chunks, index, tree,
+        )),
+        Record::Deliver(o) => Taken::from(buddy::deliver(
+            s, a, o, head, loans, chunks, index, tree,
+        )),
+        Record::Return(b) => Taken::from(buddy::return_block(
             s, a, b, head, loans, chunks, index, tree, list,
         )),
-        Record::CleanUp => untaken(a),
-        Record::Torn => untaken(a),
+        Record::CleanUp => Taken {
+            account: a,
+            answer: None,
+        },
     }
 }
 

@@ -7,38 +7,16 @@ ghost use Rattle.text.specs.Written.{Stays};
 mod run;
 mod start;
 
-use reel::Settings;
 use std::io::{Read, Write};
 use std::rt::Files;
 use std::{env, io};
-use tape::Header;
 
 fn replay<W: Write>(input: &mut impl Read, out: &mut W) -> io::Result<()>
     ensures kept { Stays (W.contents out.old) (W.contents out.new) }
 {
-    let header = reel::read_header(input);
-    match header {
-        Header::FreeList(s) => {
-            let settings = s.settings;
-            start::begin(
-                input,
-                out,
-                Settings::FreeList(settings),
-                s.heap_size,
-                s.objects,
-            )
-        }
-        Header::Buddy(s) => {
-            let settings = s.settings;
-            start::begin(
-                input,
-                out,
-                Settings::Buddy(settings),
-                s.heap_size,
-                s.objects,
-            )
-        }
-        Header::Refused => text::print_set_up_refused(out),
+    match reel::read_header(input) {
+        Some(start) => start::begin(input, out, start),
+        None => text::print_set_up_refused(out),
     }
 }
 

@@ -3,7 +3,7 @@
 ghost use Rattle.text.specs.Written.{Stays};
 
 use counter::{Account, CHUNKS_MOST};
-use reel::{Answer, Settings, Taken, Window};
+use reel::{Answer, Settings, Taken, Turn, Window};
 use std::io;
 use std::io::{Read, Write};
 
@@ -13,22 +13,19 @@ const BUFFER_BYTES: usize = 65_536;
 fn print_totals<W: Write>(out: &mut W, s: Settings, a: Account) -> io::Result<()>
     ensures kept { Stays (W.contents out.old) (W.contents out.new) }
 {
-    let store = reel::store_of(s);
-    text::print_totals(out, a.heap(store.heap))
+    text::print_totals(out, a.heap(reel::store_of(s).heap))
 }
 
 fn print_answer<W: Write>(out: &mut W, s: Settings, taken: Taken, list: &[u64]) -> io::Result<()>
     ensures kept { Stays (W.contents out.old) (W.contents out.new) }
 {
-    let store = reel::store_of(s);
     let a = taken.account;
-    let answer = taken.answer;
-    let h = a.heap(store.heap);
-    match answer {
-        Answer::Asked(asked) => text::print_asked(out, asked, h.used, a.objects),
-        Answer::Delivered(delivered) => text::print_delivered(out, delivered, h.used, a.objects),
-        Answer::Released(released) => text::print_released(out, released, list, h.used, a.objects),
-        Answer::Nothing => Ok(()),
+    let used = a.heap(reel::store_of(s).heap).used;
+    match taken.answer {
+        Some(Answer::Asked(asked)) => text::print_asked(out, asked, used, a.objects),
+        Some(Answer::Delivered(lent)) => text::print_delivered(out, lent, used, a.objects),
+        Some(Answer::Released(count)) => text::print_released(out, count, list, used, a.objects),
+        None => Ok(()),
     }
 }
 
@@ -60,25 +57,22 @@ pub fn run<W: Write>(
 {
     let buddy = reel::is_buddy(s);
     let mut list = [0u64; CHUNKS_MOST];
-    let mut buffer = [0u8; BUFFER_BYTES];
-    let mut w = Window { from: 0, to: 0 };
+    let mut window = Window::<BUFFER_BYTES>::new();
     let mut a = fresh;
     let mut torn = false;
     let mut position = 0u64;
-    let mut records = 0u64;
-    while records < u64::MAX {
-        let turn = reel::next(input, &mut buffer, w, buddy);
-        torn = turn.torn;
-        if torn | turn.ended {
+    let mut records = 0;
+    for n in 0..u64::MAX {
+        let turn = window.next(input, buddy);
+        let Turn::Whole(record, length) = turn else {
+            torn = matches!(turn, Turn::Torn);
             break;
-        }
-        let record = turn.record;
+        };
         let taken = reel_calls::take(s, a, record, head, loans, chunks, index, own, &mut list);
         print_answer(out, s, taken, &list)?;
         a = taken.account;
-        w = turn.window;
-        position = std::num::wrapping_add_u64(position, turn.length as u64);
-        records += 1;
+        position = position.wrapping_add(length as u64);
+        records = n + 1;
     }
     print_totals(out, s, a)?;
     print_last(out, torn, position, records)

@@ -4,11 +4,12 @@ ghost use Rattle.text.specs.Written.{Stays};
 use crate::run::run;
 use buddy_levels::{HEADER_WORDS, PAIR_WORDS};
 use buddy_rules::PLACE_WORDS;
-use counter::{CHUNKS_MOST, LEVELS_MOST, LOANS_MOST, PAIRS_MOST, SetUpAnswer};
+use counter::{CHUNKS_MOST, LEVELS_MOST, LOANS_MOST, PAIRS_MOST};
 use freelist_rules::{CHUNK_WORDS, COLUMNS, HEAD_WORDS, REGION_WORDS};
-use reel::{Limits, Settings};
+use reel::Limits;
 use std::io;
 use std::io::{Read, Write};
+use tape::Start;
 
 // each table at the greatest limits, in words, for either engine: the heads are as long, a free list's chunks and index are the longer
 const LOANS_WORDS: usize = store_rules::LOAN_WORDS + store_rules::LOAN_WORDS * LOANS_MOST;
@@ -28,26 +29,17 @@ const TREE_WORDS: usize = buddy_levels::OWN_WORDS
 
 const ROOM_WORDS: usize = TREE_WORDS + REGION_WORDS * LOANS_MOST;
 
-pub fn begin<W: Write>(
-    input: &mut impl Read,
-    out: &mut W,
-    s: Settings,
-    heap_size: u64,
-    objects: u32,
-) -> io::Result<()>
+pub fn begin<W: Write>(input: &mut impl Read, out: &mut W, start: Start) -> io::Result<()>
     ensures kept { Stays (W.contents out.old) (W.contents out.new) }
 {
-    let most = Limits {
-        loans: LOANS_MOST,
-        chunks: CHUNKS_MOST,
-        pairs: PAIRS_MOST,
-    };
-    let lengths = reel::table_lengths(s, most);
-    let head_end = lengths.head;
-    let loans_end = lengths.loans;
-    let chunks_end = lengths.chunks;
-    let index_end = lengths.index;
-    let own_end = lengths.own;
+    let lengths = reel::table_lengths(
+        start.settings,
+        Limits {
+            loans: LOANS_MOST,
+            chunks: CHUNKS_MOST,
+            pairs: PAIRS_MOST,
+        },
+    );
     let mut head = [0u64; HEAD_WORDS];
     let mut loans = [0u64; LOANS_WORDS];
     let mut chunks = [0u64; CHUNKS_WORDS];
@@ -56,23 +48,19 @@ pub fn begin<W: Write>(
     replay(
         input,
         out,
-        s,
-        heap_size,
-        objects,
-        &mut head[..head_end],
-        &mut loans[..loans_end],
-        &mut chunks[..chunks_end],
-        &mut index[..index_end],
-        &mut own[..own_end],
+        start,
+        &mut head[..lengths.head],
+        &mut loans[..lengths.loans],
+        &mut chunks[..lengths.chunks],
+        &mut index[..lengths.index],
+        &mut own[..lengths.own],
     )
 }
 
 fn replay<W: Write>(
     input: &mut impl Read,
     out: &mut W,
-    s: Settings,
-    heap_size: u64,
-    objects: u32,
+    start: Start,
     head: &mut [u64],
     loans: &mut [u64],
     chunks: &mut [u64],
@@ -81,13 +69,11 @@ fn replay<W: Write>(
 ) -> io::Result<()>
     ensures kept { Stays (W.contents out.old) (W.contents out.new) }
 {
-    let answer = reel_calls::set_up(s, head, loans, chunks, index, own);
-    match answer {
-        SetUpAnswer::Ready => {
-            let store = reel::store_of(s);
-            let fresh = reel::fresh_account(store.heap, heap_size, objects);
-            run(input, out, s, fresh, head, loans, chunks, index, own)
-        }
-        SetUpAnswer::Refused(_) => text::print_set_up_refused(out),
+    let s = start.settings;
+    if reel_calls::set_up(s, head, loans, chunks, index, own).is_err() {
+        return text::print_set_up_refused(out);
     }
+    let heap = reel::store_of(s).heap;
+    let fresh = reel::fresh_account(heap, start.heap_size, start.objects);
+    run(input, out, s, fresh, head, loans, chunks, index, own)
 }

@@ -19,11 +19,11 @@ pub fn unlink(t: &mut [u64], head: u64, next_at: u64, prev_at: u64, step: u64, p
     let n = link_in(t, next_at, step, p);
     let q = link_in(t, prev_at, step, p);
     if q == p {
-        put_head(t, head, 0);
+        put_head(t, head, NOWHERE);
     } else {
         put_link_in(t, next_at, step, q, n);
         put_link_in(t, prev_at, step, n, q);
-        move_head(t, head, slabs::record_of(n));
+        put_head(t, head, n);
     }
 }
 
@@ -45,21 +45,13 @@ fn put_link_in(t: &mut [u64], at: u64, step: u64, p: u64, q: u64)
     t[i] = slabs::record_of(q);
 }
 
-// The head is where w leads from now on, whichever place it was.
-fn move_head(t: &mut [u64], head: u64, w: u64)
+// The head is p from now on, whichever place it was; NOWHERE leaves the ring without one.
+fn put_head(t: &mut [u64], head: u64, p: u64)
     requires { head < length t.old }
-    ensures { t.new ≡ set t.old head w }
-{
-    put_head(t, head, w);
-}
-
-// The word that leads to the head.
-fn put_head(t: &mut [u64], head: u64, w: u64)
-    requires { head < length t.old }
-    ensures { t.new ≡ set t.old head w }
+    ensures { t.new ≡ set t.old head (record_of p) }
 {
     let i = head as usize;
-    t[i] = w;
+    t[i] = slabs::record_of(p);
 }
 
 // The head's place, or NOWHERE.
@@ -79,7 +71,7 @@ pub fn link(t: &mut [u64], head: u64, next_at: u64, prev_at: u64, step: u64, p: 
     let h = head_in(t, head);
     if h == NOWHERE {
         put_links(t, next_at, prev_at, step, p, p, p);
-        put_head(t, head, slabs::record_of(p));
+        put_head(t, head, p);
     } else {
         let q = link_in(t, prev_at, step, h);
         put_link_in(t, prev_at, step, h, p);
@@ -110,8 +102,7 @@ pub fn ring_length(t: &[u64], head: u64, next_at: u64, prev_at: u64, step: u64, 
         return NOWHERE;
     }
     let mut p = h;
-    let mut left = places;
-    while 0 < left {
+    for met in 0..places {
         let n = slabs::link(t, next_at as usize, step as usize, p);
         if places <= n {
             return NOWHERE;
@@ -119,9 +110,8 @@ pub fn ring_length(t: &[u64], head: u64, next_at: u64, prev_at: u64, step: u64, 
         if slabs::link(t, prev_at as usize, step as usize, n) != p {
             return NOWHERE;
         }
-        left -= 1;
         if n == h {
-            return places - left;
+            return met + 1;
         }
         p = n;
     }

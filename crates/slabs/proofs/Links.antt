@@ -1,5 +1,5 @@
 -- A place written as the number of its record, and read again.
-use Rattle.std.proofs.Common.{◌≡◌, ℕ, ◌+◌, ◌-◌, ◌%◌, ◌^◌, ◌<◌, sym, refl, ap, ◌∙◌, ⊎_elim, arith, ne_eqb}
+use Rattle.std.proofs.Common.{◌≡◌, ℕ, ◌+◌, ◌-◌, sym, refl, ap, ◌∙◌, ⊎_elim, arith, ne_eqb}
 use Rattle.lists.proofs.Bools.{same?}
 use Rattle.slabs.specs.Slab.{nowhere, place_of, record_of}
 
@@ -20,18 +20,4 @@ pub place_record : (p : ℕ) → place_of (record_of p) ≡ p
 place_record p = ⊎_elim
     (λ (e : p ≡ nowhere). ap (λ (q : ℕ). place_of (record_of q)) e ∙ sym e)
     (λ (o : p ≡ nowhere → ⊥). rw (record_some p o) (place_some (p + 1) (λ e. omega arith) ∙ omega arith))
-    (same? p nowhere)
-
--- ---- by sums that wrap
-
-pub place_wraps : (w r : ℕ) → w < 2 ^ 64 → r < 2 ^ 64 → (r + 1) % 2 ^ 64 ≡ w → r ≡ place_of w
-place_wraps w r h k e = ⊎_elim
-    (λ (z : w ≡ 0). rw z (omega (arith, e)))
-    (λ (o : w ≡ 0 → ⊥). omega (arith, e, place_some w o))
-    (same? w 0)
-
-pub record_wraps : (p r : ℕ) → p < 2 ^ 64 → r ≡ (p + 1) % 2 ^ 64 → r ≡ record_of p
-record_wraps p r h e = ⊎_elim
-    (λ (z : p ≡ nowhere). let y : r ≡ 0 = omega (arith, e, z) in y ∙ ap record_of (sym z))
-    (λ (o : p ≡ nowhere → ⊥). omega (arith, e, record_some p o))
     (same? p nowhere)

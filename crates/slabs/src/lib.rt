@@ -2,7 +2,7 @@
 // the links of the vacant places in another (or in other words of the same), each at a width of its own.
 #![tactic(auto)]
 
-ghost use Rattle.std.specs.Prelude.{◌≡◌, ℕ, ◌-◌, ◌<◌, ◌≤◌, true, length, slice_index, slice_set};
+ghost use Rattle.std.specs.Prelude.{◌≡◌, ℕ, ◌-◌, ◌<◌, ◌≤◌, true, SomeIff, IfSome, length, slice_index, slice_set};
 ghost use Rattle.words.specs.Words.{widest, at_most, cell_of};
 ghost use Rattle.slabs.specs.Slab.{place_of, record_of, inserted, removed, removed_links, vacant_at, link_at};
 ghost use Rattle.slabs.specs.Test.{vacancies, leads, parted_ok, off_chain};
@@ -23,13 +23,6 @@ pub struct Taken {
     pub slab: Slab,
 }
 
-// Whether places are parted, and how many are used where they are.
-#[derive(Clone, Copy)]
-pub struct Parts {
-    pub ok: bool,
-    pub used: u64,
-}
-
 impl Slab {
     // No place used yet.
     pub fn new() -> Slab
@@ -46,25 +39,26 @@ impl Slab {
         requires { (0 < step) × (step ≤ widest) × (at ≤ at_most) }
         ensures { result ≡ inserted self links.now at step }
     {
-        let last = self.vacant;
-        let n = self.places;
-        if last < n {
-            let next = link(links, at, step, last);
-            return Taken {
-                place: last,
+        let places = self.places;
+        let vacant = self.vacant;
+        if vacant < places {
+            let next = link(links, at, step, vacant);
+            Taken {
+                place: vacant,
                 slab: Slab {
-                    places: n,
+                    places,
                     vacant: next,
                 },
-            };
-        }
-        let more = std::num::wrapping_add_u64(n, 1);
-        Taken {
-            place: n,
-            slab: Slab {
-                places: more,
-                vacant: last,
-            },
+            }
+        } else {
+            let more = places.wrapping_add(1);
+            Taken {
+                place: places,
+                slab: Slab {
+                    places: more,
+                    vacant,
+                },
+            }
         }
     }
 
@@ -86,14 +80,14 @@ impl Slab {
 pub fn place_of(w: u64) -> u64
     ensures { result ≡ place_of w }
 {
-    std::num::wrapping_sub_u64(w, 1)
+    w.wrapping_sub(1)
 }
 
 // The link that leads to a place.
 pub fn record_of(p: u64) -> u64
     ensures { result ≡ record_of p }
 {
-    std::num::wrapping_add_u64(p, 1)
+    p.wrapping_add(1)
 }
 
 // The place that the word at i leads to, NOWHERE past the end.
@@ -125,12 +119,10 @@ pub fn count_vacant(records: &[u64], mark: usize, width: usize, n: u64) -> u64
     ensures { result ≡ vacancies (vacant_at records.now mark width) n }
 {
     let mut count = 0;
-    let mut p = 0;
-    while p < n {
+    for p in 0..n {
         if words::cell(records, mark, width, p as usize) == 0 {
             count += 1;
         }
-        p += 1;
     }
     count
 }
@@ -151,8 +143,7 @@ pub fn chain_leads(
     ensures { result ≡ leads (vacant_at records.now mark width) (link_at links.now at step) n h k }
 {
     let mut cur = h;
-    let mut left = k;
-    while 0 < left {
+    for _ in 0..k {
         if n <= cur {
             return false;
         }
@@ -160,12 +151,11 @@ pub fn chain_leads(
             return false;
         }
         cur = link(links, at, step, cur);
-        left -= 1;
     }
     cur == NOWHERE
 }
 
-// Whether used places and the vacant chain part the places, of which there are at most `most`, and how many are used where they do.
+// How many places are used, where they and the vacant chain part the places, of which there are at most `most`.
 pub fn test_parts(
     s: Slab,
     most: u64,
@@ -175,21 +165,19 @@ pub fn test_parts(
     links: &[u64],
     at: usize,
     step: usize,
-) -> Parts
+) -> Option<u64>
     requires { (0 < width) × (width ≤ widest) × (0 < step) × (step ≤ widest) × (mark ≤ at_most) × (at ≤ at_most) }
-    ensures ok_value { result.ok ≡ parted_ok (vacant_at records.now mark width) (link_at links.now at step) s most }
-    ensures used_value { (result.ok ≡ true → result.used ≡ s.places - vacancies (vacant_at records.now mark width) s.places) × (result.used ≤ s.places) }
+    ensures used { SomeIff result (parted_ok (vacant_at records.now mark width) (link_at links.now at step) s most ≡ true) (s.places - vacancies (vacant_at records.now mark width) s.places) }
+    ensures within { IfSome result (λ used. used ≤ s.places) }
 {
     if most < s.places {
-        return Parts { ok: false, used: 0 };
+        return None;
     }
     let vacant = count_vacant(records, mark, width, s.places);
-    Parts {
-        ok: chain_leads(
-            records, mark, width, links, at, step, s.places, s.vacant, vacant,
-        ),
-        used: s.places - vacant,
-    }
+    let led = chain_leads(
+        records, mark, width, links, at, step, s.places, s.vacant, vacant,
+    );
+    if led { Some(s.places - vacant) } else { None }
 }
 
 // How many of n places are over when the chain from h on, which leads through vacant places below n, has ended: NOWHERE where it leads
@@ -208,9 +196,11 @@ pub fn off_chain(
     ensures { result ≡ off_chain (vacant_at records.now mark width) (link_at links.now at step) n h n }
 {
     let mut cur = h;
-    let mut left = n;
-    while cur != NOWHERE {
-        if (n <= cur) | (left == 0) {
+    for led in 0..n {
+        if cur == NOWHERE {
+            return n - led;
+        }
+        if n <= cur {
             return NOWHERE;
         }
         let i = cur as usize;
@@ -218,7 +208,6 @@ pub fn off_chain(
             return NOWHERE;
         }
         cur = place_of(links[at + step * i]);
-        left -= 1;
     }
-    left
+    if cur == NOWHERE { 0 } else { NOWHERE }
 }

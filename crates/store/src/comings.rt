@@ -5,7 +5,7 @@ ghost use Rattle.store_rules.specs.Delivery.{fate_of};
 ghost use Rattle.store.specs.Comings.{coming_of, comes};
 ghost use Rattle.store.specs.Fates.{engine_of, deliverable};
 
-use crate::fates::{Engine, Fate, Loss};
+use crate::fates::{Engine, Loss};
 use counter::{KeptOrder, OpenOrder, Outcome, Refusal};
 
 // The memory is kept as a chunk, and serves the ask of this order.
@@ -21,34 +21,29 @@ pub struct Losing {
     pub loss: Loss,
 }
 
+// What an order comes to that is not refused.
 #[derive(Clone, Copy)]
 pub enum Coming {
-    Refuse(Refusal),
     Keep(Keeping),
     Lose(Losing),
 }
 
 // Test 13, and what the outcome leads to.
-fn arrive(e: Engine, k: KeptOrder, o: Outcome, held: bool) -> Coming
+fn arrive(e: Engine, k: KeptOrder, o: Outcome, held: bool) -> Result<Coming, Refusal>
     ensures { coming_of result ≡ cond (deliverable k.order.map held o) (go k (fate_of (engine_of e) o)) (deny 13) }
 {
-    let order = k.order;
-    if !crate::fates::is_deliverable(order.map, held, o) {
-        return Coming::Refuse(Refusal::Delivery);
+    if !crate::fates::is_deliverable(k.order.map, held, o) {
+        return Err(Refusal::Delivery);
     }
-    let fate = crate::fates::lead(e, o);
-    match fate {
-        Fate::Kept(m) => Coming::Keep(Keeping { kept: k, memory: m }),
-        Fate::Lost(l) => Coming::Lose(Losing { kept: k, loss: l }),
-    }
+    Ok(match crate::fates::lead(e, o) {
+        Ok(memory) => Coming::Keep(Keeping { kept: k, memory }),
+        Err(loss) => Coming::Lose(Losing { kept: k, loss }),
+    })
 }
 
 // `held` says whether the outcome's memory is held already.
-pub fn come(e: Engine, order: OpenOrder, o: Outcome, held: bool) -> Coming
+pub fn come(e: Engine, order: OpenOrder, o: Outcome, held: bool) -> Result<Coming, Refusal>
     ensures { coming_of result ≡ comes (engine_of e) o held order }
 {
-    match order {
-        OpenOrder::Nothing => Coming::Refuse(Refusal::Order),
-        OpenOrder::Kept(k) => arrive(e, k, o, held),
-    }
+    arrive(e, order.ok_or(Refusal::Order)?, o, held)
 }

@@ -1,11 +1,11 @@
 // What a delivered outcome leads to.
-ghost use Rattle.std.specs.Prelude.{◌≡◌, true, false, []};
+ghost use Rattle.std.specs.Prelude.{Err, ◌≡◌, true, false, []};
 ghost use Rattle.counter.specs.Paper.{number_of, free_of};
 ghost use Rattle.store_rules.specs.Delivery as Delivery;
 ghost use Rattle.store_rules.specs.Delivery.{gives_back, back_of, mapped, fate_of};
 ghost use Rattle.store.specs.Fates.{engine_of, fate_from, deliverable};
 
-use counter::{Mapping, Memory, Outcome, Refusal, ToFree};
+use counter::{Mapping, Memory, Outcome, Refusal};
 
 #[derive(Clone, Copy)]
 pub enum Engine {
@@ -18,26 +18,14 @@ pub enum Engine {
 pub struct Loss {
     pub refusal: Refusal,
     pub charged: bool,
-    pub free: ToFree,
-}
-
-#[derive(Clone, Copy)]
-pub enum Fate {
-    Kept(u64),
-    Lost(Loss),
+    pub free: Option<u64>,
 }
 
 // Whether the map outcome suits an order to map, or one not to.
 pub fn suits(map: bool, m: Mapping) -> bool
     ensures { result ≡ Delivery.suits map m }
 {
-    match m {
-        Mapping::NotWanted => !map,
-        Mapping::Mapped => map,
-        Mapping::Failed => map,
-        Mapping::OutOfDevice => map,
-        Mapping::OutOfHost => map,
-    }
+    map != (m == Mapping::NotWanted)
 }
 
 // Whether an outcome can be taken: its memory not held yet, and its map outcome such as the order wants.
@@ -45,12 +33,8 @@ pub fn is_deliverable(map: bool, held: bool, o: Outcome) -> bool
     ensures { result ≡ deliverable map held o }
 {
     match o {
-        Outcome::Made(m) => {
-            let mapping = m.mapping;
-            !held & suits(map, mapping)
-        }
-        Outcome::OutOfDevice => true,
-        Outcome::OutOfHost => true,
+        Outcome::Made(m) => !held & suits(map, m.mapping),
+        Outcome::OutOfDevice | Outcome::OutOfHost => true,
     }
 }
 
@@ -58,68 +42,54 @@ pub fn is_deliverable(map: bool, held: bool, o: Outcome) -> bool
 fn gives_back(e: Engine, m: Mapping) -> bool
     ensures { result ≡ gives_back (engine_of e) m }
 {
-    match e {
-        Engine::Buddy => false,
-        Engine::FreeList => match m {
-            Mapping::Failed => true,
-            Mapping::Mapped => false,
-            Mapping::NotWanted => false,
-            Mapping::OutOfDevice => false,
-            Mapping::OutOfHost => false,
-        },
-    }
+    matches!((e, m), (Engine::FreeList, Mapping::Failed))
 }
 
-fn to_free(e: Engine, m: Mapping, memory: u64) -> ToFree
+fn to_free(e: Engine, m: Mapping, memory: u64) -> Option<u64>
     ensures { free_of result ≡ back_of (engine_of e) m memory }
 {
-    if gives_back(e, m) {
-        ToFree::Memory(memory)
-    } else {
-        ToFree::Nothing
+    gives_back(e, m).then_some(memory)
+}
+
+fn failed(e: Engine, memory: u64, m: Mapping, refusal: Refusal) -> Loss
+    ensures { fate_from (Err result) ≡ Delivery.lost (number_of refusal) true (back_of (engine_of e) m memory) }
+{
+    Loss {
+        refusal,
+        charged: true,
+        free: to_free(e, m, memory),
     }
 }
 
-fn failed(e: Engine, memory: u64, m: Mapping, refusal: Refusal) -> Fate
-    ensures { fate_from result ≡ Delivery.lost (number_of refusal) true (back_of (engine_of e) m memory) }
-{
-    Fate::Lost(Loss {
-        refusal: refusal,
-        charged: true,
-        free: to_free(e, m, memory),
-    })
-}
-
-fn fate_of_map(e: Engine, made: Memory) -> Fate
+fn fate_of_map(e: Engine, made: Memory) -> Result<u64, Loss>
     ensures { fate_from result ≡ mapped (engine_of e) made.number made.mapping }
 {
     let m = made.mapping;
     match m {
-        Mapping::Mapped => Fate::Kept(made.number),
-        Mapping::NotWanted => Fate::Kept(made.number),
-        Mapping::Failed => failed(e, made.number, m, Refusal::Host),
-        Mapping::OutOfDevice => failed(e, made.number, m, Refusal::Device),
-        Mapping::OutOfHost => failed(e, made.number, m, Refusal::Host),
+        Mapping::Mapped | Mapping::NotWanted => Ok(made.number),
+        Mapping::Failed | Mapping::OutOfHost => Err(failed(e, made.number, m, Refusal::Host)),
+        Mapping::OutOfDevice => Err(failed(e, made.number, m, Refusal::Device)),
     }
 }
 
 // The allocation itself was refused: nothing was charged.
-fn refuse(refusal: Refusal) -> Fate
-    ensures { fate_from result ≡ Delivery.lost (number_of refusal) false [] }
+fn refuse(refusal: Refusal) -> Loss
+    ensures { fate_from (Err result) ≡ Delivery.lost (number_of refusal) false [] }
 {
-    Fate::Lost(Loss {
-        refusal: refusal,
+    Loss {
+        refusal,
         charged: false,
-        free: ToFree::Nothing,
-    })
+        free: None,
+    }
 }
 
-pub fn lead(e: Engine, o: Outcome) -> Fate
+// The memory is kept, or the order is lost.
+pub fn lead(e: Engine, o: Outcome) -> Result<u64, Loss>
     ensures { fate_from result ≡ fate_of (engine_of e) o }
 {
     match o {
         Outcome::Made(m) => fate_of_map(e, m),
-        Outcome::OutOfDevice => refuse(Refusal::Device),
-        Outcome::OutOfHost => refuse(Refusal::Host),
+        Outcome::OutOfDevice => Err(refuse(Refusal::Device)),
+        Outcome::OutOfHost => Err(refuse(Refusal::Host)),
     }
 }

@@ -11,5 +11,5 @@ pub use answers::{
     refuse_return, settle,
 };
 pub use comings::{Coming, Keeping, Losing, come};
-pub use fates::{Engine, Fate, Loss, is_deliverable, lead, suits};
+pub use fates::{Engine, Loss, is_deliverable, lead, suits};
 pub use whole::{asked, delivered, released};

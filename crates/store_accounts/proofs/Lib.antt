@@ -1,3 +1,2 @@
 -- The laws of this crate's definitions, for its own proofs.
-pub mod Ordering
 pub mod Settling

@@ -1,20 +1,15 @@
 -- The share that a call leaves, put together of what its parts come to.
 use mathlib.Core.Path.{◌≡◌, ap, ◌∙◌}
-use mathlib.Core.Bool.{Bool, true, false, ◌&&◌}
+use mathlib.Core.Bool.{Bool, ◌&&◌}
 use Prim.Native.Nat.{ℕ, ◌+◌, ◌-◌, ◌≤◌}
 use native.Mathlib.Omega.{arith}
 use lib.Dec.{leb}
 use borrow.Author.Tests.{leb-true, le-leb}
 use Rattle.lists.proofs.Bools.{same_test}
 use Rattle.counter.specs.Limits.{objects_most}
-use Rattle.counter.specs.Paper.{free_of}
 use Rattle.counter.specs.declared.account.Heap.{Heap}
-use Rattle.counter.specs.declared.answers.ToFree.{ToFree}
-use Rattle.counter.specs.declared.answers.ToFree.TheVariants as F
 use Rattle.heap.specs.Heap.{agrees_ok}
-use Rattle.store_rules.specs.Shares.{closed_share, charged_share, back_share, lost_share}
 use Rattle.store_rules.specs.Tests.{covers_ok}
-use Rattle.store_rules.specs.declared.Share.{Share}
 
 -- the code compares with what is left of the most, so that no sum passes a word
 left_is : (objects chunks : ℕ) → objects ≤ objects_most → leb chunks (objects_most - objects) ≡ leb (objects + chunks) objects_most
@@ -28,14 +23,3 @@ unfolding covers_ok
 covers_is h objects chunks bytes ok most e =
     ap (λ (b : Bool). leb bytes h.used && (b && leb chunks (objects_most - objects))) e
     ∙ ap (λ (b : Bool). leb bytes h.used && (agrees_ok h && b)) (left_is objects chunks most)
-
--- ---- an order closed by a failure
-
-pub lost_kept : (h r : Share) (z : ℕ) (charge : Bool) (free : ToFree) → charge ≡ true → free ≡ F.Nothing → r ≡ charged_share h z → r ≡ lost_share h z charge (free_of free)
-lost_kept h r z charge free ec ef er = rw (ec, ef) er
-
-pub lost_back : (h r : Share) (z : ℕ) (charge : Bool) (free : ToFree) (m : ℕ) → charge ≡ true → free ≡ F.Memory m → r ≡ back_share h z → r ≡ lost_share h z charge (free_of free)
-lost_back h r z charge free m ec ef er = rw (ec, ef) er
-
-pub lost_refused : (h r : Share) (z : ℕ) (charge : Bool) (free : ToFree) → charge ≡ false → r ≡ closed_share h → r ≡ lost_share h z charge (free_of free)
-lost_refused h r z charge free ec er = rw ec er

@@ -6,7 +6,7 @@ ghost use Rattle.store_rules.specs.Outcomes.{with_order};
 ghost use Rattle.store_rules.specs.Shares.{share_of, with_share, charged_share, back_share, closed_share, lost_share, released_share};
 ghost use Rattle.store_rules.specs.Tests.{covers_ok};
 
-use counter::{Account, Heap, OBJECTS_MOST, OpenOrder, StoreSettings, ToFree};
+use counter::{Account, Heap, OBJECTS_MOST, OpenOrder, StoreSettings};
 use store_rules::Share;
 
 // Whether the heap and the object count cover a store's chunks.
@@ -21,11 +21,9 @@ pub fn covers(h: Heap, objects: u32, chunks: u64, bytes: u64) -> bool
 pub fn share_of(s: StoreSettings, a: Account) -> Share
     ensures { result ≡ share_of s a }
 {
-    let order = a.order;
-    let heaps = a.heaps;
     Share {
-        bounded: counter::heaps_in_table(heaps),
-        idle: crate::orders::no_order(order),
+        bounded: counter::heaps_in_table(a.heaps),
+        idle: crate::orders::no_order(a.order),
         heap: a.heap(s.heap),
         objects: a.objects,
     }
@@ -35,29 +33,20 @@ pub fn share_of(s: StoreSettings, a: Account) -> Share
 pub fn with_share(s: StoreSettings, a: Account, share: Share, order: OpenOrder) -> Account
     ensures { result ≡ with_share s a share order }
 {
-    let heap = share.heap;
-    a.settled(s.heap, heap, share.objects, order)
+    a.settled(s.heap, share.heap, share.objects, order)
 }
 
 pub fn with_order(a: Account, order: OpenOrder) -> Account
     ensures { result ≡ with_order a order }
 {
-    let heaps = a.heaps;
-    Account {
-        heaps: heaps,
-        objects: a.objects,
-        order: order,
-    }
+    Account { order, ..a }
 }
 
 // One object fewer, not below 0.
 fn one_fewer(objects: u32) -> u32
     ensures { result ≡ objects - 1 }
 {
-    if 0 < objects {
-        return objects - 1;
-    }
-    0
+    objects.saturating_sub(1)
 }
 
 // A chunk of so many bytes was allocated, and the order is closed.
@@ -65,10 +54,10 @@ pub fn charged(share: Share, size: u64) -> Share
     ensures { result ≡ charged_share share size }
 {
     Share {
-        bounded: share.bounded,
         idle: true,
         heap: heap::charge(share.heap, size),
         objects: one_fewer(share.objects),
+        ..share
     }
 }
 
@@ -77,10 +66,9 @@ fn given_back(share: Share, size: u64) -> Share
     ensures { result ≡ back_share share size }
 {
     Share {
-        bounded: share.bounded,
         idle: true,
         heap: heap::release(heap::charge(share.heap, size), size),
-        objects: share.objects,
+        ..share
     }
 }
 
@@ -88,26 +76,20 @@ fn given_back(share: Share, size: u64) -> Share
 fn closed(share: Share) -> Share
     ensures { result ≡ closed_share share }
 {
-    let heap = share.heap;
     Share {
-        bounded: share.bounded,
         idle: true,
-        heap: heap,
-        objects: share.objects,
+        ..share
     }
 }
 
 // The order is closed by a failure.
-pub fn lost(share: Share, size: u64, charge: bool, free: ToFree) -> Share
+pub fn lost(share: Share, size: u64, charge: bool, free: Option<u64>) -> Share
     ensures { result ≡ lost_share share size charge (free_of free) }
 {
-    if charge {
-        match free {
-            ToFree::Nothing => charged(share, size),
-            ToFree::Memory(_) => given_back(share, size),
-        }
-    } else {
-        closed(share)
+    match free {
+        _ if !charge => closed(share),
+        None => charged(share, size),
+        Some(_) => given_back(share, size),
     }
 }
 
@@ -117,9 +99,8 @@ pub fn released(share: Share, count: u32, bytes: u64) -> Share
     ensures { result ≡ released_share share count bytes }
 {
     Share {
-        bounded: share.bounded,
-        idle: share.idle,
         heap: heap::release(share.heap, bytes),
         objects: share.objects + count,
+        ..share
     }
 }

@@ -1,6 +1,6 @@
 // The order that an ask opens.
 ghost use Rattle.std.specs.Prelude.{◌≡◌};
-ghost use Rattle.store_rules.specs.Orders.{order_from, same_bool, same_order};
+ghost use Rattle.store_rules.specs.Orders.{order_from, same_order};
 ghost use Rattle.store_rules.specs.Tests.{no_order, open_for};
 
 use counter::{HOST_VISIBLE, OpenOrder, Order, StoreSettings};
@@ -8,10 +8,7 @@ use counter::{HOST_VISIBLE, OpenOrder, Order, StoreSettings};
 pub fn no_order(o: OpenOrder) -> bool
     ensures { result ≡ no_order o }
 {
-    match o {
-        OpenOrder::Nothing => true,
-        OpenOrder::Kept(_) => false,
-    }
+    o.is_none()
 }
 
 // Whether an order is open for the store with this number.
@@ -19,11 +16,8 @@ pub fn is_open_for(number: u32, o: OpenOrder) -> bool
     ensures { result ≡ open_for number o }
 {
     match o {
-        OpenOrder::Nothing => false,
-        OpenOrder::Kept(k) => {
-            let order = k.order;
-            order.store == number
-        }
+        None => false,
+        Some(k) => k.order.store == number,
     }
 }
 
@@ -39,15 +33,8 @@ pub fn order_from(s: StoreSettings, size: u64) -> Order
     }
 }
 
-fn same_bool(a: bool, b: bool) -> bool
-    ensures { result ≡ same_bool a b }
-{
-    if a { b } else { !b }
-}
-
 pub fn same_order(o: Order, p: Order) -> bool
     ensures { result ≡ same_order o p }
 {
-    let maps = same_bool(o.map, p.map);
-    (o.store == p.store) & ((o.size == p.size) & ((o.memtype == p.memtype) & maps))
+    o == p
 }

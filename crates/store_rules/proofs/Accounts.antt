@@ -16,8 +16,8 @@ use Rattle.counter.specs.Limits.{heaps_most, objects_most}
 use Rattle.counter.specs.Table.{heap_ok, heaps_ok}
 use Rattle.counter.specs.declared.account.Account.{Account}
 use Rattle.counter.specs.declared.account.Heap.{Heap}
-use Rattle.counter.specs.declared.account.OpenOrder.{OpenOrder}
-use Rattle.counter.specs.declared.account.OpenOrder.TheVariants.{Nothing}
+use Rattle.counter.specs.Open.{OpenOrder}
+use Rattle.std.specs.Prelude.{None}
 use Rattle.counter.specs.declared.settings.StoreSettings.{StoreSettings}
 use Rattle.counter.proofs.Tables.{heaps_each, each_heaps}
 use Rattle.heap.specs.Heap.{charged_of, released_of, bears_ok, agrees_ok, Within}
@@ -37,9 +37,9 @@ module _ (a : Account) (i : ℕ) where
   settled_same o = λ j. record { heaps = same (ltb i heaps_most) j; objects = a.objects; order = o }
 
 -- an order lost before memory was made
-pub lost_nothing : (s : StoreSettings) (a : Account) (z : ℕ) (back : List ℕ) → lost_account s a z false back ≡ with_order a Nothing
+pub lost_nothing : (s : StoreSettings) (a : Account) (z : ℕ) (back : List ℕ) → lost_account s a z false back ≡ with_order a None
 unfolding lost_account
-lost_nothing s a z back = settled_same a s.heap Nothing
+lost_nothing s a z back = settled_same a s.heap None
 
 -- ---- one heap is written anew
 
@@ -206,14 +206,14 @@ module _ (s : StoreSettings) (a : Account) (below : s.heap < heaps_most) where
     -- a chunk of z bytes comes, and is charged for
     pub charged_heaps : heaps_ok a.heaps ≡ true → heaps_ok (charged_account s a z).heaps ≡ true
     unfolding charged_account
-    charged_heaps e = settled_heaps a s.heap (charged_of heap z) (a.objects - 1) Nothing below (charged_in heap z bears (own_in a s.heap below e)) e
+    charged_heaps e = settled_heaps a s.heap (charged_of heap z) (a.objects - 1) None below (charged_in heap z bears (own_in a s.heap below e)) e
 
     -- in an account that has the heap it is covered
     pub charged_covered : s.heap < length a.heaps → 0 < a.objects → (n bytes : ℕ) → covers_ok (heap_at a s.heap) a.objects n bytes ≡ true
         → covers_ok (heap_at (charged_account s a z) s.heap) (charged_account s a z).objects (n + 1) (bytes + z) ≡ true
     unfolding charged_account
     charged_covered there some n bytes e =
-        ap (λ (x : Heap). covers_ok x (a.objects - 1) (n + 1) (bytes + z)) (settled_own a s.heap (charged_of heap z) (a.objects - 1) Nothing below there)
+        ap (λ (x : Heap). covers_ok x (a.objects - 1) (n + 1) (bytes + z)) (settled_own a s.heap (charged_of heap z) (a.objects - 1) None below there)
         ∙ charged_covers heap a.objects n bytes z bears e some
 
     -- or it is lost, charged for or not, given back or not
@@ -222,7 +222,7 @@ module _ (s : StoreSettings) (a : Account) (below : s.heap < heaps_most) where
     lost_heaps false back e = subst (λ (b : Account). heaps_ok b.heaps ≡ true) (sym (lost_nothing s a z back)) e
     lost_heaps true [] e = charged_heaps e
     lost_heaps true (m ∷ back) e =
-        settled_heaps a s.heap (released_of (charged_of heap z) z) a.objects Nothing below (released_in (charged_of heap z) z (charged_in heap z bears (own_in a s.heap below e))) e
+        settled_heaps a s.heap (released_of (charged_of heap z) z) a.objects None below (released_in (charged_of heap z) z (charged_in heap z bears (own_in a s.heap below e))) e
 
     -- and what was covered still is
     pub lost_covered : (charged : Bool) (back : List ℕ) (n bytes : ℕ) → covers_ok (heap_at a s.heap) a.objects n bytes ≡ true
@@ -230,6 +230,6 @@ module _ (s : StoreSettings) (a : Account) (below : s.heap < heaps_most) where
     unfolding lost_account charged_account back_account
     lost_covered false back n bytes e = subst (λ (b : Account). covers_ok (heap_at b s.heap) b.objects n bytes ≡ true) (sym (lost_nothing s a z back)) e
     lost_covered true [] n bytes e =
-        settled_covers (charged_of heap z) (a.objects - 1) Nothing n bytes (lost_covers heap a.objects n bytes z bears e) (fewer_covers heap a.objects n bytes e)
+        settled_covers (charged_of heap z) (a.objects - 1) None n bytes (lost_covers heap a.objects n bytes z bears e) (fewer_covers heap a.objects n bytes e)
     lost_covered true (m ∷ back) n bytes e =
-        settled_covers (released_of (charged_of heap z) z) a.objects Nothing n bytes (back_covers heap a.objects n bytes z bears e) e
+        settled_covers (released_of (charged_of heap z) z) a.objects None n bytes (back_covers heap a.objects n bytes z bears e) e

@@ -9,8 +9,8 @@ use Rattle.counter.specs.Gate.{Verdict, pass, refuse, Row, first, gated}
 use Rattle.counter.specs.Paper.{Said}
 use Rattle.counter.specs.declared.account.Account.{Account}
 use Rattle.counter.specs.declared.account.KeptOrder.{KeptOrder}
-use Rattle.counter.specs.declared.account.OpenOrder.{OpenOrder}
-use Rattle.counter.specs.declared.account.OpenOrder.TheVariants.{Nothing, Kept}
+use Rattle.counter.specs.Open.{OpenOrder}
+use Rattle.std.specs.Prelude.{None, Some}
 use Rattle.counter.specs.declared.answers.Mapping.{Mapping}
 use Rattle.counter.specs.declared.answers.Mapping.TheVariants as M
 use Rattle.counter.specs.declared.answers.Outcome.{Outcome}
@@ -61,8 +61,8 @@ module _ (e : Engine) (s : StoreSettings) (a : Account) (k : KeptOrder) where
 
   -- an order is lost with 11 or 12, and of the account is left what 01 says
   pub loss_left : (o : Outcome) (n : ℕ) (c : Bool) (back : List ℕ) → fate_of e o ≡ lost n c back → ((n ≡ 11) ⊎ (n ≡ 12)) × (lost_account s a k.order.size c back ≡ lost_for e s a k o)
-  loss_left O.OutOfDevice n c back q = left_by_lem (with_order a Nothing) 11 n false c [] back (inl refl, lost_nothing s a k.order.size []) q
-  loss_left O.OutOfHost n c back q = left_by_lem (with_order a Nothing) 12 n false c [] back (inr refl, lost_nothing s a k.order.size []) q
+  loss_left O.OutOfDevice n c back q = left_by_lem (with_order a None) 11 n false c [] back (inl refl, lost_nothing s a k.order.size []) q
+  loss_left O.OutOfHost n c back q = left_by_lem (with_order a None) 12 n false c [] back (inr refl, lost_nothing s a k.order.size []) q
   loss_left (O.Made m) n c back q = made m.mapping q
     where
       what : Mapping → Account
@@ -164,16 +164,16 @@ fate_first e (O.Made m) = by m.mapping
 -- ---- 13, of the open order
 
 abbrev pub welcome_ok : List ℕ → Outcome → OpenOrder → Bool
-welcome_ok held o Nothing = true
-welcome_ok held o (Kept k) = delivery_ok k.order.map held o
+welcome_ok held o None = true
+welcome_ok held o (Some k) = delivery_ok k.order.map held o
 
 -- its test fails exactly when its words hold
 pub unwelcomed : (a : Account) (held : List ℕ) (o : Outcome) → (welcome_ok held o a.order ≡ false) ↔ UnwelcomeTo a held o
 unwelcomed a held o = (there a.order, back)
   where
-    there : (ord : OpenOrder) → welcome_ok held o ord ≡ false → (k : KeptOrder) × (ord ≡ Kept k) × Unwelcome k.order.map held o
-    there Nothing e = absurd (true_false true refl e)
-    there (Kept k) e = (k, refl, (unwelcome k.order.map held o).0 e)
+    there : (ord : OpenOrder) → welcome_ok held o ord ≡ false → (k : KeptOrder) × (ord ≡ Some k) × Unwelcome k.order.map held o
+    there None e = absurd (true_false true refl e)
+    there (Some k) e = (k, refl, (unwelcome k.order.map held o).0 e)
 
     back : UnwelcomeTo a held o → welcome_ok held o a.order ≡ false
     back w = ap (welcome_ok held o) w.1 ∙ (unwelcome w.0.order.map held o).1 w.2
@@ -181,7 +181,7 @@ unwelcomed a held o = (there a.order, back)
 -- ---- a delivery
 
 -- one order is kept
-pub same_kept : (i j : KeptOrder) → Kept i ≡ Kept j → i ≡ j
+pub same_kept : (i j : KeptOrder) → Some i ≡ Some j → i ≡ j
 same_kept i j e = cc
 
 module _ (e : Engine) (o : Outcome) (held : List ℕ) (store : ℕ) (say : Arrival → Said) (n : ℕ) (denies : (m : ℕ) → Tells (say (deny m)) (refuse m) n) (fates : (k : KeptOrder) (f : Fate) → Tells (say (go k f)) (fate_verdict f) n) where
@@ -192,8 +192,8 @@ module _ (e : Engine) (o : Outcome) (held : List ℕ) (store : ℕ) (say : Arriv
   by : (v : Verdict) (ord : OpenOrder) → (v ≡ pass → open_for store ord ≡ true) → (u : Verdict) → u ≡ and_then v (first ((welcome_ok held o ord, 13) ∷ fate_row o))
       → Tells (say (gated deny v (arrival_of e o held ord))) u n
   by (refuse m) ord f u q = rw q (denies m)
-  by pass Nothing f u q = absurd (true_false false (f refl) refl)
-  by pass (Kept k) f u q = rw q (on (delivery_ok k.order.map held o) k)
+  by pass None f u q = absurd (true_false false (f refl) refl)
+  by pass (Some k) f u q = rw q (on (delivery_ok k.order.map held o) k)
 
   -- where each plan is said by its number, a delivery says what the row of its tests comes to: its gate's, 13, 11, 12
   pub arrival_tells : (gates : Row) (ord : OpenOrder) → (first gates ≡ pass → open_for store ord ≡ true)

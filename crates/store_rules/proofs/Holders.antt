@@ -8,8 +8,8 @@ use Rattle.counter.specs.Limits.{heaps_most, heap_bytes_most}
 use Rattle.counter.specs.declared.account.Account.{Account}
 use Rattle.counter.specs.declared.account.Heap.{Heap}
 use Rattle.counter.specs.declared.account.KeptOrder.{KeptOrder}
-use Rattle.counter.specs.declared.account.OpenOrder.{OpenOrder}
-use Rattle.counter.specs.declared.account.OpenOrder.TheVariants.{Nothing, Kept}
+use Rattle.counter.specs.Open.{OpenOrder}
+use Rattle.std.specs.Prelude.{None, Some}
 use Rattle.counter.specs.declared.settings.StoreSettings.{StoreSettings}
 use Rattle.store_rules.specs.Shares.{with_share}
 use Rattle.store_rules.specs.declared.Share.{Share}
@@ -24,14 +24,14 @@ others bounded = cond bounded (replicate heaps_most no_heap) (replicate heaps_mo
 
 -- with this order, or none
 unfoldable pub holding : StoreSettings → Share → OpenOrder → Account
-holding s share o = with_share s (record { heaps = others share.bounded; objects = 0; order = Nothing }) share o
+holding s share o = with_share s (record { heaps = others share.bounded; objects = 0; order = None }) share o
 
 -- an order of which nothing is told but that it is open
 abbrev pub some_order : KeptOrder
 some_order = record { ask = record { size = 0; mask = 0 }; order = record { store = 0; size = 0; memtype = 0; map = false } }
 
 abbrev pub order_by : Bool → OpenOrder
-order_by idle = cond idle Nothing (Kept some_order)
+order_by idle = cond idle None (Some some_order)
 
 -- with an order where one is open
 abbrev pub holder : StoreSettings → Share → Account

@@ -15,8 +15,8 @@ use Rattle.counter.specs.Table.{alignment_ok, heaps_ok}
 use Rattle.counter.specs.declared.account.Account.{Account}
 use Rattle.counter.specs.declared.account.Heap.{Heap}
 use Rattle.counter.specs.declared.account.KeptOrder.{KeptOrder}
-use Rattle.counter.specs.declared.account.OpenOrder.{OpenOrder}
-use Rattle.counter.specs.declared.account.OpenOrder.TheVariants.{Nothing, Kept}
+use Rattle.counter.specs.Open.{OpenOrder}
+use Rattle.std.specs.Prelude.{None, Some}
 use Rattle.counter.specs.declared.account.Order.{Order}
 use Rattle.counter.specs.declared.answers.Mapping.{Mapping}
 use Rattle.counter.specs.declared.answers.Mapping.TheVariants as M
@@ -68,9 +68,9 @@ heaps_in_lem a = (there, back)
 pub order_open : (a : Account) → (no_order a.order ≡ false) ↔ OrderOpen a
 order_open a = (there a.order, (λ w. ap no_order w.1))
   where
-    there : (o : OpenOrder) → no_order o ≡ false → (k : KeptOrder) × (o ≡ Kept k)
-    there Nothing e = absurd (true_false true refl e)
-    there (Kept k) e = (k, refl)
+    there : (o : OpenOrder) → no_order o ≡ false → (k : KeptOrder) × (o ≡ Some k)
+    there None e = absurd (true_false true refl e)
+    there (Some k) e = (k, refl)
 
 pub none_for : (store : ℕ) (a : Account) → (open_for store a.order ≡ false) ↔ NoneFor store a
 none_for store a = (there, back a.order)
@@ -78,9 +78,9 @@ none_for store a = (there, back a.order)
     there : open_for store a.order ≡ false → NoneFor store a
     there e k q s = true_false (open_for store a.order) (ap (open_for store) q ∙ eq-eqb k.order.store store s) e
 
-    back : (o : OpenOrder) → ((k : KeptOrder) → o ≡ Kept k → k.order.store ≡ store → ⊥) → open_for store o ≡ false
-    back Nothing f = refl
-    back (Kept k) f = ne_eqb k.order.store store (f k refl)
+    back : (o : OpenOrder) → ((k : KeptOrder) → o ≡ Some k → k.order.store ≡ store → ⊥) → open_for store o ≡ false
+    back None f = refl
+    back (Some k) f = ne_eqb k.order.store store (f k refl)
 
 -- ---- 4
 

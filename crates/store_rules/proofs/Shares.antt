@@ -16,8 +16,8 @@ use Rattle.counter.specs.Limits.{heaps_most}
 use Rattle.counter.specs.Table.{heap_ok, heaps_upto, heaps_ok}
 use Rattle.counter.specs.declared.account.Account.{Account}
 use Rattle.counter.specs.declared.account.Heap.{Heap}
-use Rattle.counter.specs.declared.account.OpenOrder.{OpenOrder}
-use Rattle.counter.specs.declared.account.OpenOrder.TheVariants.{Nothing}
+use Rattle.counter.specs.Open.{OpenOrder}
+use Rattle.std.specs.Prelude.{None}
 use Rattle.counter.specs.declared.settings.StoreSettings.{StoreSettings}
 use Rattle.heap.specs.Heap.{charged_of, released_of}
 use Rattle.store_rules.specs.Outcomes.{with_order, charged_account, back_account, lost_account, released_account}
@@ -56,7 +56,7 @@ others_table false = refl
 
 module _ (s : StoreSettings) (share : Share) where
   abbrev blank : Account
-  blank = record { heaps = others share.bounded; objects = 0; order = Nothing }
+  blank = record { heaps = others share.bounded; objects = 0; order = None }
 
   sixteen : length (others share.bounded) ≡ heaps_most
   sixteen = by share.bounded
@@ -84,19 +84,19 @@ module _ (s : StoreSettings) (share : Share) where
       (λ past. settled_none (holding s share o) s.heap past (f (heap_at (holding s share o) s.heap)) (f share.heap) n p ∙ held_settled o p free (f share.heap) n)
       (lt_or_le s.heap heaps_most)
 
-  pub held_charged : (o : OpenOrder) (z : ℕ) → charged_account s (holding s share o) z ≡ holding s (charged_share share z) Nothing
+  pub held_charged : (o : OpenOrder) (z : ℕ) → charged_account s (holding s share o) z ≡ holding s (charged_share share z) None
   unfolding charged_account holding
-  held_charged o z = held_changed (λ (g : Heap). charged_of g z) o Nothing true (share.objects - 1)
+  held_charged o z = held_changed (λ (g : Heap). charged_of g z) o None true (share.objects - 1)
 
-  pub held_back : (o : OpenOrder) (z : ℕ) → back_account s (holding s share o) z ≡ holding s (back_share share z) Nothing
+  pub held_back : (o : OpenOrder) (z : ℕ) → back_account s (holding s share o) z ≡ holding s (back_share share z) None
   unfolding back_account holding
-  held_back o z = held_changed (λ (g : Heap). released_of (charged_of g z) z) o Nothing true share.objects
+  held_back o z = held_changed (λ (g : Heap). released_of (charged_of g z) z) o None true share.objects
 
-  pub held_lost : (o : OpenOrder) (z : ℕ) (charged : Bool) (back : List ℕ) → lost_account s (holding s share o) z charged back ≡ holding s (lost_share share z charged back) Nothing
+  pub held_lost : (o : OpenOrder) (z : ℕ) (charged : Bool) (back : List ℕ) → lost_account s (holding s share o) z charged back ≡ holding s (lost_share share z charged back) None
   unfolding lost_account holding
-  held_lost o z false back = held_changed (λ (g : Heap). g) o Nothing true share.objects
-  held_lost o z true [] = held_changed (λ (g : Heap). charged_of g z) o Nothing true (share.objects - 1)
-  held_lost o z true (m ∷ back) = held_changed (λ (g : Heap). released_of (charged_of g z) z) o Nothing true share.objects
+  held_lost o z false back = held_changed (λ (g : Heap). g) o None true share.objects
+  held_lost o z true [] = held_changed (λ (g : Heap). charged_of g z) o None true (share.objects - 1)
+  held_lost o z true (m ∷ back) = held_changed (λ (g : Heap). released_of (charged_of g z) z) o None true share.objects
 
   pub held_released : (o : OpenOrder) (n bytes : ℕ) → released_account s (holding s share o) n bytes ≡ holding s (released_share share n bytes) o
   unfolding released_account holding
@@ -204,23 +204,23 @@ module _ (s : StoreSettings) (a : Account) where
         (λ past. settled_none a s.heap past (heap_at (settled_of b s.heap (f (heap_at b s.heap)) n o) s.heap) (f (heap_at a s.heap)) n p)
         (lt_or_le s.heap heaps_most)
 
-    pub over_charged : (z : ℕ) → taken_over s a (charged_account s b z) Nothing ≡ charged_account s a z
+    pub over_charged : (z : ℕ) → taken_over s a (charged_account s b z) None ≡ charged_account s a z
     unfolding charged_account
     over_charged z =
-        over_changed (λ (g : Heap). charged_of g z) (b.objects - 1) Nothing Nothing
-        ∙ ap (λ (n : ℕ). settled_of a s.heap (charged_of (heap_at a s.heap) z) (n - 1) Nothing) (sym alike.objects)
+        over_changed (λ (g : Heap). charged_of g z) (b.objects - 1) None None
+        ∙ ap (λ (n : ℕ). settled_of a s.heap (charged_of (heap_at a s.heap) z) (n - 1) None) (sym alike.objects)
 
-    pub over_back : (z : ℕ) → taken_over s a (back_account s b z) Nothing ≡ back_account s a z
+    pub over_back : (z : ℕ) → taken_over s a (back_account s b z) None ≡ back_account s a z
     unfolding back_account
     over_back z =
-        over_changed (λ (g : Heap). released_of (charged_of g z) z) b.objects Nothing Nothing
-        ∙ ap (λ (n : ℕ). settled_of a s.heap (released_of (charged_of (heap_at a s.heap) z) z) n Nothing) (sym alike.objects)
+        over_changed (λ (g : Heap). released_of (charged_of g z) z) b.objects None None
+        ∙ ap (λ (n : ℕ). settled_of a s.heap (released_of (charged_of (heap_at a s.heap) z) z) n None) (sym alike.objects)
 
-    pub over_lost : (z : ℕ) (charged : Bool) (back : List ℕ) → taken_over s a (lost_account s b z charged back) Nothing ≡ lost_account s a z charged back
+    pub over_lost : (z : ℕ) (charged : Bool) (back : List ℕ) → taken_over s a (lost_account s b z charged back) None ≡ lost_account s a z charged back
     unfolding lost_account charged_account back_account
     over_lost z false back =
-        over_changed (λ (g : Heap). g) b.objects Nothing Nothing
-        ∙ ap (λ (n : ℕ). settled_of a s.heap (heap_at a s.heap) n Nothing) (sym alike.objects)
+        over_changed (λ (g : Heap). g) b.objects None None
+        ∙ ap (λ (n : ℕ). settled_of a s.heap (heap_at a s.heap) n None) (sym alike.objects)
     over_lost z true [] = over_charged z
     over_lost z true (m ∷ back) = over_back z
 

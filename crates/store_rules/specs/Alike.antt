@@ -5,7 +5,7 @@ use Rattle.counter.specs.Account.{heap_at, settled_of}
 use Rattle.counter.specs.Limits.{heaps_most}
 use Rattle.counter.specs.Table.{heaps_ok}
 use Rattle.counter.specs.declared.account.Account.{Account}
-use Rattle.counter.specs.declared.account.OpenOrder.{OpenOrder}
+use Rattle.counter.specs.Open.{OpenOrder}
 use Rattle.counter.specs.declared.settings.StoreSettings.{StoreSettings}
 use Rattle.store_rules.specs.Outcomes.{Out, out, Listed, listed}
 use Rattle.store_rules.specs.Shares.{ask_left}

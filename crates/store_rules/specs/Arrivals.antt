@@ -2,8 +2,8 @@
 -- paragraph after the table.
 use Rattle.std.specs.Prelude.{cond, List, ℕ}
 use Rattle.counter.specs.declared.account.KeptOrder.{KeptOrder}
-use Rattle.counter.specs.declared.account.OpenOrder.{OpenOrder}
-use Rattle.counter.specs.declared.account.OpenOrder.TheVariants.{Nothing, Kept}
+use Rattle.counter.specs.Open.{OpenOrder}
+use Rattle.std.specs.Prelude.{None, Some}
 use Rattle.counter.specs.declared.answers.Outcome.{Outcome}
 use Rattle.store_rules.specs.Delivery.{Fate, Engine, fate_of, delivery_ok}
 
@@ -14,5 +14,5 @@ pub data Arrival : Type 0 where
 
 -- 13
 abbrev pub arrival_of : Engine → Outcome → List ℕ → OpenOrder → Arrival
-arrival_of e o held Nothing = deny 2
-arrival_of e o held (Kept k) = cond (delivery_ok k.order.map held o) (go k (fate_of e o)) (deny 13)
+arrival_of e o held None = deny 2
+arrival_of e o held (Some k) = cond (delivery_ok k.order.map held o) (go k (fate_of e o)) (deny 13)

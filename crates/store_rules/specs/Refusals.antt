@@ -7,7 +7,7 @@ use Rattle.counter.specs.Limits.{align_bits, heaps_most, heap_bytes_most, object
 use Rattle.counter.specs.declared.account.Account.{Account}
 use Rattle.counter.specs.declared.account.Heap.{Heap}
 use Rattle.counter.specs.declared.account.KeptOrder.{KeptOrder}
-use Rattle.counter.specs.declared.account.OpenOrder.TheVariants.{Nothing, Kept}
+use Rattle.std.specs.Prelude.{None, Some}
 use Rattle.counter.specs.declared.answers.Mapping.{Mapping}
 use Rattle.counter.specs.declared.answers.Mapping.TheVariants as M
 use Rattle.counter.specs.declared.answers.Memory.{Memory}
@@ -23,11 +23,11 @@ HeapsIn a = (i : ℕ) → i < heaps_most → ((get_or a.heaps i no_heap).size �
 
 -- 2: "an order is open, on an ask, return or clean-up"
 abbrev pub OrderOpen : Account → Type 0
-OrderOpen a = (k : KeptOrder) × (a.order ≡ Kept k)
+OrderOpen a = (k : KeptOrder) × (a.order ≡ Some k)
 
 -- 2: "or a delivery when none is open for this store"
 abbrev pub NoneFor : ℕ → Account → Type 0
-NoneFor store a = (k : KeptOrder) → a.order ≡ Kept k → k.order.store ≡ store → ⊥
+NoneFor store a = (k : KeptOrder) → a.order ≡ Some k → k.order.store ≡ store → ⊥
 
 -- 4: "heap used is below the sum of this store's chunks, or differs from allocated less deallocated, or objects + this
 -- store's chunks exceed 2^32 - 1"
@@ -50,7 +50,7 @@ Unwelcome map held o = (m : Memory) × (o ≡ O.Made m) × (Memᴰ m.number held
 
 -- of the open order
 abbrev pub UnwelcomeTo : Account → List ℕ → Outcome → Type 0
-UnwelcomeTo a held o = (k : KeptOrder) × (a.order ≡ Kept k) × Unwelcome k.order.map held o
+UnwelcomeTo a held o = (k : KeptOrder) × (a.order ≡ Some k) × Unwelcome k.order.map held o
 
 -- 11: "delivered: out of device memory, by allocation or map"
 abbrev pub DeviceOut : Outcome → Type 0
@@ -64,5 +64,5 @@ HostOut o = (o ≡ O.OutOfHost) ⊎ ((m : Memory) × (o ≡ O.Made m) × ((m.map
 -- and what the engine gives back is given back
 abbrev pub lost_for : Engine → StoreSettings → Account → KeptOrder → Outcome → Account
 lost_for e s a k (O.Made m) = cond (gives_back e m.mapping) (back_account s a k.order.size) (charged_account s a k.order.size)
-lost_for e s a k O.OutOfDevice = with_order a Nothing
-lost_for e s a k O.OutOfHost = with_order a Nothing
+lost_for e s a k O.OutOfDevice = with_order a None
+lost_for e s a k O.OutOfHost = with_order a None

@@ -7,7 +7,7 @@ use Rattle.counter.specs.Reasons.{Reasons, none, reason, thereafter, Clear}
 use Rattle.counter.specs.declared.account.Account.{Account}
 use Rattle.counter.specs.declared.account.Heap.{Heap}
 use Rattle.counter.specs.declared.account.KeptOrder.{KeptOrder}
-use Rattle.counter.specs.declared.account.OpenOrder.TheVariants.{Kept}
+use Rattle.std.specs.Prelude.{Some}
 use Rattle.counter.specs.declared.answers.Block.{Block}
 use Rattle.counter.specs.declared.answers.Outcome.{Outcome}
 use Rattle.counter.specs.declared.settings.StoreSettings.{StoreSettings}
@@ -20,7 +20,7 @@ use Rattle.store_rules.specs.Words.{Words}
 -- an open order to which the tests of its ask lead: none of them speaks, a chunk is needed, and this is the order for it
 pub record LeadsTo (own : StoreSettings) (a : Account) (tests : KeptOrder → Reasons) (Lacks : KeptOrder → Type 0) (size : KeptOrder → ℕ) : Type 0 where
   pub kept : KeptOrder
-  pub its : a.order ≡ Kept kept
+  pub its : a.order ≡ Some kept
   pub clear : Clear (tests kept)
   pub needed : Lacks kept
   pub same : kept.order ≡ order_from own (size kept)

@@ -7,8 +7,8 @@ use Rattle.counter.specs.Paper.{Said}
 use Rattle.counter.specs.Paper as Paper
 use Rattle.counter.specs.Table.{heaps_ok}
 use Rattle.counter.specs.declared.account.Account.{Account}
-use Rattle.counter.specs.declared.account.OpenOrder.{OpenOrder}
-use Rattle.counter.specs.declared.account.OpenOrder.TheVariants.{Nothing, Kept}
+use Rattle.counter.specs.Open.{OpenOrder}
+use Rattle.std.specs.Prelude.{None, Some}
 use Rattle.counter.specs.declared.settings.StoreSettings.{StoreSettings}
 use Rattle.heap.specs.Heap.{charged_of, released_of}
 use Rattle.store_rules.specs.Tests.{no_order}
@@ -53,13 +53,13 @@ abbrev pub with_order : Account → OpenOrder → Account
 with_order a o = record { heaps = a.heaps; objects = a.objects; order = o }
 
 unfoldable pub charged_account : StoreSettings → Account → ℕ → Account
-charged_account s a z = with_share s a (charged_share (share_of s a) z) Nothing
+charged_account s a z = with_share s a (charged_share (share_of s a) z) None
 
 unfoldable pub back_account : StoreSettings → Account → ℕ → Account
-back_account s a z = with_share s a (back_share (share_of s a) z) Nothing
+back_account s a z = with_share s a (back_share (share_of s a) z) None
 
 unfoldable pub lost_account : StoreSettings → Account → ℕ → Bool → List ℕ → Account
-lost_account s a z charged back = with_share s a (lost_share (share_of s a) z charged back) Nothing
+lost_account s a z charged back = with_share s a (lost_share (share_of s a) z charged back) None
 
 unfoldable pub released_account : StoreSettings → Account → ℕ → ℕ → Account
 released_account s a n bytes = with_share s a (released_share (share_of s a) n bytes) a.order
@@ -70,7 +70,7 @@ ask_left a size mask Paper.ready = a
 ask_left a size mask (Paper.block serial chunk offset z) = a
 ask_left a size mask (Paper.order store z memtype map) =
     with_order a
-    (Kept (record { ask = record { size = size; mask = mask }; order = record { store = store; size = z; memtype = memtype; map = map } }))
+    (Some (record { ask = record { size = size; mask = mask }; order = record { store = store; size = z; memtype = memtype; map = map } }))
 ask_left a size mask (Paper.released n) = a
 ask_left a size mask Paper.ranked = a
 ask_left a size mask (Paper.refusal n back) = a

@@ -3,19 +3,19 @@ use Rattle.std.specs.Prelude.{Bool, true, false, ◌&&◌, [], ◌∷◌, ℕ, �
 use Rattle.counter.specs.Gate.{Row}
 use Rattle.counter.specs.Limits.{objects_most}
 use Rattle.counter.specs.declared.account.Heap.{Heap}
-use Rattle.counter.specs.declared.account.OpenOrder.{OpenOrder}
-use Rattle.counter.specs.declared.account.OpenOrder.TheVariants.{Nothing, Kept}
+use Rattle.counter.specs.Open.{OpenOrder}
+use Rattle.std.specs.Prelude.{None, Some}
 use Rattle.heap.specs.Heap.{agrees_ok}
 
 -- 2, on an ask, return or clean-up: no order is open
 abbrev pub no_order : OpenOrder → Bool
-no_order Nothing = true
-no_order (Kept k) = false
+no_order None = true
+no_order (Some k) = false
 
 -- 2, on a delivery: an order is open for the store with this number
 abbrev pub open_for : ℕ → OpenOrder → Bool
-open_for store Nothing = false
-open_for store (Kept k) = eqb k.order.store store
+open_for store None = false
+open_for store (Some k) = eqb k.order.store store
 
 -- 4: heap used covers the sum of the store's chunks and is allocated less deallocated, and objects with its chunks are
 -- at most 2^32 - 1

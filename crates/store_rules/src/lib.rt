@@ -1,7 +1,9 @@
-// What the stores of both engines share. specs/ says it; no code.
+// What the stores of both engines share. specs/ says it; no code but conversions.
 #![tactic(auto)]
 
-use counter::{DeliverAnswer, Heap, OpenOrder, ReleaseAnswer};
+ghost use Rattle.std.specs.Prelude.{◌≡◌};
+
+use counter::{Block, Heap, Lent, OpenOrder, Refused};
 
 // Of the loans' own record, behind its mark: serials given, and loan places ever used; specs/Loans has the same names.
 pub const GIVEN_AT: usize = 1;
@@ -20,12 +22,42 @@ pub const OFFSET_AT: usize = 6;
 pub const SIZE_AT: usize = 7;
 
 // A block on loan. 01: "A block carries serial, chunk, offset, size."
-#[derive(Clone, Copy)]
+#[derive(Clone, Copy, PartialEq, Eq)]
 pub struct Loan {
     pub serial: u64,
     pub chunk: u64,
     pub offset: u64,
     pub size: u64,
+}
+
+// The loan that a block is of, where it is on loan.
+impl From<Block> for Loan {
+    ghost from_gives = { λ b l. l ≡ record { serial = b.serial; chunk = b.chunk; offset = b.offset; size = b.size } };
+
+    fn from(b: Block) -> Loan {
+        Loan {
+            serial: b.serial,
+            chunk: b.chunk,
+            offset: b.offset,
+            size: b.size,
+        }
+    }
+}
+
+// The block that is told when a loan is entered.
+impl From<Loan> for Lent {
+    ghost from_gives = { λ l x. x ≡ record { block = record { serial = l.serial; chunk = l.chunk; offset = l.offset; size = l.size } } };
+
+    fn from(l: Loan) -> Lent {
+        Lent {
+            block: Block {
+                serial: l.serial,
+                chunk: l.chunk,
+                offset: l.offset,
+                size: l.size,
+            },
+        }
+    }
 }
 
 // A chunk that a store holds: its number, the memory number that it has, its size.
@@ -59,12 +91,12 @@ pub struct Share {
 pub struct DeliveredShare {
     pub share: Share,
     pub order: OpenOrder,
-    pub answer: DeliverAnswer,
+    pub answer: Result<Lent, Refused>,
 }
 
 // What a return or a clean-up answers, with the share that it leaves.
 #[derive(Clone, Copy)]
 pub struct ReleasedShare {
     pub share: Share,
-    pub answer: ReleaseAnswer,
+    pub answer: Result<u64, Refused>,
 }

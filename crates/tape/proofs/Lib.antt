@@ -1,3 +1,2 @@
 -- The laws of this crate's definitions, for its own proofs and for the crates above.
 pub mod Headers
-pub mod Records

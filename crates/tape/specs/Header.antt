@@ -3,15 +3,16 @@
 -- property word is no u32; where heap size or device objects are outside 01's table ("at most 2^62", any u32); where the
 -- engine is neither 1 nor 2; or where a free list's has pairs. All other words fit their fields, and whether 01's table
 -- allows the settings is set-up's own test.
-use Rattle.std.specs.Prelude.{Bool, cond, ◌&&◌, List, [], ◌∷◌, ℕ, ◌*◌, ◌^◌, ◌-◌, eqb, leb, length}
+use Rattle.std.specs.Prelude.{Bool, cond, ◌&&◌, List, [], ◌∷◌, ℕ, ◌*◌, ◌^◌, ◌-◌, eqb, leb, length, Option, None, Some}
 use Rattle.lists.specs.Tests.{all}
 use Rattle.counter.specs.Limits.{heap_bytes_most, objects_most}
 use Rattle.counter.specs.declared.settings.StoreSettings.{StoreSettings}
 use Rattle.tape.specs.Numbers.{word_bytes, word_at}
-use Rattle.tape.specs.declared.header.Header.{Header}
-use Rattle.tape.specs.declared.header.Header.TheVariants.{FreeList, Buddy, Refused}
-use Rattle.tape.specs.declared.header.FreeListStart.{FreeListStart}
-use Rattle.tape.specs.declared.header.BuddyStart.{BuddyStart}
+use Rattle.counter.specs.declared.settings.BuddySettings.{BuddySettings}
+use Rattle.counter.specs.declared.settings.FreeListSettings.{FreeListSettings}
+use Rattle.tape.specs.declared.header.Settings.{Settings}
+use Rattle.tape.specs.declared.header.Settings.TheVariants.{FreeList, Buddy}
+use Rattle.tape.specs.declared.header.Start.{Start}
 
 abbrev pub header_words : ℕ
 header_words = 13
@@ -97,18 +98,20 @@ abbrev pub store_in : List ℕ → StoreSettings
 store_in bs =
     record { number = field number bs; memtype = field memtype bs; properties = field properties bs; heap = field heap bs; atom = field atom bs; loans = field loans bs; chunks = field chunks bs }
 
-abbrev pub free_list_in : List ℕ → FreeListStart
-free_list_in bs =
-    record { settings = record { store = store_in bs; start = field least bs; last = field greatest bs }; heap_size = field size_of_heap bs; objects = field objects bs }
+abbrev pub free_list_in : List ℕ → FreeListSettings
+free_list_in bs = record { store = store_in bs; start = field least bs; last = field greatest bs }
 
-abbrev pub buddy_in : List ℕ → BuddyStart
-buddy_in bs =
-    record { settings = record { store = store_in bs; minimal = field least bs; initial = field greatest bs; pairs = field pairs bs }; heap_size = field size_of_heap bs; objects = field objects bs }
+abbrev pub buddy_in : List ℕ → BuddySettings
+buddy_in bs = record { store = store_in bs; minimal = field least bs; initial = field greatest bs; pairs = field pairs bs }
 
-unfoldable pub header_of : List ℕ → Header
+abbrev pub start_in : List ℕ → Settings → Start
+start_in bs settings = record { settings = settings; heap_size = field size_of_heap bs; objects = field objects bs }
+
+-- none where it is refused
+unfoldable pub header_of : List ℕ → Option Start
 header_of bs =
     cond (fits_ok bs)
     (cond (eqb (field engine bs) free_list_engine && eqb (field pairs bs) 0)
-    (FreeList (free_list_in bs))
-    (cond (eqb (field engine bs) buddy_engine) (Buddy (buddy_in bs)) Refused))
-    Refused
+    (Some (start_in bs (FreeList (free_list_in bs))))
+    (cond (eqb (field engine bs) buddy_engine) (Some (start_in bs (Buddy (buddy_in bs)))) None))
+    None

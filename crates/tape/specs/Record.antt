@@ -1,9 +1,10 @@
 -- A record of a call. 02, Req 04: "one byte of kind, then a body whose length the kind fixes".
-use Rattle.std.specs.Prelude.{Bool, cond, ◌&&◌, not, List, ℕ, ◌+◌, eqb, leb, ltb, length, get_or}
+use Rattle.std.specs.Prelude.{Bool, cond, ◌&&◌, not, List, ℕ, ◌+◌, eqb, leb, ltb, length, get_or, Option, None, Some, option_map}
 use Rattle.counter.specs.declared.account.Ask.{Ask}
 use Rattle.counter.specs.declared.answers.Block.{Block}
 use Rattle.counter.specs.declared.answers.Mapping.{Mapping}
 use Rattle.counter.specs.declared.answers.Mapping.TheVariants as M
+use Rattle.counter.specs.declared.answers.Outcome.{Outcome}
 use Rattle.counter.specs.declared.answers.Outcome.TheVariants as O
 use Rattle.tape.specs.Numbers.{word_bytes, word_at}
 use Rattle.tape.specs.declared.record.Record.{Record}
@@ -97,11 +98,11 @@ mapping_of code =
     (cond (eqb code not_wanted) M.NotWanted (cond (eqb code failed) M.Failed (cond (eqb code out_of_device) M.OutOfDevice M.OutOfHost)))
 
 -- "the memory is 0 for the last two, else whatever the caller gave"
-unfoldable pub delivery_in : ℕ → ℕ → Record
+unfoldable pub delivery_in : ℕ → ℕ → Option Outcome
 delivery_in code memory =
-    cond (leb code out_of_host) (R.Deliver (O.Made (record { number = memory; mapping = mapping_of code })))
-    (cond (eqb code device_refusal && eqb memory 0) (R.Deliver O.OutOfDevice)
-    (cond (eqb code host_refusal && eqb memory 0) (R.Deliver O.OutOfHost) R.Torn))
+    cond (leb code out_of_host) (Some (O.Made (record { number = memory; mapping = mapping_of code })))
+    (cond (eqb code device_refusal && eqb memory 0) (Some O.OutOfDevice)
+    (cond (eqb code host_refusal && eqb memory 0) (Some O.OutOfHost) None))
 
 abbrev pub ask_in : List ℕ → Ask
 ask_in bs = record { size = word_at bs first_at; mask = word_at bs second_at }
@@ -110,13 +111,13 @@ abbrev pub block_in : List ℕ → Block
 block_in bs = record { serial = word_at bs first_at; chunk = word_at bs second_at; offset = word_at bs third_at; size = word_at bs fourth_at }
 
 -- by its kind, where the body isn't short
-unfoldable pub body_of : ℕ → List ℕ → Bool → Record
+unfoldable pub body_of : ℕ → List ℕ → Bool → Option Record
 body_of k bs buddy =
-    cond (eqb k ask) (R.Ask (ask_in bs))
-    (cond (eqb k deliver) (delivery_in (get_or bs outcome_at 0) (word_at bs memory_at))
-    (cond (eqb k return) (R.Return (block_in bs)) (cond (eqb k clean_up && not buddy) R.CleanUp R.Torn)))
+    cond (eqb k ask) (Some (R.Ask (ask_in bs)))
+    (cond (eqb k deliver) (option_map R.Deliver (delivery_in (get_or bs outcome_at 0) (word_at bs memory_at)))
+    (cond (eqb k return) (Some (R.Return (block_in bs))) (cond (eqb k clean_up && not buddy) (Some R.CleanUp) None)))
 
--- "An unknown kind or outcome, a nonzero memory with outcome 5 or 6, a clean-up for a buddy store, or a short body" is torn;
--- so are no bytes at all
-unfoldable pub record_of : List ℕ → Bool → Record
-record_of bs buddy = cond (ltb (length bs) (length_of (get_or bs 0 0))) R.Torn (body_of (get_or bs 0 0) bs buddy)
+-- none where it is torn: "An unknown kind or outcome, a nonzero memory with outcome 5 or 6, a clean-up for a buddy store, or a short
+-- body" is; so are no bytes at all
+unfoldable pub record_of : List ℕ → Bool → Option Record
+record_of bs buddy = cond (ltb (length bs) (length_of (get_or bs 0 0))) None (body_of (get_or bs 0 0) bs buddy)

@@ -1,6 +1,6 @@
 // A tape's header: 13 words that name a store's settings and the account it begins with.
 ghost use Rattle.std.specs.Prelude.{◌≡◌, true, ◌<◌, ◌≤◌};
-ghost use Rattle.tape.specs.Header.{header_words, narrow_most, field, fits_ok, store_in, free_list_in, buddy_in, header_of};
+ghost use Rattle.tape.specs.Header.{header_words, narrow_most, field, fits_ok, store_in, start_in, free_list_in, buddy_in, header_of};
 
 use crate::numbers::{WORD_BYTES, word_at};
 use counter::{BuddySettings, FreeListSettings, HEAP_BYTES_MOST, OBJECTS_MOST, StoreSettings};
@@ -41,28 +41,19 @@ const HEAP_SIZE: usize = 11;
 
 const OBJECTS: usize = 12;
 
-// A free list's settings, and the size of its heap and the device objects allowed when it begins.
+// A store's settings, of either engine.
 #[derive(Clone, Copy)]
-pub struct FreeListStart {
-    pub settings: FreeListSettings,
-    pub heap_size: u64,
-    pub objects: u32,
+pub enum Settings {
+    FreeList(FreeListSettings),
+    Buddy(BuddySettings),
 }
 
+// Settings, and the size of the store's heap and the device objects allowed when it begins.
 #[derive(Clone, Copy)]
-pub struct BuddyStart {
-    pub settings: BuddySettings,
+pub struct Start {
+    pub settings: Settings,
     pub heap_size: u64,
     pub objects: u32,
-}
-
-// Refused: the header is short, or has a word that no settings or account can have. Whether 01's table allows the settings
-// is left to set-up.
-#[derive(Clone, Copy)]
-pub enum Header {
-    FreeList(FreeListStart),
-    Buddy(BuddyStart),
-    Refused,
 }
 
 fn word(bytes: &[u8], i: usize) -> u64
@@ -73,6 +64,7 @@ fn word(bytes: &[u8], i: usize) -> u64
 }
 
 // Whether the header is whole, and each word fits its field.
+#[tactic(auto, unfolding(crate::specs::Header::fits_ok))]
 fn fits(bytes: &[u8]) -> bool
     ensures { result ≡ fits_ok bytes.now }
 {
@@ -81,7 +73,7 @@ fn fits(bytes: &[u8]) -> bool
         & (word(bytes, MEMTYPE) <= NARROW_MOST)
         & (word(bytes, PROPERTIES) <= NARROW_MOST)
         & (word(bytes, HEAP_SIZE) <= HEAP_BYTES_MOST)
-        & (word(bytes, OBJECTS) <= OBJECTS_MOST as u64)
+        & (word(bytes, OBJECTS) <= u64::from(OBJECTS_MOST))
 }
 
 // A number of at most 32 bits.
@@ -92,84 +84,71 @@ fn narrow(n: u64) -> u32
     n as u32
 }
 
+#[tactic(auto, using(crate::proofs::Headers::fits_yes))]
 fn store(bytes: &[u8]) -> StoreSettings
     requires { fits_ok bytes.now ≡ true }
     ensures { result ≡ store_in bytes.now }
 {
-    let number = narrow(word(bytes, NUMBER));
-    let memtype = narrow(word(bytes, MEMTYPE));
-    let properties = narrow(word(bytes, PROPERTIES));
-    let heap = word(bytes, HEAP);
-    let atom = word(bytes, ATOM);
-    let loans = word(bytes, LOANS);
-    let chunks = word(bytes, CHUNKS);
     StoreSettings {
-        number: number,
-        memtype: memtype,
-        properties: properties,
-        heap: heap as usize,
-        atom: atom,
-        loans: loans as usize,
-        chunks: chunks as usize,
+        number: narrow(word(bytes, NUMBER)),
+        memtype: narrow(word(bytes, MEMTYPE)),
+        properties: narrow(word(bytes, PROPERTIES)),
+        heap: word(bytes, HEAP) as usize,
+        atom: word(bytes, ATOM),
+        loans: word(bytes, LOANS) as usize,
+        chunks: word(bytes, CHUNKS) as usize,
     }
 }
 
-fn free_list(bytes: &[u8]) -> FreeListStart
+#[tactic(auto, using(crate::proofs::Headers::fits_yes))]
+fn begin(bytes: &[u8], settings: Settings) -> Start
+    requires { fits_ok bytes.now ≡ true }
+    ensures { result ≡ start_in bytes.now settings }
+{
+    Start {
+        settings,
+        heap_size: word(bytes, HEAP_SIZE),
+        objects: narrow(word(bytes, OBJECTS)),
+    }
+}
+
+fn free_list(bytes: &[u8]) -> FreeListSettings
     requires { fits_ok bytes.now ≡ true }
     ensures { result ≡ free_list_in bytes.now }
 {
-    let store = store(bytes);
-    let start = word(bytes, LEAST);
-    let last = word(bytes, GREATEST);
-    let heap_size = word(bytes, HEAP_SIZE);
-    let objects = narrow(word(bytes, OBJECTS));
-    let settings = FreeListSettings {
-        store: store,
-        start: start,
-        last: last,
-    };
-    FreeListStart {
-        settings: settings,
-        heap_size: heap_size,
-        objects: objects,
+    FreeListSettings {
+        store: store(bytes),
+        start: word(bytes, LEAST),
+        last: word(bytes, GREATEST),
     }
 }
 
-fn buddy(bytes: &[u8]) -> BuddyStart
+fn buddy(bytes: &[u8]) -> BuddySettings
     requires { fits_ok bytes.now ≡ true }
     ensures { result ≡ buddy_in bytes.now }
 {
-    let store = store(bytes);
-    let minimal = word(bytes, LEAST);
-    let initial = word(bytes, GREATEST);
-    let pairs = word(bytes, PAIRS);
-    let heap_size = word(bytes, HEAP_SIZE);
-    let objects = narrow(word(bytes, OBJECTS));
-    let settings = BuddySettings {
-        store: store,
-        minimal: minimal,
-        initial: initial,
-        pairs: pairs as usize,
-    };
-    BuddyStart {
-        settings: settings,
-        heap_size: heap_size,
-        objects: objects,
+    BuddySettings {
+        store: store(bytes),
+        minimal: word(bytes, LEAST),
+        initial: word(bytes, GREATEST),
+        pairs: word(bytes, PAIRS) as usize,
     }
 }
 
-// What the header at the front of these bytes says.
-pub fn read_header(bytes: &[u8]) -> Header
+// What the header at the front of these bytes says; none where it is short, or has a word that no settings or account can have. Whether
+// 01's table allows the settings is left to set-up.
+#[tactic(auto, unfolding(crate::specs::Header::header_of))]
+pub fn read_header(bytes: &[u8]) -> Option<Start>
     ensures { result ≡ header_of bytes.now }
 {
-    if fits(bytes) {
-        let engine = word(bytes, ENGINE);
-        if (engine == FREE_LIST) & (word(bytes, PAIRS) == 0) {
-            return Header::FreeList(free_list(bytes));
-        }
-        if engine == BUDDY {
-            return Header::Buddy(buddy(bytes));
-        }
+    if !fits(bytes) {
+        return None;
     }
-    Header::Refused
+    match word(bytes, ENGINE) {
+        FREE_LIST if word(bytes, PAIRS) == 0 => {
+            Some(begin(bytes, Settings::FreeList(free_list(bytes))))
+        }
+        BUDDY => Some(begin(bytes, Settings::Buddy(buddy(bytes)))),
+        _ => None,
+    }
 }

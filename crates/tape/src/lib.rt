@@ -6,6 +6,6 @@ mod header;
 mod numbers;
 mod record;
 
-pub use header::{BuddyStart, FreeListStart, HEADER_BYTES, Header, read_header};
+pub use header::{HEADER_BYTES, Settings, Start, read_header};
 pub use numbers::word_at;
 pub use record::{RECORD_BYTES_MOST, Record, read_record, record_length};

@@ -8,46 +8,25 @@ pub const WORD_BYTES: usize = 8;
 pub fn byte(bytes: &[u8], at: usize, k: usize) -> u8
     ensures { result ≡ get_or bytes.now (at + k) 0 }
 {
-    if at < bytes.len() {
-        if k < bytes.len() {
-            return first(bytes, at + k);
-        }
+    match at.checked_add(k) {
+        Some(i) if i < bytes.len() => bytes[i],
+        _ => 0,
     }
-    0
-}
-
-// The byte at a place, 0 past the end.
-fn first(bytes: &[u8], at: usize) -> u8
-    ensures { result ≡ get_or bytes.now at 0 }
-{
-    if at < bytes.len() { bytes[at] } else { 0 }
-}
-
-fn wide(byte: u8) -> u64
-    ensures value { result ≡ byte }
-    ensures upper_bound { result < 256 }
-{
-    byte as u64
-}
-
-// The number of the four bytes from the k-th after a place on.
-fn half(bytes: &[u8], at: usize, k: usize) -> u64
-    requires { k < 8 }
-    ensures value { result ≡ little (four bytes.now at k) }
-    ensures upper_bound { result < 4294967296 }
-{
-    let b0 = wide(byte(bytes, at, k));
-    let b1 = wide(byte(bytes, at, k + 1));
-    let b2 = wide(byte(bytes, at, k + 2));
-    let b3 = wide(byte(bytes, at, k + 3));
-    b0 + 256 * (b1 + 256 * (b2 + 256 * b3))
 }
 
 // The word at a place; each byte past the end counts as 0.
+#[tactic(auto, unfolding(crate::specs::Numbers::word_at))]
 pub fn word_at(bytes: &[u8], at: usize) -> u64
     ensures { result ≡ word_at bytes.now at }
 {
-    let low = half(bytes, at, 0);
-    let high = half(bytes, at, 4);
-    low + 4_294_967_296 * high
+    u64::from_le_bytes([
+        byte(bytes, at, 0),
+        byte(bytes, at, 1),
+        byte(bytes, at, 2),
+        byte(bytes, at, 3),
+        byte(bytes, at, 4),
+        byte(bytes, at, 5),
+        byte(bytes, at, 6),
+        byte(bytes, at, 7),
+    ])
 }

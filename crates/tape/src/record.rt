@@ -50,110 +50,86 @@ const DEVICE_REFUSAL: u8 = 5;
 
 const HOST_REFUSAL: u8 = 6;
 
-// Torn: it can't be read, and the replay stops there.
 #[derive(Clone, Copy)]
 pub enum Record {
     Ask(Ask),
     Deliver(Outcome),
     Return(Block),
     CleanUp,
-    Torn,
 }
 
 // The bytes of a record of this kind; of an unknown kind, the kind's own.
+#[tactic(auto, unfolding(crate::specs::Record::length_of))]
 pub fn record_length(kind: u8) -> usize
     ensures { result ≡ length_of kind }
 {
-    if kind == ASK {
-        return ASK_BYTES;
+    match kind {
+        ASK => ASK_BYTES,
+        DELIVER => DELIVER_BYTES,
+        RETURN => RETURN_BYTES,
+        _ => CLEAN_UP_BYTES,
     }
-    if kind == DELIVER {
-        return DELIVER_BYTES;
-    }
-    if kind == RETURN {
-        return RETURN_BYTES;
-    }
-    CLEAN_UP_BYTES
 }
 
 // Of an outcome with memory.
+#[tactic(auto, unfolding(crate::specs::Record::mapping_of))]
 fn mapping(code: u8) -> Mapping
     ensures { result ≡ mapping_of code }
 {
-    if code == MAPPED {
-        return Mapping::Mapped;
+    match code {
+        MAPPED => Mapping::Mapped,
+        NOT_WANTED => Mapping::NotWanted,
+        FAILED => Mapping::Failed,
+        OUT_OF_DEVICE => Mapping::OutOfDevice,
+        _ => Mapping::OutOfHost,
     }
-    if code == NOT_WANTED {
-        return Mapping::NotWanted;
-    }
-    if code == FAILED {
-        return Mapping::Failed;
-    }
-    if code == OUT_OF_DEVICE {
-        return Mapping::OutOfDevice;
-    }
-    Mapping::OutOfHost
 }
 
-fn delivery(code: u8, memory: u64) -> Record
+#[tactic(auto, unfolding(crate::specs::Record::delivery_in))]
+fn delivery(code: u8, memory: u64) -> Option<Outcome>
     ensures { result ≡ delivery_in code memory }
 {
-    if code <= OUT_OF_HOST {
-        let mapping = mapping(code);
-        let made = Memory {
+    match (code, memory) {
+        (MAPPED..=OUT_OF_HOST, _) => Some(Outcome::Made(Memory {
             number: memory,
-            mapping: mapping,
-        };
-        return Record::Deliver(Outcome::Made(made));
+            mapping: mapping(code),
+        })),
+        (DEVICE_REFUSAL, 0) => Some(Outcome::OutOfDevice),
+        (HOST_REFUSAL, 0) => Some(Outcome::OutOfHost),
+        _ => None,
     }
-    if (code == DEVICE_REFUSAL) & (memory == 0) {
-        return Record::Deliver(Outcome::OutOfDevice);
-    }
-    if (code == HOST_REFUSAL) & (memory == 0) {
-        return Record::Deliver(Outcome::OutOfHost);
-    }
-    Record::Torn
 }
 
 fn block(bytes: &[u8]) -> Block
     ensures { result ≡ block_in bytes.now }
 {
-    let serial = word_at(bytes, FIRST_AT);
-    let chunk = word_at(bytes, SECOND_AT);
-    let offset = word_at(bytes, THIRD_AT);
-    let size = word_at(bytes, FOURTH_AT);
     Block {
-        serial: serial,
-        chunk: chunk,
-        offset: offset,
-        size: size,
+        serial: word_at(bytes, FIRST_AT),
+        chunk: word_at(bytes, SECOND_AT),
+        offset: word_at(bytes, THIRD_AT),
+        size: word_at(bytes, FOURTH_AT),
     }
 }
 
-// The record at the front of these bytes, of a buddy store's tape or a free list's.
-pub fn read_record(bytes: &[u8], buddy: bool) -> Record
+// The record at the front of these bytes, of a buddy store's tape or a free list's; none where it is torn, and the replay stops there.
+#[tactic(auto, unfolding(crate::specs::Record::record_of, crate::specs::Record::body_of))]
+pub fn read_record(bytes: &[u8], buddy: bool) -> Option<Record>
     ensures { result ≡ record_of bytes.now buddy }
 {
     let kind = byte(bytes, 0, 0);
     if bytes.len() < record_length(kind) {
-        return Record::Torn;
+        return None;
     }
-    if kind == ASK {
-        let size = word_at(bytes, FIRST_AT);
-        let mask = word_at(bytes, SECOND_AT);
-        return Record::Ask(Ask {
-            size: size,
-            mask: mask,
-        });
+    match kind {
+        ASK => Some(Record::Ask(Ask {
+            size: word_at(bytes, FIRST_AT),
+            mask: word_at(bytes, SECOND_AT),
+        })),
+        DELIVER => {
+            delivery(byte(bytes, 0, OUTCOME_AT), word_at(bytes, MEMORY_AT)).map(Record::Deliver)
+        }
+        RETURN => Some(Record::Return(block(bytes))),
+        CLEAN_UP if !buddy => Some(Record::CleanUp),
+        _ => None,
     }
-    if kind == DELIVER {
-        return delivery(byte(bytes, 0, OUTCOME_AT), word_at(bytes, MEMORY_AT));
-    }
-    if kind == RETURN {
-        return Record::Return(block(bytes));
-    }
-    if (kind == CLEAN_UP) & !buddy {
-        return Record::CleanUp;
-    }
-    Record::Torn
 }

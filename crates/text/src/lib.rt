@@ -7,7 +7,7 @@ ghost use Rattle.text.specs.Written.{Stays};
 mod line;
 mod stores;
 
-use counter::{RankAnswer, Refused, TYPES_MOST, USAGES};
+use counter::Refused;
 use line::{line_end, refused_number, spaced};
 pub use line::{number, word};
 use std::io;
@@ -31,14 +31,10 @@ fn print_row<W: Write>(out: &mut W, usage: u64, row: Row) -> io::Result<()>
     ensures kept { Stays (W.contents out.old) (W.contents out.new) }
 {
     number(out, usage)?;
-    spaced(out, row.count as u64)?;
-    spaced(out, row.mask as u64)?;
-    let mut i = 0usize;
-    while i < TYPES_MOST {
-        if i < row.count as usize {
-            spaced(out, row.types[i] as u64)?;
-        }
-        i += 1;
+    spaced(out, u64::from(row.count))?;
+    spaced(out, u64::from(row.mask))?;
+    for t in row.types.iter().take(row.count as usize) {
+        spaced(out, u64::from(*t))?;
     }
     line_end(out)
 }
@@ -47,17 +43,11 @@ fn print_row<W: Write>(out: &mut W, usage: u64, row: Row) -> io::Result<()>
 pub fn print_ranking<W: Write>(out: &mut W, r: Ranked) -> io::Result<()>
     ensures kept { Stays (W.contents out.old) (W.contents out.new) }
 {
-    let answer = r.answer;
-    match answer {
-        RankAnswer::Ranked => {
-            let mut u = 0usize;
-            while u < USAGES {
-                let row = r.rows[u];
-                print_row(out, u as u64, row)?;
-                u += 1;
-            }
-            Ok(())
-        }
-        RankAnswer::Refused(refused) => print_refused(out, refused),
+    if let Err(refused) = r.answer {
+        return print_refused(out, refused);
     }
+    for (u, row) in r.rows.iter().enumerate() {
+        print_row(out, u as u64, *row)?;
+    }
+    Ok(())
 }

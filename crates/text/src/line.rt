@@ -69,6 +69,5 @@ pub fn refused_number<W: Write>(out: &mut W, r: Refused) -> io::Result<()>
     ensures kept { Stays (W.contents out.old) (W.contents out.new) }
 {
     word(out, "refused")?;
-    let refusal = r.refusal;
-    spaced(out, refusal.number() as u64)
+    spaced(out, u64::from(r.refusal.number()))
 }

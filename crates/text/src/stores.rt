@@ -3,7 +3,7 @@
 ghost use Rattle.text.specs.Written.{Stays};
 
 use crate::line::{line_end, refused_number, spaced, word};
-use counter::{AskAnswer, Block, DeliverAnswer, Heap, Order, Refused, ReleaseAnswer, ToFree};
+use counter::{Block, Granted, Heap, Lent, Order, Refused};
 use std::io;
 use std::io::Write;
 
@@ -13,7 +13,7 @@ fn print_counts<W: Write>(out: &mut W, used: u64, objects: u32) -> io::Result<()
 {
     word(out, " ;")?;
     spaced(out, used)?;
-    spaced(out, objects as u64)?;
+    spaced(out, u64::from(objects))?;
     line_end(out)
 }
 
@@ -34,8 +34,8 @@ fn print_order<W: Write>(out: &mut W, o: Order) -> io::Result<()>
 {
     word(out, "order")?;
     spaced(out, o.size)?;
-    spaced(out, o.memtype as u64)?;
-    spaced(out, o.map as u64)
+    spaced(out, u64::from(o.memtype))?;
+    spaced(out, u64::from(o.map))
 }
 
 // `refused N` or `refused N free MEMORY`
@@ -43,14 +43,11 @@ fn print_refusal<W: Write>(out: &mut W, r: Refused) -> io::Result<()>
     ensures kept { Stays (W.contents out.old) (W.contents out.new) }
 {
     refused_number(out, r)?;
-    let free = r.free;
-    match free {
-        ToFree::Nothing => Ok(()),
-        ToFree::Memory(memory) => {
-            word(out, " free")?;
-            spaced(out, memory)
-        }
+    if let Some(memory) = r.free {
+        word(out, " free")?;
+        spaced(out, memory)?;
     }
+    Ok(())
 }
 
 // `released K M1 .. MK`
@@ -59,43 +56,39 @@ fn print_list<W: Write>(out: &mut W, k: u64, list: &[u64]) -> io::Result<()>
 {
     word(out, "released")?;
     spaced(out, k)?;
-    let mut i = 0usize;
-    while i < list.len() {
-        if (i as u64) < k {
-            spaced(out, list[i])?;
-        }
-        i += 1;
+    for memory in list.iter().take(k as usize) {
+        spaced(out, *memory)?;
     }
     Ok(())
 }
 
 pub fn print_asked<W: Write>(
     out: &mut W,
-    answer: AskAnswer,
+    answer: Result<Granted, Refused>,
     used: u64,
     objects: u32,
 ) -> io::Result<()>
     ensures kept { Stays (W.contents out.old) (W.contents out.new) }
 {
     match answer {
-        AskAnswer::Block(lent) => print_block(out, lent.block)?,
-        AskAnswer::Order(order) => print_order(out, order)?,
-        AskAnswer::Refused(refused) => print_refusal(out, refused)?,
+        Ok(Granted::Block(lent)) => print_block(out, lent.block)?,
+        Ok(Granted::Order(order)) => print_order(out, order)?,
+        Err(refused) => print_refusal(out, refused)?,
     }
     print_counts(out, used, objects)
 }
 
 pub fn print_delivered<W: Write>(
     out: &mut W,
-    answer: DeliverAnswer,
+    answer: Result<Lent, Refused>,
     used: u64,
     objects: u32,
 ) -> io::Result<()>
     ensures kept { Stays (W.contents out.old) (W.contents out.new) }
 {
     match answer {
-        DeliverAnswer::Block(lent) => print_block(out, lent.block)?,
-        DeliverAnswer::Refused(refused) => print_refusal(out, refused)?,
+        Ok(lent) => print_block(out, lent.block)?,
+        Err(refused) => print_refusal(out, refused)?,
     }
     print_counts(out, used, objects)
 }
@@ -103,7 +96,7 @@ pub fn print_delivered<W: Write>(
 // Of a return or a clean-up, with the list that it wrote.
 pub fn print_released<W: Write>(
     out: &mut W,
-    answer: ReleaseAnswer,
+    answer: Result<u64, Refused>,
     list: &[u64],
     used: u64,
     objects: u32,
@@ -111,8 +104,8 @@ pub fn print_released<W: Write>(
     ensures kept { Stays (W.contents out.old) (W.contents out.new) }
 {
     match answer {
-        ReleaseAnswer::Released(k) => print_list(out, k, list)?,
-        ReleaseAnswer::Refused(refused) => print_refusal(out, refused)?,
+        Ok(k) => print_list(out, k, list)?,
+        Err(refused) => print_refusal(out, refused)?,
     }
     print_counts(out, used, objects)
 }
@@ -121,13 +114,11 @@ pub fn print_released<W: Write>(
 pub fn print_totals<W: Write>(out: &mut W, h: Heap) -> io::Result<()>
     ensures kept { Stays (W.contents out.old) (W.contents out.new) }
 {
-    let allocated = h.allocated;
-    let deallocated = h.deallocated;
     word(out, "totals")?;
-    spaced(out, allocated.hi)?;
-    spaced(out, allocated.lo)?;
-    spaced(out, deallocated.hi)?;
-    spaced(out, deallocated.lo)?;
+    spaced(out, h.allocated.hi)?;
+    spaced(out, h.allocated.lo)?;
+    spaced(out, h.deallocated.hi)?;
+    spaced(out, h.deallocated.lo)?;
     line_end(out)
 }
 

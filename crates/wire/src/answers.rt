@@ -1,11 +1,11 @@
 // Answers, written in six words.
+#![tactic(auto, unfolding(wire_rules::specs::Wire::said_out, wire_rules::specs::Wire::answer_out))]
+
 ghost use Rattle.std.specs.Prelude.{◌≡◌, []};
 ghost use Rattle.counter.specs.Paper.{refusal, refusal_of, block_of, set_up_said, ask_said, deliver_said, release_said, rank_said};
 ghost use Rattle.wire_rules.specs.Wire.{answer_out, said_out};
 
-use counter::{
-    AskAnswer, DeliverAnswer, Lent, RankAnswer, Refused, ReleaseAnswer, SetUpAnswer, ToFree,
-};
+use counter::{Granted, Lent, Refused};
 
 // What an answer's first word says.
 const READY: u64 = 0;
@@ -51,12 +51,10 @@ fn tell(w: &mut [u64], what: u64, a: u64, b: u64, c: u64, d: u64)
 fn tell_refused(w: &mut [u64], r: Refused)
     ensures { w.new ≡ said_out (refusal_of r) w.old }
 {
-    let refusal = r.refusal;
-    let n = refusal.number() as u64;
-    let free = r.free;
-    match free {
-        ToFree::Nothing => tell(w, REFUSED, n, 0, 0, 0),
-        ToFree::Memory(m) => tell(w, REFUSED, n, 1, m, 0),
+    let n = u64::from(r.refusal.number());
+    match r.free {
+        None => tell(w, REFUSED, n, 0, 0, 0),
+        Some(m) => tell(w, REFUSED, n, 1, m, 0),
     }
 }
 
@@ -74,55 +72,55 @@ pub fn tell_bad(w: &mut [u64])
     tell(w, REFUSED, 1, 0, 0, 0)
 }
 
-pub fn tell_set_up(w: &mut [u64], answer: SetUpAnswer)
+pub fn tell_set_up(w: &mut [u64], answer: Result<(), Refused>)
     ensures { w.new ≡ said_out (set_up_said answer) w.old }
 {
     match answer {
-        SetUpAnswer::Ready => tell(w, READY, 0, 0, 0, 0),
-        SetUpAnswer::Refused(r) => tell_refused(w, r),
+        Ok(()) => tell(w, READY, 0, 0, 0, 0),
+        Err(r) => tell_refused(w, r),
     }
 }
 
-pub fn tell_asked(w: &mut [u64], answer: AskAnswer)
+pub fn tell_asked(w: &mut [u64], answer: Result<Granted, Refused>)
     ensures { w.new ≡ said_out (ask_said answer) w.old }
 {
     match answer {
-        AskAnswer::Block(lent) => tell_block(w, lent),
-        AskAnswer::Order(o) => tell(
+        Ok(Granted::Block(lent)) => tell_block(w, lent),
+        Ok(Granted::Order(o)) => tell(
             w,
             ORDER,
-            o.store as u64,
+            u64::from(o.store),
             o.size,
-            o.memtype as u64,
-            o.map as u64,
+            u64::from(o.memtype),
+            u64::from(o.map),
         ),
-        AskAnswer::Refused(r) => tell_refused(w, r),
+        Err(r) => tell_refused(w, r),
     }
 }
 
-pub fn tell_delivered(w: &mut [u64], answer: DeliverAnswer)
+pub fn tell_delivered(w: &mut [u64], answer: Result<Lent, Refused>)
     ensures { w.new ≡ said_out (deliver_said answer) w.old }
 {
     match answer {
-        DeliverAnswer::Block(lent) => tell_block(w, lent),
-        DeliverAnswer::Refused(r) => tell_refused(w, r),
+        Ok(lent) => tell_block(w, lent),
+        Err(r) => tell_refused(w, r),
     }
 }
 
-pub fn tell_released(w: &mut [u64], answer: ReleaseAnswer)
+pub fn tell_released(w: &mut [u64], answer: Result<u64, Refused>)
     ensures { w.new ≡ said_out (release_said answer) w.old }
 {
     match answer {
-        ReleaseAnswer::Released(n) => tell(w, RELEASED, n, 0, 0, 0),
-        ReleaseAnswer::Refused(r) => tell_refused(w, r),
+        Ok(n) => tell(w, RELEASED, n, 0, 0, 0),
+        Err(r) => tell_refused(w, r),
     }
 }
 
-pub fn tell_ranked(w: &mut [u64], answer: RankAnswer)
+pub fn tell_ranked(w: &mut [u64], answer: Result<(), Refused>)
     ensures { w.new ≡ said_out (rank_said answer) w.old }
 {
     match answer {
-        RankAnswer::Ranked => tell(w, RANKED, 0, 0, 0, 0),
-        RankAnswer::Refused(r) => tell_refused(w, r),
+        Ok(()) => tell(w, RANKED, 0, 0, 0, 0),
+        Err(r) => tell_refused(w, r),
     }
 }

@@ -5,6 +5,7 @@ ghost use Rattle.wire_rules.specs.Wire.{mapping_in, outcome_in, outcome_ok};
 use counter::{Mapping, Memory, Outcome};
 
 // Whether the numbers are an outcome's.
+#[tactic(auto, unfolding(wire_rules::specs::Wire::outcome_ok))]
 pub fn is_outcome(what: u64, mapping: u64) -> bool
     ensures { result ≡ outcome_ok what mapping }
 {
@@ -14,34 +15,25 @@ pub fn is_outcome(what: u64, mapping: u64) -> bool
 fn read_mapping(m: u64) -> Mapping
     ensures { result ≡ mapping_in m }
 {
-    if m == 0 {
-        return Mapping::Mapped;
-    }
-    if m == 1 {
-        return Mapping::NotWanted;
-    }
-    if m == 2 {
-        return Mapping::Failed;
-    }
-    if m == 3 {
-        Mapping::OutOfDevice
-    } else {
-        Mapping::OutOfHost
+    match m {
+        0 => Mapping::Mapped,
+        1 => Mapping::NotWanted,
+        2 => Mapping::Failed,
+        3 => Mapping::OutOfDevice,
+        _ => Mapping::OutOfHost,
     }
 }
 
+#[tactic(auto, unfolding(wire_rules::specs::Wire::outcome_in))]
 pub fn read_outcome(what: u64, memory: u64, mapping: u64) -> Outcome
     ensures { result ≡ outcome_in what memory mapping }
 {
-    if what == 0 {
-        return Outcome::Made(Memory {
+    match what {
+        0 => Outcome::Made(Memory {
             number: memory,
             mapping: read_mapping(mapping),
-        });
-    }
-    if what == 1 {
-        Outcome::OutOfDevice
-    } else {
-        Outcome::OutOfHost
+        }),
+        1 => Outcome::OutOfDevice,
+        _ => Outcome::OutOfHost,
     }
 }

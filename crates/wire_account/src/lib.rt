@@ -6,12 +6,13 @@ ghost use Rattle.counter.specs.Account.{heap_at};
 ghost use Rattle.counter.specs.Limits.{heaps_most};
 ghost use Rattle.counter.specs.Paper.{ask_said};
 ghost use Rattle.counter.specs.Table.{heaps_ok};
-ghost use Rattle.counter.specs.declared.account.OpenOrder.TheVariants.{Kept};
+ghost use Rattle.std.specs.Prelude.{Some};
 ghost use Rattle.store_rules.specs.Shares.{share_of};
 ghost use Rattle.wire_rules.specs.Wire.{heaps_in, order_in, account_in, account_ok, heap_out, order_out, share_out, asked_out};
 
 use counter::{
-    Ask, AskAnswer, HEAP_BYTES_MOST, HEAPS, Heap, KeptOrder, OpenOrder, Order, StoreSettings, Total,
+    Ask, Granted, HEAP_BYTES_MOST, HEAPS, Heap, KeptOrder, OpenOrder, Order, Refused,
+    StoreSettings, Total,
 };
 use store_rules::Share;
 use wire::{is_narrow, narrow};
@@ -52,22 +53,22 @@ pub fn is_account(w: &[u64]) -> bool
 }
 
 // Whether every heap is in 01's table.
+#[tactic(auto, using(wire_rules::proofs::Orders::right_yes))]
 pub fn heaps_in_table(w: &[u64]) -> bool
     requires { account_ok w.now ≡ true }
     ensures { result ≡ heaps_ok (heaps_in w.now heaps_most) }
 {
+    // to the end, so that no turn branches: what is tested is in the table nearly always
     let mut ok = true;
-    let mut i = 0;
-    while i < HEAPS {
+    for i in 0..HEAPS {
         let at = HEAP_WORDS * i;
-        let fits = (w[at] <= HEAP_BYTES_MOST) & (w[at + 1] <= HEAP_BYTES_MOST);
-        ok = ok & fits;
-        i += 1;
+        ok &= (w[at] <= HEAP_BYTES_MOST) & (w[at + 1] <= HEAP_BYTES_MOST);
     }
     ok
 }
 
 // The heap with this number, an empty one past the last.
+#[tactic(auto, using(wire_rules::proofs::Orders::right_yes, wire_rules::proofs::Shares::read_own, wire_rules::proofs::Shares::read_none))]
 fn read_heap(w: &[u64], i: usize) -> Heap
     requires { account_ok w.now ≡ true }
     ensures { result ≡ heap_at (account_in w.now) i }
@@ -87,13 +88,7 @@ fn read_heap(w: &[u64], i: usize) -> Heap
             },
         };
     }
-    let none = Total { hi: 0, lo: 0 };
-    Heap {
-        size: 0,
-        used: 0,
-        allocated: none,
-        deallocated: none,
-    }
+    Heap::default()
 }
 
 // The order that is open, if one is.
@@ -102,9 +97,9 @@ pub fn read_order(w: &[u64]) -> OpenOrder
     ensures { result ≡ order_in w.now }
 {
     if words::word(w, OPEN_AT) == 0 {
-        return OpenOrder::Nothing;
+        return None;
     }
-    OpenOrder::Kept(KeptOrder {
+    Some(KeptOrder {
         ask: Ask {
             size: words::word(w, ASK_SIZE_AT),
             mask: words::word(w, ASK_MASK_AT),
@@ -120,84 +115,80 @@ pub fn read_order(w: &[u64]) -> OpenOrder
 
 // A store's share of the account that the words are; `table` says whether every heap is in 01's table. That walk over the heaps is
 // its caller's, so that this is small enough to be made there and the share is not copied.
+#[tactic(auto, using(wire_rules::proofs::Orders::right_yes))]
 pub fn read_share(w: &[u64], s: StoreSettings, table: bool) -> Share
     requires { (account_ok w.now ≡ true) × (table ≡ heaps_ok (heaps_in w.now heaps_most)) }
     ensures { result ≡ share_of s (account_in w.now) }
 {
-    let heap = read_heap(w, s.heap);
     Share {
         bounded: table,
         idle: w[OPEN_AT] == 0,
-        heap: heap,
+        heap: read_heap(w, s.heap),
         objects: narrow(w[OBJECTS_AT]),
     }
 }
 
+#[tactic(auto, using(wire_rules::proofs::Orders::right_yes))]
 fn put_heap(w: &mut [u64], i: usize, h: Heap)
     requires { (i < heaps_most) × (account_ok w.old ≡ true) }
     ensures { w.new ≡ heap_out h i w.old }
 {
     let at = HEAP_WORDS * i;
-    let allocated = h.allocated;
-    let deallocated = h.deallocated;
     w[at] = h.size;
     w[at + 1] = h.used;
-    w[at + 2] = allocated.hi;
-    w[at + 3] = allocated.lo;
-    w[at + 4] = deallocated.hi;
-    w[at + 5] = deallocated.lo;
+    w[at + 2] = h.allocated.hi;
+    w[at + 3] = h.allocated.lo;
+    w[at + 4] = h.deallocated.hi;
+    w[at + 5] = h.deallocated.lo;
 }
 
 // The store's heap and the objects are written again.
+#[tactic(auto, unfolding(wire_rules::specs::Wire::share_out))]
 pub fn put_share(w: &mut [u64], s: StoreSettings, share: Share)
     requires { account_ok w.old ≡ true }
     ensures { w.new ≡ share_out s.heap share w.old }
 {
-    let i = s.heap;
-    if i < HEAPS {
-        let heap = share.heap;
-        put_heap(w, i, heap);
+    if s.heap < HEAPS {
+        put_heap(w, s.heap, share.heap);
     }
-    words::put(w, OBJECTS_AT, share.objects as u64);
+    words::put(w, OBJECTS_AT, u64::from(share.objects));
 }
 
 // An order is open.
+#[tactic(auto, unfolding(wire_rules::specs::Wire::order_out, wire_rules::specs::Wire::order_words_out))]
 fn put_kept(w: &mut [u64], k: KeptOrder)
-    ensures { w.new ≡ order_out (Kept k) w.old }
+    ensures { w.new ≡ order_out (Some k) w.old }
 {
     let o = k.order;
     let a = k.ask;
     words::put(w, OPEN_AT, 1);
-    words::put(w, ORDER_STORE_AT, o.store as u64);
+    words::put(w, ORDER_STORE_AT, u64::from(o.store));
     words::put(w, ORDER_SIZE_AT, o.size);
-    words::put(w, ORDER_MEMTYPE_AT, o.memtype as u64);
-    words::put(w, ORDER_MAP_AT, o.map as u64);
+    words::put(w, ORDER_MEMTYPE_AT, u64::from(o.memtype));
+    words::put(w, ORDER_MAP_AT, u64::from(o.map));
     words::put(w, ASK_SIZE_AT, a.size);
     words::put(w, ASK_MASK_AT, a.mask);
 }
 
+#[tactic(auto, unfolding(wire_rules::specs::Wire::order_out))]
 pub fn put_order(w: &mut [u64], order: OpenOrder)
     ensures { w.new ≡ order_out order w.old }
 {
     match order {
-        OpenOrder::Nothing => words::put(w, OPEN_AT, 0),
-        OpenOrder::Kept(k) => put_kept(w, k),
+        None => words::put(w, OPEN_AT, 0),
+        Some(k) => put_kept(w, k),
     }
 }
 
 // What an ask leaves: where it told an order, that is kept with the ask.
-pub fn put_asked(w: &mut [u64], size: u64, mask: u64, answer: AskAnswer)
+pub fn put_asked(w: &mut [u64], size: u64, mask: u64, answer: Result<Granted, Refused>)
     ensures { w.new ≡ asked_out size mask (ask_said answer) w.old }
 {
     match answer {
-        AskAnswer::Block(_) => {}
-        AskAnswer::Refused(_) => {}
-        AskAnswer::Order(o) => {
-            let ask = Ask {
-                size: size,
-                mask: mask,
-            };
-            put_kept(w, KeptOrder { ask: ask, order: o })
+        Ok(Granted::Order(order)) => {
+            let ask = Ask { size, mask };
+            put_kept(w, KeptOrder { ask, order })
         }
+        Ok(Granted::Block(_)) | Err(_) => {}
     }
 }

@@ -10,7 +10,7 @@ use Rattle.counter.specs.Account.{no_heap}
 use Rattle.counter.specs.Limits.{heaps_most}
 use Rattle.counter.specs.declared.account.Account.{Account}
 use Rattle.counter.specs.declared.account.KeptOrder.{KeptOrder}
-use Rattle.counter.specs.declared.account.OpenOrder.TheVariants.{Kept}
+use Rattle.std.specs.Prelude.{Some}
 use Rattle.wire_rules.specs.Wire.{narrow_most, account_words, objects_at, open_at, order_store_at, order_memtype_at, order_map_at, heap_at, heap_in, heaps_in, order_in, account_in, account_ok, heaps_out, account_out}
 use Rattle.wire_rules.proofs.Heaps.{heaps_length, heap_same, heaps_each, heaps_front, heaps_past}
 use Rattle.wire_rules.proofs.Orders.{Right, right_yes, right_all, order_length, order_before, order_again, Tested, order_tested}
@@ -71,13 +71,13 @@ module _ (a : Account) (w : List ℕ) (right : Right w) where
   unfolding account_out
   order_back = order_again a.order unordered unordered_whole
 
-  order_right : ((k : KeptOrder) → a.order ≡ Kept k → (k.order.store ≤ narrow_most) × (k.order.memtype ≤ narrow_most)) → Tested (account_out a w)
+  order_right : ((k : KeptOrder) → a.order ≡ Some k → (k.order.store ≤ narrow_most) × (k.order.memtype ≤ narrow_most)) → Tested (account_out a w)
   unfolding account_out
   order_right n = order_tested a.order unordered unordered_whole unordered_tested n
 
 -- what a call writes is the words of an account, and read again it is the account that the call left
 pub account_again : (a : Account) (w : List ℕ) → account_ok w ≡ true → length a.heaps ≡ heaps_most → a.objects ≤ narrow_most
-    → ((k : KeptOrder) → a.order ≡ Kept k → (k.order.store ≤ narrow_most) × (k.order.memtype ≤ narrow_most))
+    → ((k : KeptOrder) → a.order ≡ Some k → (k.order.store ≤ narrow_most) × (k.order.memtype ≤ narrow_most))
     → (account_ok (account_out a w) ≡ true) × (account_in (account_out a w) ≡ a)
 account_again a w ok heaps objects narrow =
     let r = right_yes w ok in

@@ -11,13 +11,12 @@ use lib.ListN.{length, get_or, set, length-set}
 use lib.Seq.{get_or-set_other, set-get_or}
 use borrow.Author.Tests.{leb-true, eqb-true, le-leb, eq-eqb, ne_eqb}
 use Rattle.lists.proofs.Bools.{and_left, and_right, and_both, same?}
-use Rattle.counter.specs.Paper.{ask_said}
+use Rattle.counter.specs.Paper.{ask_said, AskAnswer}
 use Rattle.counter.specs.declared.account.KeptOrder.{KeptOrder}
-use Rattle.counter.specs.declared.account.OpenOrder.{OpenOrder}
-use Rattle.counter.specs.declared.account.OpenOrder.TheVariants.{Nothing, Kept}
+use Rattle.counter.specs.Open.{OpenOrder}
+use Rattle.std.specs.Prelude.{None, Some, Ok}
 use Rattle.counter.specs.declared.account.Order.{Order}
-use Rattle.counter.specs.declared.answers.AskAnswer.{AskAnswer}
-use Rattle.counter.specs.declared.answers.AskAnswer.TheVariants as A
+use Rattle.counter.specs.declared.answers.Granted.TheVariants as G
 use Rattle.wire_rules.specs.Wire.{narrow_most, narrow_ok, account_words, objects_at, open_at, order_store_at, order_size_at, order_memtype_at, order_map_at, ask_size_at, ask_mask_at, order_in, account_ok, flag, order_words_out, order_out, asked_out}
 use Rattle.wire_rules.proofs.Heaps.{over, on}
 use Rattle.wire_rules.proofs.Flags.{cast_flag}
@@ -81,7 +80,7 @@ right_all w r =
 -- ---- as the code reads an order
 
 -- where none is open
-pub order_none : (w : List ℕ) (n : ℕ) → n ≡ get_or w open_at 0 → n ≡ 0 → Nothing ≡ order_in w
+pub order_none : (w : List ℕ) (n : ℕ) → n ≡ get_or w open_at 0 → n ≡ 0 → None ≡ order_in w
 unfolding order_in
 order_none w n e z = rw (eq-eqb (get_or w open_at 0) 0 (sym e ∙ z))
 
@@ -89,7 +88,7 @@ order_none w n e z = rw (eq-eqb (get_or w open_at 0) 0 (sym e ∙ z))
 pub order_kept : (w : List ℕ) (n a b s t z k l m : ℕ) → n ≡ get_or w open_at 0 → (n ≡ 0 → ⊥)
     → a ≡ get_or w ask_size_at 0 → b ≡ get_or w ask_mask_at 0 → s ≡ get_or w order_store_at 0 → t ≡ s → z ≡ get_or w order_size_at 0
     → k ≡ get_or w order_memtype_at 0 → l ≡ k → m ≡ get_or w order_map_at 0
-    → Kept (record { ask = record { size = a; mask = b }; order = record { store = t; size = z; memtype = l; map = eqb m 1 } }) ≡ order_in w
+    → Some (record { ask = record { size = a; mask = b }; order = record { store = t; size = z; memtype = l; map = eqb m 1 } }) ≡ order_in w
 unfolding order_in
 order_kept w n a b s t z k l m e ne ea eb es et ez ek el em =
     rw (ne_eqb (get_or w open_at 0) 0 (λ q. ne (e ∙ q)), ea, eb, et, es, ez, el, ek, em)
@@ -100,22 +99,22 @@ order_kept w n a b s t z k l m e ne ea eb es et ez ek el em =
 pub put_kept : (k : KeptOrder) (w a b c d e f g : List ℕ)
     → a ≡ set w open_at 1 → b ≡ set a order_store_at k.order.store → c ≡ set b order_size_at k.order.size → d ≡ set c order_memtype_at k.order.memtype
     → e ≡ set d order_map_at (bool_byte k.order.map) → f ≡ set e ask_size_at k.ask.size → g ≡ set f ask_mask_at k.ask.mask
-    → g ≡ order_out (Kept k) w
+    → g ≡ order_out (Some k) w
 unfolding order_out order_words_out
 put_kept k w a b c d e f g e0 e1 e2 e3 e4 e5 e6 = rw (e6, e5, e4, e3, e2, e1, e0, cast_flag k.order.map)
 
 -- none, by its first word
-pub put_none : (o : OpenOrder) (w v : List ℕ) → o ≡ Nothing → v ≡ set w open_at 0 → v ≡ order_out o w
+pub put_none : (o : OpenOrder) (w v : List ℕ) → o ≡ None → v ≡ set w open_at 0 → v ≡ order_out o w
 unfolding order_out
 put_none o w v e f = rw e f
 
 -- one, as it is kept
-pub put_some : (o : OpenOrder) (k : KeptOrder) (w v : List ℕ) → o ≡ Kept k → v ≡ order_out (Kept k) w → v ≡ order_out o w
+pub put_some : (o : OpenOrder) (k : KeptOrder) (w v : List ℕ) → o ≡ Some k → v ≡ order_out (Some k) w → v ≡ order_out o w
 put_some o k w v e f = rw e f
 
 -- one that an ask told, kept with the ask
-pub put_told : (answer : AskAnswer) (o : Order) (size mask : ℕ) (w v : List ℕ) → answer ≡ A.Order o
-    → v ≡ order_out (Kept (record { ask = record { size = size; mask = mask }; order = o })) w → v ≡ asked_out size mask (ask_said answer) w
+pub put_told : (answer : AskAnswer) (o : Order) (size mask : ℕ) (w v : List ℕ) → answer ≡ Ok (G.Order o)
+    → v ≡ order_out (Some (record { ask = record { size = size; mask = mask }; order = o })) w → v ≡ asked_out size mask (ask_said answer) w
 put_told answer o size mask w v e f = rw e f
 
 -- ---- what was written, read again
@@ -127,8 +126,8 @@ order_words_length o s z k m a b w = simp length-set
 
 pub order_length : (o : OpenOrder) (w : List ℕ) → length (order_out o w) ≡ length w
 unfolding order_out
-order_length Nothing w = length-set w open_at 0
-order_length (Kept k) w = order_words_length _ _ _ _ _ _ _ w
+order_length None w = length-set w open_at 0
+order_length (Some k) w = order_words_length _ _ _ _ _ _ _ w
 
 order_words_before : (o s z k m a b : ℕ) (w : List ℕ) (i : ℕ) → i < open_at → get_or (order_words_out o s z k m a b w) i 0 ≡ get_or w i 0
 unfolding order_words_out
@@ -145,8 +144,8 @@ order_words_before o s z k m a b w i l =
 -- a word before the order's stays
 pub order_before : (o : OpenOrder) (w : List ℕ) (i : ℕ) → i < open_at → get_or (order_out o w) i 0 ≡ get_or w i 0
 unfolding order_out
-order_before Nothing w i l = get_or-set_other w open_at i 0 0 (λ e. omega arith)
-order_before (Kept k) w i l = order_words_before _ _ _ _ _ _ _ w i l
+order_before None w i l = get_or-set_other w open_at i 0 0 (λ e. omega arith)
+order_before (Some k) w i l = order_words_before _ _ _ _ _ _ _ w i l
 
 -- the seven words
 record Seven (v : List ℕ) (o s z k m a b : ℕ) : Type 0 where
@@ -194,8 +193,8 @@ flag_most false = omega arith
 -- the order that was written is read again
 pub order_again : (o : OpenOrder) (w : List ℕ) → length w ≡ account_words → order_in (order_out o w) ≡ o
 unfolding order_in order_out
-order_again Nothing w l = let e : get_or (set w open_at 0) open_at 0 ≡ 0 = on w open_at 0 account_words l (omega arith) in rw e
-order_again (Kept k) w l =
+order_again None w l = let e : get_or (set w open_at 0) open_at 0 ≡ 0 = on w open_at 0 account_words l (omega arith) in rw e
+order_again (Some k) w l =
     let t = seven 1 k.order.store k.order.size k.order.memtype (flag k.order.map) k.ask.size k.ask.mask w l in
     rw (t.open_is, t.store_is, t.size_is, t.memtype_is, t.map_is, t.asked_is, t.mask_is, unflag k.order.map)
 
@@ -208,9 +207,9 @@ pub record Tested (v : List ℕ) : Type 0 where
 
 -- and passes the test, where its store and type are of 32 bits, and where the words that none leaves passed it
 pub order_tested : (o : OpenOrder) (w : List ℕ) → length w ≡ account_words → Tested w
-    → ((k : KeptOrder) → o ≡ Kept k → (k.order.store ≤ narrow_most) × (k.order.memtype ≤ narrow_most)) → Tested (order_out o w)
+    → ((k : KeptOrder) → o ≡ Some k → (k.order.store ≤ narrow_most) × (k.order.memtype ≤ narrow_most)) → Tested (order_out o w)
 unfolding order_out
-order_tested Nothing w l t h =
+order_tested None w l t h =
     let past : (k : ℕ) → open_at < k → get_or (set w open_at 0) k 0 ≡ get_or w k 0 = λ k q. get_or-set_other w open_at k 0 0 (λ e. omega arith) in
     record {
       opened = omega (arith, on w open_at 0 account_words l (omega arith));
@@ -218,7 +217,7 @@ order_tested Nothing w l t h =
       memtype = omega (arith, past order_memtype_at (omega arith), t.memtype);
       map = omega (arith, past order_map_at (omega arith), t.map);
     }
-order_tested (Kept k) w l tested h =
+order_tested (Some k) w l tested h =
     let t = seven 1 k.order.store k.order.size k.order.memtype (flag k.order.map) k.ask.size k.ask.mask w l in
     let n = h k refl in
     record {

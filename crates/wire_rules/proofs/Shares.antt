@@ -17,8 +17,8 @@ use Rattle.counter.specs.Paper as Paper
 use Rattle.counter.specs.Table.{heap_ok, heaps_upto, heaps_ok}
 use Rattle.counter.specs.declared.account.Heap.{Heap}
 use Rattle.counter.specs.declared.account.KeptOrder.{KeptOrder}
-use Rattle.counter.specs.declared.account.OpenOrder.{OpenOrder}
-use Rattle.counter.specs.declared.account.OpenOrder.TheVariants.{Nothing, Kept}
+use Rattle.counter.specs.Open.{OpenOrder}
+use Rattle.std.specs.Prelude.{None, Some}
 use Rattle.counter.specs.declared.settings.StoreSettings.{StoreSettings}
 use Rattle.counter.proofs.Tables.{heaps_more}
 use Rattle.store_rules.specs.Outcomes.{with_order}
@@ -65,7 +65,7 @@ module _ (w : List ℕ) where
         order = record { store = get_or w order_store_at 0; size = get_or w order_size_at 0; memtype = get_or w order_memtype_at 0; map = eqb (get_or w order_map_at 0) 1 };
       })
     where
-      by : (b : Bool) (k : KeptOrder) → b ≡ no_order (cond b Nothing (Kept k))
+      by : (b : Bool) (k : KeptOrder) → b ≡ no_order (cond b None (Some k))
       by true k = refl
       by false k = refl
 

@@ -7,8 +7,8 @@ use Rattle.counter.specs.Paper.{Said}
 use Rattle.counter.specs.Paper as Paper
 use Rattle.counter.specs.declared.account.Account.{Account}
 use Rattle.counter.specs.declared.account.Heap.{Heap}
-use Rattle.counter.specs.declared.account.OpenOrder.{OpenOrder}
-use Rattle.counter.specs.declared.account.OpenOrder.TheVariants.{Nothing, Kept}
+use Rattle.counter.specs.Open.{OpenOrder}
+use Rattle.std.specs.Prelude.{None, Some}
 use Rattle.counter.specs.declared.answers.Mapping.{Mapping}
 use Rattle.counter.specs.declared.answers.Mapping.TheVariants as M
 use Rattle.counter.specs.declared.answers.Outcome.{Outcome}
@@ -109,8 +109,8 @@ heaps_in w (suc n) = heaps_in w n ++ (heap_in w n ∷ [])
 
 unfoldable pub order_in : List ℕ → OpenOrder
 order_in w =
-    cond (eqb (get_or w open_at 0) 0) Nothing
-    (Kept
+    cond (eqb (get_or w open_at 0) 0) None
+    (Some
     (record {
       ask = record { size = get_or w ask_size_at 0; mask = get_or w ask_mask_at 0 };
       order = record { store = get_or w order_store_at 0; size = get_or w order_size_at 0; memtype = get_or w order_memtype_at 0; map = eqb (get_or w order_map_at 0) 1 };
@@ -150,8 +150,8 @@ order_words_out opened store size memtype map asked mask w =
 
 -- the words of an order that is not open are spare
 unfoldable pub order_out : OpenOrder → List ℕ → List ℕ
-order_out Nothing w = set w open_at 0
-order_out (Kept k) w = order_words_out 1 k.order.store k.order.size k.order.memtype (flag k.order.map) k.ask.size k.ask.mask w
+order_out None w = set w open_at 0
+order_out (Some k) w = order_words_out 1 k.order.store k.order.size k.order.memtype (flag k.order.map) k.ask.size k.ask.mask w
 
 unfoldable pub account_out : Account → List ℕ → List ℕ
 account_out a w = order_out a.order (set (heaps_out a.heaps heaps_most w) objects_at a.objects)
@@ -166,7 +166,7 @@ asked_out size mask Paper.ready w = w
 asked_out size mask (Paper.block serial chunk offset z) w = w
 asked_out size mask (Paper.order store z memtype map) w =
     order_out
-    (Kept (record { ask = record { size = size; mask = mask }; order = record { store = store; size = z; memtype = memtype; map = map } }))
+    (Some (record { ask = record { size = size; mask = mask }; order = record { store = store; size = z; memtype = memtype; map = map } }))
     w
 asked_out size mask (Paper.released n) w = w
 asked_out size mask Paper.ranked w = w

@@ -1,32 +1,16 @@
 -- What a loop has filled of a table, one store a turn: the words that it has put are the front of what is to stand there.
 use mathlib.Core.Path.{◌≡◌, sym, ap, ◌∙◌}
-use mathlib.Core.List.{List, [], ◌∷◌, ◌++◌, append_assoc, append-nil}
-use Prim.Native.Nat.{ℕ, suc, ◌+◌, ◌-◌, ◌<◌}
+use mathlib.Core.List.{List, [], ◌∷◌, ◌++◌, append_assoc}
+use Prim.Native.Nat.{ℕ, ◌+◌, ◌<◌}
 use native.Mathlib.Omega.{arith}
 use native.Mathlib.Numerals.{add-one}
 use lib.ListN.{length, take, get_or, set, replicate, length-set, length-replicate, get_or-replicate}
-use lib.Seq.{take-suc-set, take_all, get_or-set_same, get_or-set_other}
+use lib.Seq.{take-suc-set, get_or-set_same, get_or-set_other}
 use Rattle.words.specs.Words.{mark_at, blank}
 
 -- the next word of what is to stand there, put after those that do
 pub put_next : (whole t : List ℕ) (k v : ℕ) (rest : List ℕ) → k < length t → whole ≡ take k t ++ (v ∷ rest) → whole ≡ take (k + 1) (set t k v) ++ rest
 put_next whole t k v rest h e = e ∙ rw (add-one k, take-suc-set t k v h) (sym (append_assoc (take k t) (v ∷ []) rest))
-
--- ---- every word the same
-
-module _ (n v : ℕ) where
-  pub fill_none : replicate n v ≡ replicate (n - 0) v
-  fill_none = let e : n - 0 ≡ n = omega arith in rw e
-
-  pub fill_next : (t : List ℕ) (i : ℕ) → i < n → n ≡ length t → replicate n v ≡ take i t ++ replicate (n - i) v → replicate n v ≡ take (i + 1) (set t i v) ++ replicate (n - (i + 1)) v
-  fill_next t i h l e =
-      let z : n - i ≡ suc (n - (i + 1)) = omega arith in
-      put_next (replicate n v) t i v (replicate (n - (i + 1)) v) (omega arith) (rw z at e)
-
-  pub fill_done : (t : List ℕ) (i : ℕ) → i ≡ n → n ≡ length t → replicate n v ≡ take i t ++ replicate (n - i) v → t ≡ replicate n v
-  fill_done t i h l e =
-      let z : n - i ≡ 0 = omega arith in
-      sym (e ∙ rw z (append-nil (take i t)) ∙ take_all i t (omega arith))
 
 -- ---- a table with its mark, and every other word the same
 

@@ -1,25 +1,13 @@
 // A table of which every word is written.
-ghost use Rattle.std.specs.Prelude.{◌≡◌, length, replicate};
+ghost use Rattle.std.specs.Prelude.{◌≡◌, length};
 ghost use Rattle.words.specs.Words.{blank};
 
 use crate::MARK_AT;
-
-// Every word is v from now on.
-pub fn fill(t: &mut [u64], v: u64)
-    ensures { t.new ≡ replicate (length t.old) v }
-{
-    let n = t.len();
-    let mut i = 0;
-    while i < n {
-        t[i] = v;
-        i += 1;
-    }
-}
 
 // The mark m stands first from now on, and v in every other word.
 pub fn put_blank(t: &mut [u64], m: u64, v: u64)
     ensures { t.new ≡ blank (length t.old) m v }
 {
-    fill(t, v);
+    t.fill(v);
     crate::put(t, MARK_AT, m);
 }

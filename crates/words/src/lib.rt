@@ -2,6 +2,7 @@
 // No word that a table holds can make any of these fail, so what is built on them equals its definition on torn tables too.
 #![tactic(auto)]
 
+mod columns;
 mod filling;
 mod moves;
 mod rows;
@@ -9,7 +10,8 @@ mod rows;
 ghost use Rattle.std.specs.Prelude.{◌≡◌, ◌≤◌, ◌<◌, get_or, set};
 ghost use Rattle.words.specs.Words.{widest, at_most, cell_of};
 
-pub use filling::{fill, put_blank};
+pub use columns::Column;
+pub use filling::put_blank;
 pub use moves::shift;
 pub use rows::{close_row, open_row};
 

@@ -1,9 +1,6 @@
-use Rattle.std.proofs.Common.{refl, arith, length-set}
+use Rattle.std.proofs.Common.{refl}
 use Rattle.buddy_levels.proofs.Steps.{pair_dropped}
 use Rattle.buddy_levels.proofs.drop_pair.Goals as goal
-
-pub shape_of-tree : goal.shape_of-tree
-shape_of-tree c = simp length-set (omega arith)
 
 pub returns : goal.returns
 returns c =

@@ -4,4 +4,5 @@ use Rattle.buddy_test.proofs.are_met.Goals as goal
 pub returns : goal.returns
 returns c =
     let a = c.args in
-    met_told a.s a.levels a.loans.now a.chunks.now a.index.now a.tree.now a.held a.count c.left_chunks-left.result c.requires.3 c.requires.5 c.left_chunks-left.ensures
+    let v = a.v.now in
+    met_told v.settings a.levels v.loans.now v.chunks.now v.index.now v.tree.now a.held a.count _ c.requires.2 c.requires.4 c.left_chunks-left.ensures

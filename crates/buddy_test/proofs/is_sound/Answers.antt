@@ -1,107 +1,79 @@
-use mathlib.Core.Bool.{not}
-use mathlib.Core.Path.{ap, sym, ◌∙◌}
+use mathlib.Core.Path.{sym, ◌∙◌}
+use Prim.Native.Nat.{◌≤◌}
 use native.Mathlib.Omega.{arith}
-use Rattle.lists.proofs.Bools.{not_no}
+use Rattle.counter.specs.Limits.{levels_most}
+use Rattle.buddy_rules.specs.Seen.{seen}
 use Rattle.buddy_test.proofs.Trees.{count_told, leaves_told, within_told}
-use Rattle.buddy_test.proofs.Whole.{head_fails, levels_few, kept_fails, places_own, places_few, places_fail, held_few, memories_fail, good_fail, leaves_fail, met_fails, units_left}
+use Rattle.buddy_test.proofs.Whole.{head_fails, levels_few, kept_fails, places_own, places_fail, held_few, memories_fail, good_fail, leaves_fail, met_fails, units_left}
 use Rattle.buddy_test.proofs.is_sound.Goals as goal
 
 pub returns-then-not-is_head : goal.returns-then-not-is_head
-returns-then-not-is_head c =
-    let a = c.args in
-    head_fails a.s a.head.now a.loans.now a.chunks.now a.index.now a.tree.now c.is_head.result c.is_head.ensures (ap not c.if-not-is_head.true)
+returns-then-not-is_head c = let v = c.args.v.now in head_fails v.settings (seen v) c.if-not-is_head.ensures
 
-pub returns-then-not-kept : goal.returns-then-not-kept
-returns-then-not-kept c =
-    let a = c.args in
-    kept_fails a.s a.head.now a.loans.now a.chunks.now a.index.now a.tree.now c.is_head.result c.is_head.ensures (ap not c.if-not-is_head.false) c.word-levels.result c.word-places.result c.word-held.result c.word-given.result c.word-levels.ensures c.word-places.ensures c.word-held.ensures c.word-given.ensures c.are_kept-kept.result.ok c.are_kept-kept.ensures.ok_value c.if-not-kept.true
+pub returns-in_default : goal.returns-in_default
+returns-in_default c = let v = c.args.v.now in kept_fails v.settings (seen v) _ _ c.word-levels.ensures c.word-places.ensures c.in_default.ensures.right
 
-pub returns-then-not-parts : goal.returns-then-not-parts
-returns-then-not-parts c =
-    let a = c.args in
-    places_fail a.s a.head.now a.loans.now a.chunks.now a.index.now a.tree.now c.is_head.result c.is_head.ensures (ap not c.if-not-is_head.false) c.word-levels.result c.word-places.result c.word-held.result c.word-given.result c.word-levels.ensures c.word-places.ensures c.word-held.ensures c.word-given.ensures c.are_kept-kept.result.ok c.are_kept-kept.ensures.ok_value c.if-not-kept.false c.are_places-parts.result.ok c.are_places-parts.ensures.ok_value c.if-not-parts.true
+pub returns-in_default-held_chunks : goal.returns-in_default-held_chunks
+returns-in_default-held_chunks c = let v = c.args.v.now in places_fail v.settings (seen v) _ _ c.word-levels.ensures c.word-places.ensures c.in_default-held_chunks.ensures.right
 
 pub are_memories-requires : goal.are_memories-requires
-are_memories-requires c =
-    let a = c.args in
-    (held_few a.s a.head.now a.loans.now a.chunks.now a.index.now a.tree.now c.is_head.result c.is_head.ensures (ap not c.if-not-is_head.false) c.word-levels.result c.word-places.result c.word-held.result c.word-given.result c.word-levels.ensures c.word-places.ensures c.word-held.ensures c.word-given.ensures c.are_kept-kept.result.ok c.are_kept-kept.ensures.ok_value c.if-not-kept.false c.are_places-parts.result.ok c.are_places-parts.ensures.ok_value c.if-not-parts.false c.requires.0, c.word-held.ensures)
+are_memories-requires c = let v = c.args.v.now in (held_few v.settings (seen v) v.in_table _ c.word-used.ensures c.in-Some-held_chunks.ensures.right, c.word-used.ensures)
 
 pub returns-then-not-are_memories : goal.returns-then-not-are_memories
-returns-then-not-are_memories c =
-    let a = c.args in
-    memories_fail a.s a.head.now a.loans.now a.chunks.now a.index.now a.tree.now c.is_head.result c.is_head.ensures (ap not c.if-not-is_head.false) c.word-levels.result c.word-places.result c.word-held.result c.word-given.result c.word-levels.ensures c.word-places.ensures c.word-held.ensures c.word-given.ensures c.are_kept-kept.result.ok c.are_kept-kept.ensures.ok_value c.if-not-kept.false c.are_places-parts.result.ok c.are_places-parts.ensures.ok_value c.if-not-parts.false c.are_memories.result c.are_memories.ensures (ap not c.if-not-are_memories.true)
+returns-then-not-are_memories c = let v = c.args.v.now in memories_fail v.settings (seen v) _ _ c.word-levels.ensures c.word-places.ensures c.if-not-are_memories.ensures
 
-pub are_good-good-requires : goal.are_good-good-requires
-are_good-good-requires c =
-    let a = c.args in
-    (c.requires.0.pairs_most_lem, levels_few a.s a.head.now a.loans.now a.chunks.now a.index.now a.tree.now c.is_head.result c.is_head.ensures (ap not c.if-not-is_head.false) c.word-levels.result c.word-places.result c.word-held.result c.word-given.result c.word-levels.ensures c.word-places.ensures c.word-held.ensures c.word-given.ensures, omega (arith, c.requires.1.room))
-
-pub returns-then-not-good : goal.returns-then-not-good
-returns-then-not-good c =
-    let a = c.args in
-    good_fail a.s a.head.now a.loans.now a.chunks.now a.index.now a.tree.now c.is_head.result c.is_head.ensures (ap not c.if-not-is_head.false) c.word-levels.result c.word-places.result c.word-held.result c.word-given.result c.word-levels.ensures c.word-places.ensures c.word-held.ensures c.word-given.ensures c.are_kept-kept.result.ok c.are_kept-kept.ensures.ok_value c.if-not-kept.false c.are_places-parts.result.ok c.are_places-parts.ensures.ok_value c.if-not-parts.false c.are_memories.result c.are_memories.ensures (ap not c.if-not-are_memories.false) c.are_good-good.result.ok c.are_good-good.ensures.ok_value c.if-not-good.true
+pub returns-in_default-count_pairs : goal.returns-in_default-count_pairs
+returns-in_default-count_pairs c = let v = c.args.v.now in good_fail v.settings (seen v) _ _ c.word-levels.ensures c.word-places.ensures c.in_default-count_pairs.ensures.right
 
 pub are_leaves-requires : goal.are_leaves-requires
 are_leaves-requires c =
-    let a = c.args in
-    let levels = levels_few a.s a.head.now a.loans.now a.chunks.now a.index.now a.tree.now c.is_head.result c.is_head.ensures (ap not c.if-not-is_head.false) c.word-levels.result c.word-places.result c.word-held.result c.word-given.result c.word-levels.ensures c.word-places.ensures c.word-held.ensures c.word-given.ensures in
-    let few = places_few a.s a.head.now a.loans.now a.chunks.now a.index.now a.tree.now c.is_head.result c.is_head.ensures (ap not c.if-not-is_head.false) c.word-levels.result c.word-places.result c.word-held.result c.word-given.result c.word-levels.ensures c.word-places.ensures c.word-held.ensures c.word-given.ensures c.are_kept-kept.result.ok c.are_kept-kept.ensures.ok_value c.if-not-kept.false c.requires.0 in
-    let held = held_few a.s a.head.now a.loans.now a.chunks.now a.index.now a.tree.now c.is_head.result c.is_head.ensures (ap not c.if-not-is_head.false) c.word-levels.result c.word-places.result c.word-held.result c.word-given.result c.word-levels.ensures c.word-places.ensures c.word-held.ensures c.word-given.ensures c.are_kept-kept.result.ok c.are_kept-kept.ensures.ok_value c.if-not-kept.false c.are_places-parts.result.ok c.are_places-parts.ensures.ok_value c.if-not-parts.false c.requires.0 in (
-      omega (arith, c.are_good-good.ensures.used_value.1, levels),
-      omega (arith, c.are_good-good.ensures.used_value.2, levels),
-      omega (arith, c.are_kept-kept.ensures.live_value.1, few),
-      omega (arith, c.are_places-parts.ensures.used_value.1, held),
-    )
+    let v = c.args.v.now in
+    let levels = levels_few v.settings (seen v) _ c.word-levels.ensures c.if-not-is_head.ensures in
+    let own = places_own v.settings (seen v) _ c.in-Some.ensures.right in
+    let held = held_few v.settings (seen v) v.in_table _ c.word-used.ensures c.in-Some-held_chunks.ensures.right in
+    let pairs = c.in-Some-count_pairs.ensures.counts in
+    (omega (arith, pairs.2, levels), omega (arith, pairs.3, levels), omega (arith, c.in-Some.ensures.live.1, own, v.in_table.store.loans_most_lem), omega (arith, c.in-Some-held_chunks.ensures.held.1, held))
 
 pub returns-then-not-are_leaves : goal.returns-then-not-are_leaves
 returns-then-not-are_leaves c =
-    let a = c.args in
-    let good = c.are_good-good.ensures.used_value.0 (not_no _ c.if-not-good.false) in
-    let leaves =
-    leaves_told a.s c.word-levels.result a.loans.now a.chunks.now a.index.now a.tree.now c.word-places.result c.are_good-good.result.used c.are_kept-kept.result.live c.word-places.ensures good.0 (c.are_kept-kept.ensures.live_value.0 (not_no _ c.if-not-kept.false))
-    c.are_good-good.result.ready c.are_places-parts.result.used c.are_leaves.result good.1 (c.are_places-parts.ensures.used_value.0 (not_no _ c.if-not-parts.false)) c.are_leaves.ensures in
-    leaves_fail a.s a.head.now a.loans.now a.chunks.now a.index.now a.tree.now c.is_head.result c.is_head.ensures (ap not c.if-not-is_head.false) c.word-levels.result c.word-places.result c.word-held.result c.word-given.result c.word-levels.ensures c.word-places.ensures c.word-held.ensures c.word-given.ensures c.are_kept-kept.result.ok c.are_kept-kept.ensures.ok_value c.if-not-kept.false c.are_places-parts.result.ok c.are_places-parts.ensures.ok_value c.if-not-parts.false c.are_memories.result c.are_memories.ensures (ap not c.if-not-are_memories.false) c.are_good-good.result.ok c.are_good-good.ensures.ok_value c.if-not-good.false c.are_leaves.result leaves (ap not c.if-not-are_leaves.true)
+    let v = c.args.v.now in
+    let pairs = c.in-Some-count_pairs.ensures.counts in
+    let told = leaves_told v.settings _ v.loans.now v.chunks.now v.index.now v.tree.now _ _ _ c.word-places.ensures pairs.0 c.in-Some.ensures.live.0 _ _ _ pairs.1 c.in-Some-held_chunks.ensures.held.0 c.if-not-are_leaves.ensures in
+    leaves_fail v.settings (seen v) _ _ c.word-levels.ensures c.word-places.ensures told
 
-pub overflow_add-count : goal.overflow_add-count
-overflow_add-count c =
-    let a = c.args in
-    let few = places_few a.s a.head.now a.loans.now a.chunks.now a.index.now a.tree.now c.is_head.result c.is_head.ensures (ap not c.if-not-is_head.false) c.word-levels.result c.word-places.result c.word-held.result c.word-given.result c.word-levels.ensures c.word-places.ensures c.word-held.ensures c.word-given.ensures c.are_kept-kept.result.ok c.are_kept-kept.ensures.ok_value c.if-not-kept.false c.requires.0 in
-    let levels = levels_few a.s a.head.now a.loans.now a.chunks.now a.index.now a.tree.now c.is_head.result c.is_head.ensures (ap not c.if-not-is_head.false) c.word-levels.result c.word-places.result c.word-held.result c.word-given.result c.word-levels.ensures c.word-places.ensures c.word-held.ensures c.word-given.ensures in
-    omega (arith, c.are_good-good.ensures.used_value.1, c.are_kept-kept.ensures.live_value.1, few, levels)
+pub overflow_add-pairs : goal.overflow_add-pairs
+overflow_add-pairs c =
+    let v = c.args.v.now in
+    let levels = levels_few v.settings (seen v) _ c.word-levels.ensures c.if-not-is_head.ensures in
+    let own = places_own v.settings (seen v) _ c.in-Some.ensures.right in
+    omega (arith, c.in-Some-count_pairs.ensures.counts.2, c.in-Some.ensures.live.1, own, v.in_table.store.loans_most_lem, levels)
 
 pub are_met-requires : goal.are_met-requires
 are_met-requires c =
-    let a = c.args in
-    let good = c.are_good-good.ensures.used_value.0 (not_no _ c.if-not-good.false) in
-    let levels = levels_few a.s a.head.now a.loans.now a.chunks.now a.index.now a.tree.now c.is_head.result c.is_head.ensures (ap not c.if-not-is_head.false) c.word-levels.result c.word-places.result c.word-held.result c.word-given.result c.word-levels.ensures c.word-places.ensures c.word-held.ensures c.word-given.ensures in (
-      c.requires.0,
+    let v = c.args.v.now in
+    let levels = levels_few v.settings (seen v) _ c.word-levels.ensures c.if-not-is_head.ensures in
+    let own = places_own v.settings (seen v) _ c.in-Some.ensures.right in
+    let pairs = c.in-Some-count_pairs.ensures in (
       levels,
-      held_few a.s a.head.now a.loans.now a.chunks.now a.index.now a.tree.now c.is_head.result c.is_head.ensures (ap not c.if-not-is_head.false) c.word-levels.result c.word-places.result c.word-held.result c.word-given.result c.word-levels.ensures c.word-places.ensures c.word-held.ensures c.word-given.ensures c.are_kept-kept.result.ok c.are_kept-kept.ensures.ok_value c.if-not-kept.false c.are_places-parts.result.ok c.are_places-parts.ensures.ok_value c.if-not-parts.false c.requires.0,
-      c.word-held.ensures,
-      within_told a.s c.word-levels.result a.loans.now a.chunks.now a.index.now a.tree.now a.head.now c.word-places.result c.requires.0 c.requires.1 levels c.word-places.ensures (places_own a.s a.head.now a.loans.now a.chunks.now a.index.now a.tree.now c.is_head.result c.is_head.ensures (ap not c.if-not-is_head.false) c.word-levels.result c.word-places.result c.word-held.result c.word-given.result c.word-levels.ensures c.word-places.ensures c.word-held.ensures c.word-given.ensures c.are_kept-kept.result.ok c.are_kept-kept.ensures.ok_value c.if-not-kept.false) (sym c.are_good-good.ensures.ok_value ∙ (not_no _ c.if-not-good.false)),
-      count_told a.s c.word-levels.result a.loans.now a.chunks.now a.index.now a.tree.now c.word-places.result c.are_good-good.result.used c.are_kept-kept.result.live c.word-places.ensures good.0 (c.are_kept-kept.ensures.live_value.0 (not_no _ c.if-not-kept.false)),
+      held_few v.settings (seen v) v.in_table _ c.word-used.ensures c.in-Some-held_chunks.ensures.right,
+      c.word-used.ensures,
+      within_told v.settings _ v.loans.now v.chunks.now v.index.now v.tree.now v.head.now _ v.in_table c.requires levels c.word-places.ensures own (sym pairs.right),
+      count_told v.settings _ v.loans.now v.chunks.now v.index.now v.tree.now _ _ _ c.word-places.ensures pairs.counts.0 c.in-Some.ensures.live.0,
     )
 
 pub returns-then-not-are_met : goal.returns-then-not-are_met
-returns-then-not-are_met c =
-    let a = c.args in
-    let good = c.are_good-good.ensures.used_value.0 (not_no _ c.if-not-good.false) in
-    let leaves =
-    leaves_told a.s c.word-levels.result a.loans.now a.chunks.now a.index.now a.tree.now c.word-places.result c.are_good-good.result.used c.are_kept-kept.result.live c.word-places.ensures good.0 (c.are_kept-kept.ensures.live_value.0 (not_no _ c.if-not-kept.false))
-    c.are_good-good.result.ready c.are_places-parts.result.used c.are_leaves.result good.1 (c.are_places-parts.ensures.used_value.0 (not_no _ c.if-not-parts.false)) c.are_leaves.ensures in
-    met_fails a.s a.head.now a.loans.now a.chunks.now a.index.now a.tree.now c.is_head.result c.is_head.ensures (ap not c.if-not-is_head.false) c.word-levels.result c.word-places.result c.word-held.result c.word-given.result c.word-levels.ensures c.word-places.ensures c.word-held.ensures c.word-given.ensures c.are_kept-kept.result.ok c.are_kept-kept.ensures.ok_value c.if-not-kept.false c.are_places-parts.result.ok c.are_places-parts.ensures.ok_value c.if-not-parts.false c.are_memories.result c.are_memories.ensures (ap not c.if-not-are_memories.false) c.are_good-good.result.ok c.are_good-good.ensures.ok_value c.if-not-good.false c.are_leaves.result leaves (ap not c.if-not-are_leaves.false) c.are_met.result c.are_met.ensures (ap not c.if-not-are_met.true)
+returns-then-not-are_met c = let v = c.args.v.now in met_fails v.settings (seen v) _ _ c.word-levels.ensures c.word-places.ensures c.if-not-are_met.ensures
 
 pub are_units-requires : goal.are_units-requires
 are_units-requires c =
-    let a = c.args in
-    let own = places_own a.s a.head.now a.loans.now a.chunks.now a.index.now a.tree.now c.is_head.result c.is_head.ensures (ap not c.if-not-is_head.false) c.word-levels.result c.word-places.result c.word-held.result c.word-given.result c.word-levels.ensures c.word-places.ensures c.word-held.ensures c.word-given.ensures c.are_kept-kept.result.ok c.are_kept-kept.ensures.ok_value c.if-not-kept.false in
-    (c.requires.0, omega (arith, own, c.requires.0.store.loans_most_lem), c.word-places.ensures, omega (arith, own, c.requires.1.loans))
+    let v = c.args.v.now in
+    let own = places_own v.settings (seen v) _ c.in-Some.ensures.right in
+    (v.in_table, omega (arith, own, v.in_table.store.loans_most_lem), c.word-places.ensures, omega (arith, own, c.requires.loans))
 
 pub returns : goal.returns
 returns c =
-    let a = c.args in
-    let good = c.are_good-good.ensures.used_value.0 (not_no _ c.if-not-good.false) in
-    let leaves =
-    leaves_told a.s c.word-levels.result a.loans.now a.chunks.now a.index.now a.tree.now c.word-places.result c.are_good-good.result.used c.are_kept-kept.result.live c.word-places.ensures good.0 (c.are_kept-kept.ensures.live_value.0 (not_no _ c.if-not-kept.false))
-    c.are_good-good.result.ready c.are_places-parts.result.used c.are_leaves.result good.1 (c.are_places-parts.ensures.used_value.0 (not_no _ c.if-not-parts.false)) c.are_leaves.ensures in
-    units_left a.s a.head.now a.loans.now a.chunks.now a.index.now a.tree.now c.is_head.result c.is_head.ensures (ap not c.if-not-is_head.false) c.word-levels.result c.word-places.result c.word-held.result c.word-given.result c.word-levels.ensures c.word-places.ensures c.word-held.ensures c.word-given.ensures c.are_kept-kept.result.ok c.are_kept-kept.ensures.ok_value c.if-not-kept.false c.are_places-parts.result.ok c.are_places-parts.ensures.ok_value c.if-not-parts.false c.are_memories.result c.are_memories.ensures (ap not c.if-not-are_memories.false) c.are_good-good.result.ok c.are_good-good.ensures.ok_value c.if-not-good.false c.are_leaves.result leaves (ap not c.if-not-are_leaves.false) c.are_met.result c.are_met.ensures (ap not c.if-not-are_met.false) c.are_units.result c.are_units.ensures
+    let v = c.args.v.now in
+    let pairs = c.in-Some-count_pairs.ensures in
+    let leaves = leaves_told v.settings _ v.loans.now v.chunks.now v.index.now v.tree.now _ _ _ c.word-places.ensures pairs.counts.0 c.in-Some.ensures.live.0 _ _ _ pairs.counts.1 c.in-Some-held_chunks.ensures.held.0 c.if-not-are_leaves.ensures in
+    units_left v.settings (seen v) _ _ c.word-levels.ensures c.word-places.ensures
+    c.if-not-is_head.ensures c.in-Some.ensures.right c.in-Some-held_chunks.ensures.right c.if-not-are_memories.ensures pairs.right leaves c.if-not-are_met.ensures _ c.are_units.ensures

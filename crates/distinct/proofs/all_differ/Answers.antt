@@ -8,7 +8,7 @@ pub returns-then-climbs : goal.returns-then-climbs
 returns-then-climbs c =
     let a = c.args in
     let e = rw c.gather.ensures at c.climbs.ensures in
-    ((λ yes. climbing_distinct (column a.t.now a.at a.w (length a.found.now)) (sym e ∙ c.if-climbs.true)), λ d. refl)
+    ((λ yes. climbing_distinct (column a.t.now a.c.at a.c.width (length a.found.now)) (sym e ∙ c.if-climbs.true)), λ d. refl)
 
 pub returns : goal.returns
 returns c =

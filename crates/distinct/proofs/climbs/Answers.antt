@@ -1,16 +1,8 @@
-use mathlib.Core.Path.{sym, ◌∙◌}
-use native.Mathlib.Omega.{arith}
-use Rattle.distinct.proofs.Order.{climbing_on, climbing_stops, climbing_ends}
+use lib.Dec.{ltb}
+use Rattle.std.proofs.Common.{rules, refl}
+use Rattle.std.proofs.lemmas.Fn.{always_returns_same}
+use Rattle.distinct.proofs.Order.{climbing_told}
 use Rattle.distinct.proofs.climbs.Goals as goal
 
-pub returns-then-a-i : goal.returns-then-a-i
-returns-then-a-i c =
-    sym (c.loop-i.invariant.1 ∙ climbing_stops c.args.a.now c.loop-i.i (omega arith) (omega arith) (omega arith))
-
-pub loop-i-preserved : goal.loop-i-preserved
-loop-i-preserved c =
-    (omega arith, c.loop-i.invariant.1 ∙ climbing_on c.args.a.now c.loop-i.i (omega arith) (omega arith) (omega arith))
-
 pub returns : goal.returns
-returns c =
-    sym (c.loop-i.invariant.1 ∙ climbing_ends c.args.a.now c.loop-i.i (omega arith))
+returns c = climbing_told c.args.a.now c.is_sorted_by.result (c.is_sorted_by.ensures.cases ltb (always_returns_same _ _ _ (λ a r f h. (search rules, refl))))

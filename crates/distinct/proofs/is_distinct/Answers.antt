@@ -12,8 +12,7 @@ slice_bounds-all_differ-end c =
     sym (new_front c.args.n chunks_most 0 c.requires.2)
 
 pub all_differ-requires : goal.all_differ-requires
-all_differ-requires c =
-    (c.requires.0, c.requires.1, new_fits c.args.n chunks_most 0 c.requires.2, c.requires.3)
+all_differ-requires c = new_fits c.args.n chunks_most 0 c.requires.2
 
 pub returns : goal.returns
 returns c =

@@ -1,21 +1,10 @@
 use Rattle.std.proofs.Common.{rules}
-use Rattle.heap.proofs.Bounds.{agrees_carried, agrees_over, agrees_plain}
+use Rattle.heap.proofs.Bounds.{agrees_carried}
 use Rattle.heap.proofs.agrees.Goals as goal
-
-pub returns-then-d : goal.returns-then-d
-returns-then-d c =
-    let a = c.args in
-    let r = c.wrapping_add_u64-lo in
-    agrees_over a.h (search rules, search rules) (search rules, search rules) (search rules) r.result (search rules) r.ensures.value c.if-lo-h.true c.if-d.true
-
-pub returns-then-lo-h : goal.returns-then-lo-h
-returns-then-lo-h c =
-    let a = c.args in
-    let r = c.wrapping_add_u64-lo in
-    agrees_carried a.h (search rules, search rules) (search rules, search rules) (search rules) r.result (search rules) r.ensures.value c.if-lo-h.true
 
 pub returns : goal.returns
 returns c =
-    let a = c.args in
-    let r = c.wrapping_add_u64-lo in
-    agrees_plain a.h (search rules, search rules) (search rules, search rules) (search rules) r.result (search rules) r.ensures.value c.if-lo-h.false
+    let low = c.overflowing_add-lo in
+    let high = rw c.from.ensures at c.overflowing_add-hi.ensures in
+    agrees_carried c.args.h (search rules, search rules) (search rules, search rules) (search rules) low.result.0 c.overflowing_add-hi.result.0 low.result.1 c.overflowing_add-hi.result.1
+    (search rules) low.ensures.value low.ensures.overflow high.value high.overflow

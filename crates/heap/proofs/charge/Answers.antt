@@ -3,4 +3,4 @@ use Rattle.heap.proofs.charge.Goals as goal
 
 pub returns : goal.returns
 unfolding charged_of
-returns c = rw (c.wrapping_add_u64-used.ensures.value, c.plus-allocated.ensures)
+returns c = rw c.plus.ensures

@@ -1,7 +1,4 @@
-use borrow.Author.Rules.{rules}
-use mathlib.Core.Path.{◌≡◌, ap, ◌∙◌}
-use native.Mathlib.Omega.{arith}
-use lib.ListN.{length}
+use Rattle.std.proofs.Common.{ap, ◌∙◌, length, rules}
 use Rattle.linked_rank.specs.Rows.{types_out}
 use Rattle.linked_rank.proofs.Rows.{types_more, types_length}
 use Rattle.linked_rank.proofs.put_types.Goals as goal
@@ -11,15 +8,7 @@ unfolding types_out
 loop-j-init c = search rules
 
 pub loop-j-preserved : goal.loop-j-preserved
-loop-j-preserved c =
-    let l = c.loop-j in
-    (omega arith, types_more _ _ l.j _ _ _ l.invariant.1 c.put.ensures)
+loop-j-preserved c = let l = c.loop-j in types_more _ _ l.j _ _ _ l.invariant c.put.ensures
 
 pub shape_of-w : goal.shape_of-w
-shape_of-w c = let l = c.loop-j in ap length l.invariant.1 ∙ types_length _ _ l.j _
-
-pub returns : goal.returns
-returns c =
-    let l = c.loop-j in
-    let e : l.j ≡ 32 = omega arith in
-    rw e at l.invariant.1
+shape_of-w c = let l = c.loop-j in ap length l.invariant ∙ types_length _ _ l.j _

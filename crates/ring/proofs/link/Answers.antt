@@ -32,7 +32,7 @@ pub returns-then-h : goal.returns-then-h
 returns-then-h c =
     let a = c.args in
     link_first a.head a.next_at a.prev_at a.step a.p a.t.now _ _ _ _
-    c.head_in-h.ensures c.if-h.true refl c.put_links.ensures (rw c.record_of.ensures at c.put_head.ensures)
+    c.head_in-h.ensures c.if-h.true refl c.put_links.ensures c.put_head.ensures
 
 pub returns-else-h : goal.returns-else-h
 returns-else-h c =

@@ -26,4 +26,4 @@ pub returns-else-q-p : goal.returns-else-q-p
 returns-else-q-p c =
     let a = c.args in
     unlink_one a.head a.next_at a.prev_at a.step a.p a.t.now _ _ _ _ _
-    c.link_in-n.ensures c.link_in-q.ensures c.if-q-p.false c.put_link_in.ensures c.put_link_in-else-q-p.ensures (rw c.record_of.ensures at c.move_head.ensures)
+    c.link_in-n.ensures c.link_in-q.ensures c.if-q-p.false c.put_link_in.ensures c.put_link_in-else-q-p.ensures c.put_head-else-q-p.ensures

@@ -13,20 +13,16 @@ returns-then-chunk-eq0 c = rw c.if-chunk-eq0.true (sym (grown_none c.args.size c
 pub loop-c-init : goal.loop-c-init
 loop-c-init c = reached_first c.args.chunk c.args.size
 
-pub returns-then-c : goal.returns-then-c
+pub returns-in_default : goal.returns-in_default
 unfolding grown
-returns-then-c c = omega (arith, reached_over (omega arith) (omega arith) c.loop-c.invariant (omega arith))
+returns-in_default c = omega (arith, reached_over (omega arith) (omega arith) c.loop-c.invariant (omega arith))
 
 pub loop-c-smaller : goal.loop-c-smaller
 loop-c-smaller c = omega (arith, reached_positive (omega arith) c.loop-c.invariant)
 
 pub loop-c-preserved : goal.loop-c-preserved
-loop-c-preserved c = reached_next c.loop-c.invariant (omega arith)
+loop-c-preserved c = let twice = c.in-Some.ensures in rw twice.1 (reached_next c.loop-c.invariant (omega arith))
 
-pub returns-then-c-last : goal.returns-then-c-last
+pub returns : goal.returns
 unfolding grown
-returns-then-c-last c = omega (arith, reached_done (omega arith) (omega arith) c.loop-c.invariant (omega arith))
-
-pub returns-else-c-last : goal.returns-else-c-last
-unfolding grown
-returns-else-c-last c = omega (arith, reached_done (omega arith) (omega arith) c.loop-c.invariant (omega arith))
+returns c = omega (arith, reached_done (omega arith) (omega arith) c.loop-c.invariant (omega arith))

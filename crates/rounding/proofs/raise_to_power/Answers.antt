@@ -1,18 +1,17 @@
-use mathlib.Core.Path.{sym}
+use mathlib.Core.Path.{◌≡◌, sym, ap, ◌∙◌}
+use Prim.Native.Nat.{ℕ, ◌*◌, ◌-◌, ◌%◌, ◌^◌, ◌<◌}
 use native.Mathlib.Omega.{arith}
+use Rattle.std.proofs.Common.{Option, Some, None, SomeIff}
+use Rattle.rounding_rules.specs.Raising.{bits, power_up, raised}
 use Rattle.rounding_rules.proofs.Powers.{shifted}
-use Rattle.rounding_rules.proofs.Raising.{power_one, power_fits, power_past, raised_to}
+use Rattle.rounding_rules.proofs.Raising.{power_fits, power_past}
 use Rattle.rounding.proofs.raise_to_power.Goals as goal
 
 -- `raise_to_power` meets its contract: the power is 1 shifted by the digits of x - 1, and there are at most 64.
 
-pub returns-then-x-le1 : goal.returns-then-x-le1
-returns-then-x-le1 c = rw (power_one c.if-x-le1.true) (sym (raised_to (omega arith)))
+by_shift : (x k : ℕ) (r : Option ℕ) → k ≡ bits 64 (x - 1) → SomeIff r (k < 64) (1 * 2 ^ k % 2 ^ 64) → r ≡ raised (power_up x)
+by_shift x k None e h = sym (power_past x e (omega (arith, h)))
+by_shift x k (Some y) e h = ap Some (h.1 ∙ shifted 64 k h.0) ∙ sym (power_fits x e h.0)
 
-pub returns-then-k-lt64 : goal.returns-then-k-lt64
-returns-then-k-lt64 c =
-    let k = c.digits-k.result in
-    rw (shifted 64 k (omega arith)) (sym (power_fits c.args.x c.digits-k.ensures (omega arith)))
-
-pub returns-else-k-lt64 : goal.returns-else-k-lt64
-returns-else-k-lt64 c = sym (power_past c.args.x c.digits-k.ensures (omega arith))
+pub returns : goal.returns
+returns c = by_shift c.args.x _ _ (c.digits.ensures ∙ ap (bits 64) c.saturating_sub.ensures) c.checked_shl.ensures

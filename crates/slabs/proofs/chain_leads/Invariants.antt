@@ -1,10 +1,7 @@
-use Rattle.std.proofs.Common.{◌≡◌}
+use Rattle.std.proofs.Common.{◌≡◌, ◌-◌}
 use Rattle.slabs.specs.Slab.{vacant_at, link_at}
 use Rattle.slabs.specs.Test.{leads}
 use Rattle.slabs.proofs.chain_leads.Given as goal
 
-abbrev pub invariant-loop-left : goal.invariant-loop-left
-invariant-loop-left l = leads (vacant_at l.records l.mark l.width) (link_at l.links l.at l.step) l.n l.h l.k ≡ leads (vacant_at l.records l.mark l.width) (link_at l.links l.at l.step) l.n l.cur l.left
-
-abbrev pub decreases-loop-left : goal.decreases-loop-left
-decreases-loop-left l = l.left
+abbrev pub invariant-loop : goal.invariant-loop
+invariant-loop l = leads (vacant_at l.records l.mark l.width) (link_at l.links l.at l.step) l.n l.h l.k ≡ leads (vacant_at l.records l.mark l.width) (link_at l.links l.at l.step) l.n l.cur (l.k - l.counter)

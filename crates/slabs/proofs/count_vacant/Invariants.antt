@@ -1,10 +1,7 @@
-use Rattle.std.proofs.Common.{◌≡◌, ◌-◌, ◌≤◌}
+use Rattle.std.proofs.Common.{◌≡◌, ◌≤◌}
 use Rattle.slabs.specs.Slab.{vacant_at}
 use Rattle.slabs.specs.Test.{vacancies}
 use Rattle.slabs.proofs.count_vacant.Given as goal
 
 abbrev pub invariant-loop-p : goal.invariant-loop-p
-invariant-loop-p l = (l.p ≤ l.n) × (l.count ≤ l.p) × (l.count ≡ vacancies (vacant_at l.records l.mark l.width) l.p)
-
-abbrev pub decreases-loop-p : goal.decreases-loop-p
-decreases-loop-p l = l.n - l.p
+invariant-loop-p l = (l.count ≤ l.p) × (l.count ≡ vacancies (vacant_at l.records l.mark l.width) l.p)

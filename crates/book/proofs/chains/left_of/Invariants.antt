@@ -1,4 +1,4 @@
-use Rattle.std.proofs.Common.{◌≡◌, ◌-◌, ◌≤◌}
+use Rattle.std.proofs.Common.{◌≡◌}
 use Rattle.slabs.specs.Slab.{vacant_at}
 use Rattle.store_rules.specs.Loans.{loan_words, size_at}
 use Rattle.book_rules.specs.Book.{serial_of, first_in, next_in}
@@ -7,7 +7,4 @@ use Rattle.book.proofs.chains.left_of.Given as goal
 
 abbrev pub invariant-loop-i : goal.invariant-loop-i
 invariant-loop-i l =
-    (l.i ≤ l.n) × (l.left ≡ left_of (vacant_at l.loans size_at loan_words) (first_in l.index) (next_in l.index) (serial_of l.loans) l.n l.places l.given l.k l.i)
-
-abbrev pub decreases-loop-i : goal.decreases-loop-i
-decreases-loop-i l = l.n - l.i
+    l.left ≡ left_of (vacant_at l.loans size_at loan_words) (first_in l.index) (next_in l.index) (serial_of l.loans) l.n l.places l.given l.k l.i

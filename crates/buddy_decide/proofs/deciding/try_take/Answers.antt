@@ -6,7 +6,7 @@ use Rattle.buddy_decide.proofs.deciding.try_take.Goals as goal
 pub returns-then-own-loan : goal.returns-then-own-loan
 returns-then-own-loan c =
     let a = c.args in
-    λ chunks. (λ h objects. take_full a.s a.level a.head.now a.loans.now chunks a.index.now a.tree.now a.from (left_no a.s a.level a.head.now a.loans.now chunks a.index.now a.tree.now _ c.next_loan-loan.ensures c.if-own-loan.true), refl)
+    λ chunks. (λ h objects. take_full a.v.now.settings a.level a.v.now.head.now a.v.now.loans.now chunks a.v.now.index.now a.v.now.tree.now a.from (left_no a.v.now.settings a.level a.v.now.head.now a.v.now.loans.now chunks a.v.now.index.now a.v.now.tree.now _ c.next_loan-loan.ensures c.if-own-loan.true), refl)
 
 pub has_pairs-requires : goal.has_pairs-requires
 has_pairs-requires c = record { pairs_le_pairs_most = search rules; by_index = c.requires.0.takes }
@@ -14,14 +14,14 @@ has_pairs-requires c = record { pairs_le_pairs_most = search rules; by_index = c
 pub returns-then-not-has_pairs : goal.returns-then-not-has_pairs
 returns-then-not-has_pairs c =
     let a = c.args in
-    λ chunks. (λ h objects. take_none a.s a.level a.head.now a.loans.now chunks a.index.now a.tree.now a.from (left_yes a.s a.level a.head.now a.loans.now chunks a.index.now a.tree.now _ c.next_loan-loan.ensures c.if-own-loan.false) (sym (pairs_are a.s a.level a.head.now a.loans.now chunks a.index.now a.tree.now _ _ _ refl c.has_pairs.ensures) ∙ c.if-not-has_pairs.true), refl)
+    λ chunks. (λ h objects. take_none a.v.now.settings a.level a.v.now.head.now a.v.now.loans.now chunks a.v.now.index.now a.v.now.tree.now a.from (left_yes a.v.now.settings a.level a.v.now.head.now a.v.now.loans.now chunks a.v.now.index.now a.v.now.tree.now _ c.next_loan-loan.ensures c.if-own-loan.false) (sym (pairs_are a.v.now.settings a.level a.v.now.head.now a.v.now.loans.now chunks a.v.now.index.now a.v.now.tree.now _ _ _ refl c.has_pairs.ensures) ∙ c.if-not-has_pairs.true), refl)
 
-pub returns-then-given_in-eq18446744073709551615 : goal.returns-then-given_in-eq18446744073709551615
-returns-then-given_in-eq18446744073709551615 c =
+pub returns-then-v : goal.returns-then-v
+returns-then-v c =
     let a = c.args in
-    λ chunks. (λ h objects. take_spent a.s a.level a.head.now a.loans.now chunks a.index.now a.tree.now a.from _ (left_yes a.s a.level a.head.now a.loans.now chunks a.index.now a.tree.now _ c.next_loan-loan.ensures c.if-own-loan.false) (sym (pairs_are a.s a.level a.head.now a.loans.now chunks a.index.now a.tree.now _ _ _ refl c.has_pairs.ensures) ∙ c.if-not-has_pairs.false) c.given_in.ensures c.if-given_in-eq18446744073709551615.true, refl)
+    λ chunks. (λ h objects. take_spent a.v.now.settings a.level a.v.now.head.now a.v.now.loans.now chunks a.v.now.index.now a.v.now.tree.now a.from _ (left_yes a.v.now.settings a.level a.v.now.head.now a.v.now.loans.now chunks a.v.now.index.now a.v.now.tree.now _ c.next_loan-loan.ensures c.if-own-loan.false) (sym (pairs_are a.v.now.settings a.level a.v.now.head.now a.v.now.loans.now chunks a.v.now.index.now a.v.now.tree.now _ _ _ refl c.has_pairs.ensures) ∙ c.if-not-has_pairs.false) refl c.if-v.true, refl)
 
 pub returns : goal.returns
 returns c =
     let a = c.args in
-    λ chunks. (λ h objects. take_go a.s a.level a.head.now a.loans.now chunks a.index.now a.tree.now a.from _ (left_yes a.s a.level a.head.now a.loans.now chunks a.index.now a.tree.now _ c.next_loan-loan.ensures c.if-own-loan.false) (sym (pairs_are a.s a.level a.head.now a.loans.now chunks a.index.now a.tree.now _ _ _ refl c.has_pairs.ensures) ∙ c.if-not-has_pairs.false) c.given_in.ensures (search rules), record { size = refl; level = refl; pair = c.requires.3; loan = c.next_loan-loan.ensures })
+    λ chunks. (λ h objects. take_go a.v.now.settings a.level a.v.now.head.now a.v.now.loans.now chunks a.v.now.index.now a.v.now.tree.now a.from _ (left_yes a.v.now.settings a.level a.v.now.head.now a.v.now.loans.now chunks a.v.now.index.now a.v.now.tree.now _ c.next_loan-loan.ensures c.if-own-loan.false) (sym (pairs_are a.v.now.settings a.level a.v.now.head.now a.v.now.loans.now chunks a.v.now.index.now a.v.now.tree.now _ _ _ refl c.has_pairs.ensures) ∙ c.if-not-has_pairs.false) refl (search rules), record { size = refl; level = refl; pair = c.requires.3; loan = c.next_loan-loan.ensures })

@@ -8,15 +8,15 @@ use Rattle.buddy_decide.proofs.deliveries.is_held.Goals as goal
 
 pub loop-c-init : goal.loop-c-init
 unfolding memories
-loop-c-init c = (omega arith, refl)
+loop-c-init c = refl
 
 pub loop-c-preserved : goal.loop-c-preserved
 loop-c-preserved c =
     let a = c.args in
-    (omega arith, held_next a.chunks.now _ _ (omega (arith, c.requires)) c.cell-size.ensures a.memory _ _ c.loop-c.invariant.1 c.cell.ensures)
+    held_next a.chunks.now _ _ (omega (arith, c.requires)) c.cell-size.ensures a.memory _ _ c.loop-c.invariant c.cell.ensures
 
 pub returns : goal.returns
 returns c =
     let a = c.args in
-    let e : c.loop-c.c ≡ a.n = omega (arith, c.loop-c.invariant.0) in
-    c.loop-c.invariant.1 ∙ ap (λ (i : ℕ). holds a.memory (memories (seen a.chunks.now) i)) e
+    let e : c.loop-c.c ≡ a.n = omega arith in
+    c.loop-c.invariant ∙ ap (λ (i : ℕ). holds a.memory (memories (seen a.chunks.now) i)) e

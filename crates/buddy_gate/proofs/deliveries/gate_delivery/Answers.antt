@@ -2,7 +2,7 @@ use mathlib.Core.Path.{sym, ◌∙◌}
 use Rattle.store_rules.proofs.Holders.{holder}
 use Rattle.buddy_rules.specs.Tables.{tables}
 use Rattle.buddy_outcomes.proofs.Passing.{lent_in_lem}
-use Rattle.buddy_gate.proofs.Kept.{delivery_lent, delivery_order, delivery_none, delivery_kept, open_kept}
+use Rattle.buddy_gate.proofs.Kept.{delivery_lent, delivery_order, delivery_kept, open_kept}
 use Rattle.buddy_gate.proofs.deliveries.gate_delivery.Goals as goal
 
 pub returns-then-not-is_in_table : goal.returns-then-not-is_in_table
@@ -11,14 +11,16 @@ returns-then-not-is_in_table c = let a = c.args in record { result_value = deliv
 pub returns-then-not-is_open_for : goal.returns-then-not-is_open_for
 returns-then-not-is_open_for c = let a = c.args in record { result_value = delivery_order a.s a.share a.order (tables a.head.now a.loans.now a.chunks.now a.index.now a.tree.now) (sym c.is_in_table.ensures ∙ c.if-not-is_in_table.false) (sym c.is_open_for.ensures ∙ c.if-not-is_open_for.true); open_buys = λ k e. tt }
 
+pub invariant_of-v : goal.invariant_of-v
+invariant_of-v c =
+    let a = c.args in
+    let fit = lent_in_lem a.s (holder a.s.store a.share) (tables a.head.now a.loans.now a.chunks.now a.index.now a.tree.now) (sym c.is_in_table.ensures ∙ c.if-not-is_in_table.false) in
+    record { in_table = fit.settings }
+
 pub gate_kept-requires : goal.gate_kept-requires
 gate_kept-requires c =
     let a = c.args in
-    let fit = lent_in_lem a.s (holder a.s.store a.share) (tables a.head.now a.loans.now a.chunks.now a.index.now a.tree.now) (sym c.is_in_table.ensures ∙ c.if-not-is_in_table.false) in
-    (fit.settings, fit.lengths)
+    (lent_in_lem a.s (holder a.s.store a.share) (tables a.head.now a.loans.now a.chunks.now a.index.now a.tree.now) (sym c.is_in_table.ensures ∙ c.if-not-is_in_table.false)).lengths
 
-pub returns-in-Nothing : goal.returns-in-Nothing
-returns-in-Nothing c = let a = c.args in record { result_value = delivery_none a.s a.share a.order (tables a.head.now a.loans.now a.chunks.now a.index.now a.tree.now) (sym c.is_in_table.ensures ∙ c.if-not-is_in_table.false) c.in-Nothing.is; open_buys = λ k e. tt }
-
-pub returns-in-Kept : goal.returns-in-Kept
-returns-in-Kept c = let a = c.args in record { result_value = delivery_kept a.s a.share a.order (tables a.head.now a.loans.now a.chunks.now a.index.now a.tree.now) _ _ (sym c.is_in_table.ensures ∙ c.if-not-is_in_table.false) (sym c.is_open_for.ensures ∙ c.if-not-is_open_for.false) c.in-Kept.is c.gate_kept.ensures.result_value; open_buys = open_kept a.s a.order (tables a.head.now a.loans.now a.chunks.now a.index.now a.tree.now) _ c.gate_kept.result c.in-Kept.is c.gate_kept.ensures.passing_buys }
+pub returns-in-Some : goal.returns-in-Some
+returns-in-Some c = let a = c.args in record { result_value = delivery_kept a.s a.share a.order (tables a.head.now a.loans.now a.chunks.now a.index.now a.tree.now) _ _ (sym c.is_in_table.ensures ∙ c.if-not-is_in_table.false) (sym c.is_open_for.ensures ∙ c.if-not-is_open_for.false) c.in-Some.is c.gate_kept.ensures.result_value; open_buys = open_kept a.s a.order (tables a.head.now a.loans.now a.chunks.now a.index.now a.tree.now) _ c.gate_kept.result c.in-Some.is c.gate_kept.ensures.passing_buys }

@@ -17,11 +17,16 @@ returns-then-not-share c =
     let a = c.args in
     gate_order a.s a.share (tables a.head.now a.loans.now a.chunks.now a.index.now a.tree.now) a.list (ap (λ (b : Bool). b && a.list) (sym c.is_in_table-lent.ensures) ∙ c.if-not-lent-list.false) (not_yes _ c.if-not-share.true)
 
+pub invariant_of-v : goal.invariant_of-v
+invariant_of-v c =
+    let a = c.args in
+    let fit = lent_in_lem a.s (holder a.s.store a.share) (tables a.head.now a.loans.now a.chunks.now a.index.now a.tree.now) (sym c.is_in_table-lent.ensures ∙ and_left _ a.list c.if-not-lent-list.false) in
+    record { in_table = fit.settings }
+
 pub gate_store-requires : goal.gate_store-requires
 gate_store-requires c =
     let a = c.args in
-    let fit = lent_in_lem a.s (holder a.s.store a.share) (tables a.head.now a.loans.now a.chunks.now a.index.now a.tree.now) (sym c.is_in_table-lent.ensures ∙ and_left _ a.list c.if-not-lent-list.false) in
-    (fit.settings, fit.lengths)
+    (lent_in_lem a.s (holder a.s.store a.share) (tables a.head.now a.loans.now a.chunks.now a.index.now a.tree.now) (sym c.is_in_table-lent.ensures ∙ and_left _ a.list c.if-not-lent-list.false)).lengths
 
 pub returns : goal.returns
 returns c =

@@ -1,23 +1,26 @@
-use borrow.Author.Rules.{rules}
-use mathlib.Core.Path.{refl, sym, ◌∙◌}
+use mathlib.Core.Path.{◌≡◌, sym, ap, ◌∙◌}
+use Prim.Native.Nat.{ℕ, ◌+◌, ◌-◌}
 use native.Mathlib.Omega.{arith}
-use Rattle.buddy_grow.proofs.Grown.{fresh_none, fresh_next, fresh_all}
+use Rattle.buddy_outcomes.specs.Ask.{fresh_levels}
+use Rattle.buddy_grow.proofs.Grown.{fresh_none, fresh_on}
 use Rattle.buddy_grow.proofs.growing.fresh_levels.Goals as goal
 
-pub loop-i-init : goal.loop-i-init
-loop-i-init c = let a = c.args in (omega arith, refl, fresh_all a.s a.level a.n a.tree.now)
+pub loop-l-init : goal.loop-l-init
+loop-l-init c =
+    let a = c.args in
+    let all : a.n ≡ a.level + a.n - a.level = omega arith in
+    ap (λ (n : ℕ). fresh_levels a.s a.level n a.tree.now) all
 
-pub loop-i-preserved : goal.loop-i-preserved
-loop-i-preserved c =
-    let i = c.loop-i in
-    let a = c.args in (
-      omega (arith, c.loop-i-test.true),
-      search rules,
-      i.invariant.2 ∙ fresh_next a.s a.level a.n i.i i.tree _ _ c.loop-i-test.true c.level_from.ensures.value c.fresh_level.ensures,
-    )
+pub loop-l-preserved : goal.loop-l-preserved
+loop-l-preserved c =
+    let a = c.args in
+    let b = c.loop-l in
+    let less : a.level + a.n - b.l - 1 ≡ a.level + a.n - (b.l + 1) = omega arith in
+    b.invariant
+    ∙ fresh_on a.s b.l _ b.tree _ _ (omega arith) c.level_from.ensures.value c.fresh_level.ensures
+    ∙ ap (λ (n : ℕ). fresh_levels a.s (b.l + 1) n c.fresh_level.new.tree) less
 
 pub returns : goal.returns
 returns c =
-    let i = c.loop-i in
-    let a = c.args in
-    sym (i.invariant.2 ∙ fresh_none a.s _ _ i.tree (omega (arith, c.loop-i-test.false)))
+    let b = c.loop-l in
+    sym (b.invariant ∙ fresh_none c.args.s _ _ b.tree (omega arith))

@@ -1,4 +1,4 @@
-use mathlib.Core.Path.{refl, sym, subst}
+use mathlib.Core.Path.{refl, sym, subst, ◌∙◌}
 use mathlib.Core.List.{[]}
 use lib.ListN.{length}
 use native.Mathlib.Omega.{arith}
@@ -26,7 +26,7 @@ overflow_add-l c = omega (arith, c.requires.0.enters.serial)
 
 pub take_side-n-requires : goal.take_side-n-requires
 take_side-n-requires c = let a = c.args in
-    let place = place_in a.s a.loans.now a.index.now _ c.requires.2 c.requires.0.enters.opens.place in record { pairs_le_pairs_most = (c.requires.0.enters.fit.pairs_most_lem, c.requires.0.below, c.requires.0.low, omega (arith, place, c.requires.0.enters.fit.store.loans_most_lem), pair_low a.s a.from a.tree.now _ c.level_from-base.ensures.value _ c.requires.1 _ c.standing_pair-e.ensures c.requires.0.pair, c.requires.0.long); h_value = (c.requires.1, side_is a.s a.from a.tree.now _ c.level_from-base.ensures.value _ c.requires.1 _ c.standing_pair-e.ensures); leaves = head_leaves a.s a.from a.tree.now _ c.requires.1 c.requires.0.leaves; roomy = lends_roomy a.s a.from a.tree.now _ c.level_from-base.ensures.value _ c.requires.1 _ c.standing_pair-e.ensures a.size a.loans.now _ c.side_from-offset.ensures _ refl a.level c.requires.0.roomy }
+    let place = place_in a.s a.loans.now a.index.now _ c.requires.2 c.requires.0.enters.opens.place in record { pairs_le_pairs_most = (c.requires.0.enters.fit.pairs_most_lem, c.requires.0.below, c.requires.0.low, omega (arith, place, c.requires.0.enters.fit.store.loans_most_lem), pair_low a.s a.from a.tree.now _ c.level_from-base.ensures.value _ c.requires.1 _ c.standing_pair-e.ensures c.requires.0.pair, c.requires.0.long); h_value = (c.requires.1, c.side_of.ensures ∙ side_is a.s a.from a.tree.now _ c.level_from-base.ensures.value _ c.requires.1 _ c.standing_pair-e.ensures); leaves = head_leaves a.s a.from a.tree.now _ c.requires.1 c.requires.0.leaves; roomy = lends_roomy a.s a.from a.tree.now _ c.level_from-base.ensures.value _ c.requires.1 _ c.standing_pair-e.ensures a.size a.loans.now _ c.side_from-offset.ensures _ refl a.level c.requires.0.roomy }
 
 pub enter_at-requires : goal.enter_at-requires
 enter_at-requires c =

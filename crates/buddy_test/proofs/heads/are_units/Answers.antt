@@ -8,9 +8,6 @@ use Rattle.buddy_rules.proofs.Tests.{every_stop, every_next}
 use Rattle.buddy_test.proofs.Parts.{units_told}
 use Rattle.buddy_test.proofs.heads.are_units.Goals as goal
 
-pub loop-k-init : goal.loop-k-init
-loop-k-init c = (omega arith, refl)
-
 pub returns-then-not-is_units : goal.returns-then-not-is_units
 returns-then-not-is_units c =
     let a = c.args in
@@ -21,10 +18,4 @@ pub loop-k-preserved : goal.loop-k-preserved
 loop-k-preserved c =
     let a = c.args in
     let e = units_told a.s c.loop-k.k a.loans.now c.loan_in.result c.loan_in.ensures (omega (arith, c.loop-k-test.true, c.requires.2)) c.is_units.result c.is_units.ensures in
-    (omega arith, every_next (units_ok a.s (part_tables 0 a.loans.now [] [] [])) c.loop-k.k c.loop-k.invariant.1 (sym e ∙ c.if-not-is_units.false))
-
-pub returns : goal.returns
-returns c =
-    let a = c.args in
-    let e : c.loop-k.k ≡ a.n = omega arith in
-    sym c.loop-k.invariant.1 ∙ ap (every (units_ok a.s (part_tables 0 a.loans.now [] [] []))) e
+    every_next (units_ok a.s (part_tables 0 a.loans.now [] [] [])) c.loop-k.k c.loop-k.invariant (sym e ∙ c.if-not-is_units.false)

@@ -1,13 +1,9 @@
 use mathlib.Core.Path.{◌≡◌}
 use mathlib.Core.Bool.{true}
 use mathlib.Core.List.{[]}
-use Prim.Native.Nat.{◌-◌, ◌≤◌}
 use Rattle.buddy_levels.specs.Seen.{part_tables}
 use Rattle.buddy_rules.specs.Test.{every, units_ok}
 use Rattle.buddy_test.proofs.heads.are_units.Given as goal
 
 abbrev pub invariant-loop-k : goal.invariant-loop-k
-invariant-loop-k l = (l.k ≤ l.n) × (every (units_ok l.s (part_tables 0 l.loans [] [] [])) l.k ≡ true)
-
-abbrev pub decreases-loop-k : goal.decreases-loop-k
-decreases-loop-k l = l.n - l.k
+invariant-loop-k l = every (units_ok l.s (part_tables 0 l.loans [] [] [])) l.k ≡ true

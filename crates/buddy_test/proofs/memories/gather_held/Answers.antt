@@ -12,7 +12,7 @@ use Rattle.buddy_test.proofs.memories.gather_held.Goals.{then-cell-ne0, else-cel
 pub loop-c-init : goal.loop-c-init
 loop-c-init c =
     let a = c.args in
-    (omega arith, omega arith, refl, gather_none a.chunks.now a.found.now)
+    (omega arith, refl, gather_none a.chunks.now a.found.now)
 
 pub loop-c-preserved : goal.loop-c-preserved
 loop-c-preserved c =
@@ -23,18 +23,12 @@ loop-c-preserved c =
     elim c.if-cell-ne0.branch [
       | then-cell-ne0 w ↦ (
         omega (arith, w.k-is),
-        omega arith,
-        ap length w.found-is ∙ simp length-set i.2,
-        rw (w.found-is, w.k-is) (gather_put c.loop-c.c c.loop-c.k a.chunks.now c.loop-c.found c.cell.result low c.cell.ensures i.3 w.cell-then-cell-ne0.result w.if-cell-ne0.true w.cell-then-cell-ne0.ensures (omega arith)),
+        ap length w.found-is ∙ simp length-set i.1,
+        rw (w.found-is, w.k-is) (gather_put c.loop-c.c c.loop-c.k a.chunks.now c.loop-c.found c.cell.result low c.cell.ensures i.2 w.cell-then-cell-ne0.result w.if-cell-ne0.true w.cell-then-cell-ne0.ensures (omega arith)),
       )
       | else-cell-ne0 w ↦ (
         omega (arith, w.k-is),
-        omega arith,
-        ap length w.found-is ∙ i.2,
-        rw (w.found-is, w.k-is) (gather_pass c.loop-c.c c.loop-c.k a.chunks.now c.loop-c.found c.cell.result low c.cell.ensures i.3 w.if-cell-ne0.false),
+        ap length w.found-is ∙ i.1,
+        rw (w.found-is, w.k-is) (gather_pass c.loop-c.c c.loop-c.k a.chunks.now c.loop-c.found c.cell.result low c.cell.ensures i.2 w.if-cell-ne0.false),
       )
     ]
-
-pub returns : goal.returns
-returns c = let a = c.args in
-    let e : c.loop-c.c ≡ a.n = omega arith in record { found_after = c.loop-c.invariant.3 ∙ ap (memories (level_part 0 a.chunks.now [])) e; upper_bound = (omega arith, c.loop-c.invariant.2) }

@@ -1,6 +1,6 @@
 use mathlib.Core.Path.{◌≡◌}
 use mathlib.Core.List.{[]}
-use Prim.Native.Nat.{◌-◌, ◌≤◌}
+use Prim.Native.Nat.{◌≤◌}
 use lib.ListN.{length, take}
 use Rattle.buddy_levels.specs.Seen.{level_part}
 use Rattle.buddy_rules.specs.Tables.{memories}
@@ -8,7 +8,4 @@ use Rattle.buddy_test.proofs.memories.gather_held.Given as goal
 
 abbrev pub invariant-loop-c : goal.invariant-loop-c
 invariant-loop-c l =
-    (l.k ≤ l.c) × (l.c ≤ l.n) × (length l.found ≡ length l.initial.found) × (take l.k l.found ≡ memories (level_part 0 l.chunks []) l.c)
-
-abbrev pub decreases-loop-c : goal.decreases-loop-c
-decreases-loop-c l = l.n - l.c
+    (l.k ≤ l.c) × (length l.found ≡ length l.initial.found) × (take l.k l.found ≡ memories (level_part 0 l.chunks []) l.c)

@@ -1,9 +1,5 @@
-use Rattle.std.proofs.Common.{◌-◌}
 use Rattle.text.specs.Written.{Stays}
 use Rattle.damage.proofs.trials.try_tables.Given as goal
 
 abbrev pub invariant-loop-table : goal.invariant-loop-table
 invariant-loop-table g l = Stays (g.W.Write.contents l.fn.out) (g.W.Write.contents l.out)
-
-abbrev pub decreases-loop-table : goal.decreases-loop-table
-decreases-loop-table g l = 5 - l.table

@@ -1,6 +1,6 @@
 use mathlib.Core.Path.{refl, ap, subst}
 use Rattle.counter.specs.Gate.{verdict_of}
-use Rattle.counter.specs.declared.refusal.Gate.{Gate}
+use Rattle.counter.specs.Paper.{refusal_of}
 use Rattle.freelist_rules.specs.Tables.{tables}
 use Rattle.freelist.specs.Ready.{SetUpReady}
 use Rattle.freelist.proofs.Fresh.{refused_done, fresh_done}
@@ -9,14 +9,14 @@ use Rattle.freelist.proofs.carries.carry_set_up.Goals as goal
 pub fresh-requires : goal.fresh-requires
 fresh-requires c =
     let a = c.args in
-    subst (λ (p : Gate). SetUpReady a.s (tables a.head.now a.loans.now a.chunks.now a.index.now a.regions.now) p) c.in-Go.is c.requires
+    subst (SetUpReady a.s (tables a.head.now a.loans.now a.chunks.now a.index.now a.regions.now)) c.in-Ok.is c.requires
 
-pub returns-in-Shut : goal.returns-in-Shut
-returns-in-Shut c =
+pub returns-in-Err : goal.returns-in-Err
+returns-in-Err c =
     let a = c.args in
-    refused_done a.s (tables a.head.now a.loans.now a.chunks.now a.index.now a.regions.now) (verdict_of a.plan) _ _ (ap verdict_of c.in-Shut.is) refl
+    refused_done a.s (tables a.head.now a.loans.now a.chunks.now a.index.now a.regions.now) (verdict_of a.plan) _ _ (ap verdict_of c.in-Err.is) (ap refusal_of c.into.ensures)
 
-pub returns-in-Go : goal.returns-in-Go
-returns-in-Go c =
+pub returns-in-Ok : goal.returns-in-Ok
+returns-in-Ok c =
     let a = c.args in
-    fresh_done a.s (tables a.head.now a.loans.now a.chunks.now a.index.now a.regions.now) (verdict_of a.plan) _ _ (ap verdict_of c.in-Go.is) c.fresh.ensures refl
+    fresh_done a.s (tables a.head.now a.loans.now a.chunks.now a.index.now a.regions.now) (verdict_of a.plan) _ _ (ap verdict_of c.in-Ok.is) c.fresh.ensures refl

@@ -1,4 +1,5 @@
-use mathlib.Core.Path.{sym, ap, ◌∙◌}
+use Rattle.std.proofs.Common.{sym, ap, ◌∙◌}
+use Rattle.std.proofs.lemmas.Result.{err_from_is_err_and}
 use Rattle.counter.specs.Gate.{verdict_of}
 use Rattle.store_rules.specs.Outcomes.{list_ok}
 use Rattle.store_rules.proofs.Holders.{holder}
@@ -8,19 +9,20 @@ use Rattle.freelist_decide.proofs.Seeing.{book_reads}
 use Rattle.freelist.proofs.Planned.{return_shut, return_go}
 use Rattle.freelist.proofs.plans.plan_return.Goals as goal
 
+pub returns-in_err-gate : goal.returns-in_err-gate
+returns-in_err-gate c =
+    let a = c.args in
+    let p = err_from_is_err_and c.from_residual.result c.from_residual.ensures.1 in
+    rw (p.1, p.2) (return_shut a.s (holder a.s.store a.share) a.b (tables a.head.now a.loans.now a.chunks.now a.index.now a.regions.now) (list_ok a.s.store a.list.now) _ (sym (ap verdict_of c.in_err-gate.was) ∙ c.gate.ensures))
+
 pub decide_return-requires : goal.decide_return-requires
 decide_return-requires c =
     let a = c.args in
     let t = tables a.head.now a.loans.now a.chunks.now a.index.now a.regions.now in
-    let p = gate_passed a.s (holder a.s.store a.share) t (list_ok a.s.store a.list.now) (sym (ap verdict_of c.in-Go.is) ∙ c.gate-g.ensures) in
+    let p = gate_passed a.s (holder a.s.store a.share) t (list_ok a.s.store a.list.now) (sym (ap verdict_of c.in_ok-gate.was) ∙ c.gate.ensures) in
     book_reads a.s t p.settings p.lengths p.sound
 
-pub returns-in-Shut : goal.returns-in-Shut
-returns-in-Shut c =
+pub returns : goal.returns
+returns c =
     let a = c.args in
-    return_shut a.s (holder a.s.store a.share) a.b (tables a.head.now a.loans.now a.chunks.now a.index.now a.regions.now) (list_ok a.s.store a.list.now) _ (sym (ap verdict_of c.in-Shut.is) ∙ c.gate-g.ensures)
-
-pub returns-in-Go : goal.returns-in-Go
-returns-in-Go c =
-    let a = c.args in
-    return_go a.s (holder a.s.store a.share) a.b (tables a.head.now a.loans.now a.chunks.now a.index.now a.regions.now) (list_ok a.s.store a.list.now) _ (sym (ap verdict_of c.in-Go.is) ∙ c.gate-g.ensures) c.decide_return.ensures
+    return_go a.s (holder a.s.store a.share) a.b (tables a.head.now a.loans.now a.chunks.now a.index.now a.regions.now) (list_ok a.s.store a.list.now) _ (sym (ap verdict_of c.in_ok-gate.was) ∙ c.gate.ensures) c.decide_return.ensures

@@ -1,6 +1,4 @@
-use mathlib.Core.Path.{◌≡◌, refl, ap, ◌∙◌}
-use Prim.Native.Nat.{ℕ}
-use native.Mathlib.Omega.{arith}
+use Rattle.std.proofs.Common.{◌≡◌, ℕ, refl, ap, ◌∙◌, arith}
 use Rattle.words.specs.Rows.{rows}
 use Rattle.store_rules.specs.Delivery.{holds}
 use Rattle.freelist_rules.specs.Records.{chunk_row}
@@ -9,15 +7,15 @@ use Rattle.freelist_decide.proofs.Holding.{held_next}
 use Rattle.freelist_decide.proofs.deliveries.is_held.Goals as goal
 
 pub loop-i-init : goal.loop-i-init
-loop-i-init c = (omega arith, refl)
+loop-i-init c = refl
 
 pub loop-i-preserved : goal.loop-i-preserved
 loop-i-preserved c =
     let a = c.args in
-    (omega arith, held_next a.memory _ _ _ a.chunks.now c.loop-i.invariant.1 c.cell.ensures)
+    held_next a.memory _ _ _ a.chunks.now c.loop-i.invariant c.cell.ensures
 
 pub returns : goal.returns
 returns c =
     let a = c.args in
-    let e : c.loop-i.i ≡ a.k = omega (arith, c.loop-i.invariant.0) in
-    c.loop-i.invariant.1 ∙ ap (λ (i : ℕ). holds a.memory (memories (rows chunk_row i a.chunks.now))) e
+    let e : c.loop-i.i ≡ a.k = omega arith in
+    c.loop-i.invariant ∙ ap (λ (i : ℕ). holds a.memory (memories (rows chunk_row i a.chunks.now))) e

@@ -1,5 +1,4 @@
-use mathlib.Core.Path.{◌≡◌}
-use Prim.Native.Nat.{◌-◌, ◌≤◌}
+use Rattle.std.proofs.Common.{◌≡◌}
 use Rattle.words.specs.Rows.{rows}
 use Rattle.store_rules.specs.Delivery.{holds}
 use Rattle.freelist_rules.specs.Records.{chunk_row}
@@ -7,7 +6,4 @@ use Rattle.freelist_rules.specs.Walk.{memories}
 use Rattle.freelist_decide.proofs.deliveries.is_held.Given as goal
 
 abbrev pub invariant-loop-i : goal.invariant-loop-i
-invariant-loop-i l = (l.i ≤ l.k) × (l.held ≡ holds l.memory (memories (rows chunk_row l.i l.chunks)))
-
-abbrev pub decreases-loop-i : goal.decreases-loop-i
-decreases-loop-i l = l.k - l.i
+invariant-loop-i l = l.held ≡ holds l.memory (memories (rows chunk_row l.i l.chunks))

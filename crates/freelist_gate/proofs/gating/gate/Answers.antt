@@ -17,10 +17,16 @@ returns-then-not-share c =
     let a = c.args in
     gate_closed a.s a.share (tables a.head.now a.loans.now a.chunks.now a.index.now a.regions.now) a.list (ap (λ (b : Bool). b && a.list) (sym c.is_in_table-lent.ensures) ∙ c.if-not-lent-list.false) (not_yes _ c.if-not-share.true)
 
+pub invariant_of-view : goal.invariant_of-view
+invariant_of-view c =
+    let a = c.args in
+    let fit = lent_in_lem a.s (holder a.s.store a.share) (tables a.head.now a.loans.now a.chunks.now a.index.now a.regions.now) (sym c.is_in_table-lent.ensures ∙ and_left _ a.list c.if-not-lent-list.false) in
+    record { in_table = fit.0 }
+
 pub gate_store-requires : goal.gate_store-requires
 gate_store-requires c =
     let a = c.args in
-    lent_in_lem a.s (holder a.s.store a.share) (tables a.head.now a.loans.now a.chunks.now a.index.now a.regions.now) (sym c.is_in_table-lent.ensures ∙ and_left _ a.list c.if-not-lent-list.false)
+    (lent_in_lem a.s (holder a.s.store a.share) (tables a.head.now a.loans.now a.chunks.now a.index.now a.regions.now) (sym c.is_in_table-lent.ensures ∙ and_left _ a.list c.if-not-lent-list.false)).1
 
 pub returns : goal.returns
 returns c =

@@ -1,12 +1,11 @@
-use Rattle.freelist_marks.proofs.Finding.{goes_whole, goes_not}
+use Rattle.std.proofs.Common.{◌∙◌}
+use Rattle.words.specs.Rows.{row, rows}
+use Rattle.freelist_rules.specs.Records.{chunk_row, gap_row}
+use Rattle.freelist_rules.specs.Threads.{region_in}
+use Rattle.freelist_marks.proofs.Finding.{going_told}
 use Rattle.freelist_marks.proofs.marks.goes_at.Goals as goal
 
-pub returns-then-start-eq0 : goal.returns-then-start-eq0
-returns-then-start-eq0 c =
+pub returns : goal.returns
+returns c =
     let a = c.args in
-    goes_whole a.chunks.now a.regions.now a.k a.i c.requires a.spared _ c.cell-start.ensures c.if-start-eq0.true c.region_at-r.result c.region_at-r.ensures c.find_chunk-c.result c.find_chunk-c.ensures _ c.is_all-all.ensures
-
-pub returns-else-start-eq0 : goal.returns-else-start-eq0
-returns-else-start-eq0 c =
-    let a = c.args in
-    goes_not a.chunks.now a.regions.now a.k a.i c.requires a.spared _ c.cell-start.ensures c.if-start-eq0.false
+    c.is_some.ensures ∙ going_told (rows chunk_row a.k a.chunks.now) c.requires (region_in (row gap_row a.i a.regions.now)) a.spared c.going_at.result c.going_at.ensures

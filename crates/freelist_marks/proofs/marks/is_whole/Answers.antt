@@ -1,11 +1,10 @@
-use Rattle.freelist_marks.proofs.Finding.{whole_by, not_whole}
+use Rattle.std.proofs.Common.{◌∙◌}
+use Rattle.words.specs.Rows.{rows}
+use Rattle.freelist_rules.specs.Records.{chunk_row}
+use Rattle.freelist_marks.proofs.Finding.{whole_told}
 use Rattle.freelist_marks.proofs.marks.is_whole.Goals as goal
 
-pub returns-then-r-eq0 : goal.returns-then-r-eq0
-returns-then-r-eq0 c =
+pub returns : goal.returns
+returns c =
     let a = c.args in
-    whole_by a.chunks.now a.k c.requires a.r c.if-r-eq0.true c.find_chunk-c.result c.find_chunk-c.ensures _ c.is_all.ensures
-
-pub returns-else-r-eq0 : goal.returns-else-r-eq0
-returns-else-r-eq0 c =
-    not_whole c.args.chunks.now c.args.k c.requires c.args.r c.if-r-eq0.false
+    c.is_some.ensures ∙ whole_told (rows chunk_row a.k a.chunks.now) c.requires a.r c.whole_chunk.result c.whole_chunk.ensures

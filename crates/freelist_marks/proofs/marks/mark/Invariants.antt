@@ -1,4 +1,3 @@
-use Prim.Native.Nat.{◌-◌, ◌≤◌}
 use Rattle.words.specs.Rows.{rows}
 use Rattle.freelist_rules.specs.Records.{chunk_row, gap_row}
 use Rattle.freelist_rules.specs.Threads.{free_of}
@@ -6,7 +5,4 @@ use Rattle.freelist_marks.proofs.Marking.{Marking}
 use Rattle.freelist_marks.proofs.marks.mark.Given as goal
 
 abbrev pub invariant-loop-i : goal.invariant-loop-i
-invariant-loop-i l = (l.i ≤ l.n) × Marking (rows chunk_row l.k l.chunks) l.spare (free_of (rows gap_row l.n l.regions)) l.initial.list l.list l.i l.m l.bytes
-
-abbrev pub decreases-loop-i : goal.decreases-loop-i
-decreases-loop-i l = l.n - l.i
+invariant-loop-i l = Marking (rows chunk_row l.k l.chunks) l.spare (free_of (rows gap_row l.n l.regions)) l.initial.list l.list l.i l.m l.bytes

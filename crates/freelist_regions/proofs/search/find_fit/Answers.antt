@@ -1,5 +1,5 @@
-use Rattle.std.proofs.Common.{◌≡◌, ℕ, suc, ◌-◌, ◌<◌, ◌≤◌, true, false, leb, List, length, get_or, take, sym, ap, ◌∙◌, arith, rules, leb-true}
-use Rattle.lists.proofs.Bools.{and_left}
+use Rattle.std.proofs.Common.{◌≡◌, ℕ, suc, ◌-◌, ◌<◌, ◌≤◌, true, false, List, length, get_or, take, sym, refl, ap, ◌∙◌, arith, rules}
+use Rattle.std.specs.Prelude.{Option, Some, None, Bool, cond}
 use Rattle.words.specs.Words.{cell_of}
 use Rattle.words.specs.Rows.{rows, row}
 use Rattle.words.proofs.Records.{length_rows, get_d_rows}
@@ -14,9 +14,21 @@ use Rattle.freelist_regions.proofs.Passing.{region_read, all_passed}
 -- what fits stands among the first k
 use Rattle.freelist_regions.proofs.search.find_fit.Goals as goal
 
-reaches : (mask size start end : ℕ) → fits_in mask size (region 0 start end) ≡ true → size ≤ end
-unfolding fits_in
-reaches mask size start end e = leb-true size end (and_left (leb size end) (leb start (cut mask size (region 0 start end))) e)
+-- what the code found in a region
+module _ (mask size : ℕ) (r : Region) (o : Option ℕ) (told : o ≡ cond (fits_in mask size r) (Some (cut mask size r)) None) where
+  found : (x : ℕ) → o ≡ Some x → (fits_in mask size r ≡ true) × (x ≡ cut mask size r)
+  found x e = by (fits_in mask size r) (sym e ∙ told)
+    where
+      by : (b : Bool) → Some x ≡ cond b (Some (cut mask size r)) None → (b ≡ true) × (x ≡ cut mask size r)
+      by true q = (refl, let z : Some x ≡ Some (cut mask size r) = q in cc)
+      by false q = let z : Some x ≡ None = q in cc
+
+  missed : o ≡ None → fits_in mask size r ≡ false
+  missed e = by (fits_in mask size r) (sym e ∙ told)
+    where
+      by : (b : Bool) → None ≡ cond b (Some (cut mask size r)) None → b ≡ false
+      by true q = let z : None ≡ Some (cut mask size r) = q in cc
+      by false q = refl
 
 module _ (t : List ℕ) (n k mask size start end : ℕ) (s : start ≡ get_or t (cell_of region_start_at region_words (k - 1)) 0) (e : end ≡ get_or t (cell_of region_end_at region_words (k - 1)) 0)
     (some : 0 < k) (most : k ≤ n) (inv : find mask size (free_of (rows gap_row n t)) ≡ find mask size (take k (free_of (rows gap_row n t)))) where
@@ -56,24 +68,21 @@ loop-k-init c =
           ∙ all_passed a.size a.t.now a.mask a.n a.n _ w.0 (omega arith) w.1,
     )
 
-pub has_place-requires : goal.has_place-requires
-has_place-requires c = c.requires.0
-
--- a region that has a place reaches as far as the block is long
-
-pub overflow_sub-end : goal.overflow_sub-end
-overflow_sub-end c =
-    let a = c.args in
-    reaches a.mask a.size _ _ (sym (c.has_place.ensures 0) ∙ c.if-has_place.true)
-
-pub lower_to_unit-place-requires : goal.lower_to_unit-place-requires
-lower_to_unit-place-requires c = c.requires.0
+pub place_in-requires : goal.place_in-requires
+place_in-requires c = c.requires.0
 
 -- the region at hand, of the first k, by its start and its end
 
-pub returns-then-has_place : goal.returns-then-has_place
-returns-then-has_place c = let l = c.loop-k in
-    let a = c.args in record { result_value = sym (here a.t.now a.n l.k a.mask a.size _ _ c.word_at-start.ensures c.word_at-end.ensures (search rules) (search rules) l.invariant.1 (sym (c.has_place.ensures _) ∙ c.if-has_place.true)); starts = starts a.t.now a.n l.k a.mask a.size _ _ c.word_at-start.ensures c.word_at-end.ensures (search rules) (search rules) l.invariant.1 _ c.lower_to_unit-place.ensures }
+pub returns-in-Some : goal.returns-in-Some
+returns-in-Some c =
+    let a = c.args in
+    let l = c.loop-k in
+    let r : Region = region (row gap_row (l.k - 1) a.t.now).chunk c.word_at-start.result c.word_at-end.result in
+    let v = found a.mask a.size r c.place_in.result (c.place_in.ensures r.chunk) c.in-Some.place c.in-Some.is in
+    record {
+      result_value = sym (here a.t.now a.n l.k a.mask a.size _ _ c.word_at-start.ensures c.word_at-end.ensures (search rules) (search rules) l.invariant.1 v.0);
+      starts = starts a.t.now a.n l.k a.mask a.size _ _ c.word_at-start.ensures c.word_at-end.ensures (search rules) (search rules) l.invariant.1 _ v.1;
+    }
 
 pub loop-k-smaller-then-is_long : goal.loop-k-smaller-then-is_long
 loop-k-smaller-then-is_long c = omega (arith, c.without_short-k-then-is_long.ensures.0)
@@ -82,9 +91,10 @@ pub loop-k-preserved-then-is_long : goal.loop-k-preserved-then-is_long
 loop-k-preserved-then-is_long c =
     let l = c.loop-k in
     let a = c.args in
-    let w = c.without_short-k-then-is_long.ensures in (
+    let w = c.without_short-k-then-is_long.ensures in
+    let r : Region = region (row gap_row (l.k - 1) a.t.now).chunk c.word_at-start.result c.word_at-end.result in (
       omega (arith, w.0),
-      past a.t.now a.n l.k a.mask a.size _ _ c.word_at-start.ensures c.word_at-end.ensures (search rules) (search rules) l.invariant.1 (sym (c.has_place.ensures _) ∙ c.if-has_place.false)
+      past a.t.now a.n l.k a.mask a.size _ _ c.word_at-start.ensures c.word_at-end.ensures (search rules) (search rules) l.invariant.1 (missed a.mask a.size r c.place_in.result (c.place_in.ensures r.chunk) c.in_default.is)
           ∙ all_passed a.size a.t.now a.mask a.n _ _ w.0 (omega arith) w.1,
     )
 

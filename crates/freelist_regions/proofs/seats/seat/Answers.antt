@@ -1,4 +1,4 @@
-use Rattle.std.proofs.Common.{◌≡◌, ◌+◌, ◌-◌, ◌/◌, true, false, arith}
+use Rattle.std.proofs.Common.{◌≡◌, ◌+◌, ◌-◌, ◌/◌, arith}
 use Rattle.freelist_regions.proofs.Halves.{lowered, raised}
 use Rattle.freelist_regions.specs.Seat.{reaches}
 use Rattle.freelist_regions.proofs.Seating.{reach_yes, reach_not}

@@ -1,4 +1,5 @@
-use mathlib.Core.Bool.{true, false}
+use mathlib.Core.Path.{refl}
+use borrow.Author.Rules.{rules}
 use native.Mathlib.Omega.{arith}
 use lib.Dec.{ltb}
 use borrow.Author.Tests.{ltb-true}
@@ -18,12 +19,8 @@ overflow_sub-n c =
     let a = c.args in
     omega (arith, ltb-true 0 a.n (and_right a.spare (ltb 0 a.n) c.if-not-spare-n.false))
 
-pub returns-then-goes_at : goal.returns-then-goes_at
-returns-then-goes_at c =
+pub returns : goal.returns
+returns c =
     let a = c.args in
-    spared_on (rows chunk_row a.k a.chunks.now) a.spare a.regions.now a.n c.if-not-spare-n.false _ true c.goes_at.ensures c.if-goes_at.true
-
-pub returns-else-goes_at : goal.returns-else-goes_at
-returns-else-goes_at c =
-    let a = c.args in
-    spared_on (rows chunk_row a.k a.chunks.now) a.spare a.regions.now a.n c.if-not-spare-n.false _ false c.goes_at.ensures c.if-goes_at.false
+    let h = spared_on (rows chunk_row a.k a.chunks.now) a.spare a.regions.now a.n c.if-not-spare-n.false _ c.goes_at.result c.goes_at.ensures refl in
+    search rules

@@ -1,6 +1,4 @@
-use mathlib.Core.Path.{◌≡◌}
-use mathlib.Core.Bool.{◌&&◌}
-use Prim.Native.Nat.{◌-◌, ◌≤◌}
+use Rattle.std.proofs.Common.{◌≡◌, ◌&&◌}
 use Rattle.slabs.specs.Slab.{vacant_at}
 use Rattle.slabs.specs.Test.{vacancies}
 use Rattle.store_rules.specs.Loans.{loan_words, size_at, loans_of}
@@ -11,9 +9,5 @@ use Rattle.freelist_test.proofs.blocks.look_over.Given as goal
 
 abbrev pub invariant-loop-p : goal.invariant-loop-p
 invariant-loop-p l =
-    (l.p ≤ l.n)
-    × (l.vacant ≡ vacancies (vacant_at l.loans size_at loan_words) l.p)
+    (l.vacant ≡ vacancies (vacant_at l.loans size_at loan_words) l.p)
     × (all_ok (loan_ok l.s (counted l.given 0 0)) (loans_of l.n l.loans) ≡ (l.ok && loans_from (loan_ok l.s (counted l.given 0 0)) l.loans l.n l.p))
-
-abbrev pub decreases-loop-p : goal.decreases-loop-p
-decreases-loop-p l = l.n - l.p

@@ -1,25 +1,9 @@
 use native.Mathlib.Omega.{arith}
 use mathlib.Core.Path.{sym}
-use Prim.Native.Nat.{◌-◌}
-use Rattle.words.proofs.Cells.{scaled, past}
+use Rattle.words.proofs.Cells.{past}
 use Rattle.words.proofs.Moved.{closed_none, closed_out}
 use borrow.Author.Rules.{rules}
 use Rattle.words.proofs.rows.close_row.Goals as goal
-
-pub overflow_mul-at : goal.overflow_mul-at
-overflow_mul-at c = let a = c.args in omega (arith, scaled a.w a.i (search rules))
-
-pub overflow_add-at : goal.overflow_add-at
-overflow_add-at c = let a = c.args in omega (arith, scaled a.w a.i (search rules))
-
-pub overflow_add-at-then-i-n : goal.overflow_add-at-then-i-n
-overflow_add-at-then-i-n c = let a = c.args in omega (arith, scaled a.w a.i (search rules))
-
-pub overflow_mul-w : goal.overflow_mul-w
-overflow_mul-w c = let a = c.args in omega (arith, scaled a.w (a.n - a.i - 1) (search rules))
-
-pub returns-then-i-n : goal.returns-then-i-n
-returns-then-i-n c = c.shift.ensures
 
 pub returns-else-i-n : goal.returns-else-i-n
 returns-else-i-n c = let a = c.args in sym (closed_none a.w a.n a.i a.t.now (omega arith))

@@ -1,6 +1,0 @@
-use Rattle.wire_rules.specs.Wire.{said_out}
-use Rattle.wire.proofs.answers.tell_block.Goals as goal
-
-pub returns : goal.returns
-unfolding said_out
-returns c = c.tell.ensures
