@@ -41,7 +41,7 @@ pub type Test = (&'static str, Says);
 pub enum Says {
     /// A test: yes.
     Yes,
-    /// A gate, whose answer lies where its first argument points: go.
+    /// A gate, whose answer begins with whether it refuses: go.
     Go,
 }
 
@@ -51,12 +51,12 @@ impl Says {
         match (self, processor) {
             // mov al, 1; ret
             (Says::Yes, X86_64) => Ok(&[0xb0, 0x01, 0xc3]),
-            // mov byte ptr [rdi], 0; ret
-            (Says::Go, X86_64) => Ok(&[0xc6, 0x07, 0x00, 0xc3]),
+            // xor eax, eax; ret
+            (Says::Go, X86_64) => Ok(&[0x31, 0xc0, 0xc3]),
             // mov w0, #1; ret
             (Says::Yes, AARCH64) => Ok(&[0x20, 0x00, 0x80, 0x52, 0xc0, 0x03, 0x5f, 0xd6]),
-            // strb wzr, [x0]; ret
-            (Says::Go, AARCH64) => Ok(&[0x1f, 0x00, 0x00, 0x39, 0xc0, 0x03, 0x5f, 0xd6]),
+            // mov w0, #0; ret
+            (Says::Go, AARCH64) => Ok(&[0x00, 0x00, 0x80, 0x52, 0xc0, 0x03, 0x5f, 0xd6]),
             _ => Err(format!("an object is for processor {processor}")),
         }
     }
