@@ -81,17 +81,21 @@ fn left_after(
 {
     let mut p = h;
     let mut most = given;
-    for met in 0..k {
-        if p == NOWHERE {
-            return k - met;
-        }
-        if !is_link(loans, n as u64, places, i, most, p) {
+    let mut left = k;
+    // no `for`: most chains are empty, and by a range each took two thirds more
+    while p != NOWHERE {
+        if left == 0 {
             return NOWHERE;
         }
-        most = serial_of(loans, p as usize) - 1;
-        p = next_of(index, p as usize);
+        if is_link(loans, n as u64, places, i, most, p) {
+            most = serial_of(loans, p as usize) - 1;
+            p = next_of(index, p as usize);
+            left -= 1;
+        } else {
+            return NOWHERE;
+        }
     }
-    if p == NOWHERE { 0 } else { NOWHERE }
+    left
 }
 
 // Whether p is a loan of chain i, with a serial from 1 to most. No link is asked, so that any may stand in the contract.

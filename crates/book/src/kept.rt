@@ -21,7 +21,7 @@ pub fn are_kept(loans: &[u64], index: &[u64], n: usize, places: u64, given: u64)
     if (n as u64) < places {
         return None;
     }
-    let vacant = slabs::count_vacant(loans, SIZE_AT, LOAN_WORDS, places);
+    let vacant = count_vacant(loans, places);
     let led = is_led(loans, index, n, places, given, vacant);
     if led { Some(places - vacant) } else { None }
 }
@@ -47,4 +47,18 @@ pub fn is_led(loans: &[u64], index: &[u64], n: usize, places: u64, given: u64, v
         return false;
     }
     crate::chains::is_chained(loans, index, n, places, given, vacant)
+}
+
+// How many of the first n places are vacant, of a table that has them all.
+fn count_vacant(loans: &[u64], n: u64) -> u64
+    requires { loan_words + loan_words * n ≤ length loans.now }
+    ensures { result ≡ vacancies (vacant_at loans.now size_at loan_words) n }
+{
+    let mut count = 0;
+    for p in 0..n {
+        if loans[SIZE_AT + LOAN_WORDS * p as usize] == 0 {
+            count += 1;
+        }
+    }
+    count
 }

@@ -28,16 +28,54 @@ const NEXT_AT: usize = 4;
 
 pub const VACANT_AFTER_AT: usize = 5;
 
-// The place that the next loan takes, and the slab from then on, of an index that has an entry for each of these places.
-pub fn next_place_in(places: u64, index: &[u64]) -> Taken
-    requires { index_words places ≤ length index.now }
+// The place that the next loan takes, and the slab from then on.
+pub fn next_place(places: u64, index: &[u64]) -> Taken
     ensures { result ≡ taken_of places index.now }
 {
     let s = Slab {
         places,
-        vacant: slabs::place_of(index[VACATED_AT]),
+        vacant: slabs::led_to(index, VACATED_AT),
     };
     s.insert(index, VACANT_AFTER_AT, ENTRY_WORDS)
+}
+
+// The same of an index that has an entry for each of these places: no test of a bound.
+pub fn next_place_in(places: u64, index: &[u64]) -> Taken
+    requires { index_words places ≤ length index.now }
+    ensures { result ≡ taken_of places index.now }
+{
+    let last = slabs::place_of(index[VACATED_AT]);
+    if last < places {
+        let after = VACANT_AFTER_AT + ENTRY_WORDS * last as usize;
+        let next = slabs::place_of(index[after]);
+        return Taken {
+            place: last,
+            slab: Slab {
+                places,
+                vacant: next,
+            },
+        };
+    }
+    let more = places.wrapping_add(1);
+    Taken {
+        place: places,
+        slab: Slab {
+            places: more,
+            vacant: last,
+        },
+    }
+}
+
+// The loan at a place. One test serves for its four words.
+pub fn loan_at(loans: &[u64], p: usize) -> Loan
+    ensures { result ≡ row loan_row p loans.now }
+{
+    if p < loans.len() {
+        if LOAN_WORDS * p + SIZE_AT < loans.len() {
+            return loan_in(loans, p);
+        }
+    }
+    loan_by_words(loans, p)
 }
 
 // The loan at a place that the table has.
@@ -51,6 +89,18 @@ pub fn loan_in(loans: &[u64], p: usize) -> Loan
         chunk: loans[at + CHUNK_AT],
         offset: loans[at + OFFSET_AT],
         size: loans[at + SIZE_AT],
+    }
+}
+
+// The loan at any place, each word by itself.
+fn loan_by_words(loans: &[u64], p: usize) -> Loan
+    ensures { result ≡ row loan_row p loans.now }
+{
+    Loan {
+        serial: words::cell(loans, SERIAL_AT, LOAN_WORDS, p),
+        chunk: words::cell(loans, CHUNK_AT, LOAN_WORDS, p),
+        offset: words::cell(loans, OFFSET_AT, LOAN_WORDS, p),
+        size: words::cell(loans, SIZE_AT, LOAN_WORDS, p),
     }
 }
 

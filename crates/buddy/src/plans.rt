@@ -13,7 +13,7 @@ ghost use Rattle.buddy_decide.specs.Plans.{plan_of, Planned};
 ghost use Rattle.buddy.specs.Deliveries.{delivery_of};
 ghost use Rattle.buddy.specs.Ready.{Delivers};
 
-use buddy_decide::{Buying, Plan};
+use buddy_decide::{Buying, Plan, Tried};
 use buddy_rules::BuddyView;
 use counter::{Block, BuddySettings, OpenOrder, Outcome, Refusal};
 use store::Coming;
@@ -35,7 +35,7 @@ pub fn plan_set_up(
     Err(Refusal::Setup)
 }
 
-// The gate, and then the tests behind it.
+// Heap, objects and chunks are looked at only where a chunk is needed.
 pub fn plan_ask(
     s: BuddySettings,
     share: Share,
@@ -59,7 +59,10 @@ pub fn plan_ask(
         index,
         tree,
     };
-    buddy_decide::decide(&v, share.heap, share.objects, size, mask)
+    match buddy_decide::try_held(&v, size, mask)? {
+        Tried::Take(t) => Ok(Plan::Take(t)),
+        Tried::Need(n) => buddy_decide::decide_buy(&v, share.heap, share.objects, n),
+    }
 }
 
 // What a delivery comes to, with what its kept ask needs; a shut gate has no buying.

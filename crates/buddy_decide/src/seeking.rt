@@ -24,14 +24,20 @@ pub fn seek(minimal: u64, pairs: usize, level: u64, levels: u64, tree: &[u64]) -
     requires { (minimal ≤ 2 ^ minimal_bits) × (pairs ≤ pairs_most) × (level < levels_most) × (levels ≤ levels_most) × (level_start pairs levels_most ≤ length tree.now) }
     ensures { result ≡ sought minimal pairs level levels tree.now }
 {
-    for l in level..levels {
+    let mut l = level;
+    // no `for`: 01 wants the pair and its level, or the order, yielded by `break`
+    let found = loop {
+        if levels <= l {
+            let top = levels.max(level + 1);
+            break Found::Order(buddy_levels::node_bytes(minimal, top), top);
+        }
         let head = slabs::place_of(tree[level_from(pairs, l as usize) + RING_AT]);
         if head != NOWHERE {
-            return Found::At(head, l);
+            break Found::At(head, l);
         }
-    }
-    let top = levels.max(level + 1);
-    Found::Order(buddy_levels::node_bytes(minimal, top), top)
+        l += 1;
+    };
+    found
 }
 
 // Whether each of n levels from this one on has a place for a new pair; one that is not there yet has.

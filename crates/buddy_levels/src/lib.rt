@@ -21,7 +21,7 @@ ghost use Rattle.buddy_rules.specs.Level.{base_most, pair_words, tag_at, chunk_a
 use buddy_rules::{EXHAUSTED, FREE_WORD, RIGHT_READY, VACANT};
 pub use good::{PairCounts, test_level};
 pub use nodes::{loan_said, loan_word, pair_of, pair_said, says_loan, split_word};
-pub use pairs::{Pair, standing_pair};
+pub use pairs::{Pair, pair_at, standing_pair};
 pub use shape::{chunks_from, level_from, node_at, node_bytes, tree_words};
 pub use sides::{Side, node_of, other, side_in, side_of, word_at};
 use slabs::{Slab, Taken};

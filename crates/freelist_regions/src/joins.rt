@@ -10,9 +10,9 @@ ghost use Rattle.freelist_regions.specs.Order.{RegionsStand, LowPlace};
 ghost use Rattle.freelist_regions.specs.Settled.{reached, settled, behind, CanSettle};
 
 use crate::fronts::rename;
-use crate::records::{put_gap, region_at, word_at};
+use crate::records::{put_gap, word_at};
 use crate::stands::stands_at;
-use freelist_rules::{Gap, REGION_END_AT, REGION_START_AT, REGION_WORDS};
+use freelist_rules::{Gap, REGION_CHUNK_AT, REGION_END_AT, REGION_START_AT, REGION_WORDS};
 use store_rules::Region;
 
 // How many regions there are then, and the one that the block is part of.
@@ -22,25 +22,32 @@ pub struct Joined {
     pub region: Region,
 }
 
-// Whether a ends where b starts.
-fn meets(a: Region, b: Region) -> bool
-    ensures { result ≡ meets a b }
-{
-    (a.chunk == b.chunk) & (a.end == b.start)
-}
-
 // Whether the region before place k ends where b starts.
 fn touches_before(t: &[u64], k: usize, b: Region) -> bool
+    requires { region_words + region_words * k ≤ length t.now }
     ensures { result ≡ (nat_lt 0 k && meets (region_in (row gap_row (k - 1) t.now)) b) }
 {
-    0 < k && meets(region_at(t, k - 1), b)
+    if 0 < k {
+        let chunk = word_at(t, REGION_CHUNK_AT, k - 1);
+        let end = word_at(t, REGION_END_AT, k - 1);
+        (chunk == b.chunk) & (end == b.start)
+    } else {
+        false
+    }
 }
 
 // Whether b ends where the region at k, of n, starts.
 fn touches_next(t: &[u64], n: usize, k: usize, b: Region) -> bool
+    requires { region_words + region_words * n ≤ length t.now }
     ensures { result ≡ (nat_lt k n && meets b (region_in (row gap_row k t.now))) }
 {
-    k < n && meets(b, region_at(t, k))
+    if k < n {
+        let chunk = word_at(t, REGION_CHUNK_AT, k);
+        let start = word_at(t, REGION_START_AT, k);
+        (b.chunk == chunk) & (b.end == start)
+    } else {
+        false
+    }
 }
 
 // The region that b is part of then, between its neighbours before k and at k, by which of them it touches.

@@ -34,7 +34,7 @@ pub enum Turn {
 }
 
 // A buffer, of which the bytes that are still to be taken stand from one place to another.
-#[derive(Drop)]
+#[derive(Clone, Copy)]
 pub struct Window<const BYTES: usize> {
     bytes: [u8; BYTES],
     from: usize,

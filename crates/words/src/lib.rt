@@ -11,7 +11,7 @@ ghost use Rattle.std.specs.Prelude.{◌≡◌, ◌≤◌, ◌<◌, get_or, set};
 ghost use Rattle.words.specs.Words.{widest, at_most, cell_of};
 
 pub use columns::Column;
-pub use filling::put_blank;
+pub use filling::{fill, put_blank};
 pub use moves::shift;
 pub use rows::{close_row, open_row};
 

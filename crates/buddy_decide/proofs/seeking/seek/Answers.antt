@@ -16,20 +16,20 @@ offset_bounds-tree-level_from c = omega (arith, c.level_from.ensures.upper_bound
 pub bounds-tree-level_from : goal.bounds-tree-level_from
 bounds-tree-level_from c =
     let a = c.args in
-    let low : c.loop-l.l < levels_most = omega (arith, c.loop-l-test.true, c.requires.3) in
+    let low : c.loop-l.l < levels_most = omega (arith, c.if-levels-l.false, c.requires.3) in
     omega (arith, c.level_from.ensures.value, levels_in_lem (part_settings 0 a.pairs 0) c.loop-l.l low, c.requires.4)
 
 pub loop-l-preserved : goal.loop-l-preserved
 loop-l-preserved c =
     let a = c.args in
-    c.loop-l.invariant ∙ seek_on a.minimal a.pairs a.level a.levels a.tree.now c.loop-l.l c.loop-l-test.true _ _ c.level_from.ensures.value c.place_of-head.ensures c.if-head.false
+    (omega (arith, c.loop-l.invariant.0), c.loop-l.invariant.1 ∙ seek_on a.minimal a.pairs a.level a.levels a.tree.now c.loop-l.l c.if-levels-l.false _ _ c.level_from.ensures.value c.place_of-head.ensures c.if-head.false)
 
-pub returns : goal.returns
-returns c =
+pub returns-then-levels-l : goal.returns-then-levels-l
+returns-then-levels-l c =
     let a = c.args in
-    seek_none a.minimal a.pairs a.level a.levels a.tree.now c.loop-l.l c.loop-l.invariant (omega arith) _ _ c.max-top.ensures c.node_bytes.ensures.value
+    seek_none a.minimal a.pairs a.level a.levels a.tree.now c.loop-l.l c.loop-l.invariant.1 c.if-levels-l.true _ _ c.max-top.ensures c.node_bytes.ensures.value
 
 pub returns-then-head : goal.returns-then-head
 returns-then-head c =
     let a = c.args in
-    seek_at a.minimal a.pairs a.level a.levels a.tree.now c.loop-l.l c.loop-l-test.true _ _ c.level_from.ensures.value c.place_of-head.ensures c.loop-l.invariant c.if-head.true
+    seek_at a.minimal a.pairs a.level a.levels a.tree.now c.loop-l.l c.if-levels-l.false _ _ c.level_from.ensures.value c.place_of-head.ensures c.loop-l.invariant.1 c.if-head.true
