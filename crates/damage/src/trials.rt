@@ -63,6 +63,26 @@ fn is_left(c: Case, call: Call, refusal: Refusal, spoilt: &[u64], after: &[u64])
     }
 }
 
+// Whether a call that was made on the account, and was refused if it was, left what it should.
+fn is_as_told(c: Case, a: Account, call: Call, done: Done, spoilt: &[u64], after: &[u64]) -> bool {
+    match done.refusal {
+        None => true,
+        Some(r) => {
+            is_left(c, call, r, spoilt, after) & (done.account == left_of(c.settings, a, call, r))
+        }
+    }
+}
+
+// Why a call was refused, where that left something else than it should. The row is asked for on one way alone: where a branch or an
+// early end comes between, it is cleared before it is copied.
+fn wrong_refusal(c: Case, spoilt: &[u64], call: Call) -> Option<Refusal> {
+    let a = if call.has_order() { c.open } else { c.free };
+    let mut after = copy_of(c.settings, spoilt);
+    let done = run(c.settings, a, call_of(c, call), &mut after);
+    let kept = is_as_told(c, a, call, done, spoilt, &after);
+    if kept { None } else { done.refusal }
+}
+
 fn try_call<W: Write>(
     out: &mut W,
     c: Case,
@@ -72,16 +92,9 @@ fn try_call<W: Write>(
 ) -> Result<(), Stop>
     ensures kept { Stays (W.contents out.old) (W.contents out.new) }
 {
-    let s = c.settings;
-    let a = if call.has_order() { c.open } else { c.free };
-    let mut after = copy_of(s, spoilt);
-    let done = run(s, a, call_of(c, call), &mut after);
-    let Some(refusal) = done.refusal else {
+    let Some(refusal) = wrong_refusal(c, spoilt, call) else {
         return Ok(());
     };
-    if is_left(c, call, refusal, spoilt, &after) & (done.account == left_of(s, a, call, refusal)) {
-        return Ok(());
-    }
     print_changed(out, c.store, p, call, refusal)?;
     Err(Stop::Told)
 }
