@@ -19,7 +19,7 @@ pub fn run(s: Settings, a: Account, call: Record, image: &mut [u64]) -> Done {
     let taken = reel_calls::take(
         s,
         a,
-        call,
+        Some(call),
         &mut head[..lengths.head],
         &mut loans[..lengths.loans],
         &mut chunks[..lengths.chunks],

@@ -1,7 +1,7 @@
 // A store that is set up brought further by a tape's calls in turn, of which none may be refused.
 use crate::calls::run;
 use counter::Account;
-use reel::{Settings, Turn, Window};
+use reel::{Buffer, Settings, Turn};
 use std::io::Read;
 
 // a tape is read through a buffer of so many bytes
@@ -16,12 +16,12 @@ pub fn replay(
     image: &mut [u64],
 ) -> Result<Account, u64> {
     let buddy = reel::is_buddy(s);
-    let mut window = Window::<BUFFER_BYTES>::new();
+    let mut buffer = Buffer::<BUFFER_BYTES>::new();
     let mut a = fresh;
     for records in 0..u64::MAX {
-        match window.next(input, buddy) {
+        match buffer.next(input, buddy) {
             Turn::Ended => break,
-            Turn::Torn => return Err(records),
+            Turn::Torn(_) => return Err(records),
             Turn::Whole(record, _) => {
                 let done = run(s, a, record, image);
                 if done.refusal.is_some() {

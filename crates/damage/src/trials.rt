@@ -50,13 +50,13 @@ fn is_as_raised(c: Case, call: Call, spoilt: &[u64], after: &[u64]) -> bool {
     let heap = reel::store_of(s).heap;
     let able = c.free.settled(heap, c.free.heap(heap), 1, None);
     let mut raised = copy_of(s, spoilt);
-    run(s, able, ask_of(c, call), &mut raised);
+    run(s, able, ask_of(c, call.into()), &mut raised);
     is_same(after, &raised, row_words(s))
 }
 
 // Whether a refusal left the tables and the list as it should.
 fn is_left(c: Case, call: Call, refusal: Refusal, spoilt: &[u64], after: &[u64]) -> bool {
-    if is_raised(c.settings, refusal) {
+    if is_raised(c.settings, refusal.number()) {
         is_as_raised(c, call, spoilt, after)
     } else {
         is_same(after, spoilt, row_words(c.settings))
@@ -68,7 +68,8 @@ fn is_as_told(c: Case, a: Account, call: Call, done: Done, spoilt: &[u64], after
     match done.refusal {
         None => true,
         Some(r) => {
-            is_left(c, call, r, spoilt, after) & (done.account == left_of(c.settings, a, call, r))
+            let expected = left_of(c.settings, a, call.into(), r.number());
+            is_left(c, call, r, spoilt, after) & (done.account == expected)
         }
     }
 }
@@ -78,7 +79,7 @@ fn is_as_told(c: Case, a: Account, call: Call, done: Done, spoilt: &[u64], after
 fn wrong_refusal(c: Case, spoilt: &[u64], call: Call) -> Option<Refusal> {
     let a = if call.has_order() { c.open } else { c.free };
     let mut after = copy_of(c.settings, spoilt);
-    let done = run(c.settings, a, call_of(c, call), &mut after);
+    let done = run(c.settings, a, call_of(c, call.into()), &mut after);
     let kept = is_as_told(c, a, call, done, spoilt, &after);
     if kept { None } else { done.refusal }
 }
@@ -95,7 +96,15 @@ fn try_call<W: Write>(
     let Some(refusal) = wrong_refusal(c, spoilt, call) else {
         return Ok(());
     };
-    print_changed(out, c.store, p, call, refusal)?;
+    print_changed(
+        out,
+        c.store,
+        p.table,
+        p.word as u64,
+        p.value,
+        call.into(),
+        refusal.number(),
+    )?;
     Err(Stop::Told)
 }
 
@@ -145,9 +154,9 @@ fn try_word<W: Write>(
     let mut t = before.one_word();
     for damage in DAMAGES {
         let p = Place {
-            table,
+            table: table.into(),
             word,
-            damage,
+            value: damage.into(),
         };
         t = try_damage(out, c, image, p, t)?;
     }
@@ -164,8 +173,8 @@ fn try_table<W: Write>(
     ensures kept { Stays (W.contents out.old) (W.contents out.new) }
 {
     let mut t = before;
-    for word in 0..table_words(c.settings, table) {
-        if is_tried(c.settings, image, table, word) {
+    for word in 0..table_words(c.settings, table.into()) {
+        if is_tried(c.settings, image, table.into(), word) {
             t = try_word(out, c, image, table, word, t)?;
         }
     }

@@ -1,9 +1,10 @@
 // What a trial is made of: a case, the calls that are made on its damaged tables, what damage does to a word, and what a refusal
 // leaves of the account.
-ghost use Rattle.std.specs.Prelude.{◌≡◌, length};
+ghost use Rattle.std.specs.Prelude.{◌≡◌, Some, length, slice_get};
+ghost use Rattle.damage_parts.specs.Numbers.{calls, damages, numbered_call, numbered_damage};
 
 use crate::accounts::{charged, closed, given_back};
-use crate::image::{ROW_MOST, Table, copy_of, table_at};
+use crate::image::{ROW_MOST, copy_of, table_at};
 use counter::{Account, Ask, Block, HOST_VISIBLE, Mapping, Memory, Outcome, Refusal};
 use reel::Settings;
 use tape::Record;
@@ -37,6 +38,24 @@ pub const CALLS: [Call; 10] = [
     Call::MapFails,
 ];
 
+// Calls are handed on by their numbers. A number past the last is taken for the last.
+impl From<u64> for Call {
+    ghost from_gives = { λ n c. c ≡ numbered_call n };
+
+    #[tactic(auto, unfolding(crate::specs::Numbers::numbered_call))]
+    fn from(n: u64) -> Call {
+        CALLS.get(n as usize).copied().unwrap_or(Call::MapFails)
+    }
+}
+
+impl From<Call> for u64 {
+    ghost from_gives = { λ c n. slice_get calls n ≡ Some c };
+
+    fn from(call: Call) -> u64 {
+        call as u64
+    }
+}
+
 // What damage puts in place of a word, in the order of the numbers that are printed.
 #[derive(Clone, Copy)]
 pub enum Damage {
@@ -55,6 +74,24 @@ pub const DAMAGES: [Damage; 5] = [
     Damage::Highest,
 ];
 
+// A number past the last is taken for the last.
+impl From<u64> for Damage {
+    ghost from_gives = { λ n d. d ≡ numbered_damage n };
+
+    #[tactic(auto, unfolding(crate::specs::Numbers::numbered_damage))]
+    fn from(n: u64) -> Damage {
+        DAMAGES.get(n as usize).copied().unwrap_or(Damage::Highest)
+    }
+}
+
+impl From<Damage> for u64 {
+    ghost from_gives = { λ d n. slice_get damages n ≡ Some d };
+
+    fn from(damage: Damage) -> u64 {
+        damage as u64
+    }
+}
+
 // A store's number, its settings, its account without an order and with one, a block that it lent, and a size to ask for that
 // no free place has.
 #[derive(Clone, Copy)]
@@ -67,12 +104,12 @@ pub struct Case {
     pub large: u64,
 }
 
-// Which word is damaged, and how.
+// Which word is damaged, and how: the table and the value by their numbers.
 #[derive(Clone, Copy)]
 pub struct Place {
-    pub table: Table,
+    pub table: u64,
     pub word: usize,
-    pub damage: Damage,
+    pub value: u64,
 }
 
 // So many stores, words and calls, of which each refusal left everything as it was.
@@ -147,8 +184,8 @@ pub fn stray() -> Record {
     })
 }
 
-pub fn call_of(c: Case, call: Call) -> Record {
-    match call {
+pub fn call_of(c: Case, call: u64) -> Record {
+    match Call::from(call) {
         Call::Ask => ask(8, 0),
         Call::AskLarge => ask(c.large, 0),
         Call::Return => Record::Return(c.held),
@@ -174,32 +211,38 @@ impl Call {
 }
 
 // The call's ask: its own, or the one that led to the open order.
-pub fn ask_of(c: Case, call: Call) -> Record {
-    if call.has_order() {
+pub fn ask_of(c: Case, call: u64) -> Record {
+    if Call::from(call).has_order() {
         ask(c.large, 0)
     } else {
         call_of(c, call)
     }
 }
 
-// What a refusal leaves of the account: 11 and 12 close the order, the others change nothing.
-pub fn left_of(settings: Settings, a: Account, call: Call, refusal: Refusal) -> Account {
+fn is_one_of(refusal: u32, refusals: &[Refusal]) -> bool {
+    refusals.iter().any(|r| r.number() == refusal)
+}
+
+// What a refusal, by its number, leaves of the account: 11 and 12 close the order, the others change nothing; nor does a call that
+// there is not.
+pub fn left_of(settings: Settings, a: Account, call: u64, refusal: u32) -> Account {
+    if !is_one_of(refusal, &[Refusal::Device, Refusal::Host]) {
+        return a;
+    }
     let s = reel::store_of(settings);
-    match (refusal, call) {
-        (Refusal::Device | Refusal::Host, Call::DeviceRefuses) => closed(s, a),
-        (Refusal::Device | Refusal::Host, Call::MapOutOfHost) => charged(s, a),
-        (Refusal::Device | Refusal::Host, Call::MapFails) if reel::is_buddy(settings) => {
-            charged(s, a)
-        }
-        (Refusal::Device | Refusal::Host, Call::MapFails) => given_back(s, a),
+    match CALLS.get(call as usize) {
+        Some(Call::DeviceRefuses) => closed(s, a),
+        Some(Call::MapOutOfHost) => charged(s, a),
+        Some(Call::MapFails) if reel::is_buddy(settings) => charged(s, a),
+        Some(Call::MapFails) => given_back(s, a),
         _ => a,
     }
 }
 
-// Whether a refusal leaves the levels as the ask raises them: in a buddy store 9, 11 and 12 do. A free list's chunk size, which
-// 11 and 12 leave as raised, is as large as the ask already.
-pub fn is_raised(s: Settings, refusal: Refusal) -> bool {
-    reel::is_buddy(s) & matches!(refusal, Refusal::Objects | Refusal::Device | Refusal::Host)
+// Whether a refusal, by its number, leaves the levels as the ask raises them: in a buddy store 9, 11 and 12 do. A free list's chunk
+// size, which 11 and 12 leave as raised, is as large as the ask already.
+pub fn is_raised(s: Settings, refusal: u32) -> bool {
+    reel::is_buddy(s) & is_one_of(refusal, &[Refusal::Objects, Refusal::Device, Refusal::Host])
 }
 
 fn damaged(old: u64, damage: Damage) -> u64 {
@@ -219,6 +262,6 @@ pub fn spoilt_row(s: Settings, image: &[u64], p: Place) -> [u64; ROW_MOST]
     let mut row = copy_of(s, image);
     let at = table_at(p.table);
     let old = words::cell(image, at, 1, p.word);
-    words::put_cell(&mut row, at, 1, p.word, damaged(old, p.damage));
+    words::put_cell(&mut row, at, 1, p.word, damaged(old, Damage::from(p.value)));
     row
 }

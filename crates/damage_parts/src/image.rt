@@ -1,6 +1,7 @@
 // A store's five tables and the release list in one row of words, so that all of it is copied and compared at once.
 // Each has its room in the row, of which as much is lent as the settings ask for, and the last has no more.
-ghost use Rattle.std.specs.Prelude.{◌≡◌, ◌≤◌, length};
+ghost use Rattle.std.specs.Prelude.{◌≡◌, ◌≤◌, Some, length, slice_get};
+ghost use Rattle.damage_parts.specs.Numbers.{numbered_table, tables};
 ghost use Rattle.words.specs.Words.{at_most};
 
 use book::ENTRY_WORDS;
@@ -97,11 +98,29 @@ pub const TABLES: [Table; 5] = [
     Table::Own,
 ];
 
+// A number past the last is taken for the last.
+impl From<u64> for Table {
+    ghost from_gives = { λ n t. t ≡ numbered_table n };
+
+    #[tactic(auto, unfolding(crate::specs::Numbers::numbered_table))]
+    fn from(n: u64) -> Table {
+        TABLES.get(n as usize).copied().unwrap_or(Table::Own)
+    }
+}
+
+impl From<Table> for u64 {
+    ghost from_gives = { λ t n. slice_get tables n ≡ Some t };
+
+    fn from(table: Table) -> u64 {
+        table as u64
+    }
+}
+
 // Where a table stands in the row, and how many of its words the store is lent.
-pub fn table_at(table: Table) -> usize
+pub fn table_at(table: u64) -> usize
     ensures { result ≤ at_most }
 {
-    match table {
+    match Table::from(table) {
         Table::Head => HEAD_AT,
         Table::Loans => LOANS_AT,
         Table::Chunks => CHUNKS_AT,
@@ -110,9 +129,9 @@ pub fn table_at(table: Table) -> usize
     }
 }
 
-pub fn table_words(settings: Settings, table: Table) -> usize {
+pub fn table_words(settings: Settings, table: u64) -> usize {
     let lengths = lent_words(settings);
-    match table {
+    match Table::from(table) {
         Table::Head => lengths.head,
         Table::Loans => lengths.loans,
         Table::Chunks => lengths.chunks,
@@ -145,10 +164,10 @@ fn is_tried_in_tree(s: BuddySettings, image: &[u64], word: usize) -> bool {
         | ((level == levels) & (pair == 0))
 }
 
-pub fn is_tried(settings: Settings, image: &[u64], table: Table, word: usize) -> bool {
+pub fn is_tried(settings: Settings, image: &[u64], table: u64, word: usize) -> bool {
     match settings {
         Settings::FreeList(_) => true,
-        Settings::Buddy(s) => (table != Table::Own) | is_tried_in_tree(s, image, word),
+        Settings::Buddy(s) => (Table::from(table) != Table::Own) | is_tried_in_tree(s, image, word),
     }
 }
 

@@ -2,8 +2,6 @@
 // write ends a line with an I/O error, and no error of another kind comes; what was written before stays.
 ghost use Rattle.text.specs.Written.{Stays};
 
-use crate::cases::{Call, Place};
-use counter::Refusal;
 use std::io;
 use std::io::Write;
 use text::{number, word};
@@ -15,33 +13,35 @@ fn store_number<W: Write>(out: &mut W, store: u64) -> io::Result<()>
     number(out, store)
 }
 
-fn print_damage<W: Write>(out: &mut W, p: Place) -> io::Result<()>
+fn print_damage<W: Write>(out: &mut W, table: u64, at: u64, value: u64) -> io::Result<()>
     ensures kept { Stays (W.contents out.old) (W.contents out.new) }
 {
     word(out, ", table ")?;
-    number(out, p.table as u64)?;
+    number(out, table)?;
     word(out, ", word ")?;
-    number(out, p.word as u64)?;
+    number(out, at)?;
     word(out, ", value ")?;
-    number(out, p.damage as u64)
+    number(out, value)
 }
 
-// Tables are numbered as image.rt lists them, values and calls as cases.rt does.
+// Tables are numbered as image.rt lists them, values and calls as cases.rt does. Any number is printed as it is.
 pub fn print_changed<W: Write>(
     out: &mut W,
     store: u64,
-    p: Place,
-    call: Call,
-    refusal: Refusal,
+    table: u64,
+    at: u64,
+    value: u64,
+    call: u64,
+    refusal: u32,
 ) -> io::Result<()>
     ensures kept { Stays (W.contents out.old) (W.contents out.new) }
 {
     store_number(out, store)?;
-    print_damage(out, p)?;
+    print_damage(out, table, at, value)?;
     word(out, ", call ")?;
-    number(out, call as u64)?;
+    number(out, call)?;
     word(out, ": refusal ")?;
-    number(out, u64::from(refusal.number()))?;
+    number(out, u64::from(refusal))?;
     word(out, " changed something\n")
 }
 

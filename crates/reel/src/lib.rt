@@ -8,7 +8,7 @@ mod settings;
 mod start;
 
 pub use answers::{Answer, Taken};
-pub use reading::{Turn, Window, open, read_header};
+pub use reading::{Buffer, Reading, Turn, Window, next, open, read_header};
 pub use settings::{is_buddy, store_of};
 pub use start::{Lengths, Limits, fresh_account, table_lengths};
 pub use tape::Settings;

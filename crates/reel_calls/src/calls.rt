@@ -18,6 +18,13 @@ pub fn set_up(
     }
 }
 
+fn untaken(a: Account) -> Taken {
+    Taken {
+        account: a,
+        answer: None,
+    }
+}
+
 fn take_free_list(
     s: FreeListSettings,
     a: Account,
@@ -67,17 +74,15 @@ fn take_buddy(
         Record::Return(b) => Taken::from(buddy::return_block(
             s, a, b, head, loans, chunks, index, tree, list,
         )),
-        Record::CleanUp => Taken {
-            account: a,
-            answer: None,
-        },
+        Record::CleanUp => untaken(a),
     }
 }
 
+// A torn record, which reads as none, is no call either.
 pub fn take(
     settings: Settings,
     a: Account,
-    record: Record,
+    record: Option<Record>,
     head: &mut [u64],
     loans: &mut [u64],
     chunks: &mut [u64],
@@ -85,6 +90,9 @@ pub fn take(
     own: &mut [u64],
     list: &mut [u64],
 ) -> Taken {
+    let Some(record) = record else {
+        return untaken(a);
+    };
     match settings {
         Settings::FreeList(s) => take_free_list(
             s, a, record, head, loans, chunks, index, own, list,

@@ -3,7 +3,7 @@
 ghost use Rattle.text.specs.Written.{Stays};
 
 use counter::{Account, CHUNKS_MOST};
-use reel::{Answer, Settings, Taken, Turn, Window};
+use reel::{Answer, Buffer, Settings, Taken, Turn};
 use std::io;
 use std::io::{Read, Write};
 
@@ -57,18 +57,28 @@ pub fn run<W: Write>(
 {
     let buddy = reel::is_buddy(s);
     let mut list = [0u64; CHUNKS_MOST];
-    let mut window = Window::<BUFFER_BYTES>::new();
+    let mut buffer = Buffer::<BUFFER_BYTES>::new();
     let mut a = fresh;
     let mut torn = false;
     let mut position = 0u64;
     let mut records = 0;
     for n in 0..u64::MAX {
-        let turn = window.next(input, buddy);
+        let turn = buffer.next(input, buddy);
         let Turn::Whole(record, length) = turn else {
-            torn = matches!(turn, Turn::Torn);
+            torn = matches!(turn, Turn::Torn(_));
             break;
         };
-        let taken = reel_calls::take(s, a, record, head, loans, chunks, index, own, &mut list);
+        let taken = reel_calls::take(
+            s,
+            a,
+            Some(record),
+            head,
+            loans,
+            chunks,
+            index,
+            own,
+            &mut list,
+        );
         print_answer(out, s, taken, &list)?;
         a = taken.account;
         position = position.wrapping_add(length as u64);
