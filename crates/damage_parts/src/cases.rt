@@ -38,7 +38,8 @@ pub const CALLS: [Call; 10] = [
     Call::MapFails,
 ];
 
-// Calls are handed on by their numbers. A number past the last is taken for the last.
+// Functions are handed calls, tables and values by their numbers: they answer any number, and may not answer fewer. Past the last, a
+// number is taken for the last.
 impl From<u64> for Call {
     ghost from_gives = { λ n c. c ≡ numbered_call n };
 
@@ -74,7 +75,7 @@ pub const DAMAGES: [Damage; 5] = [
     Damage::Highest,
 ];
 
-// A number past the last is taken for the last.
+// Likewise.
 impl From<u64> for Damage {
     ghost from_gives = { λ n d. d ≡ numbered_damage n };
 

@@ -98,7 +98,7 @@ pub const TABLES: [Table; 5] = [
     Table::Own,
 ];
 
-// A number past the last is taken for the last.
+// A table is handed on by its number, as a call is (cases.rt): past the last it is taken for the last.
 impl From<u64> for Table {
     ghost from_gives = { λ n t. t ≡ numbered_table n };
 

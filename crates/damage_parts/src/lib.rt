@@ -1,5 +1,5 @@
-// What trials of damaged tables need beside the calls themselves: the tables in one row of words, accounts compared, the cases and
-// what a call on them comes to, and the lines that are printed.
+// What trials of damaged tables need beside the calls themselves: the tables in one row of words, what a refused delivery leaves of an
+// account, the cases and what a call on them comes to, and the lines that are printed.
 #![tactic(auto)]
 
 mod accounts;
